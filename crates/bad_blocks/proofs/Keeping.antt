@@ -6,7 +6,9 @@ use Rattle.nand_model.specs.Calls.{Device, Lasts}
 use Rattle.nand_model.specs.declared.geometry.Geometry.{Geometry}
 use Rattle.block_state.specs.Table.{Table}
 use Rattle.transactions.specs.declared.copies.CopyOf.{CopyOf}
-use Rattle.bad_blocks.specs.Copying.{KeepsKeptAt, KeepsDataAt, MayBeCopied, NewestAfterCopies, StayOrLieApart}
+use Rattle.transactions.specs.Checking.{LogState}
+use Rattle.bad_blocks.specs.Copying.{KeepsCounts, KeepsKeptAt, KeepsDataAt, MayBeCopied, NewestAfterCopies, CopiesPages, StayOrLieApart}
+use Rattle.bad_blocks.specs.laws.Keeping.{keeps_on}
 use Rattle.bad_blocks.specs.Standing.{HasVersion}
 use Rattle.bad_blocks.specs.declared.copying.Copied.{Copied}
 use Rattle.bad_blocks.specs.declared.copying.Copied.TheVariants as ends
@@ -68,3 +70,18 @@ may_later a b t u copies lasts rises kept stays may = record {
       stays was power x.name.key.object x.name.key.chunk _ (may.held i x at) (may.newest was (had_power a b lasts power) i x at);
   ordinary = λ honest. may.ordinary (sym lasts.honest ∙ honest);
 }
+
+module _ (copies : List CopyOf) (a b : LogState) (keeps : KeepsCounts a.device b.device a.table b.table) (kept : a.device.honest ≡ true → KeepsKeptAt a.table a.device.flash b.device.flash)
+    (stored : a.device.honest ≡ true → KeepsDataAt a.table a.device.flash b.device.flash) where
+  -- a fault after a step that keeps what is newest where it is
+  pub pages_kept : (fault : MoveFault) → CopiesPages copies a b (Err fault)
+  pages_kept fault = record { keeps = keeps; stored = stored; newest = λ honest power. kept honest; apart = λ honest. inl (kept honest) }
+
+  -- what becomes of pages that are copied after such a step
+  pub pages_on : (c : LogState) (r : Result Copied MoveFault) → CopiesPages copies b c r → CopiesPages copies a c r
+  pages_on c r then = record {
+    keeps = keeps_on a.device b.device c.device a.table b.table c.table keeps then.keeps;
+    stored = λ honest. data_on a.table b.table keeps.kept a.device b.device c.device then.keeps.lasts (λ _. kept honest) (stored honest) (then.stored (keeps.lasts.honest ∙ honest));
+    newest = λ honest power. newest_on a.table b.table keeps.kept copies a.device.flash b.device.flash c.device.flash r (kept honest) (then.newest (keeps.lasts.honest ∙ honest) power);
+    apart = λ honest. apart_on a.table b.table keeps.kept keeps.geometry copies a.device.flash b.device.flash c.device (kept honest) (then.apart (keeps.lasts.honest ∙ honest));
+  }

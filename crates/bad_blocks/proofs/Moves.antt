@@ -22,11 +22,10 @@ use Rattle.flash_tree.specs.Slots.{check_object}
 use Rattle.transactions.specs.declared.copies.CopyOf.{CopyOf}
 use Rattle.bad_blocks.specs.Copying.{KeepsCounts, KeepsDataAt, MayBeCopied, AreCopied, IsCopyOf, IsTarget, OpenAfter, copy_in}
 use Rattle.bad_blocks.specs.Lists.{IsListed, kept_by}
-use Rattle.nand_model.specs.Counts.{Costs, ReadsFew}
-use Rattle.bad_blocks.specs.Bills.{Pays, bill_of}
+use Rattle.bad_blocks.specs.Bills.{Pays, PaysTarget, bill_of}
 use Rattle.bad_blocks.specs.declared.fault.MoveFault.{MoveFault}
 use Rattle.bad_blocks.specs.declared.moving.Moved.{Moved}
-use Rattle.bad_blocks.specs.Moving.{AnswersFailures, MarksFailures, MovesOut, IsKeptIn, LiesIn, LiesOpen, IsLeft}
+use Rattle.bad_blocks.specs.Moving.{MovesOut, IsKeptIn, LiesIn, LiesOpen, IsLeft}
 use Rattle.bad_blocks.specs.Standing.{IsKeptAt, MayLie, AreHeld, Stands, KeepsFree}
 use Rattle.bad_blocks.specs.Steps.{Step}
 use Rattle.bad_blocks.specs.Telling.{Tells}
@@ -294,13 +293,14 @@ module _ (spare v : ℕ) (target : Target) (d0 d1 : Device) (t0 t1 t2 : Table) (
   }
 
   -- what the copies cost, where so many failures are left unanswered
-  pub pays_moved : (n : ℕ) (moved : Moved) → (if target.suspect then 1 else 0) ≡ n → Costs (length copies + 1) (d0.geometry.pages + 2) (if target.suspect then 1 else 0) d0 d1
-      → MarksFailures 0 (if target.suspect then 1 else 0) d0 d1 t0 t1 → AnswersFailures 0 (if target.suspect then 1 else 0) d0 d1 t0 t1 → ReadsFew 0 d0 d1
+  pub pays_moved : (n : ℕ) (moved : Moved) → (if target.suspect then 1 else 0) ≡ n → PaysTarget (length copies) (log_of d0 t0) (log_of d1 t1) (Ok target)
       → Pays {E = MoveFault} (bill_of (log_of d0 t0) (length copies + 1) 0 n) (log_of d0 t0) (log_of d1 t2) (Ok moved)
-  pays_moved n moved is costs marks answers reads =
+  pays_moved n moved is pays =
       let same = same_bads in
+      let marks = pays.marks in
+      let answers = pays.answers in
       subst (λ k. Pays {E = MoveFault} (bill_of (log_of d0 t0) (length copies + 1) 0 k) (log_of d0 t0) (log_of d1 t2) (Ok moved)) is
-      (record { costs = costs; marks = omega (arith, same, marks); answers = omega (arith, same, answers); reads = reads })
+      (record { costs = pays.costs; marks = omega (arith, same, marks); answers = omega (arith, same, answers); reads = pays.reads })
 
   pub is_left : IsLeft v t2
   is_left = record { unkept = now_none; good = tells.counts.bad v ∙ still_good }

@@ -1,32 +1,41 @@
 -- What the writing of copies does, and what it costs.
-use Rattle.std.proofs.Common.{◌≡◌, ◌<◌, ◌≤◌, ℕ, ◌+◌, ◌*◌, Bool, true, false, if◌then◌else◌, List, length, Result, Ok, Err, refl, sym, ap, subst, ◌∙◌, arith, inl, inr}
+use Rattle.std.proofs.Common.{◌≡◌, ◌<◌, ◌≤◌, ℕ, ◌+◌, ◌-◌, ◌*◌, Bool, true, false, if◌then◌else◌, List, length, Result, Ok, Err, refl, sym, ap, subst, ◌∙◌, arith, inl, inr}
 use Rattle.std.proofs.Math.Nat.{mul-le-mul_left}
+use Rattle.std.proofs.lemmas.Result.{on_ok_weaker}
+use Rattle.volume_terms.specs.Sizes.{number_end}
 use Rattle.nand_model.specs.Calls.{Device, Lasts, Marks}
 use Rattle.nand_model.specs.Changes.{Grows}
+use Rattle.nand_model.specs.Counts.{Costs, ReadsFew}
 use Rattle.nand_model.specs.declared.geometry.Geometry.{Geometry}
 use Rattle.nand_model.specs.declared.nand.Gone.{Gone}
+use Rattle.nand_model.specs.laws.Calls.{lasts_on}
 use Rattle.flash_tree.specs.Keeping.{KeepsElsewhere, KeepsNewest}
 use Rattle.block_state.specs.Kept.{bad_count}
 use Rattle.block_state.specs.Table.{Table}
+use Rattle.transactions.specs.Checking.{LogState, log_of}
 use Rattle.transactions.specs.Copying.{copy_name, copy_bytes}
-use Rattle.transactions.specs.Groups.{GroupsAfter, next_group, closed}
+use Rattle.transactions.specs.Groups.{GroupsAfter, TableEnds, next_group, closed}
+use Rattle.transactions.specs.Handing.{HandsOut}
 use Rattle.transactions.specs.Marking.{NotesMark}
 use Rattle.transactions.specs.Newest.{NewestAfter, ShowsGroup}
 use Rattle.flash_tree.specs.Numbering.{AreBelow}
 use Rattle.transactions.specs.Ready.{IsReady}
+use Rattle.transactions.specs.laws.Handing.{hands_on}
 use Rattle.transactions.specs.laws.Newest.{copies_come_last, newest_after}
 use Rattle.transactions.specs.declared.copies.CopyOf.{CopyOf}
 use Rattle.transactions.specs.declared.group.Placed.{Placed}
 use Rattle.transactions.specs.declared.group.GroupFault.{GroupFault}
 use Rattle.transactions.specs.declared.group.GroupFault.TheVariants as groups
-use Rattle.bad_blocks.specs.Copying.{IsFresh, MayBeCopied, KeepsDataAt, AreCopied, StayOrLieApart, CopiesEnd, CopiesCost, left_open, most_changes}
-use Rattle.nand_model.specs.Counts.{Costs}
+use Rattle.bad_blocks.specs.Bills.{PaysOneBlock, PaysWriting}
+use Rattle.bad_blocks.specs.Copying.{IsFresh, MayBeCopied, KeepsKeptAt, KeepsDataAt, AreCopied, StayOrLieApart, NewestAfterCopies, CopiesPages, CopiesEnd, left_open, most_changes, most_written}
 use Rattle.bad_blocks.specs.Passing.{Passes}
 use Rattle.bad_blocks.specs.Taking.{Takes, CostsATake}
 use Rattle.bad_blocks.specs.declared.copying.Copied.{Copied}
 use Rattle.bad_blocks.specs.declared.copying.Copied.TheVariants as ends
+use Rattle.bad_blocks.specs.declared.copying.Target.{Target}
 use Rattle.bad_blocks.specs.declared.fault.MoveFault.{MoveFault}
-use Rattle.bad_blocks.specs.laws.Costs.{each_more}
+use Rattle.bad_blocks.specs.laws.Costs.{costs_taken, each_more}
+use Rattle.bad_blocks.specs.laws.Keeping.{keeps_passes, keeps_same, limits_ends, same_closed, same_ends}
 use Rattle.bad_blocks.proofs.Passing.{passes_marked}
 use Rattle.bad_blocks.specs.laws.KeptPages.{kept_where, data_where}
 use Rattle.bad_blocks.proofs.KeptPages.{is_of_copies, are_copied, data_copied}
@@ -114,31 +123,134 @@ fresh_taken w d0 d1 t u passes ready takes power = record {
   power = power;
 }
 
--- ---- costs
+-- ---- one attempt
 
-pub costs_once : (pages count : ℕ) (d0 d1 d2 : Device) (r : Result Copied MoveFault) → count ≤ pages → Lasts d0 d1 → CostsATake d0 d1 → Lasts d1 d2 → CopiesCost count d1 d2 r
-    → Costs (most_changes count r) (pages + 2) (left_open r) d0 d2
-costs_once pages count d0 d1 d2 (Ok (ends.Into target)) few first take second (changes, failures) =
-    let more = each_more (pages + 2) d0.failures d1.failures (omega arith) first.failures in
-    let s : ℕ = if target.suspect then 1 else 0 in
-    let all : (pages + 2) * d2.failures ≡ (pages + 2) * (d1.failures + s) = ap (λ n. (pages + 2) * n) failures in
-    let one : (pages + 2) * (d1.failures + s) ≡ (pages + 2) * d1.failures + (pages + 2) * s = omega arith in
-    let two : (pages + 2) * (d0.failures + s) ≡ (pages + 2) * d0.failures + (pages + 2) * s = omega arith in
-    omega (arith, few, take, changes, more, all, one, two)
-costs_once pages count d0 d1 d2 (Ok ends.Marked) few first take second (changes, failures) =
-    let more = each_more (pages + 2) d0.failures d1.failures (omega arith) first.failures in
-    let times : (pages + 2) * (d1.failures + 1) ≤ (pages + 2) * d2.failures = mul-le-mul_left (pages + 2) failures in
-    omega (arith, few, take, changes, more, times)
-costs_once pages count d0 d1 d2 (Err fault) few first take second costs = elim costs [
-  | inl changes ↦
-      let more = each_more (pages + 2) d0.failures d1.failures (omega arith) first.failures in
-      let times : (pages + 2) * d1.failures ≤ (pages + 2) * d2.failures = mul-le-mul_left (pages + 2) second.failures in
-      omega (arith, few, take, changes, more, times)
-  | inr (changes, failures) ↦
-      let more = each_more (pages + 2) d0.failures d1.failures (omega arith) first.failures in
-      let times : (pages + 2) * (d1.failures + 1) ≤ (pages + 2) * d2.failures = mul-le-mul_left (pages + 2) failures in
-      omega (arith, few, take, changes, more, times)
-]
+module _ (copies : List CopyOf) (w : ℕ) (d0 d1 : Device) (t t1 : Table) (fresh : IsFresh w d0 t) (may : MayBeCopied d0 t copies) (less : t.next_group < number_end)
+    (lasts : Lasts d0 d1) (numbers : HandsOut d0 d1 t t1) where
+  -- where no block was marked
+  pub pages_written : (r : Result Placed GroupFault) (result : Result Copied MoveFault) → IsReady d0 t → IsReady d1 t1 → TableEnds (length copies) t t1 r → d1.flash.bad ≡ d0.flash.bad
+      → (d0.honest ≡ true → Grows d0.flash d1.flash)
+      → (d0.honest ≡ true → GroupsAfter (next_group t (length copies) w) (copy_name copies) (copy_bytes copies d0.flash) d0.flash d1.flash r)
+      → (d0.honest ≡ true → d1.gone ≡ false → NewestAfterCopies copies t d0.flash d1.flash result) → CopiesPages copies (log_of d0 t) (log_of d1 t1) result
+  pages_written r result before ready ends bad grows groups newest = record {
+    keeps = keeps_same d0 d1 t t1 (same_ends (length copies) t t1 r ends) lasts ready numbers (limits_ends (length copies) t t1 r ends less);
+    stored = λ honest. data_written copies w d0 d1 t fresh may honest (grows honest) r (groups honest);
+    newest = newest;
+    apart = λ honest. apart_written copies w d0 d1 t fresh may honest (grows honest) before bad r (groups honest);
+  }
+
+  -- and where the block was marked, or was to be
+  pub pages_failed : (d2 : Device) (t2 : Table) (result : Result Copied MoveFault) → Passes d0 d2 (closed t) t2 → Lasts d1 d2 → HandsOut d1 d2 t1 t2 → IsReady d2 t2
+      → (KeepsKeptAt t d0.flash d2.flash → NewestAfterCopies copies t d0.flash d2.flash result) → CopiesPages copies (log_of d0 t) (log_of d2 t2) result
+  pages_failed d2 t2 result passes marks after ready newest = record {
+    keeps = keeps_passes d0 d2 t (closed t) t2 (same_closed t (closed t) refl) (lasts_on d0 d1 d2 lasts marks) ready (hands_on d0 d1 d2 t t1 t2 lasts marks numbers after)
+        (limits_ends (length copies) t (closed t) (Err groups.Failed) refl less) passes;
+    stored = λ honest. data_where d0.flash d2.flash (closed t) (passes.newest honest);
+    newest = λ honest power. newest (kept_where d0.flash d2.flash (closed t) (passes.newest honest));
+    apart = λ honest. inl (kept_where d0.flash d2.flash (closed t) (passes.newest honest));
+  }
+
+-- copies that were made cost their programs, and a last page that was said to fail is a failure
+pub pays_written : (count s : ℕ) (a b : LogState) (target : Target) → (if target.suspect then 1 else 0) ≡ s → bad_count b.table ≡ bad_count a.table → b.device.failures ≡ a.device.failures + s
+    → b.device.changes ≡ a.device.changes + count → ReadsFew 0 a.device b.device → PaysWriting count a b (Ok (ends.Into target))
+pays_written count s a b target is bad failed changes reads =
+    let e : ℕ = a.device.geometry.pages + 1 in
+    let all : e * b.device.failures ≡ e * (a.device.failures + (if target.suspect then 1 else 0)) = ap (λ n. e * n) (failed ∙ ap (λ n. a.device.failures + n) (sym is)) in
+    record {
+      costs = omega (arith, all, changes);
+      marks = omega (arith, bad, failed, is);
+      answers = omega (arith, bad, failed, is);
+      reads = reads;
+    }
+
+-- where no block was marked a fault left at most as many
+pub pays_ended : (count : ℕ) (a b : LogState) (fault : MoveFault) → bad_count b.table ≡ bad_count a.table → Lasts a.device b.device → b.device.changes ≤ a.device.changes + count
+    → ReadsFew 1 a.device b.device → PaysWriting count a b (Err fault)
+pays_ended count a b fault bad lasts changes reads =
+    let e : ℕ = a.device.geometry.pages + 1 in
+    let more : e * a.device.failures ≤ e * b.device.failures = mul-le-mul_left e lasts.failures in
+    let none : e * (a.device.failures + 0) ≡ e * a.device.failures = omega arith in
+    let failures = lasts.failures in
+    record {
+      costs = omega (arith, more, none, changes);
+      marks = omega (arith, bad, failures);
+      answers = tt;
+      reads = reads;
+    }
+
+-- a mark is one change, and no read
+pub reads_marked : (n : ℕ) (d0 d1 d2 : Device) → ReadsFew 0 d0 d1 → d2.reads ≡ d1.reads → d1.changes ≤ d2.changes → d2.failures ≡ d1.failures → ReadsFew n d0 d2
+reads_marked n d0 d1 d2 reads same changes failures = omega (arith, reads, same, changes, failures)
+
+pub changes_marked : (count : ℕ) (d0 d1 d2 : Device) → d2.changes ≤ d1.changes + 1 → d1.changes ≤ d0.changes + count → d2.changes ≤ d0.changes + count + 1
+changes_marked count d0 d1 d2 one changes = omega (arith, one, changes)
+
+module _ (count : ℕ) (a c : LogState) (few : count ≤ a.device.geometry.pages) (failed : c.device.failures ≡ a.device.failures + 1) (changes : c.device.changes ≤ a.device.changes + count + 1) where
+  -- a failure pays for the programs and the mark
+  costs_failed : (n : ℕ) → Costs n (a.device.geometry.pages + 1) 0 a.device c.device
+  costs_failed n =
+      let all : (a.device.geometry.pages + 1) * c.device.failures ≡ (a.device.geometry.pages + 1) * a.device.failures + (a.device.geometry.pages + 1)
+      = ap (λ k. (a.device.geometry.pages + 1) * k) failed ∙ omega arith in
+      let none : (a.device.geometry.pages + 1) * (a.device.failures + 0) ≡ (a.device.geometry.pages + 1) * a.device.failures = omega arith in
+      omega (arith, all, none, changes, few)
+
+  pub pays_marked : bad_count c.table ≡ bad_count a.table + 1 → ReadsFew 0 a.device c.device → PaysWriting count a c (Ok ends.Marked)
+  pays_marked bad reads = record { costs = costs_failed 0; marks = omega (arith, bad, failed); answers = omega (arith, bad, failed); reads = reads }
+
+  pub pays_cut : (fault : MoveFault) → bad_count c.table + a.device.failures ≤ bad_count a.table + c.device.failures → ReadsFew 1 a.device c.device → PaysWriting count a c (Err fault)
+  pays_cut fault bad reads = record { costs = costs_failed count; marks = omega (arith, bad); answers = tt; reads = reads }
+
+-- ---- a block that is taken before
+
+module _ (pages m n u : ℕ) (a b c : Device) (lasts : Lasts a b) (take : CostsATake a b) (rises : b.failures + u ≤ c.failures) (few : m + 1 + b.failures + u ≤ n + c.failures) where
+  -- what is written costs the erase more, or its failure pays for that
+  costs_once : Costs m (pages + 1) u b c → Costs n (pages + 2) u a c
+  costs_once costs =
+      let x : ℕ = c.failures - (b.failures + u) in
+      let is : c.failures ≡ b.failures + u + x = omega (arith, rises) in
+      let one : (pages + 1) * c.failures ≡ (pages + 1) * (b.failures + u) + (pages + 1) * x = ap (λ k. (pages + 1) * k) is ∙ omega arith in
+      let two : (pages + 2) * c.failures ≡ (pages + 2) * b.failures + (pages + 2) * u + (pages + 1) * x + x = ap (λ k. (pages + 2) * k) is ∙ omega arith in
+      let three : (pages + 2) * (a.failures + u) ≡ (pages + 2) * a.failures + (pages + 2) * u = omega arith in
+      let more = each_more (pages + 2) a.failures b.failures (omega arith) lasts.failures in
+      omega (arith, costs, take, more, one, two, three, is, few)
+
+-- the failures that were counted are no fewer than those that are unanswered, and a block that was marked had one
+counts_enough : (count spare : ℕ) (b c : LogState) (r : Result Copied MoveFault) → PaysWriting count b c r → CopiesEnd count spare c.device b.table c.table r → b.device.failures + left_open r ≤ c.device.failures
+    → most_written count r + 1 + b.device.failures + left_open r ≤ most_changes count r + c.device.failures
+counts_enough count spare b c (Ok (ends.Into target)) pays ends rises = omega (arith, rises)
+counts_enough count spare b c (Ok ends.Marked) pays ends rises = let marks = pays.marks in omega (arith, marks, ends.1)
+counts_enough count spare b c (Err fault) pays ends rises = omega (arith, rises)
+
+-- the taking of a block and the writing of copies into it
+pub pays_once : (count spare : ℕ) (a b c : LogState) (r : Result Copied MoveFault) → Lasts a.device b.device → CostsATake a.device b.device → b.device.reads ≡ a.device.reads
+    → bad_count b.table + a.device.failures ≤ bad_count a.table + b.device.failures → bad_count a.table + b.device.failures ≤ bad_count b.table + a.device.failures
+    → bad_count b.table ≤ bad_count c.table → CopiesEnd count spare c.device b.table c.table r → PaysWriting count b c r → PaysOneBlock count a c r
+pays_once count spare a b c r lasts take same marked answered rises ends pays =
+    let marks = pays.marks in
+    let counted : b.device.failures + left_open r ≤ c.device.failures = omega (arith, marks, rises) in
+    let costs = subst (λ (g : Geometry). Costs (most_written count r) (g.pages + 1) (left_open r) b.device c.device) lasts.geometry pays.costs in
+    let reads = pays.reads in
+    let changes = lasts.changes in
+    let failures = lasts.failures in
+    record {
+      costs = costs_once a.device.geometry.pages (most_written count r) (most_changes count r) (left_open r) a.device b.device c.device lasts take counted (counts_enough count spare b c r pays ends counted) costs;
+      marks = omega (arith, marked, marks);
+      answers = on_ok_weaker r (λ others. omega (arith, answered, others)) pays.answers;
+      reads = omega (arith, same, reads, changes, failures);
+    }
+
+-- the same where none was taken
+pub pays_untaken : (count : ℕ) (a b : LogState) (fault : MoveFault) → Lasts a.device b.device → CostsATake a.device b.device → b.device.reads ≡ a.device.reads
+    → bad_count b.table + a.device.failures ≤ bad_count a.table + b.device.failures → PaysOneBlock count a b (Err fault)
+pays_untaken count a b fault lasts take same marked =
+    let changes = lasts.changes in
+    let failures = lasts.failures in
+    record {
+      costs = costs_taken a.device.geometry.pages count a.device b.device lasts take;
+      marks = omega (arith, marked);
+      answers = tt;
+      reads = omega (arith, same, changes, failures);
+    }
 
 -- ---- ends
 

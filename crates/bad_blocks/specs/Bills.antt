@@ -3,8 +3,11 @@
 use Rattle.std.specs.Prelude.{ℕ, ◌+◌, Option, Result, OnOk}
 use Rattle.nand_model.specs.Counts.{Costs, ReadsFew, unfinished}
 use Rattle.transactions.specs.Checking.{LogState}
+use Rattle.bad_blocks.specs.Copying.{as_copied, left_open, most_changes, most_written}
 use Rattle.bad_blocks.specs.Moving.{AnswersFailures, MarksFailures, unanswered}
 use Rattle.bad_blocks.specs.Retiring.{open_failures}
+use Rattle.bad_blocks.specs.declared.copying.Copied.{Copied}
+use Rattle.bad_blocks.specs.declared.copying.Target.{Target}
 use Rattle.bad_blocks.specs.declared.fault.MoveFault.{MoveFault}
 use Rattle.bad_blocks.specs.declared.moving.Moved.{Moved}
 
@@ -27,6 +30,19 @@ pub record Pays {T E : Type 0} (bill : Bill) (old new : LogState) (result : Resu
 -- so many changes, and for each failure an erase, the pages of a block and a mark
 abbrev pub bill_of : LogState → (changes marks unanswered : ℕ) → Bill
 bill_of log changes marks unanswered = record { changes = changes; each = log.device.geometry.pages + 2; marks = marks; unanswered = unanswered }
+
+-- the writing of so many copies into the open block: a program for each, and for each failure the pages of a block and a mark
+abbrev pub PaysWriting : (count : ℕ) → LogState → LogState → Result Copied MoveFault → Type 0
+PaysWriting count old new result =
+    Pays (record { changes = most_written count result; each = old.device.geometry.pages + 1; marks = 0; unanswered = left_open result }) old new result
+
+-- the same into a block that is taken
+abbrev pub PaysOneBlock : (count : ℕ) → LogState → LogState → Result Copied MoveFault → Type 0
+PaysOneBlock count old new result = Pays (bill_of old (most_changes count result) 0 (left_open result)) old new result
+
+-- the same into the first block in which that does not fail
+abbrev pub PaysTarget : (count : ℕ) → LogState → LogState → Result Target MoveFault → Type 0
+PaysTarget count old new result = Pays (bill_of old (count + 1) 0 (left_open (as_copied result))) old new result
 
 -- the move of so many pages: an erase, and a program for each page
 abbrev pub PaysCopies : (count : ℕ) → LogState → LogState → Result Moved MoveFault → Type 0

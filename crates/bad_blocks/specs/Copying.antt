@@ -6,6 +6,7 @@ use Rattle.nand_model.specs.Calls.{Device, Lasts}
 use Rattle.block_state.specs.Kept.{bad_count, unkept_count}
 use Rattle.block_state.specs.Table.{Table}
 use Rattle.chunk_index.specs.declared.form.KeptPage.{KeptPage}
+use Rattle.transactions.specs.Checking.{LogState}
 use Rattle.transactions.specs.Copying.{CanCopy, copy_name}
 use Rattle.transactions.specs.Naming.{AreOrdinary}
 use Rattle.transactions.specs.Handing.{HandsOut}
@@ -90,6 +91,14 @@ pub record LieApart (copies : List CopyOf) (t : Table) (old : Flash) (new : Devi
 abbrev pub StayOrLieApart : List CopyOf → Table → Flash → Device → Type 0
 StayOrLieApart copies t old new = KeepsKeptAt t old new.flash ⊎ LieApart copies t old new
 
+-- What becomes of the log and of committed pages while listed ones are copied, wherever that ends: no count of a block changes but by
+-- marks; and on an honest device what is newest keeps its data, and stays where it is, or the copies are the newest of their keys.
+pub record CopiesPages (copies : List CopyOf) (old new : LogState) (result : Result Copied MoveFault) : Type 0 where
+  pub keeps : KeepsCounts old.device new.device old.table new.table
+  pub stored : old.device.honest ≡ true → KeepsDataAt old.table old.device.flash new.device.flash
+  pub newest : old.device.honest ≡ true → new.device.gone ≡ false → NewestAfterCopies copies old.table old.device.flash new.device.flash result
+  pub apart : old.device.honest ≡ true → StayOrLieApart copies old.table old.device.flash new.device
+
 -- the block is the open one, with so many pages written, and where its last page is suspect none is open
 abbrev pub OpenAfter : ℕ → ℕ → Bool → Table → Type 0
 OpenAfter w count true t = t.open_block ≡ None
@@ -127,11 +136,11 @@ most_changes count (Ok (ends.Into target)) = count + 1
 most_changes count (Ok ends.Marked) = 0
 most_changes count (Err fault) = count + 1
 
--- What the writing costs: each page a program, and a failure a mark besides.
-abbrev pub CopiesCost : ℕ → Device → Device → Result Copied MoveFault → Type 0
-CopiesCost count old new (Ok (ends.Into target)) = (new.changes ≤ old.changes + count) × (new.failures ≡ old.failures + (if target.suspect then 1 else 0))
-CopiesCost count old new (Ok ends.Marked) = (new.changes ≤ old.changes + count + 1) × (old.failures + 1 ≤ new.failures)
-CopiesCost count old new (Err fault) = (new.changes ≤ old.changes + count) ⊎ ((new.changes ≤ old.changes + count + 1) × (old.failures + 1 ≤ new.failures))
+-- Copies that were made are their programs; and each failure programs and a mark.
+abbrev pub most_written : ℕ → Result Copied MoveFault → ℕ
+most_written count (Ok (ends.Into target)) = count
+most_written count (Ok ends.Marked) = 0
+most_written count (Err fault) = count
 
 -- the block is the open one of a device that has power, nothing is written to it or kept in it, and its number is above
 -- those of all tags

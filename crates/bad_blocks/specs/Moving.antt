@@ -1,16 +1,13 @@
 -- The move of the kept pages of a block.
 -- From: this project.
-use Rattle.std.specs.Prelude.{◌≡◌, ◌≢◌, ◌⊎◌, ◌<◌, ◌≤◌, ℕ, ◌+◌, ◌*◌, true, false, Option, Some, None, Result, Ok, Err}
+use Rattle.std.specs.Prelude.{◌≡◌, ◌≢◌, ◌⊎◌, ◌<◌, ◌≤◌, ℕ, ◌+◌, true, false, Option, Some, None, Result, Ok, Err}
 use Rattle.volume_terms.specs.Sizes.{number_end}
-use Rattle.nand_model.specs.Calls.{Device, Lasts}
-use Rattle.block_state.specs.Kept.{bad_count, kept_count}
+use Rattle.nand_model.specs.Calls.{Device}
+use Rattle.block_state.specs.Kept.{bad_count}
 use Rattle.block_state.specs.Table.{Table}
 use Rattle.chunk_index.specs.declared.form.KeptPage.{KeptPage}
 use Rattle.chunk_index.specs.declared.index.Index.{Index}
 use Rattle.chunk_index.specs.Maps.{kept_pages, present, moved_to, StaysPrepared, IsReadyKey}
-use Rattle.transactions.specs.Handing.{HandsOut}
-use Rattle.transactions.specs.Ready.{IsReady}
-use Rattle.bad_blocks.specs.Standing.{SameData}
 use Rattle.bad_blocks.specs.declared.moving.Moved.{Moved}
 use Rattle.bad_blocks.specs.declared.moving.Moved.TheVariants as places
 use Rattle.bad_blocks.specs.declared.fault.MoveFault.{MoveFault}

@@ -1,14 +1,13 @@
 // The copying of listed pages into a block that is taken.
-ghost use Rattle.std.specs.Prelude.{◌≡◌, ◌<◌, ◌≤◌, ◌^◌, ◌+◌, ℕ, length, true, false, None, OnOk};
+ghost use Rattle.std.specs.Prelude.{◌≡◌, ◌<◌, ◌≤◌, ℕ, length, None, OnOk};
 ghost use Rattle.volume_terms.specs.Sizes.{number_end};
-ghost use Rattle.nand_model.specs.Calls.{Device};
 ghost use Rattle.block_state.specs.Kept.{bad_count};
 ghost use Rattle.block_state.specs.TableOf.{table};
+ghost use Rattle.transactions.specs.Checking.{log_of};
 ghost use Rattle.transactions.specs.Ready.{IsReady};
+ghost use Rattle.bad_blocks.specs.Bills.{PaysWriting, PaysOneBlock, PaysTarget};
+ghost use Rattle.bad_blocks.specs.Copying.{MayBeCopied, CopiesPages, CopiesEnd, FewBad, IsFresh, as_copied};
 ghost use Rattle.bad_blocks.specs.Taking.{HasUnkept};
-ghost use Rattle.nand_model.specs.Counts.{Costs, ReadsFew, unfinished};
-ghost use Rattle.bad_blocks.specs.Moving.{AnswersFailures, MarksFailures};
-ghost use Rattle.bad_blocks.specs.Copying.{MayBeCopied, KeepsCounts, KeepsDataAt, NewestAfterCopies, StayOrLieApart, CopiesEnd, CopiesCost, FewBad, IsFresh, left_open, most_changes, as_copied};
 
 use crate::fault::MoveFault;
 use crate::take::take_block;
@@ -46,15 +45,8 @@ fn write_copies<N: Nand>(
     requires group { (table blocks.old).next_group < number_end }
     requires size { length scratch.old ≡ (N.state device.old).geometry.bytes }
     requires copies { MayBeCopied (N.state device.old) (table blocks.old) copies.now }
-    ensures keeps { KeepsCounts (N.state device.old) (N.state device.new) (table blocks.old) (table blocks.new) }
-    ensures marks { MarksFailures 0 (left_open result) (N.state device.old) (N.state device.new) (table blocks.old) (table blocks.new) }
-    ensures answers { OnOk result (AnswersFailures 0 (left_open result) (N.state device.old) (N.state device.new) (table blocks.old) (table blocks.new)) }
-    ensures costs { CopiesCost (length copies.now) (N.state device.old) (N.state device.new) result }
-    ensures reads { ReadsFew (unfinished result) (N.state device.old) (N.state device.new) }
-    ensures data { (N.state device.old).honest ≡ true → KeepsDataAt (table blocks.old) (N.state device.old).flash (N.state device.new).flash }
-    ensures newest { (N.state device.old).honest ≡ true → (N.state device.new).gone ≡ false
-        → NewestAfterCopies copies.now (table blocks.old) (N.state device.old).flash (N.state device.new).flash result }
-    ensures apart { (N.state device.old).honest ≡ true → StayOrLieApart copies.now (table blocks.old) (N.state device.old).flash (N.state device.new) }
+    ensures pages { CopiesPages copies.now (log_of (N.state device.old) (table blocks.old)) (log_of (N.state device.new) (table blocks.new)) result }
+    ensures pays { PaysWriting (length copies.now) (log_of (N.state device.old) (table blocks.old)) (log_of (N.state device.new) (table blocks.new)) result }
     ensures few { (spare : ℕ) → bad_count (table blocks.old) ≤ spare → FewBad spare (table blocks.new) result }
     ensures ends { (spare : ℕ) → CopiesEnd (length copies.now) spare (N.state device.new) (table blocks.old) (table blocks.new) result }
 {
@@ -86,15 +78,8 @@ fn copy_once<N: Nand>(
     requires some { HasUnkept (table blocks.old) spare }
     requires size { length scratch.old ≡ (N.state device.old).geometry.bytes }
     requires copies { MayBeCopied (N.state device.old) (table blocks.old) copies.now }
-    ensures keeps { KeepsCounts (N.state device.old) (N.state device.new) (table blocks.old) (table blocks.new) }
-    ensures marks { MarksFailures 0 (left_open result) (N.state device.old) (N.state device.new) (table blocks.old) (table blocks.new) }
-    ensures answers { OnOk result (AnswersFailures 0 (left_open result) (N.state device.old) (N.state device.new) (table blocks.old) (table blocks.new)) }
-    ensures costs { Costs (most_changes (length copies.now) result) ((N.state device.old).geometry.pages + 2) (left_open result) (N.state device.old) (N.state device.new) }
-    ensures reads { ReadsFew (unfinished result) (N.state device.old) (N.state device.new) }
-    ensures data { (N.state device.old).honest ≡ true → KeepsDataAt (table blocks.old) (N.state device.old).flash (N.state device.new).flash }
-    ensures newest { (N.state device.old).honest ≡ true → (N.state device.new).gone ≡ false
-        → NewestAfterCopies copies.now (table blocks.old) (N.state device.old).flash (N.state device.new).flash result }
-    ensures apart { (N.state device.old).honest ≡ true → StayOrLieApart copies.now (table blocks.old) (N.state device.old).flash (N.state device.new) }
+    ensures pages { CopiesPages copies.now (log_of (N.state device.old) (table blocks.old)) (log_of (N.state device.new) (table blocks.new)) result }
+    ensures pays { PaysOneBlock (length copies.now) (log_of (N.state device.old) (table blocks.old)) (log_of (N.state device.new) (table blocks.new)) result }
     ensures few { FewBad spare (table blocks.new) result }
     ensures ends { CopiesEnd (length copies.now) spare (N.state device.new) (table blocks.old) (table blocks.new) result }
 {
@@ -118,15 +103,8 @@ pub(crate) fn copy_listed<N: Nand>(
     requires some { HasUnkept (table blocks.old) spare }
     requires size { length scratch.old ≡ (N.state device.old).geometry.bytes }
     requires copies { MayBeCopied (N.state device.old) (table blocks.old) copies.now }
-    ensures keeps { KeepsCounts (N.state device.old) (N.state device.new) (table blocks.old) (table blocks.new) }
-    ensures marks { MarksFailures 0 (left_open (as_copied result)) (N.state device.old) (N.state device.new) (table blocks.old) (table blocks.new) }
-    ensures answers { OnOk result (AnswersFailures 0 (left_open (as_copied result)) (N.state device.old) (N.state device.new) (table blocks.old) (table blocks.new)) }
-    ensures costs { Costs (length copies.now + 1) ((N.state device.old).geometry.pages + 2) (left_open (as_copied result)) (N.state device.old) (N.state device.new) }
-    ensures reads { ReadsFew (unfinished result) (N.state device.old) (N.state device.new) }
-    ensures data { (N.state device.old).honest ≡ true → KeepsDataAt (table blocks.old) (N.state device.old).flash (N.state device.new).flash }
-    ensures newest { (N.state device.old).honest ≡ true → (N.state device.new).gone ≡ false
-        → NewestAfterCopies copies.now (table blocks.old) (N.state device.old).flash (N.state device.new).flash (as_copied result) }
-    ensures apart { (N.state device.old).honest ≡ true → StayOrLieApart copies.now (table blocks.old) (N.state device.old).flash (N.state device.new) }
+    ensures pages { CopiesPages copies.now (log_of (N.state device.old) (table blocks.old)) (log_of (N.state device.new) (table blocks.new)) (as_copied result) }
+    ensures pays { PaysTarget (length copies.now) (log_of (N.state device.old) (table blocks.old)) (log_of (N.state device.new) (table blocks.new)) result }
     ensures few { OnOk result (bad_count (table blocks.new) ≤ spare) }
     ensures ends { CopiesEnd (length copies.now) spare (N.state device.new) (table blocks.old) (table blocks.new) (as_copied result) }
 {

@@ -2,7 +2,6 @@
 use Rattle.std.proofs.Common.{◌≡◌, ℕ, Some, None, refl, sym, ap, subst, ◌∙◌, inl, inr}
 use Rattle.std.proofs.lemmas.Bool.{cases_eq}
 use Rattle.nand_model.specs.Calls.{Device}
-use Rattle.nand_model.specs.laws.Calls.{lasts_on, lasts_here}
 use Rattle.block_state.specs.Table.{Table}
 use Rattle.chunk_index.specs.declared.form.KeptPage.{KeptPage}
 use Rattle.chunk_index.specs.declared.form.Present.{Present}
@@ -10,12 +9,8 @@ use Rattle.chunk_index.specs.declared.form.Present.TheVariants as presents
 use Rattle.chunk_index.specs.declared.index.Index.{Index}
 use Rattle.chunk_index.specs.Kept.{HoldsNone}
 use Rattle.chunk_index.specs.Maps.{kept_pages, present, moved_to}
-use Rattle.transactions.specs.Ready.{IsReady}
-use Rattle.transactions.specs.laws.Handing.{hands_on, hands_nothing, hands_closed}
-use Rattle.transactions.specs.laws.Ready.{ready_closed}
 use Rattle.bad_blocks.specs.Moving.{MovesOut, IsKeptIn}
 use Rattle.bad_blocks.specs.Standing.{Stands}
-use Rattle.bad_blocks.specs.laws.Moves.{moves_out_none}
 
 pub moved_twice : (q r : KeptPage) (p : Present) → moved_to r (moved_to q p) ≡ moved_to r p
 moved_twice q r presents.Absent = refl

@@ -1,19 +1,19 @@
-use Rattle.std.proofs.Common.{◌≡◌, ◌≤◌, ◌+◌, ◌-◌, true, None, length}
+use Rattle.std.proofs.Common.{◌≡◌, ◌≤◌, ◌+◌, ◌-◌, true, None, Ok, length}
 use Rattle.block_state.specs.Kept.{bad_count}
 use Rattle.block_state.specs.TableOf.{table}
+use Rattle.transactions.specs.Checking.{log_of}
+use Rattle.bad_blocks.specs.Bills.{Pays, bill_of}
 use Rattle.bad_blocks.specs.Copying.{MayBeCopied, KeepsCounts, KeepsDataAt, KeepsKeptAt}
-use Rattle.nand_model.specs.Counts.{Costs, ReadsFew}
-use Rattle.bad_blocks.specs.Moving.{AnswersFailures, MarksFailures}
 use Rattle.bad_blocks.specs.Taking.{LiesApart}
+use Rattle.bad_blocks.specs.declared.copying.Copied.TheVariants as ends
+use Rattle.bad_blocks.specs.declared.fault.MoveFault.{MoveFault}
 use Rattle.bad_blocks.proofs.copying.copy_listed.Given as goal
 
 abbrev pub invariant-loop-target : goal.invariant-loop-target
 invariant-loop-target g l = record {
   keeps : KeepsCounts (g.N.Nand.state l.fn.device) (g.N.Nand.state l.device) (table l.fn.blocks) (table l.blocks);
-  marks : MarksFailures 0 0 (g.N.Nand.state l.fn.device) (g.N.Nand.state l.device) (table l.fn.blocks) (table l.blocks);
-  answers : AnswersFailures 0 0 (g.N.Nand.state l.fn.device) (g.N.Nand.state l.device) (table l.fn.blocks) (table l.blocks);
-  costs : Costs 0 ((g.N.Nand.state l.fn.device).geometry.pages + 2) 0 (g.N.Nand.state l.fn.device) (g.N.Nand.state l.device);
-  reads : ReadsFew 0 (g.N.Nand.state l.fn.device) (g.N.Nand.state l.device);
+  pays : Pays {E = MoveFault} (bill_of (log_of (g.N.Nand.state l.fn.device) (table l.fn.blocks)) 0 0 0) (log_of (g.N.Nand.state l.fn.device) (table l.fn.blocks))
+      (log_of (g.N.Nand.state l.device) (table l.blocks)) (Ok ends.Marked);
   stored : (g.N.Nand.state l.fn.device).honest ≡ true → KeepsDataAt (table l.fn.blocks) (g.N.Nand.state l.fn.device).flash (g.N.Nand.state l.device).flash;
   newest : (g.N.Nand.state l.fn.device).honest ≡ true → KeepsKeptAt (table l.fn.blocks) (g.N.Nand.state l.fn.device).flash (g.N.Nand.state l.device).flash;
   closed : (table l.blocks).open_block ≡ None;

@@ -1,21 +1,20 @@
-use Rattle.std.proofs.Common.{◌≡◌, ◌+◌, Ok, Err, refl, subst, length, arith, inl, rules}
+use Rattle.std.proofs.Common.{◌≡◌, ◌+◌, ◌∙◌, Ok, Err, refl, sym, subst, length, arith, inl, rules}
+use Rattle.std.proofs.lemmas.Bool.{false≢true}
 use Rattle.nand_model.specs.Calls.{Device}
-use Rattle.nand_model.specs.laws.Calls.{lasts_on}
 use Rattle.block_state.specs.Kept.{bad_count}
 use Rattle.block_state.specs.laws.Kept.{same_bad_count}
 use Rattle.block_state.specs.Table.{Table}
 use Rattle.block_state.specs.TableOf.{table}
+use Rattle.transactions.specs.Checking.{log_of}
 use Rattle.transactions.specs.Groups.{closed}
 use Rattle.transactions.specs.Marking.{NotesMark}
-use Rattle.transactions.specs.laws.Handing.{hands_on}
 use Rattle.transactions.specs.laws.Ready.{none_waits}
 use Rattle.flash_tree.specs.laws.Truth.{none_after}
 use Rattle.transactions.specs.declared.group.GroupFault.TheVariants as groups
-use Rattle.bad_blocks.proofs.Free.{one_more}
-use Rattle.bad_blocks.specs.laws.Keeping.{same_closed, same_ends, limits_ends, keeps_passes, keeps_same}
-use Rattle.bad_blocks.specs.laws.KeptPages.{kept_where, data_where}
+use Rattle.bad_blocks.proofs.Free.{one_more, mark_costs, mark_fails_not}
+use Rattle.bad_blocks.specs.laws.Keeping.{same_ends}
 use Rattle.bad_blocks.proofs.KeptPages.{has_copies}
-use Rattle.bad_blocks.proofs.Writing.{data_written, apart_written, copies_written, passes_failed}
+use Rattle.bad_blocks.proofs.Writing.{copies_written, passes_failed, pages_failed, pages_written, changes_marked, pays_cut, pays_ended, pays_marked, pays_written, reads_marked}
 use Rattle.bad_blocks.proofs.copying.write_copies.Goals as goal
 
 pub write_group-requires-clause-has : goal.write_group-requires-clause-has
@@ -41,136 +40,11 @@ returns-in-Ok-clause-ends g c = λ spare. (
   search rules,
 )
 
-pub returns-in-Ok-clause-keeps : goal.returns-in-Ok-clause-keeps
-returns-in-Ok-clause-keeps g c =
-    let wrote = c.in-Ok.ensures in
-    keeps_same _ _ (table c.args.blocks.now) (table c.write_group.new.blocks) (same_ends (length c.args.copies.now) _ _ (Ok c.in-Ok.placed) wrote.table) wrote.lasts wrote.ready wrote.numbers
-    (limits_ends (length c.args.copies.now) (table c.args.blocks.now) (table c.write_group.new.blocks) (Ok c.in-Ok.placed) wrote.table c.requires.group)
-
 pub returns-in-Ok-clause-few : goal.returns-in-Ok-clause-few
 returns-in-Ok-clause-few g c = λ spare few.
     let wrote = c.in-Ok.ensures in
     let same : bad_count (table c.write_group.new.blocks) ≡ bad_count (table c.args.blocks.now) = same_bad_count _ _ (same_ends (length c.args.copies.now) _ _ (Ok c.in-Ok.placed) wrote.table) in
     omega (arith, same, few)
-
-pub returns-in-Ok-clause-data : goal.returns-in-Ok-clause-data
-returns-in-Ok-clause-data g c = λ honest.
-    let wrote = c.in-Ok.ensures in
-    data_written c.args.copies.now c.args.block (g.N.Nand.state c.args.device.now) (g.N.Nand.state c.write_group.new.device) (table c.args.blocks.now) c.requires.fresh c.requires.copies honest (wrote.grows honest)
-    (Ok c.in-Ok.placed) (wrote.groups honest c.args.block c.requires.fresh.open_block)
-
-pub returns-in-Ok-clause-newest : goal.returns-in-Ok-clause-newest
-returns-in-Ok-clause-newest g c = λ honest power.
-    let wrote = c.in-Ok.ensures in
-    let told = wrote.placed c.args.block c.requires.fresh.open_block in
-    rw told.block (copies_written c.args.copies.now c.args.block (g.N.Nand.state c.args.device.now) (g.N.Nand.state c.write_group.new.device) (table c.args.blocks.now) c.requires.fresh c.requires.copies honest (wrote.grows honest)
-    c.in-Ok.placed (wrote.groups honest c.args.block c.requires.fresh.open_block))
-
-pub returns-in-Err-Lost-clause-keeps : goal.returns-in-Err-Lost-clause-keeps
-returns-in-Err-Lost-clause-keeps g c =
-    let wrote = rw c.in-Err-Lost.field-0-is at c.in-Err-Lost.ensures in
-    keeps_same _ _ (table c.args.blocks.now) (table c.write_group.new.blocks) (same_ends (length c.args.copies.now) _ _ (Err groups.Lost) wrote.table) wrote.lasts wrote.ready wrote.numbers
-    (limits_ends (length c.args.copies.now) (table c.args.blocks.now) (table c.write_group.new.blocks) (Err groups.Lost) wrote.table c.requires.group)
-
-pub returns-in-Err-Gone-clause-keeps : goal.returns-in-Err-Gone-clause-keeps
-returns-in-Err-Gone-clause-keeps g c =
-    let wrote = rw c.in-Err-Gone.field-0-is at c.in-Err-Gone.ensures in
-    keeps_same _ _ (table c.args.blocks.now) (table c.write_group.new.blocks) (same_ends (length c.args.copies.now) _ _ (Err groups.Gone) wrote.table) wrote.lasts wrote.ready wrote.numbers
-    (limits_ends (length c.args.copies.now) (table c.args.blocks.now) (table c.write_group.new.blocks) (Err groups.Gone) wrote.table c.requires.group)
-
-pub returns-in-Err-Gone-clause-data : goal.returns-in-Err-Gone-clause-data
-returns-in-Err-Gone-clause-data g c = λ honest.
-    let wrote = rw c.in-Err-Gone.field-0-is at c.in-Err-Gone.ensures in
-    data_written c.args.copies.now c.args.block (g.N.Nand.state c.args.device.now) (g.N.Nand.state c.write_group.new.device) (table c.args.blocks.now) c.requires.fresh c.requires.copies honest (wrote.grows honest)
-    (Err groups.Gone) (wrote.groups honest c.args.block c.requires.fresh.open_block)
-
-pub returns-in-Err-clause-keeps : goal.returns-in-Err-clause-keeps
-returns-in-Err-clause-keeps g c =
-    let d0 : Device = g.N.Nand.state c.args.device.now in
-    let d1 : Device = g.N.Nand.state c.write_group.new.device in
-    let d2 : Device = g.N.Nand.state c.mark_block.new.device in
-    let t : Table = table c.args.blocks.now in
-    let wrote = rw c.in-Err-Failed.field-0-is at c.in-Err-Failed.ensures in
-    let marked = c.mark_block.ensures in
-    let passes = passes_failed c.args.copies.now c.args.block d0 d1 d2 t (table c.write_group.new.blocks) (table c.mark_block.new.blocks) _ c.requires.fresh c.requires.copies
-    wrote.lasts wrote.ends.0 wrote.grows (λ honest. wrote.groups honest c.args.block c.requires.fresh.open_block) wrote.table marked.marks marked.newest marked.notes in
-    keeps_passes d0 d2 t (closed t) (table c.mark_block.new.blocks) (same_closed t (closed t) refl) (lasts_on d0 d1 d2 wrote.lasts marked.marks.lasts) marked.ready
-    (hands_on d0 d1 d2 t (table c.write_group.new.blocks) (table c.mark_block.new.blocks) wrote.lasts marked.marks.lasts wrote.numbers marked.numbers)
-    (limits_ends (length c.args.copies.now) t (closed t) (Err groups.Failed) refl c.requires.group) passes
-
-pub returns-in-Err-clause-marks : goal.returns-in-Err-clause-marks
-returns-in-Err-clause-marks g c =
-    let d0 : Device = g.N.Nand.state c.args.device.now in
-    let d1 : Device = g.N.Nand.state c.write_group.new.device in
-    let d2 : Device = g.N.Nand.state c.mark_block.new.device in
-    let t : Table = table c.args.blocks.now in
-    let wrote = rw c.in-Err-Failed.field-0-is at c.in-Err-Failed.ensures in
-    let marked = c.mark_block.ensures in
-    let passes = passes_failed c.args.copies.now c.args.block d0 d1 d2 t (table c.write_group.new.blocks) (table c.mark_block.new.blocks) _ c.requires.fresh c.requires.copies
-    wrote.lasts wrote.ends.0 wrote.grows (λ honest. wrote.groups honest c.args.block c.requires.fresh.open_block) wrote.table marked.marks marked.newest marked.notes in
-    omega (arith, passes.failures)
-
-pub returns-in-Err-clause-data : goal.returns-in-Err-clause-data
-returns-in-Err-clause-data g c =
-    let d0 : Device = g.N.Nand.state c.args.device.now in
-    let d1 : Device = g.N.Nand.state c.write_group.new.device in
-    let d2 : Device = g.N.Nand.state c.mark_block.new.device in
-    let t : Table = table c.args.blocks.now in
-    let wrote = rw c.in-Err-Failed.field-0-is at c.in-Err-Failed.ensures in
-    let marked = c.mark_block.ensures in
-    let passes = passes_failed c.args.copies.now c.args.block d0 d1 d2 t (table c.write_group.new.blocks) (table c.mark_block.new.blocks) _ c.requires.fresh c.requires.copies
-    wrote.lasts wrote.ends.0 wrote.grows (λ honest. wrote.groups honest c.args.block c.requires.fresh.open_block) wrote.table marked.marks marked.newest marked.notes in
-    λ honest. data_where d0.flash d2.flash (closed t) (passes.newest honest)
-
-pub returns-in-Ok-mark_block-clause-keeps : goal.returns-in-Ok-mark_block-clause-keeps
-returns-in-Ok-mark_block-clause-keeps g c =
-    let d0 : Device = g.N.Nand.state c.args.device.now in
-    let d1 : Device = g.N.Nand.state c.write_group.new.device in
-    let d2 : Device = g.N.Nand.state c.mark_block.new.device in
-    let t : Table = table c.args.blocks.now in
-    let wrote = rw c.in-Err-Failed.field-0-is at c.in-Err-Failed.ensures in
-    let marked = c.mark_block.ensures in
-    let passes = passes_failed c.args.copies.now c.args.block d0 d1 d2 t (table c.write_group.new.blocks) (table c.mark_block.new.blocks) _ c.requires.fresh c.requires.copies
-    wrote.lasts wrote.ends.0 wrote.grows (λ honest. wrote.groups honest c.args.block c.requires.fresh.open_block) wrote.table marked.marks marked.newest marked.notes in
-    keeps_passes d0 d2 t (closed t) (table c.mark_block.new.blocks) (same_closed t (closed t) refl) (lasts_on d0 d1 d2 wrote.lasts marked.marks.lasts) marked.ready
-    (hands_on d0 d1 d2 t (table c.write_group.new.blocks) (table c.mark_block.new.blocks) wrote.lasts marked.marks.lasts wrote.numbers marked.numbers)
-    (limits_ends (length c.args.copies.now) t (closed t) (Err groups.Failed) refl c.requires.group) passes
-
-pub returns-in-Ok-mark_block-clause-marks : goal.returns-in-Ok-mark_block-clause-marks
-returns-in-Ok-mark_block-clause-marks g c =
-    let d0 : Device = g.N.Nand.state c.args.device.now in
-    let d1 : Device = g.N.Nand.state c.write_group.new.device in
-    let d2 : Device = g.N.Nand.state c.mark_block.new.device in
-    let t : Table = table c.args.blocks.now in
-    let wrote = rw c.in-Err-Failed.field-0-is at c.in-Err-Failed.ensures in
-    let marked = c.mark_block.ensures in
-    let passes = passes_failed c.args.copies.now c.args.block d0 d1 d2 t (table c.write_group.new.blocks) (table c.mark_block.new.blocks) _ c.requires.fresh c.requires.copies
-    wrote.lasts wrote.ends.0 wrote.grows (λ honest. wrote.groups honest c.args.block c.requires.fresh.open_block) wrote.table marked.marks marked.newest marked.notes in
-    omega (arith, passes.failures)
-
-pub returns-in-Ok-mark_block-clause-data : goal.returns-in-Ok-mark_block-clause-data
-returns-in-Ok-mark_block-clause-data g c =
-    let d0 : Device = g.N.Nand.state c.args.device.now in
-    let d1 : Device = g.N.Nand.state c.write_group.new.device in
-    let d2 : Device = g.N.Nand.state c.mark_block.new.device in
-    let t : Table = table c.args.blocks.now in
-    let wrote = rw c.in-Err-Failed.field-0-is at c.in-Err-Failed.ensures in
-    let marked = c.mark_block.ensures in
-    let passes = passes_failed c.args.copies.now c.args.block d0 d1 d2 t (table c.write_group.new.blocks) (table c.mark_block.new.blocks) _ c.requires.fresh c.requires.copies
-    wrote.lasts wrote.ends.0 wrote.grows (λ honest. wrote.groups honest c.args.block c.requires.fresh.open_block) wrote.table marked.marks marked.newest marked.notes in
-    λ honest. data_where d0.flash d2.flash (closed t) (passes.newest honest)
-
-pub returns-in-Ok-mark_block-clause-newest : goal.returns-in-Ok-mark_block-clause-newest
-returns-in-Ok-mark_block-clause-newest g c =
-    let d0 : Device = g.N.Nand.state c.args.device.now in
-    let d1 : Device = g.N.Nand.state c.write_group.new.device in
-    let d2 : Device = g.N.Nand.state c.mark_block.new.device in
-    let t : Table = table c.args.blocks.now in
-    let wrote = rw c.in-Err-Failed.field-0-is at c.in-Err-Failed.ensures in
-    let marked = c.mark_block.ensures in
-    let passes = passes_failed c.args.copies.now c.args.block d0 d1 d2 t (table c.write_group.new.blocks) (table c.mark_block.new.blocks) _ c.requires.fresh c.requires.copies
-    wrote.lasts wrote.ends.0 wrote.grows (λ honest. wrote.groups honest c.args.block c.requires.fresh.open_block) wrote.table marked.marks marked.newest marked.notes in
-    λ honest power. kept_where d0.flash d2.flash (closed t) (passes.newest honest)
 
 pub returns-in-Ok-mark_block-clause-ends : goal.returns-in-Ok-mark_block-clause-ends
 returns-in-Ok-mark_block-clause-ends g c = λ spare.
@@ -182,59 +56,103 @@ returns-in-Ok-mark_block-clause-ends g c = λ spare.
     let more : bad_count (table c.mark_block.new.blocks) ≡ bad_count t + 1 = one_more c.args.block _ (closed t) _ c.requires.fresh.within c.requires.fresh.good marks.bad notes in
     (notes.open_block, omega (arith, more), marks.ends.is)
 
-pub returns-in-Ok-clause-apart : goal.returns-in-Ok-clause-apart
-returns-in-Ok-clause-apart g c = λ honest.
+pub returns-in-Ok-clause-pages : goal.returns-in-Ok-clause-pages
+returns-in-Ok-clause-pages g c =
+    let d0 : Device = g.N.Nand.state c.args.device.now in
+    let d1 : Device = g.N.Nand.state c.write_group.new.device in
+    let t : Table = table c.args.blocks.now in
     let wrote = c.in-Ok.ensures in
-    apart_written c.args.copies.now c.args.block (g.N.Nand.state c.args.device.now) (g.N.Nand.state c.write_group.new.device) (table c.args.blocks.now) c.requires.fresh c.requires.copies honest (wrote.grows honest)
-    c.requires.ready wrote.stays.bad (Ok c.in-Ok.placed) (wrote.groups honest c.args.block c.requires.fresh.open_block)
+    let told = wrote.placed c.args.block c.requires.fresh.open_block in
+    pages_written c.args.copies.now c.args.block d0 d1 t (table c.write_group.new.blocks) c.requires.fresh c.requires.copies c.requires.group wrote.lasts wrote.numbers (Ok c.in-Ok.placed) _
+    c.requires.ready wrote.ready wrote.table wrote.stays.bad wrote.grows (λ honest. wrote.groups honest c.args.block c.requires.fresh.open_block)
+    (λ honest power. rw told.block (copies_written c.args.copies.now c.args.block d0 d1 t c.requires.fresh c.requires.copies honest (wrote.grows honest) c.in-Ok.placed (wrote.groups honest c.args.block c.requires.fresh.open_block)))
 
-pub returns-in-Err-Lost-clause-apart : goal.returns-in-Err-Lost-clause-apart
-returns-in-Err-Lost-clause-apart g c = λ honest.
-    let wrote = rw c.in-Err-Lost.field-0-is at c.in-Err-Lost.ensures in
-    apart_written c.args.copies.now c.args.block (g.N.Nand.state c.args.device.now) (g.N.Nand.state c.write_group.new.device) (table c.args.blocks.now) c.requires.fresh c.requires.copies honest (wrote.grows honest)
-    c.requires.ready wrote.stays.bad (Err groups.Lost) (wrote.groups honest c.args.block c.requires.fresh.open_block)
-
-pub returns-in-Err-Gone-clause-apart : goal.returns-in-Err-Gone-clause-apart
-returns-in-Err-Gone-clause-apart g c = λ honest.
-    let wrote = rw c.in-Err-Gone.field-0-is at c.in-Err-Gone.ensures in
-    apart_written c.args.copies.now c.args.block (g.N.Nand.state c.args.device.now) (g.N.Nand.state c.write_group.new.device) (table c.args.blocks.now) c.requires.fresh c.requires.copies honest (wrote.grows honest)
-    c.requires.ready wrote.stays.bad (Err groups.Gone) (wrote.groups honest c.args.block c.requires.fresh.open_block)
-
-pub returns-in-Err-clause-apart : goal.returns-in-Err-clause-apart
-returns-in-Err-clause-apart g c =
-    let d0 : Device = g.N.Nand.state c.args.device.now in
-    let d1 : Device = g.N.Nand.state c.write_group.new.device in
-    let d2 : Device = g.N.Nand.state c.mark_block.new.device in
-    let t : Table = table c.args.blocks.now in
-    let wrote = rw c.in-Err-Failed.field-0-is at c.in-Err-Failed.ensures in
-    let marked = c.mark_block.ensures in
-    let passes = passes_failed c.args.copies.now c.args.block d0 d1 d2 t (table c.write_group.new.blocks) (table c.mark_block.new.blocks) _ c.requires.fresh c.requires.copies
-    wrote.lasts wrote.ends.0 wrote.grows (λ honest. wrote.groups honest c.args.block c.requires.fresh.open_block) wrote.table marked.marks marked.newest marked.notes in
-    λ honest. inl (kept_where d0.flash d2.flash (closed t) (passes.newest honest))
-
-pub returns-in-Ok-mark_block-clause-apart : goal.returns-in-Ok-mark_block-clause-apart
-returns-in-Ok-mark_block-clause-apart g c =
-    let d0 : Device = g.N.Nand.state c.args.device.now in
-    let d1 : Device = g.N.Nand.state c.write_group.new.device in
-    let d2 : Device = g.N.Nand.state c.mark_block.new.device in
-    let t : Table = table c.args.blocks.now in
-    let wrote = rw c.in-Err-Failed.field-0-is at c.in-Err-Failed.ensures in
-    let marked = c.mark_block.ensures in
-    let passes = passes_failed c.args.copies.now c.args.block d0 d1 d2 t (table c.write_group.new.blocks) (table c.mark_block.new.blocks) _ c.requires.fresh c.requires.copies
-    wrote.lasts wrote.ends.0 wrote.grows (λ honest. wrote.groups honest c.args.block c.requires.fresh.open_block) wrote.table marked.marks marked.newest marked.notes in
-    λ honest. inl (kept_where d0.flash d2.flash (closed t) (passes.newest honest))
-
-pub returns-in-Ok-clause-answers : goal.returns-in-Ok-clause-answers
-returns-in-Ok-clause-answers g c =
+pub returns-in-Ok-clause-pays : goal.returns-in-Ok-clause-pays
+returns-in-Ok-clause-pays g c =
     let wrote = c.in-Ok.ensures in
     let same : bad_count (table c.write_group.new.blocks) ≡ bad_count (table c.args.blocks.now) = same_bad_count _ _ (same_ends (length c.args.copies.now) _ _ (Ok c.in-Ok.placed) wrote.table) in
-    omega (arith, same, wrote.ends.0)
+    pays_written (length c.args.copies.now) _ (log_of (g.N.Nand.state c.args.device.now) (table c.args.blocks.now)) (log_of (g.N.Nand.state c.write_group.new.device) (table c.write_group.new.blocks)) _
+    refl same wrote.ends.0 wrote.ends.2 wrote.reads
 
-pub returns-in-Ok-mark_block-clause-answers : goal.returns-in-Ok-mark_block-clause-answers
-returns-in-Ok-mark_block-clause-answers g c =
+pub returns-in-Err-Lost-clause-pages : goal.returns-in-Err-Lost-clause-pages
+returns-in-Err-Lost-clause-pages g c =
+    let wrote = rw c.in-Err-Lost.field-0-is at c.in-Err-Lost.ensures in
+    pages_written c.args.copies.now c.args.block (g.N.Nand.state c.args.device.now) (g.N.Nand.state c.write_group.new.device) (table c.args.blocks.now) (table c.write_group.new.blocks)
+    c.requires.fresh c.requires.copies c.requires.group wrote.lasts wrote.numbers (Err groups.Lost) _
+    c.requires.ready wrote.ready wrote.table wrote.stays.bad wrote.grows (λ honest. wrote.groups honest c.args.block c.requires.fresh.open_block)
+    (λ honest power. absurd (false≢true (sym wrote.ends.0 ∙ honest)))
+
+pub returns-in-Err-Lost-clause-pays : goal.returns-in-Err-Lost-clause-pays
+returns-in-Err-Lost-clause-pays g c =
+    let wrote = rw c.in-Err-Lost.field-0-is at c.in-Err-Lost.ensures in
+    pays_ended (length c.args.copies.now) (log_of (g.N.Nand.state c.args.device.now) (table c.args.blocks.now)) (log_of (g.N.Nand.state c.write_group.new.device) (table c.write_group.new.blocks)) _
+    (same_bad_count (table c.args.blocks.now) (table c.write_group.new.blocks) (same_ends (length c.args.copies.now) (table c.args.blocks.now) (table c.write_group.new.blocks) (Err groups.Lost) wrote.table)) wrote.lasts wrote.ends.1 wrote.reads
+
+pub returns-in-Err-Gone-clause-pages : goal.returns-in-Err-Gone-clause-pages
+returns-in-Err-Gone-clause-pages g c =
+    let wrote = rw c.in-Err-Gone.field-0-is at c.in-Err-Gone.ensures in
+    pages_written c.args.copies.now c.args.block (g.N.Nand.state c.args.device.now) (g.N.Nand.state c.write_group.new.device) (table c.args.blocks.now) (table c.write_group.new.blocks)
+    c.requires.fresh c.requires.copies c.requires.group wrote.lasts wrote.numbers (Err groups.Gone) _
+    c.requires.ready wrote.ready wrote.table wrote.stays.bad wrote.grows (λ honest. wrote.groups honest c.args.block c.requires.fresh.open_block)
+    (λ honest power. absurd (false≢true (sym power ∙ wrote.ends.0)))
+
+pub returns-in-Err-Gone-clause-pays : goal.returns-in-Err-Gone-clause-pays
+returns-in-Err-Gone-clause-pays g c =
+    let wrote = rw c.in-Err-Gone.field-0-is at c.in-Err-Gone.ensures in
+    pays_ended (length c.args.copies.now) (log_of (g.N.Nand.state c.args.device.now) (table c.args.blocks.now)) (log_of (g.N.Nand.state c.write_group.new.device) (table c.write_group.new.blocks)) _
+    (same_bad_count (table c.args.blocks.now) (table c.write_group.new.blocks) (same_ends (length c.args.copies.now) (table c.args.blocks.now) (table c.write_group.new.blocks) (Err groups.Gone) wrote.table)) wrote.lasts wrote.ends.1 wrote.reads
+
+pub returns-in-Err-clause-pages : goal.returns-in-Err-clause-pages
+returns-in-Err-clause-pages g c =
+    let d0 : Device = g.N.Nand.state c.args.device.now in
+    let d1 : Device = g.N.Nand.state c.write_group.new.device in
+    let d2 : Device = g.N.Nand.state c.mark_block.new.device in
     let t : Table = table c.args.blocks.now in
     let wrote = rw c.in-Err-Failed.field-0-is at c.in-Err-Failed.ensures in
-    let notes = subst (λ (x : Table). NotesMark c.args.block (g.N.Nand.state c.mark_block.new.device).flash x (table c.mark_block.new.blocks)) wrote.table c.mark_block.ensures.notes in
+    let marked = c.mark_block.ensures in
+    let passes = passes_failed c.args.copies.now c.args.block d0 d1 d2 t (table c.write_group.new.blocks) (table c.mark_block.new.blocks) _ c.requires.fresh c.requires.copies
+    wrote.lasts wrote.ends.0 wrote.grows (λ honest. wrote.groups honest c.args.block c.requires.fresh.open_block) wrote.table marked.marks marked.newest marked.notes in
+    pages_failed c.args.copies.now c.args.block d0 d1 t (table c.write_group.new.blocks) c.requires.fresh c.requires.copies c.requires.group wrote.lasts wrote.numbers
+    d2 (table c.mark_block.new.blocks) _ passes marked.marks.lasts marked.numbers marked.ready (λ kept. kept)
+
+pub returns-in-Err-clause-pays : goal.returns-in-Err-clause-pays
+returns-in-Err-clause-pays g c =
+    let d0 : Device = g.N.Nand.state c.args.device.now in
+    let d1 : Device = g.N.Nand.state c.write_group.new.device in
+    let d2 : Device = g.N.Nand.state c.mark_block.new.device in
+    let t : Table = table c.args.blocks.now in
+    let wrote = rw c.in-Err-Failed.field-0-is at c.in-Err-Failed.ensures in
+    let marked = c.mark_block.ensures in
+    let passes = passes_failed c.args.copies.now c.args.block d0 d1 d2 t (table c.write_group.new.blocks) (table c.mark_block.new.blocks) _ c.requires.fresh c.requires.copies
+    wrote.lasts wrote.ends.0 wrote.grows (λ honest. wrote.groups honest c.args.block c.requires.fresh.open_block) wrote.table marked.marks marked.newest marked.notes in
+    let same = mark_fails_not c.args.block d1 d2 _ marked.marks in
+    pays_cut (length c.args.copies.now) (log_of d0 t) (log_of d2 (table c.mark_block.new.blocks)) c.requires.copies.few (same ∙ wrote.ends.0)
+    (changes_marked (length c.args.copies.now) d0 d1 d2 (mark_costs c.args.block d1 d2 _ marked.marks) wrote.ends.3) _ passes.failures
+    (reads_marked 1 d0 d1 d2 wrote.reads marked.marks.reads marked.marks.lasts.changes same)
+
+pub returns-in-Ok-mark_block-clause-pages : goal.returns-in-Ok-mark_block-clause-pages
+returns-in-Ok-mark_block-clause-pages g c =
+    let d0 : Device = g.N.Nand.state c.args.device.now in
+    let d1 : Device = g.N.Nand.state c.write_group.new.device in
+    let d2 : Device = g.N.Nand.state c.mark_block.new.device in
+    let t : Table = table c.args.blocks.now in
+    let wrote = rw c.in-Err-Failed.field-0-is at c.in-Err-Failed.ensures in
+    let marked = c.mark_block.ensures in
+    let passes = passes_failed c.args.copies.now c.args.block d0 d1 d2 t (table c.write_group.new.blocks) (table c.mark_block.new.blocks) _ c.requires.fresh c.requires.copies
+    wrote.lasts wrote.ends.0 wrote.grows (λ honest. wrote.groups honest c.args.block c.requires.fresh.open_block) wrote.table marked.marks marked.newest marked.notes in
+    pages_failed c.args.copies.now c.args.block d0 d1 t (table c.write_group.new.blocks) c.requires.fresh c.requires.copies c.requires.group wrote.lasts wrote.numbers
+    d2 (table c.mark_block.new.blocks) _ passes marked.marks.lasts marked.numbers marked.ready (λ kept. kept)
+
+pub returns-in-Ok-mark_block-clause-pays : goal.returns-in-Ok-mark_block-clause-pays
+returns-in-Ok-mark_block-clause-pays g c =
+    let d0 : Device = g.N.Nand.state c.args.device.now in
+    let d1 : Device = g.N.Nand.state c.write_group.new.device in
+    let d2 : Device = g.N.Nand.state c.mark_block.new.device in
+    let t : Table = table c.args.blocks.now in
+    let wrote = rw c.in-Err-Failed.field-0-is at c.in-Err-Failed.ensures in
     let marks = c.in-Ok-mark_block.ensures.marks in
+    let notes = subst (λ (x : Table). NotesMark c.args.block d2.flash x (table c.mark_block.new.blocks)) wrote.table c.mark_block.ensures.notes in
     let more : bad_count (table c.mark_block.new.blocks) ≡ bad_count t + 1 = one_more c.args.block _ (closed t) _ c.requires.fresh.within c.requires.fresh.good marks.bad notes in
-    omega (arith, more, wrote.ends.0, marks.ends.failures)
+    pays_marked (length c.args.copies.now) (log_of d0 t) (log_of d2 (table c.mark_block.new.blocks)) c.requires.copies.few (marks.ends.failures ∙ wrote.ends.0)
+    (changes_marked (length c.args.copies.now) d0 d1 d2 (mark_costs c.args.block d1 d2 _ marks) wrote.ends.3) more
+    (reads_marked 0 d0 d1 d2 wrote.reads marks.reads marks.lasts.changes marks.ends.failures)

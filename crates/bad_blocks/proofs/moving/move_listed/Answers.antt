@@ -16,18 +16,18 @@ copy_listed-requires-clause-copies g c = may_be_copied c.args.spare c.requires.l
 pub tell_copies-requires-clause-within : goal.tell_copies-requires-clause-within
 tell_copies-requires-clause-within g c =
     let copied = c.in_ok-target.ensures in
-    subst (λ (geometry : Geometry). c.in_ok-target.target.block < geometry.blocks) (sym copied.keeps.geometry) copied.ends.0.within
+    subst (λ (geometry : Geometry). c.in_ok-target.target.block < geometry.blocks) (sym copied.pages.keeps.geometry) copied.ends.0.within
 
 pub tell_copies-requires-clause-agree : goal.tell_copies-requires-clause-agree
 tell_copies-requires-clause-agree g c =
     let copied = c.in_ok-target.ensures in
     let agree = c.requires.can.stands.tables.counts in
-    record { counts = λ b. copied.keeps.kept b ∙ agree.counts b; within = λ b le. agree.within b (subst (λ (geometry : Geometry). geometry.blocks ≤ b) copied.keeps.geometry le) }
+    record { counts = λ b. copied.pages.keeps.kept b ∙ agree.counts b; within = λ b le. agree.within b (subst (λ (geometry : Geometry). geometry.blocks ≤ b) copied.pages.keeps.geometry le) }
 
 pub tell_copies-requires-clause-few : goal.tell_copies-requires-clause-few
 tell_copies-requires-clause-few g c =
     let may = may_be_copied c.args.spare c.requires.listed.0 _ (table c.args.blocks.now) c.args.index.now c.args.copies.now c.requires.can.ready c.requires.can.stands c.requires.listed.1 in
-    subst (λ (geometry : Geometry). length c.args.copies.now ≤ geometry.pages) (sym (c.in_ok-target.ensures.keeps.geometry ∙ c.requires.can.ready.geometry)) may.few
+    subst (λ (geometry : Geometry). length c.args.copies.now ≤ geometry.pages) (sym (c.in_ok-target.ensures.pages.keeps.geometry ∙ c.requires.can.ready.geometry)) may.few
 
 -- the block of the copies had no kept page
 unlike : (v w : ℕ) (t : Table) → 1 ≤ (t.entry v).kept → (t.entry w).kept ≡ 0 → v ≢ w
@@ -47,9 +47,9 @@ returns-in_err-target-clause-step g c =
     let x = c.args.index.now in
     let held = are_held t0 x (c.the_counts_are_of_the_keys.ensures.none x) c.requires.can.stands.tables.counts in
     let copied = c.in_err-target.ensures in
-    let stand = stands_kept c.args.spare d0 d1 t0 t1 x held copied.keeps c.requires.can.stands copied.ends.0 copied.newest in
-    let free = free_copied c.args.spare d0 d1 t0 t1 x held copied.keeps c.requires.can.stands stand.tables c.requires.listed.0 c.args.copies.now c.requires.listed.1 copied.apart in
-    step_kept c.args.spare d0 d1 t0 t1 x held copied.keeps c.requires.can.stands stand copied.data free
+    let stand = stands_kept c.args.spare d0 d1 t0 t1 x held copied.pages.keeps c.requires.can.stands copied.ends.0 copied.pages.newest in
+    let free = free_copied c.args.spare d0 d1 t0 t1 x held copied.pages.keeps c.requires.can.stands stand.tables c.requires.listed.0 c.args.copies.now c.requires.listed.1 copied.pages.apart in
+    step_kept c.args.spare d0 d1 t0 t1 x held copied.pages.keeps c.requires.can.stands stand copied.pages.stored free
 
 pub returns-in_err-target-clause-out : goal.returns-in_err-target-clause-out
 returns-in_err-target-clause-out g c = λ v listed. moves_out_none v c.args.index.now
@@ -58,7 +58,7 @@ pub returns-in_err-target-clause-pays : goal.returns-in_err-target-clause-pays
 returns-in_err-target-clause-pays g c =
     let p = err_from_is_err_and c.from_residual.result c.from_residual.ensures.1 in
     let copied = c.in_err-target.ensures in
-    rw p.1 (record { costs = copied.costs; marks = copied.marks; answers = tt; reads = copied.reads })
+    rw p.1 (record { costs = copied.pays.costs; marks = copied.pays.marks; answers = tt; reads = copied.pays.reads })
 
 pub returns-in_err-target-clause-ends : goal.returns-in_err-target-clause-ends
 returns-in_err-target-clause-ends g c = λ v listed.
@@ -82,18 +82,18 @@ returns-then-suspect g c =
     let told = c.tell_copies.ensures.tells v listed.lists (unlike v target.block t0 listed.some copied.ends.0.unkept) in
     let agree = c.tell_copies.ensures.agree in
     record {
-      step = step_moved c.args.spare v target d0 d1 t0 t1 t2 x y c.args.copies.now listed held copied.keeps c.requires.can.stands copied.ends.0 told agree copied.newest (are_held t2 y (c.the_counts_are_of_the_keys.ensures.none y) agree) copied.ends.1 copied.data;
+      step = step_moved c.args.spare v target d0 d1 t0 t1 t2 x y c.args.copies.now listed held copied.pages.keeps c.requires.can.stands copied.ends.0 told agree copied.pages.newest (are_held t2 y (c.the_counts_are_of_the_keys.ensures.none y) agree) copied.ends.1 copied.pages.stored;
       out = λ v listed.
           let told = c.tell_copies.ensures.tells v listed.lists (unlike v target.block t0 listed.some copied.ends.0.unkept) in
-          moves_out c.args.spare v target d0 d1 t0 t1 t2 x y c.args.copies.now listed held copied.keeps c.requires.can.stands copied.ends.0 told agree copied.newest;
-      pays = pays_moved c.args.spare v target d0 d1 t0 t1 t2 x y c.args.copies.now listed held copied.keeps c.requires.can.stands copied.ends.0 told agree copied.newest 1 _ (ap (λ (s : Bool). if s then 1 else 0) c.if-suspect.true) copied.costs copied.marks copied.answers copied.reads;
-      few = let same = same_bads c.args.spare v target d0 d1 t0 t1 t2 x y c.args.copies.now listed held copied.keeps c.requires.can.stands copied.ends.0 told agree copied.newest in omega (arith, same, copied.few);
+          moves_out c.args.spare v target d0 d1 t0 t1 t2 x y c.args.copies.now listed held copied.pages.keeps c.requires.can.stands copied.ends.0 told agree copied.pages.newest;
+      pays = pays_moved c.args.spare v target d0 d1 t0 t1 t2 x y c.args.copies.now listed held copied.pages.keeps c.requires.can.stands copied.ends.0 told agree copied.pages.newest 1 _ (ap (λ (s : Bool). if s then 1 else 0) c.if-suspect.true) copied.pays;
+      few = let same = same_bads c.args.spare v target d0 d1 t0 t1 t2 x y c.args.copies.now listed held copied.pages.keeps c.requires.can.stands copied.ends.0 told agree copied.pages.newest in omega (arith, same, copied.few);
       ends = λ v listed.
           let told = c.tell_copies.ensures.tells v listed.lists (unlike v target.block t0 listed.some copied.ends.0.unkept) in (
-            is_left c.args.spare v target d0 d1 t0 t1 t2 x y c.args.copies.now listed held copied.keeps c.requires.can.stands copied.ends.0 told agree copied.newest,
-            (lies_in c.args.spare v target d0 d1 t0 t1 t2 x y c.args.copies.now listed held copied.keeps c.requires.can.stands copied.ends.0 told agree copied.newest, is_closed c.args.spare v target d0 d1 t0 t1 t2 x y c.args.copies.now listed held copied.keeps c.requires.can.stands copied.ends.0 told agree copied.newest c.if-suspect.true),
+            is_left c.args.spare v target d0 d1 t0 t1 t2 x y c.args.copies.now listed held copied.pages.keeps c.requires.can.stands copied.ends.0 told agree copied.pages.newest,
+            (lies_in c.args.spare v target d0 d1 t0 t1 t2 x y c.args.copies.now listed held copied.pages.keeps c.requires.can.stands copied.ends.0 told agree copied.pages.newest, is_closed c.args.spare v target d0 d1 t0 t1 t2 x y c.args.copies.now listed held copied.pages.keeps c.requires.can.stands copied.ends.0 told agree copied.pages.newest c.if-suspect.true),
             copied.ends.1,
-            none_noted c.args.spare v target d0 d1 t0 t1 t2 x y c.args.copies.now listed held copied.keeps c.requires.can.stands copied.ends.0 told agree copied.newest,
+            none_noted c.args.spare v target d0 d1 t0 t1 t2 x y c.args.copies.now listed held copied.pages.keeps c.requires.can.stands copied.ends.0 told agree copied.pages.newest,
           );
     }
 
@@ -114,17 +114,17 @@ returns g c =
     let told = c.tell_copies.ensures.tells v listed.lists (unlike v target.block t0 listed.some copied.ends.0.unkept) in
     let agree = c.tell_copies.ensures.agree in
     record {
-      step = step_moved c.args.spare v target d0 d1 t0 t1 t2 x y c.args.copies.now listed held copied.keeps c.requires.can.stands copied.ends.0 told agree copied.newest (are_held t2 y (c.the_counts_are_of_the_keys.ensures.none y) agree) copied.ends.1 copied.data;
+      step = step_moved c.args.spare v target d0 d1 t0 t1 t2 x y c.args.copies.now listed held copied.pages.keeps c.requires.can.stands copied.ends.0 told agree copied.pages.newest (are_held t2 y (c.the_counts_are_of_the_keys.ensures.none y) agree) copied.ends.1 copied.pages.stored;
       out = λ v listed.
           let told = c.tell_copies.ensures.tells v listed.lists (unlike v target.block t0 listed.some copied.ends.0.unkept) in
-          moves_out c.args.spare v target d0 d1 t0 t1 t2 x y c.args.copies.now listed held copied.keeps c.requires.can.stands copied.ends.0 told agree copied.newest;
-      pays = pays_moved c.args.spare v target d0 d1 t0 t1 t2 x y c.args.copies.now listed held copied.keeps c.requires.can.stands copied.ends.0 told agree copied.newest 0 _ (ap (λ (s : Bool). if s then 1 else 0) c.if-suspect.false) copied.costs copied.marks copied.answers copied.reads;
-      few = let same = same_bads c.args.spare v target d0 d1 t0 t1 t2 x y c.args.copies.now listed held copied.keeps c.requires.can.stands copied.ends.0 told agree copied.newest in omega (arith, same, copied.few);
+          moves_out c.args.spare v target d0 d1 t0 t1 t2 x y c.args.copies.now listed held copied.pages.keeps c.requires.can.stands copied.ends.0 told agree copied.pages.newest;
+      pays = pays_moved c.args.spare v target d0 d1 t0 t1 t2 x y c.args.copies.now listed held copied.pages.keeps c.requires.can.stands copied.ends.0 told agree copied.pages.newest 0 _ (ap (λ (s : Bool). if s then 1 else 0) c.if-suspect.false) copied.pays;
+      few = let same = same_bads c.args.spare v target d0 d1 t0 t1 t2 x y c.args.copies.now listed held copied.pages.keeps c.requires.can.stands copied.ends.0 told agree copied.pages.newest in omega (arith, same, copied.few);
       ends = λ v listed.
           let told = c.tell_copies.ensures.tells v listed.lists (unlike v target.block t0 listed.some copied.ends.0.unkept) in (
-            is_left c.args.spare v target d0 d1 t0 t1 t2 x y c.args.copies.now listed held copied.keeps c.requires.can.stands copied.ends.0 told agree copied.newest,
-            (target.block, lies_open c.args.spare v target d0 d1 t0 t1 t2 x y c.args.copies.now listed held copied.keeps c.requires.can.stands copied.ends.0 told agree copied.newest c.if-suspect.false),
+            is_left c.args.spare v target d0 d1 t0 t1 t2 x y c.args.copies.now listed held copied.pages.keeps c.requires.can.stands copied.ends.0 told agree copied.pages.newest,
+            (target.block, lies_open c.args.spare v target d0 d1 t0 t1 t2 x y c.args.copies.now listed held copied.pages.keeps c.requires.can.stands copied.ends.0 told agree copied.pages.newest c.if-suspect.false),
             copied.ends.1,
-            none_noted c.args.spare v target d0 d1 t0 t1 t2 x y c.args.copies.now listed held copied.keeps c.requires.can.stands copied.ends.0 told agree copied.newest,
+            none_noted c.args.spare v target d0 d1 t0 t1 t2 x y c.args.copies.now listed held copied.pages.keeps c.requires.can.stands copied.ends.0 told agree copied.pages.newest,
           );
     }

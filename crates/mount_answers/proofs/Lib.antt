@@ -7,3 +7,4 @@ pub mod Room
 pub mod Listed
 pub mod Filtered
 pub mod VolumeSizes
+pub mod RootFaults

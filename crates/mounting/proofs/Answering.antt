@@ -17,7 +17,8 @@ use Rattle.mount_answers.specs.Newest.{IsNewestMap}
 use Rattle.mounting.specs.Faults.{AnswersFault}
 use Rattle.tree_walk.specs.declared.tree.Tree.{Tree}
 use Rattle.mounting.specs.Mounted.{IsTreeOn}
-use Rattle.mounting.specs.Trees.{IsGoneThrough, HasWrongTree, TellsTree}
+use Rattle.mount_answers.specs.Trees.{HasWrongTree, WhyNoTree}
+use Rattle.mounting.specs.Trees.{IsGoneThrough}
 
 -- the laws that are used of a map of the newest pages
 pub record MapsAnswer : Type 0 where
@@ -30,7 +31,7 @@ wrong_answers laws g flash m wrong newest (inl at_root) = laws.root g flash m wr
 wrong_answers laws g flash m wrong newest (inr below) = laws.tree g flash m below.0 wrong newest below.1 below.2
 
 -- what is told of the pages, and a device that failed
-pub answers_fault : MapsAnswer → (d : Device) (m : PageMap) (fault : RootFault) → IsNewestMap d.flash m → TellsTree d.geometry (has m) fault → (fault ≡ roots.Device → d.gone ≡ true) → AnswersFault d fault
+pub answers_fault : MapsAnswer → (d : Device) (m : PageMap) (fault : RootFault) → IsNewestMap d.flash m → WhyNoTree d.geometry (has m) fault → (fault ≡ roots.Device → d.gone ≡ true) → AnswersFault d fault
 answers_fault laws d m roots.NoMemory newest told gone = tt
 answers_fault laws d m roots.Device newest told gone = gone refl
 answers_fault laws d m roots.NotAVolume newest told gone = laws.no_volume d.geometry d.flash m newest told
@@ -42,13 +43,13 @@ newest_after a b m reads honest newest = subst (λ (f : Flash). IsNewestMap f m)
 
 -- what is told of the pages of a device that was scanned, and is only read
 pub fault_answered : MapsAnswer → (d back : Device) (x : Index) (fault : RootFault) → OnlyReads d back → (d.honest ≡ true → IsNewestMap d.flash (kept_data x d.flash))
-    → ((d.honest && true) ≡ true → TellsTree d.geometry (has (kept_data x d.flash)) fault) → (fault ≡ roots.Device → (back.gone ≡ true) ⊎ ((d.honest && true) ≡ false))
+    → ((d.honest && true) ≡ true → WhyNoTree d.geometry (has (kept_data x d.flash)) fault) → (fault ≡ roots.Device → (back.gone ≡ true) ⊎ ((d.honest && true) ≡ false))
     → back.honest ≡ true → AnswersFault back fault
 fault_answered laws d back x fault reads newest told why honest =
     let was : d.honest ≡ true = sym reads.lasts.honest ∙ honest in
     let both : (d.honest && true) ≡ true = ap (λ h. h && true) was in
     let m : PageMap = kept_data x d.flash in
-    answers_fault laws back m fault (newest_after d back m reads was (newest was)) (subst (λ (g : Geometry). TellsTree g (has m) fault) (sym reads.lasts.geometry) (told both))
+    answers_fault laws back m fault (newest_after d back m reads was (newest was)) (subst (λ (g : Geometry). WhyNoTree g (has m) fault) (sym reads.lasts.geometry) (told both))
     (λ device. elim (why device) [
       | inl gone ↦ gone
       | inr lies ↦ let two : true ≡ false = sym both ∙ lies in absurd cc

@@ -1,4 +1,3 @@
-pub mod Finding
 pub mod Pruning
 pub mod Answering
 pub mod Covering

@@ -23,7 +23,7 @@ use Rattle.tree_walk.specs.declared.fault.RootFault.{RootFault}
 use Rattle.tree_walk.specs.declared.fault.RootFault.TheVariants as roots
 use Rattle.volume_terms.specs.Sizes.{Sizes, root_number}
 use Rattle.mounting.specs.Reads.{WhyNotThrough, EndsMount}
-use Rattle.mounting.specs.Trees.{HasWrongTree, TellsTree}
+use Rattle.mount_answers.specs.Trees.{HasWrongTree, WhyNoTree}
 use Rattle.mounting.proofs.Entering.{is_size}
 use Rattle.mounting.proofs.Noting.{one_spare}
 use Rattle.mounting.proofs.Parting.{single}
@@ -62,7 +62,7 @@ module _ (g : Geometry) (m : PageMap) (spare : ℕ) (objects : Objects) (volume 
   wrong_none wrong (inr (s, other, amiss)) =
       wrong_tree wrong (subst (λ n. IsWrongTree (sizes_of g n) (has m) wrong) (one_spare g (has m) (single m) s spare other volume) amiss)
 
-  pub nothing_wrong : (fault : RootFault) → TellsTree g (has m) fault → (fault ≡ roots.NoMemory) ⊎ (fault ≡ roots.Device)
+  pub nothing_wrong : (fault : RootFault) → WhyNoTree g (has m) fault → (fault ≡ roots.NoMemory) ⊎ (fault ≡ roots.Device)
   nothing_wrong roots.NoMemory told = inl refl
   nothing_wrong roots.Device told = inr refl
   nothing_wrong roots.NotAVolume told = absurd (no_volume told)

@@ -16,7 +16,7 @@ use Rattle.tree_walk.specs.Trees.{tree_pages}
 use Rattle.tree_walk.specs.declared.fault.RootFault.{RootFault}
 use Rattle.tree_walk.specs.declared.fault.RootFault.TheVariants as roots
 use Rattle.tree_walk.specs.declared.tree.Tree.{Tree}
-use Rattle.mounting.specs.Trees.{TellsTree}
+use Rattle.mount_answers.specs.Trees.{WhyNoTree}
 
 -- at most the pages of the tree's headers and slots were read
 abbrev pub ReadsThrough : Device → Device → (spare : ℕ) → Tree → Type 0
@@ -63,7 +63,7 @@ pub record ReadsAtMost (old new : Device) : Type 0 where
 
 -- why no tree of the pages that an index keeps was gone through: what is told of them, and where the device failed it is gone
 abbrev pub WhyNotThrough : Index → Device → Device → RootFault → Type 0
-WhyNotThrough x old new fault = TellsTree old.geometry (has (kept_data x old.flash)) fault × (fault ≡ roots.Device → new.gone ≡ true)
+WhyNotThrough x old new fault = WhyNoTree old.geometry (has (kept_data x old.flash)) fault × (fault ≡ roots.Device → new.gone ≡ true)
 
 -- no scan follows: memory was refused, or the device is gone
 abbrev pub EndsMount : Device → RootFault → Type 0

@@ -1,14 +1,9 @@
 -- The tree of a volume that was gone through.
-use Rattle.std.specs.Prelude.{◌≡◌, ◌⊎◌, ℕ, true}
+use Rattle.std.specs.Prelude.{◌≡◌, ℕ}
 use Rattle.flash_tree.specs.Tree.{NewestMap}
-use Rattle.flash_tree.specs.Mount.{Wrong, IsNewer, IsDamaged, sizes_of, IsVolume, IsNoVolume, HasWrongRoot}
+use Rattle.flash_tree.specs.Mount.{sizes_of, IsVolume}
 use Rattle.nand_model.specs.declared.geometry.Geometry.{Geometry}
-use Rattle.pages.specs.State.{PagesState}
-use Rattle.tree_walk.specs.Trees.{IsTreeThrough, IsWrongTree, page_size}
-use Rattle.tree_walk.specs.declared.fault.RootFault.{RootFault}
-use Rattle.tree_walk.specs.declared.fault.RootFault.TheVariants as roots
-use Rattle.tree_walk.specs.declared.fault.WalkFault.{WalkFault}
-use Rattle.tree_walk.specs.declared.fault.WalkFault.TheVariants as walks
+use Rattle.tree_walk.specs.Trees.{IsTreeThrough, page_size}
 use Rattle.tree_walk.specs.declared.tree.Tree.{Tree}
 
 -- The pages are those of a volume with so many spare blocks, and its tree was gone through wholly.
@@ -16,30 +11,3 @@ pub record IsGoneThrough (g : Geometry) (m : NewestMap) (spare : ℕ) (tree : Tr
   pub volume : IsVolume g m spare
   pub size : page_size tree ≡ g.bytes
   pub tree_is : IsTreeThrough (sizes_of g spare) m tree
-
--- the root's header, an object or the names of directories are wrong
-abbrev pub HasWrongTree : Geometry → NewestMap → Wrong → Type 0
-HasWrongTree g m wrong = HasWrongRoot g m wrong ⊎ ((spare : ℕ) × IsVolume g m spare × IsWrongTree (sizes_of g spare) m wrong)
-
--- why no tree was gone through; a refusal of memory, and a device that failed, tell nothing of the pages
-abbrev pub TellsTree : Geometry → NewestMap → RootFault → Type 0
-TellsTree g m roots.NoMemory = Unit {0}
-TellsTree g m roots.Device = Unit {0}
-TellsTree g m roots.NotAVolume = IsNoVolume m
-TellsTree g m (roots.Newer format) = HasWrongTree g m (IsNewer format)
-TellsTree g m roots.Damaged = HasWrongTree g m IsDamaged
-
--- the same reason
-abbrev pub of_walk : WalkFault → RootFault
-of_walk walks.NoMemory = roots.NoMemory
-of_walk walks.Device = roots.Device
-of_walk (walks.Newer format) = roots.Newer format
-of_walk walks.Damaged = roots.Damaged
-
--- a device that is told to have failed is gone, or it is not honest
-abbrev pub FailsTree : PagesState → RootFault → Type 0
-FailsTree new roots.NoMemory = Unit {0}
-FailsTree new roots.Device = new.failed ≡ true
-FailsTree new roots.NotAVolume = Unit {0}
-FailsTree new (roots.Newer format) = Unit {0}
-FailsTree new roots.Damaged = Unit {0}

@@ -12,7 +12,8 @@ ghost use Rattle.tree_walk.specs.declared.fault.RootFault.TheVariants as roots;
 ghost use Rattle.mounting.specs.Faults.{WhyNotMounted};
 ghost use Rattle.mounting.specs.Lending.{LieWithin, TrustsKept};
 ghost use Rattle.mounting.specs.Reads.{ReadsThrough};
-ghost use Rattle.mounting.specs.Trees.{IsGoneThrough, TellsTree};
+ghost use Rattle.mount_answers.specs.Trees.{WhyNoTree};
+ghost use Rattle.mounting.specs.Trees.{IsGoneThrough};
 
 use crate::fault::MountFault;
 use crate::naming::{tree_fault, unmounted};
@@ -44,7 +45,7 @@ pub(crate) fn go_through<N: Nand>(
         → IfOk result (λ read. CoversTree read.1.names (sizes_of (N.state device).geometry read.1.spare) (kept_data index.now (N.state device).flash) read.1.tree) }
     ensures back { IfErr result (λ failed. OnlyReads (N.state device) (N.state failed.0)) }
     ensures fault { ((N.state device).honest && told) ≡ true
-        → IfErr result (λ failed. TellsTree (N.state device).geometry (has (kept_data index.now (N.state device).flash)) failed.1) }
+        → IfErr result (λ failed. WhyNoTree (N.state device).geometry (has (kept_data index.now (N.state device).flash)) failed.1) }
     ensures why { IfErr result (λ failed. failed.1 ≡ roots.Device → ((N.state failed.0).gone ≡ true) ⊎ (((N.state device).honest && told) ≡ false)) }
 {
     let geometry = device.geometry();

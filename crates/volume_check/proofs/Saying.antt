@@ -17,7 +17,7 @@ use Rattle.page_buffer.specs.Shown.{kept_data}
 use Rattle.pages.specs.Maps.{PageMap, has}
 use Rattle.tree_walk.specs.Trees.{IsWrongTree, objects_listed}
 use Rattle.mount_answers.specs.Newest.{IsNewestMap}
-use Rattle.volume_check.specs.Trees.{HasWrongTree}
+use Rattle.mount_answers.specs.Trees.{HasWrongTree}
 use Rattle.volume_check.specs.Verdicts.{TellsVerdict, SaysOfFlash}
 use Rattle.volume_check.specs.declared.verdict.Verdict.{Verdict}
 use Rattle.volume_check.specs.declared.verdict.Verdict.TheVariants as verdicts

@@ -1,14 +1,9 @@
--- A tree that was gone through, or why none was.
-use Rattle.std.specs.Prelude.{◌≡◌, ◌⊎◌, ℕ, true}
+-- A tree that was gone through.
+use Rattle.std.specs.Prelude.{ℕ}
 use Rattle.flash_tree.specs.Tree.{NewestMap}
-use Rattle.flash_tree.specs.Mount.{Wrong, IsNewer, IsDamaged, sizes_of, IsVolume, IsNoVolume, HasWrongRoot}
+use Rattle.flash_tree.specs.Mount.{sizes_of, IsVolume}
 use Rattle.nand_model.specs.declared.geometry.Geometry.{Geometry}
-use Rattle.pages.specs.State.{PagesState}
-use Rattle.tree_walk.specs.Trees.{IsTreeThrough, IsWrongTree}
-use Rattle.tree_walk.specs.declared.fault.RootFault.{RootFault}
-use Rattle.tree_walk.specs.declared.fault.RootFault.TheVariants as roots
-use Rattle.tree_walk.specs.declared.fault.WalkFault.{WalkFault}
-use Rattle.tree_walk.specs.declared.fault.WalkFault.TheVariants as walks
+use Rattle.tree_walk.specs.Trees.{IsTreeThrough}
 use Rattle.tree_walk.specs.declared.tree.Tree.{Tree}
 
 -- the pages are those of a volume whose tree is whole
@@ -17,30 +12,3 @@ pub record HasWholeTree (g : Geometry) (m : NewestMap) : Type 0 where
   pub volume : IsVolume g m spare
   pub tree : Tree
   pub through : IsTreeThrough (sizes_of g spare) m tree
-
--- the root's header, an object or the names of directories are wrong
-abbrev pub HasWrongTree : Geometry → NewestMap → Wrong → Type 0
-HasWrongTree g m wrong = HasWrongRoot g m wrong ⊎ ((spare : ℕ) × IsVolume g m spare × IsWrongTree (sizes_of g spare) m wrong)
-
--- why no tree was gone through; a refusal of memory, and a device that failed, say nothing of the pages
-abbrev pub TellsTree : Geometry → NewestMap → RootFault → Type 0
-TellsTree g m roots.NoMemory = Unit {0}
-TellsTree g m roots.Device = Unit {0}
-TellsTree g m roots.NotAVolume = IsNoVolume m
-TellsTree g m (roots.Newer format) = HasWrongTree g m (IsNewer format)
-TellsTree g m roots.Damaged = HasWrongTree g m IsDamaged
-
--- the same reason
-abbrev pub of_walk : WalkFault → RootFault
-of_walk walks.NoMemory = roots.NoMemory
-of_walk walks.Device = roots.Device
-of_walk (walks.Newer format) = roots.Newer format
-of_walk walks.Damaged = roots.Damaged
-
--- a device has failed where it is told so
-abbrev pub FailsTree : PagesState → RootFault → Type 0
-FailsTree new roots.NoMemory = Unit {0}
-FailsTree new roots.Device = new.failed ≡ true
-FailsTree new roots.NotAVolume = Unit {0}
-FailsTree new (roots.Newer format) = Unit {0}
-FailsTree new roots.Damaged = Unit {0}

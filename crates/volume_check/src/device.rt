@@ -1,8 +1,9 @@
 // The check of a device.
-ghost use Rattle.std.specs.Prelude.{◌≡◌, ◌⊎◌, true, IfOk};
+ghost use Rattle.std.specs.Prelude.{◌≡◌, ◌⊎◌, true, IfErr, IfOk};
 ghost use Rattle.nand_model.specs.Changes.{OnlyReads};
 ghost use Rattle.pages.specs.Maps.{has};
 ghost use Rattle.pages.specs.State.{OnlyFinds};
+ghost use Rattle.volume_check.specs.Faults.{WhyNotChecked};
 ghost use Rattle.volume_check.specs.Verdicts.{TellsVerdict, LosesPages, SaysOfFlash};
 
 use crate::fault::CheckFault;
@@ -31,6 +32,7 @@ fn check<P: KnownPages>(
     geometry: Geometry,
 ) -> Result<Checked, CheckFault>
     ensures finds { OnlyFinds (P.state pages.old) (P.state pages.new) }
+    ensures fault { IfErr result (WhyNotChecked (P.state pages.new).device) }
     ensures told { (P.state pages.old).sound ≡ true → geometry.bytes ≡ (P.state pages.old).page_bytes
         → IfOk result (λ checked. TellsVerdict geometry (has (P.state pages.old).present) checked.verdict ⊎ LosesPages (P.state pages.new)) }
 {
@@ -74,6 +76,7 @@ fn diagnosis(checked: Checked, index: &Index) -> Diagnosis
 /// A mount also refuses a whole tree that charges more than there is room for, and then no rule here is broken.
 pub fn diagnose<N: Nand>(alloc: Global, device: N) -> (N, Result<Diagnosis, CheckFault>)
     ensures reads { OnlyReads (N.state device) (N.state result.0) }
+    ensures fault { IfErr result.1 (WhyNotChecked (N.state result.0)) }
     ensures verdict { (N.state device).honest ≡ true
         → IfOk result.1 (λ found. SaysOfFlash (N.state device).geometry (N.state device).flash found.verdict) }
 {

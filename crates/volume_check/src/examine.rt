@@ -1,5 +1,7 @@
 // What is wrong with one object.
+ghost use Rattle.std.specs.Prelude.{IfErr};
 ghost use Rattle.pages.specs.State.{OnlyFinds};
+ghost use Rattle.volume_check.specs.Faults.{WhyNotChecked};
 
 use crate::fault::CheckFault;
 use crate::finding::Rule;
@@ -40,6 +42,7 @@ fn read_head<P: Pages>(
     object: u64,
 ) -> Result<Result<ObjectHead, Rule>, CheckFault>
     ensures finds { OnlyFinds (P.state pages.old) (P.state pages.new) }
+    ensures fault { IfErr result (WhyNotChecked (P.state pages.new).device) }
 {
     match pages.find(Key { object, chunk: 0 }) {
         Ok(Presence::Present) => match decode_header(pages.page()) {
@@ -81,6 +84,7 @@ pub(crate) fn examine<P: KnownPages>(
     object: u64,
 ) -> Result<Option<Broken>, CheckFault>
     ensures finds { OnlyFinds (P.state pages.old) (P.state pages.new) }
+    ensures fault { IfErr result (WhyNotChecked (P.state pages.new).device) }
 {
     let head = match read_head(alloc, pages, object)? {
         Ok(head) => head,
@@ -102,6 +106,7 @@ pub(crate) fn names_in<P: KnownPages>(
     directory: u64,
 ) -> Result<SlotList, CheckFault>
     ensures finds { OnlyFinds (P.state pages.old) (P.state pages.new) }
+    ensures fault { IfErr result (WhyNotChecked (P.state pages.new).device) }
 {
     let mut list = SlotList::new(alloc);
     let Ok(head) = read_head(alloc, pages, directory)? else {

@@ -1,4 +1,7 @@
 // Why a check was not made.
+ghost use Rattle.std.specs.Prelude.{◌≡◌};
+ghost use Rattle.volume_check.specs.Faults.{of_open};
+ghost use Rattle.volume_check.specs.declared.fault.CheckFault.TheVariants as faults;
 
 use newest_pages::OpenFault;
 use std::alloc::{AllocError, AllocFailed};
@@ -14,6 +17,8 @@ pub enum CheckFault {
 }
 
 impl From<OpenFault> for CheckFault {
+    ghost from_gives = { λ fault e. e ≡ of_open fault };
+
     fn from(fault: OpenFault) -> CheckFault {
         match fault {
             OpenFault::NoMemory => CheckFault::NoMemory,
@@ -24,12 +29,16 @@ impl From<OpenFault> for CheckFault {
 }
 
 impl From<AllocError> for CheckFault {
+    ghost from_gives = { λ _ e. e ≡ faults.NoMemory };
+
     fn from(_error: AllocError) -> CheckFault {
         CheckFault::NoMemory
     }
 }
 
 impl<T: Drop> From<AllocFailed<T>> for CheckFault {
+    ghost from_gives = { λ _ e. e ≡ faults.NoMemory };
+
     fn from(_error: AllocFailed<T>) -> CheckFault {
         CheckFault::NoMemory
     }

@@ -1,5 +1,7 @@
 // The path of an object that was reached.
+ghost use Rattle.std.specs.Prelude.{IfErr};
 ghost use Rattle.pages.specs.State.{OnlyFinds};
+ghost use Rattle.volume_check.specs.Faults.{WhyNotChecked};
 
 use crate::examine::names_in;
 use crate::fault::CheckFault;
@@ -15,6 +17,7 @@ fn name_of<P: KnownPages>(
     object: u64,
 ) -> Result<Vec<u8>, CheckFault>
     ensures finds { OnlyFinds (P.state pages.old) (P.state pages.new) }
+    ensures fault { IfErr result (WhyNotChecked (P.state pages.new).device) }
 {
     let list = names_in(alloc, pages, directory)?;
     for slot in &list.slots {
@@ -46,6 +49,7 @@ pub(crate) fn path_of<P: KnownPages>(
     object: u64,
 ) -> Result<Vec<u8>, CheckFault>
     ensures finds { OnlyFinds (P.state pages.old) (P.state pages.new) }
+    ensures fault { IfErr result (WhyNotChecked (P.state pages.new).device) }
 {
     let mut names = Vec::new(alloc);
     let mut below = object;

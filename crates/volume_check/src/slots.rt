@@ -1,6 +1,7 @@
 // The slots of a directory, up to the first that breaks a rule.
-ghost use Rattle.std.specs.Prelude.{◌≡◌, ◌≤◌, ◌+◌, ◌*◌, length};
+ghost use Rattle.std.specs.Prelude.{◌≡◌, ◌≤◌, ◌+◌, ◌*◌, length, IfErr};
 ghost use Rattle.pages.specs.State.{OnlyFinds};
+ghost use Rattle.volume_check.specs.Faults.{WhyNotChecked};
 
 use crate::examine::Broken;
 use crate::fault::CheckFault;
@@ -8,7 +9,7 @@ use crate::finding::Rule;
 use flash_tree::{Key, decode_tree_slot};
 use name_map::NameMap;
 use pages::{Pages, Presence};
-use std::alloc::Global;
+use std::alloc::{AllocError, Global};
 use volume_terms::{SLOT_BYTES, StoreFault};
 
 /// A name and the object that it leads to.
@@ -45,7 +46,7 @@ impl SlotList {
     }
 
     /// Adds the slot that these bytes are. What is broken where they are none, or where it has a name that is there.
-    fn add(&mut self, alloc: Global, bytes: &[u8], place: u32) -> Result<Option<Rule>, CheckFault>
+    fn add(&mut self, alloc: Global, bytes: &[u8], place: u32) -> Result<Option<Rule>, AllocError>
         requires { length bytes.now ≡ 272 }
     {
         let Some(slot) = decode_tree_slot(bytes) else {
@@ -68,7 +69,7 @@ impl SlotList {
         alloc: Global,
         page: &[u8],
         count: u64,
-    ) -> Result<Option<Rule>, CheckFault>
+    ) -> Result<Option<Rule>, AllocError>
         requires room { 272 * count ≤ length page.now }
         requires few { length page.now ≤ 4096 }
     {
@@ -92,9 +93,10 @@ fn read_chunk<P: Pages>(
 ) -> Result<Option<Rule>, CheckFault>
     requires room { 272 * count ≤ (P.state pages.old).page_bytes }
     ensures finds { OnlyFinds (P.state pages.old) (P.state pages.new) }
+    ensures fault { IfErr result (WhyNotChecked (P.state pages.new).device) }
 {
     match pages.find(key) {
-        Ok(Presence::Present) => list.add_page(alloc, pages.page(), count),
+        Ok(Presence::Present) => Ok(list.add_page(alloc, pages.page(), count)?),
         Ok(Presence::Absent) => Ok(Some(Rule::ChunkMissing)),
         Err(StoreFault::NoMemory) => Err(CheckFault::NoMemory),
         Err(_) => Ok(Some(Rule::Unreadable)),
@@ -111,6 +113,7 @@ pub(crate) fn read_slots<P: Pages>(
     list: &mut SlotList,
 ) -> Result<Option<Broken>, CheckFault>
     ensures finds { OnlyFinds (P.state pages.old) (P.state pages.new) }
+    ensures fault { IfErr result (WhyNotChecked (P.state pages.new).device) }
 {
     let slots = u64::from(pages.page_bytes() / SLOT_BYTES as u32);
     for before in 0..entries.div_ceil(slots) {

@@ -1,17 +1,19 @@
 // What is said of a tree.
-ghost use Rattle.std.specs.Prelude.{◌≡◌, ◌⊎◌, ℕ, true, IfOk, IfErr, OnOk};
-ghost use Rattle.flash_tree.specs.Mount.{IsVolume};
+ghost use Rattle.std.specs.Prelude.{◌≡◌, ◌⊎◌, true, IfOk, IfErr, OnOk};
 ghost use Rattle.pages.specs.Maps.{has};
 ghost use Rattle.pages.specs.State.{OnlyFinds};
-ghost use Rattle.volume_check.specs.Trees.{HasWholeTree, TellsTree, FailsTree, of_walk};
+ghost use Rattle.mount_answers.specs.Trees.{WhyNoTree, FailsTree};
+ghost use Rattle.volume_check.specs.Faults.{WhyNotChecked};
+ghost use Rattle.volume_check.specs.Trees.{HasWholeTree};
 ghost use Rattle.volume_check.specs.Verdicts.{TellsVerdict, LosesPages};
 
 use crate::fault::CheckFault;
+use mount_answers::first_fault;
 use name_index::NameIndex;
 use nand_model::Geometry;
-use pages::{KnownPages, Pages};
+use pages::KnownPages;
 use std::alloc::Global;
-use tree_walk::{RootFault, WalkFault, root, spare_of, walk};
+use tree_walk::{RootFault, spare_of, walk};
 
 /// What is said of a tree.
 #[derive(Clone, Copy, Debug, PartialEq, Eq)]
@@ -26,33 +28,6 @@ pub enum Verdict {
     Damaged,
 }
 
-/// The fault of a walk, as one of the root.
-fn root_fault(fault: WalkFault) -> RootFault
-    ensures { result ≡ of_walk fault }
-{
-    match fault {
-        WalkFault::NoMemory => RootFault::NoMemory,
-        WalkFault::Device => RootFault::Device,
-        WalkFault::Newer(format) => RootFault::Newer(format),
-        WalkFault::Damaged => RootFault::Damaged,
-    }
-}
-
-/// The first fault of a tree that was not gone through: that of the root's header, which is asked for again, or else the one that
-/// was found below it.
-fn first_fault<P: Pages>(pages: &mut P, geometry: Geometry, below: RootFault) -> RootFault
-    ensures finds { OnlyFinds (P.state pages.old) (P.state pages.new) }
-    ensures told { (P.state pages.old).sound ≡ true → geometry.bytes ≡ (P.state pages.old).page_bytes
-        → ((spare : ℕ) → IsVolume geometry (has (P.state pages.old).present) spare → TellsTree geometry (has (P.state pages.old).present) below)
-        → TellsTree geometry (has (P.state pages.old).present) result }
-    ensures why { FailsTree (P.state pages.old) below → FailsTree (P.state pages.new) result }
-{
-    match root(pages, geometry) {
-        Ok(_) => below,
-        Err(fault) => fault,
-    }
-}
-
 /// Goes through the tree of a volume on a device of these sizes.
 fn go_through<P: KnownPages>(
     alloc: Global,
@@ -63,7 +38,7 @@ fn go_through<P: KnownPages>(
     ensures whole { (P.state pages.old).sound ≡ true → geometry.bytes ≡ (P.state pages.old).page_bytes
         → OnOk result (HasWholeTree geometry (has (P.state pages.old).present)) }
     ensures fault { (P.state pages.old).sound ≡ true → geometry.bytes ≡ (P.state pages.old).page_bytes
-        → IfErr result (TellsTree geometry (has (P.state pages.old).present)) }
+        → IfErr result (WhyNoTree geometry (has (P.state pages.old).present)) }
     ensures why { IfErr result (FailsTree (P.state pages.new)) }
 {
     let mut names = NameIndex::new(alloc);
@@ -72,7 +47,7 @@ fn go_through<P: KnownPages>(
             Some(_) => Ok(()),
             None => Err(RootFault::Damaged),
         },
-        Err(fault) => Err(first_fault(pages, geometry, root_fault(fault))),
+        Err(fault) => Err(first_fault(pages, geometry, fault)),
     }
 }
 
@@ -85,6 +60,7 @@ pub fn tree_verdict<P: KnownPages>(
     geometry: Geometry,
 ) -> Result<Verdict, CheckFault>
     ensures finds { OnlyFinds (P.state pages.old) (P.state pages.new) }
+    ensures fault { IfErr result (WhyNotChecked (P.state pages.new).device) }
     ensures told { (P.state pages.old).sound ≡ true → geometry.bytes ≡ (P.state pages.old).page_bytes
         → IfOk result (λ verdict. TellsVerdict geometry (has (P.state pages.old).present) verdict ⊎ LosesPages (P.state pages.new)) }
 {

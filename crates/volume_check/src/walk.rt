@@ -1,5 +1,7 @@
 // The tree, gone through object by object up to the first that breaks a rule.
+ghost use Rattle.std.specs.Prelude.{IfErr};
 ghost use Rattle.pages.specs.State.{OnlyFinds};
+ghost use Rattle.volume_check.specs.Faults.{WhyNotChecked};
 
 use crate::examine::{Broken, examine};
 use crate::fault::CheckFault;
@@ -9,7 +11,7 @@ use name_index::NameIndex;
 use nand_model::Geometry;
 use page_tags::ObjectKind;
 use pages::KnownPages;
-use std::alloc::Global;
+use std::alloc::{AllocError, Global};
 use std::collections::{BTreeMap, BTreeSet};
 use tree_walk::{Head, Visited, WalkFault, visit};
 use volume_terms::ROOT;
@@ -25,7 +27,7 @@ struct Walk {
 }
 
 /// A walk that has come to the root.
-fn begin(alloc: Global) -> Result<Walk, CheckFault> {
+fn begin(alloc: Global) -> Result<Walk, AllocError> {
     Ok(Walk {
         objects: vec![in alloc; ROOT]?,
         parents: BTreeMap::new(alloc),
@@ -36,7 +38,7 @@ fn begin(alloc: Global) -> Result<Walk, CheckFault> {
 
 impl Walk {
     /// Takes what was found of an object.
-    fn take(&mut self, object: u64, visited: &Visited) -> Result<(), CheckFault> {
+    fn take(&mut self, object: u64, visited: &Visited) -> Result<(), AllocError> {
         if visited.head.kind == ObjectKind::Directory {
             self.directories.insert(object)?;
         }
@@ -47,7 +49,7 @@ impl Walk {
     }
 
     /// Puts an object that a directory names behind the others, unless it is one of them: then it is named again.
-    fn put(&mut self, directory: u64, object: u64) -> Result<(), CheckFault> {
+    fn put(&mut self, directory: u64, object: u64) -> Result<(), AllocError> {
         if object == ROOT || self.parents.contains_key(&object) {
             self.again.insert(object)?;
             return Ok(());
@@ -87,6 +89,7 @@ fn broken<P: KnownPages>(
     fault: WalkFault,
 ) -> Result<Broken, CheckFault>
     ensures finds { OnlyFinds (P.state pages.old) (P.state pages.new) }
+    ensures fault { IfErr result (WhyNotChecked (P.state pages.new).device) }
 {
     if fault == WalkFault::NoMemory {
         return Err(CheckFault::NoMemory);
@@ -112,6 +115,7 @@ fn step<P: KnownPages>(
     walk: &mut Walk,
 ) -> Result<Option<Broken>, CheckFault>
     ensures finds { OnlyFinds (P.state pages.old) (P.state pages.new) }
+    ensures fault { IfErr result (WhyNotChecked (P.state pages.new).device) }
 {
     let mut names = NameIndex::new(alloc);
     match visit(alloc, pages, object, &mut names) {
@@ -136,6 +140,7 @@ fn found<P: KnownPages>(
     broken: Broken,
 ) -> Result<Finding, CheckFault>
     ensures finds { OnlyFinds (P.state pages.old) (P.state pages.new) }
+    ensures fault { IfErr result (WhyNotChecked (P.state pages.new).device) }
 {
     Ok(Finding {
         rule: broken.rule,
@@ -153,6 +158,7 @@ pub fn find_fault<P: KnownPages>(
     geometry: Geometry,
 ) -> Result<Option<Finding>, CheckFault>
     ensures finds { OnlyFinds (P.state pages.old) (P.state pages.new) }
+    ensures fault { IfErr result (WhyNotChecked (P.state pages.new).device) }
 {
     let mut walk = begin(alloc)?;
     for place in 0..usize::MAX {

@@ -1,9 +1,8 @@
 use Rattle.std.proofs.Common.{ℕ, sym, ◌∙◌, subst, inl}
 use Rattle.flash_tree.specs.Mount.{IsVolume, sizes_of}
 use Rattle.pages.specs.Maps.{PageMap, has}
-use Rattle.tree_walk.specs.declared.fault.RootFault.{RootFault}
-use Rattle.volume_check.specs.Trees.{TellsTree}
-use Rattle.volume_check.proofs.Telling.{walk_tells}
+use Rattle.mount_answers.specs.Trees.{WhyNoTree, of_walk}
+use Rattle.mount_answers.specs.laws.Trees.{wrong_below}
 use Rattle.volume_check.proofs.verdict.go_through.Goals as goal
 
 pub returns-in-Some-clause-whole : goal.returns-in-Some-clause-whole
@@ -26,8 +25,7 @@ returns-clause-fault g c = λ sound size.
     let q = g.P.Pages.state c.walk.new.pages in
     let geometry = c.args.geometry in
     let finds = c.walk.ensures.finds in
-    let below = subst (λ (m : PageMap). (spare : ℕ) → IsVolume geometry (has m) spare → TellsTree geometry (has m) c.root_fault.result) (sym finds.present)
-    (λ spare volume. subst (λ (f : RootFault). TellsTree geometry (has p.present) f) (sym c.root_fault.ensures)
-    (walk_tells geometry (has p.present) spare c.in-Err.fault q volume (c.in-Err.ensures.fault (sizes_of geometry spare) (record { sound = sound; size = size })))) in
-    subst (λ (m : PageMap). TellsTree geometry (has m) c.first_fault.result) finds.present
-    (c.first_fault.ensures.told (finds.sound ∙ sound) (size ∙ sym finds.page_bytes) below)
+    let below = subst (λ (m : PageMap). (spare : ℕ) → IsVolume geometry (has m) spare → WhyNoTree geometry (has m) (of_walk c.in-Err.fault)) (sym finds.present)
+    (λ spare volume. wrong_below geometry (has p.present) spare c.in-Err.fault q volume (c.in-Err.ensures.fault (sizes_of geometry spare) (record { sound = sound; size = size }))) in
+    subst (λ (m : PageMap). WhyNoTree geometry (has m) c.first_fault.result) finds.present
+    (c.first_fault.ensures.reason (finds.sound ∙ sound) (size ∙ sym finds.page_bytes) below)

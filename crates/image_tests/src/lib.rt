@@ -1,6 +1,9 @@
-//! Folders that are packed into a volume over maps and unpacked, what a volume refuses, names on a host, and what is listed.
+//! Folders that are packed into a volume over maps and unpacked, what a volume refuses, names on a host, what is listed, and runs that
+//! are measured.
 #![tactic(auto)]
 
+#[cfg(test)]
+mod bench;
 #[cfg(test)]
 mod folders;
 #[cfg(test)]

@@ -4,32 +4,23 @@
 //! - `index`: the settling of changes in an index.
 //! - `collection`: garbage collections.
 //! - `store`: a store: opening, reads, commits, collections, settling.
-//! - `volume`: the device calls of lines of a shell, from standard input, and of mounts.
-//! - `all`, or no argument: a small run of each, the lines from standard input.
+//! - `all`, or no argument: a small run of each.
+//!
+//! A whole volume is measured by `nandfs bench`.
 #![tactic(auto)]
 
 mod arguments;
 mod collection;
-mod counted_nand;
 mod index;
 mod store;
 mod usage;
-mod volume;
 
 use anyhow::{Result, anyhow};
 use std::alloc::Global;
 use std::env;
-use std::io::Read;
-
-/// The lines of standard input.
-fn read_lines(rt: &HostRuntime, alloc: Global) -> Result<String> {
-    let mut lines = String::new(alloc);
-    rt.stdin().lock().read_to_string(&mut lines)?;
-    Ok(lines)
-}
 
 /// A small run of each measure.
-fn run_all(rt: &HostRuntime, alloc: Global, lines: &str) -> Result<()> {
+fn run_all(rt: &HostRuntime, alloc: Global) -> Result<()> {
     index::run(rt, alloc, &["64"])?;
     collection::run(rt, alloc, &["1", "8", "16", "24"])?;
     let measures = [
@@ -40,8 +31,7 @@ fn run_all(rt: &HostRuntime, alloc: Global, lines: &str) -> Result<()> {
         "collections",
         "settling",
     ];
-    store::run(rt, alloc, &measures)?;
-    volume::run(rt, alloc, &["512", "32", "8", "1"], lines)
+    store::run(rt, alloc, &measures)
 }
 
 fn main(rt: HostRuntime) -> Result<()> {
@@ -55,11 +45,10 @@ fn main(rt: HostRuntime) -> Result<()> {
         words.push(text.as_str())?;
     }
     match words.as_slice() {
-        [] | ["all"] => run_all(&rt, alloc, &read_lines(&rt, alloc)?),
+        [] | ["all"] => run_all(&rt, alloc),
         ["index", rest @ ..] => index::run(&rt, alloc, rest),
         ["collection", rest @ ..] => collection::run(&rt, alloc, rest),
         ["store", rest @ ..] => store::run(&rt, alloc, rest),
-        ["volume", rest @ ..] => volume::run(&rt, alloc, rest, &read_lines(&rt, alloc)?),
-        _ => Err(anyhow!("index, collection, store, volume or all is wanted")),
+        _ => Err(anyhow!("index, collection, store or all is wanted")),
     }
 }

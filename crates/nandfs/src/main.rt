@@ -4,6 +4,7 @@
 //! that this program reads.
 #![tactic(auto)]
 
+mod bench;
 mod chip;
 mod files;
 mod reading;

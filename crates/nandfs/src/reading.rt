@@ -1,16 +1,30 @@
 // The subcommands that take files out of an image.
 
-use crate::files::{volume_in, word};
+use crate::files::{new_meter, volume_in, word};
 use clap::ArgMatches;
 use image_tools::unpack;
-use nandfs_program::{ToolFault, copy_out, store};
+use nandfs_program::{Meter, Metered, Stored, ToolFault, copy_out, store};
 use plain_tree::{bytes_at, info_at};
+
+/// Writes the whole volume to a folder of the host, with a line about how far it is.
+fn unpack_metered(
+    rt: &HostRuntime,
+    matches: &ArgMatches<'_>,
+    meter: &mut Meter,
+) -> Result<Vec<Stored>, ToolFault> {
+    let volume = volume_in(rt, matches)?;
+    let mut metered = Metered::new(rt, *meter, volume);
+    let folder = unpack(rt.alloc(), &mut metered)?;
+    *meter = metered.meter;
+    store(rt, &folder, word(matches, "FOLDER"), meter)
+}
 
 /// Writes the whole volume to a folder of the host, and lists the names that differ there.
 pub(crate) fn unpack_image(rt: &HostRuntime, matches: &ArgMatches<'_>) -> Result<(), ToolFault> {
-    let mut volume = volume_in(rt, matches)?;
-    let folder = unpack(rt.alloc(), &mut volume)?;
-    for place in &store(rt, &folder, word(matches, "FOLDER"))? {
+    let mut meter = new_meter(rt);
+    let unpacked = unpack_metered(rt, matches, &mut meter);
+    meter.end(rt);
+    for place in &unpacked? {
         if place.renamed {
             let host = place.host.as_str();
             println!(rt; "{host}")?;

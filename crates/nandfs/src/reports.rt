@@ -1,5 +1,6 @@
 // The subcommands that write what they find to standard output.
 
+use crate::bench::measure_lines;
 use crate::chip::{check_image, draw_map, dump_pages, write_space};
 use crate::files::{volume_in, word};
 use clap::ArgMatches;
@@ -16,8 +17,8 @@ fn listing_in(matches: &ArgMatches<'_>) -> Listing {
     }
 }
 
-/// Writes what a subcommand reports of the volume, as text.
-fn write_text_report<W: Write>(
+/// Writes what a subcommand reports of the volume.
+fn write_volume_report<W: Write>(
     rt: &HostRuntime,
     name: &str,
     matches: &ArgMatches<'_>,
@@ -26,30 +27,14 @@ fn write_text_report<W: Write>(
     let alloc = rt.alloc();
     let mut volume = volume_in(rt, matches)?;
     let path = matches.get_str("PATH").unwrap_or("/").as_bytes();
-    match name {
-        "ls" => list(alloc, &mut volume, out, path, listing_in(matches)),
-        "tree" => show_tree(alloc, &mut volume, out),
-        "cat" => show_file(alloc, &mut volume, out, path),
-        _ => show_status(alloc, &mut volume, out, path),
-    }
-}
-
-/// Writes what a subcommand reports of the volume, as JSON.
-fn write_json_report<W: Write>(
-    rt: &HostRuntime,
-    name: &str,
-    matches: &ArgMatches<'_>,
-    out: &mut W,
-) -> Result<(), ToolFault> {
-    let alloc = rt.alloc();
-    let mut volume = volume_in(rt, matches)?;
-    let path = matches.get_str("PATH").unwrap_or("/").as_bytes();
-    match name {
-        "ls" => {
-            let all_below = matches.get_flag("recursive");
-            list_as_json(alloc, &mut volume, out, path, all_below)
-        }
-        _ => show_status_as_json(alloc, &mut volume, out, path),
+    let listing = listing_in(matches);
+    match (name, matches.get_flag("json")) {
+        ("ls", false) => list(alloc, &mut volume, out, path, listing),
+        ("ls", true) => list_as_json(alloc, &mut volume, out, path, listing.all_below),
+        ("tree", _) => show_tree(alloc, &mut volume, out),
+        ("cat", _) => show_file(alloc, &mut volume, out, path),
+        (_, false) => show_status(alloc, &mut volume, out, path),
+        (_, true) => show_status_as_json(alloc, &mut volume, out, path),
     }
 }
 
@@ -65,8 +50,8 @@ fn write_report<W: Write>(
         "map" => draw_map(rt, matches, out),
         "dump" => dump_pages(rt, matches, out),
         "check" => check_image(rt, matches, out),
-        _ if matches.get_flag("json") => write_json_report(rt, name, matches, out),
-        _ => write_text_report(rt, name, matches, out),
+        "bench" => measure_lines(rt, matches, out),
+        _ => write_volume_report(rt, name, matches, out),
     }
 }
 

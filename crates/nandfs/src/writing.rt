@@ -1,33 +1,29 @@
 // The subcommands that make or change an image.
 
-use crate::files::{now, open_to_change, word};
+use crate::files::{new_meter, now, open_to_change, sizes_in, word};
 use clap::ArgMatches;
 use image_tools::refusals;
 use nand_image::ImageNand;
 use nandfs_program::{
-    ImageSizes, Scan, ToolFault, copy_in, end_image, greatest_file, least_blocks, link,
-    make_directory, make_image, move_to, read_file, remove, scan_folder, units_of,
-    volume_to_change,
+    Meter, Scan, ToolFault, copy_in, end_image, greatest_file, least_blocks, link, make_directory,
+    make_image, move_to, read_file, remove, scan_folder, units_of, volume_to_change,
 };
 use posix_calls::Volume;
 use std::fs::File;
-
-/// The sizes that the options say.
-fn sizes_in(matches: &ArgMatches<'_>) -> ImageSizes {
-    ImageSizes {
-        data: matches.get_one("data").unwrap_or(2048),
-        pages: matches.get_one("pages").unwrap_or(64),
-        blocks: matches.get_one("blocks").unwrap_or(64),
-        reserve: matches.get_one("reserve").unwrap_or(2),
-    }
-}
 
 /// Makes an image with an empty volume.
 pub(crate) fn make_empty_image(
     rt: &HostRuntime,
     matches: &ArgMatches<'_>,
 ) -> Result<(), ToolFault> {
-    make_image(rt, word(matches, "IMAGE"), sizes_in(matches), None)
+    let mut meter = new_meter(rt);
+    make_image(
+        rt,
+        word(matches, "IMAGE"),
+        sizes_in(matches),
+        None,
+        &mut meter,
+    )
 }
 
 /// Lists what no volume can have, which is a fault unless it is to be left out.
@@ -48,16 +44,29 @@ fn report_others(
     Ok(())
 }
 
-/// Makes an image of a folder of the host.
-pub(crate) fn pack_folder(rt: &HostRuntime, matches: &ArgMatches<'_>) -> Result<(), ToolFault> {
+/// Makes an image of a folder of the host, with a line about how far it is.
+fn pack_metered(
+    rt: &HostRuntime,
+    matches: &ArgMatches<'_>,
+    meter: &mut Meter,
+) -> Result<(), ToolFault> {
     let mut sizes = sizes_in(matches);
     let greatest = greatest_file(sizes)?;
-    let scan = scan_folder(rt, word(matches, "FOLDER"), greatest)?;
+    let scan = scan_folder(rt, word(matches, "FOLDER"), greatest, meter)?;
+    meter.end(rt);
     report_others(rt, &scan, greatest, matches.get_flag("skip-others"))?;
     if matches.get_flag("size-from-content") {
         sizes.blocks = least_blocks(units_of(&scan.folder, sizes.data), sizes)?;
     }
-    make_image(rt, word(matches, "IMAGE"), sizes, Some(&scan.folder))
+    make_image(rt, word(matches, "IMAGE"), sizes, Some(&scan.folder), meter)
+}
+
+/// Makes an image of a folder of the host.
+pub(crate) fn pack_folder(rt: &HostRuntime, matches: &ArgMatches<'_>) -> Result<(), ToolFault> {
+    let mut meter = new_meter(rt);
+    let packed = pack_metered(rt, matches, &mut meter);
+    meter.end(rt);
+    packed
 }
 
 /// Does a change of a volume.

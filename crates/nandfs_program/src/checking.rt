@@ -12,6 +12,7 @@ use posix_calls::{MountFault, Volume};
 use serde::Serialize;
 use std::alloc::{AllocError, Global};
 use std::io::Write;
+use volume_terms::NUMBER_END;
 
 /// How a check is reported.
 #[derive(Clone, Copy, Debug, PartialEq, Eq)]
@@ -31,6 +32,15 @@ struct Greatest {
     seq: u64,
 }
 
+/// How many groups and blocks can still be numbered, and how often a good block was erased on average since the format, as far as the
+/// numbers of blocks say: each block that is allocated is erased, and takes the next number.
+#[derive(Clone, Copy, Debug, PartialEq, Eq, Serialize)]
+struct Wear {
+    groups_left: u64,
+    seqs_left: u64,
+    mean_erases: u64,
+}
+
 /// What a mount answers, the room of the volume where there is one, where it is damaged, and what is on the chip.
 #[derive(Drop, Serialize)]
 struct CheckReport {
@@ -42,6 +52,8 @@ struct CheckReport {
     bad_block_numbers: Vec<u32>,
     pages: StateCounts,
     greatest: Greatest,
+    #[serde(flatten)]
+    wear: Wear,
 }
 
 /// What came of a mount.
@@ -79,25 +91,38 @@ fn numbers_of_bad(alloc: Global, survey: &Survey) -> Result<Vec<u32>, AllocError
     Ok(bad)
 }
 
+/// The wear of so many blocks with these greatest numbers.
+fn wear_of(greatest: Greatest, blocks: BlockCounts) -> Wear {
+    let good = u64::from(blocks.blocks).saturating_sub(u64::from(blocks.bad_blocks));
+    Wear {
+        groups_left: NUMBER_END.saturating_sub(greatest.group),
+        seqs_left: NUMBER_END.saturating_sub(greatest.seq),
+        mean_erases: greatest.seq / good.max(1),
+    }
+}
+
 /// What is on a chip, where a mount answers so.
 fn report_of(alloc: Global, survey: &Survey, mounted: Mounted) -> Result<CheckReport, AllocError> {
     let numbers = survey.numbers();
+    let greatest = Greatest {
+        version: numbers.version,
+        group: numbers.group,
+        seq: numbers.seq,
+    };
+    let blocks = count_blocks(survey);
     Ok(CheckReport {
         answer: mounted.answer,
         room: mounted.room,
         damage: mounted.damage,
-        blocks: count_blocks(survey),
+        blocks,
         bad_block_numbers: numbers_of_bad(alloc, survey)?,
         pages: StateCounts::from(count(survey)),
-        greatest: Greatest {
-            version: numbers.version,
-            group: numbers.group,
-            seq: numbers.seq,
-        },
+        greatest,
+        wear: wear_of(greatest, blocks),
     })
 }
 
-/// Writes how many pages are of each state, and the greatest numbers.
+/// Writes how many pages are of each state, the greatest numbers, and the wear.
 fn write_numbers<W: Write>(
     alloc: Global,
     out: &mut W,
@@ -122,6 +147,15 @@ fn write_numbers<W: Write>(
     } = report.greatest;
     let text = format!(in alloc;
         "greatest_version {version}\ngreatest_group {group}\ngreatest_seq {seq}\n"
+    )?;
+    write_text(out, &text)?;
+    let Wear {
+        groups_left,
+        seqs_left,
+        mean_erases,
+    } = report.wear;
+    let text = format!(in alloc;
+        "groups_left {groups_left}\nseqs_left {seqs_left}\nmean_erases {mean_erases}\n"
     )?;
     write_text(out, &text)
 }

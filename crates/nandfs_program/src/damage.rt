@@ -6,7 +6,8 @@ use nand_model::Nand;
 use serde::Serialize;
 use std::alloc::{AllocError, Global};
 use std::io::Write;
-use volume_check::{Diagnosis, Rule, diagnose};
+use volume_check::{Diagnosis, Rule, Verdict, diagnose};
+use volume_terms::ROOT;
 
 /// The first rule of a tree that is broken, with the object, the chunk and the path that break it, and the place of the page, where
 /// there is one.
@@ -38,10 +39,28 @@ fn rule_text(alloc: Global, rule: Rule) -> Result<String, AllocError> {
     String::from_str(alloc, text)
 }
 
-/// The rule that is broken, where it was found.
+/// What a mount refuses of a tree that breaks no rule.
+fn want_of_room(alloc: Global) -> Result<Damage, AllocError> {
+    Ok(Damage {
+        rule: String::from_str(
+            alloc,
+            "the tree needs more room, or more free blocks, than there are",
+        )?,
+        object: ROOT,
+        chunk: 0,
+        path: String::from_str(alloc, "/")?,
+        block: None,
+        page: None,
+    })
+}
+
+/// The rule that is broken, where it was found, or the want of room for a tree that breaks none.
 fn damage_of(alloc: Global, found: &Diagnosis) -> Result<Option<Damage>, ToolFault> {
     let Some(finding) = &found.finding else {
-        return Ok(None);
+        return match found.verdict {
+            Verdict::Whole => Ok(Some(want_of_room(alloc)?)),
+            _ => Ok(None),
+        };
     };
     Ok(Some(Damage {
         rule: rule_text(alloc, finding.rule)?,
@@ -53,7 +72,7 @@ fn damage_of(alloc: Global, found: &Diagnosis) -> Result<Option<Damage>, ToolFau
     }))
 }
 
-/// Finds the first rule of a tree that is broken on a device. None where no rule is, as where a tree needs more room than there is.
+/// Finds what is damaged on a device whose mount answers so: the first rule of its tree that is broken, or that it has no room.
 pub(crate) fn find_damage<N: Nand + Drop>(
     alloc: Global,
     device: N,

@@ -11,6 +11,7 @@ use posix_calls::{Errno, FormatFault, MountFault};
 use std::alloc::{AllocError, AllocFailed};
 use std::io;
 use thiserror::Error;
+use volume_bench::BenchFault;
 use volume_check::CheckFault;
 
 /// Why a subcommand ended otherwise than well.
@@ -51,6 +52,11 @@ pub enum ToolFault {
     NoFile,
     #[error("the device has no such block or page")]
     NoPage,
+    #[error("a time is a number of microseconds, as 26.6, with at most three places after the point")]
+    BadTime,
+    /// Lines could not be measured.
+    #[error(transparent)]
+    Bench(BenchFault),
     #[error("a file or a folder of the host could not be read or written")]
     Host,
     #[error("standard output could not be written: check where it goes")]
@@ -68,12 +74,13 @@ fn mount_status(fault: MountFault) -> u8
 }
 
 impl ToolFault {
-    /// The exit status: 3 for an image that has no volume that this program reads, else 2.
+    /// The exit status: 3 for an image that has no volume that this program reads, 1 for a word that is not taken, else 2.
     pub fn status(self) -> u8
         ensures { result ≡ status_of self }
     {
         match self {
             ToolFault::Mount(fault) => mount_status(fault),
+            ToolFault::BadTime => 1,
             _ => 2,
         }
     }
@@ -113,6 +120,16 @@ impl From<MapFault> for ToolFault {
             MapFault::Output => ToolFault::Output,
             MapFault::NoPage => ToolFault::NoPage,
             MapFault::Gone => ToolFault::Mount(MountFault::Gone),
+        }
+    }
+}
+
+impl From<BenchFault> for ToolFault {
+    fn from(fault: BenchFault) -> ToolFault {
+        match fault {
+            BenchFault::NoMemory => ToolFault::NoMemory,
+            BenchFault::Output => ToolFault::Output,
+            _ => ToolFault::Bench(fault),
         }
     }
 }

@@ -1,6 +1,7 @@
 // A new image, made beside the one that it replaces.
 
 use crate::fault::ToolFault;
+use crate::progress::{Meter, Metered};
 use crate::session::{ImageSizes, end_image, new_volume};
 use image_tools::{Folder, pack};
 use std::alloc::{AllocError, Global};
@@ -40,21 +41,29 @@ fn open_new<R: Files>(rt: &R, path: &str) -> Result<R::File, ToolFault> {
 }
 
 /// Makes an image in an empty file, with the files of a folder or none, and waits until it is on the disk.
-fn fill_image<R: Files + AllocGlobal>(
+fn fill_image<R: Files + AllocGlobal + Eprint>(
     rt: &R,
     file: R::File,
-    permissions: Option<Permissions>,
     sizes: ImageSizes,
     folder: Option<&Folder>,
+    meter: &mut Meter,
 ) -> Result<(), ToolFault> {
+    let volume = new_volume(rt.alloc(), file, sizes)?;
+    let Some(folder) = folder else {
+        return end_image(volume);
+    };
+    let mut metered = Metered::new(rt, *meter, volume);
+    pack(rt.alloc(), folder, &mut metered)?;
+    *meter = metered.meter;
+    end_image(metered.volume)
+}
+
+/// Gives a file these permissions, if there are any.
+fn permit<F: OpenFile + Drop>(file: F, permissions: Option<Permissions>) -> Result<F, ToolFault> {
     if let Some(permissions) = permissions {
         file.set_permissions(permissions)?;
     }
-    let mut volume = new_volume(rt.alloc(), file, sizes)?;
-    if let Some(folder) = folder {
-        pack(rt.alloc(), folder, &mut volume)?;
-    }
-    end_image(volume)
+    Ok(file)
 }
 
 /// Gives a file of the host another path, and replaces what has it.
@@ -67,16 +76,21 @@ fn rename<R: Files>(rt: &R, old: &str, new: &str) -> Result<(), ToolFault> {
 /// made in a file beside it, whose path is that of the image and `.nandfs-new`, and which gets the path of the image when all is on
 /// the disk. A fault leaves what had the path, and no file beside it. `Beside` where there is a file beside it before, `NoFile`
 /// where a folder, a link or a device has the path.
-pub fn make_image<R: Files + AllocGlobal>(
+pub fn make_image<R: Files + AllocGlobal + Eprint>(
     rt: &R,
     image: &str,
     sizes: ImageSizes,
     folder: Option<&Folder>,
+    meter: &mut Meter,
 ) -> Result<(), ToolFault> {
     let permissions = permissions_of(rt, image)?;
     let beside = path_beside(rt.alloc(), image)?;
     let file = open_new(rt, beside.as_str())?;
-    let made = match fill_image(rt, file, permissions, sizes, folder) {
+    let filled = match permit(file, permissions) {
+        Ok(file) => fill_image(rt, file, sizes, folder, meter),
+        Err(fault) => Err(fault),
+    };
+    let made = match filled {
         Ok(()) => rename(rt, beside.as_str(), image),
         Err(fault) => Err(fault),
     };

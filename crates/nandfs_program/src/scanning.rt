@@ -3,6 +3,7 @@
 use crate::asking::below;
 use crate::fault::ToolFault;
 use crate::host_files::moment_of;
+use crate::progress::Meter;
 use image_tools::{Folder, FolderEntry, Node};
 use posix_calls::Bytes;
 use std::alloc::{AllocError, Global};
@@ -43,6 +44,7 @@ struct Found {
     links: BTreeMap<HostNumber, Vec<u8>>,
     /// Most bytes of a file.
     greatest: u64,
+    meter: Meter,
 }
 
 /// The path of a name in a folder of the host.
@@ -126,7 +128,7 @@ fn wait_for(
 }
 
 /// The file at a path of the host: a further name of one that was found, or its bytes.
-fn file_node<R: Files + AllocGlobal>(
+fn file_node<R: Files + AllocGlobal + Eprint>(
     rt: &R,
     found: &mut Found,
     from: &Waiting,
@@ -146,11 +148,12 @@ fn file_node<R: Files + AllocGlobal>(
             .insert(key, from.path.as_slice().to_vec(alloc)?)?;
     }
     let bytes = fs::read(rt, from.host.as_str())?;
+    found.meter.read(rt, bytes.len());
     Ok(Node::File(bytes))
 }
 
 /// What is at a path of the host, at its moment.
-fn node_at<R: Files + AllocGlobal + Clone + Drop>(
+fn node_at<R: Files + AllocGlobal + Eprint + Clone + Drop>(
     rt: &R,
     found: &mut Found,
     from: &Waiting,
@@ -179,6 +182,7 @@ fn read_entry<R: Files + AllocGlobal + Eprint + Clone + Drop>(
         }
         Err(fault) => {
             let host = from.host.as_str();
+            found.meter.end(rt);
             eprintln!(rt; "not read: {host}")?;
             Err(fault)
         }
@@ -192,6 +196,7 @@ pub fn scan_folder<R: Files + AllocGlobal + Eprint + Clone + Drop>(
     rt: &R,
     folder: &str,
     greatest: u64,
+    meter: &mut Meter,
 ) -> Result<Scan, ToolFault> {
     let alloc = rt.alloc();
     let mut found = Found {
@@ -200,6 +205,7 @@ pub fn scan_folder<R: Files + AllocGlobal + Eprint + Clone + Drop>(
         waiting: VecDeque::new(alloc),
         links: BTreeMap::new(alloc),
         greatest,
+        meter: *meter,
     };
     let host = String::from_str(alloc, folder)?;
     let path = b"/".to_vec(alloc)?;
@@ -210,6 +216,7 @@ pub fn scan_folder<R: Files + AllocGlobal + Eprint + Clone + Drop>(
         };
         read_entry(rt, &mut found, from)?;
     }
+    *meter = found.meter;
     Ok(Scan {
         folder: Folder {
             entries: found.entries,

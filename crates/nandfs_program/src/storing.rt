@@ -2,6 +2,7 @@
 
 use crate::fault::ToolFault;
 use crate::host_files::{copy_out, set_moment};
+use crate::progress::Meter;
 use image_tools::{Folder, FolderEntry, Node, host_path};
 use std::alloc::{AllocError, Global};
 use std::fs;
@@ -60,16 +61,29 @@ fn store_entry<R: Files + AllocGlobal>(
     }
 }
 
+/// The bytes that an entry has of its own.
+fn bytes_of(entry: &FolderEntry) -> usize {
+    match &entry.node {
+        Node::File(bytes) => bytes.len(),
+        Node::Directory(_) | Node::Link(_) => 0,
+    }
+}
+
 /// Writes an entry. Where that fails, its path is written to standard error.
 fn store_or_report<R: Files + AllocGlobal + Eprint>(
     rt: &R,
     folder: &str,
     entry: &FolderEntry,
     host: &str,
+    meter: &mut Meter,
 ) -> Result<(), ToolFault> {
     let stored = store_entry(rt, folder, entry, host);
-    if stored.is_err() {
-        eprintln!(rt; "not written: {host}")?;
+    match stored {
+        Ok(()) => meter.write(rt, bytes_of(entry)),
+        Err(_) => {
+            meter.end(rt);
+            eprintln!(rt; "not written: {host}")?;
+        }
     }
     stored
 }
@@ -92,6 +106,7 @@ pub fn store<R: Files + AllocGlobal + Eprint + Clone + Drop>(
     rt: &R,
     folder: &Folder,
     host: &str,
+    meter: &mut Meter,
 ) -> Result<Vec<Stored>, ToolFault> {
     let alloc = rt.alloc();
     make_empty(rt, host)?;
@@ -99,7 +114,7 @@ pub fn store<R: Files + AllocGlobal + Eprint + Clone + Drop>(
     for entry in &folder.entries {
         let place = place_of(alloc, host, entry)?;
         if !places.is_empty() {
-            store_or_report(rt, host, entry, place.host.as_str())?;
+            store_or_report(rt, host, entry, place.host.as_str(), meter)?;
         }
         places.push(place)?;
     }

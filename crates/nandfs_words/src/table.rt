@@ -15,6 +15,8 @@ pub(crate) enum Word {
     Number(&'static str, &'static str, &'static str),
     /// `--name N`, which may be left out.
     Chosen(&'static str, &'static str),
+    /// `--name MICROSECONDS`, with the time where it is left out.
+    Time(&'static str, &'static str, &'static str),
     /// `--name FILE`, which may be left out.
     File(&'static str, &'static str),
     /// A number that has to be there.
@@ -173,6 +175,24 @@ pub(crate) const SUBCOMMANDS: &[Subcommand] = &[
             NUMBERS_JSON,
         ],
         example: "Example: nandfs check flash.img",
+    },
+    Subcommand {
+        name: "bench",
+        about: "Asks lines of a shell, from standard input, of a fresh volume in memory, and reports the calls of its device, their time and the erases of each block. A line `mark` ends a part; lines from `repeat N` to `end` are asked N times, with the number of the turn in place of each #",
+        words: &[
+            DATA,
+            PAGES,
+            BLOCKS,
+            RESERVE,
+            Word::Time("read-us", "75", "Time of a read of a page"),
+            Word::Time("tag-us", "26.6", "Time of a read of a tag alone"),
+            Word::Time("program-us", "250", "Time of a program, and of a mark"),
+            Word::Time("erase-us", "1500", "Time of an erase"),
+            Word::Flag("time", "The time of the processor, too"),
+            Word::File("svg", "Draws the erases of each block in this file, too"),
+            NUMBERS_JSON,
+        ],
+        example: "Example: nandfs bench --blocks 1024 --reserve 20 < lines.txt",
     },
     Subcommand {
         name: "get",

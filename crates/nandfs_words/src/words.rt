@@ -58,6 +58,9 @@ fn argument<'a>(alloc: Global, word: Word) -> Arg<'a> {
         Word::Chosen(name, help) => {
             option(alloc, name, "N", help).value_parser(value_parser!(u64))
         }
+        Word::Time(name, default, help) => {
+            option(alloc, name, "MICROSECONDS", help).default_value(default)
+        }
         Word::File(name, help) => option(alloc, name, "FILE", help),
         Word::Place(name, help) => place(alloc, name, help).required(true),
         Word::MaybePlace(name, help) => place(alloc, name, help),

@@ -1,6 +1,5 @@
 // What is measured.
 
-use crate::counted_nand::{CountedNand, Counts};
 use crate::store::flash::{BYTES, GROUP, PAGES, SPARE, key_of, keys_of, written};
 use crate::usage::nanoseconds_since;
 use anyhow::{Context, Result, anyhow};
@@ -14,6 +13,7 @@ use std::alloc::Global;
 use std::num::NonZeroUsize;
 use std::time::CpuClock;
 use test_store::{Apart, fits, open_each};
+use volume_bench::{CountedNand, Counts};
 
 /// The pages in the cache.
 const CAPACITY: usize = 16;
@@ -104,7 +104,7 @@ impl Measure {
 /// A store on a flash.
 fn open(alloc: Global, nand: MemNand) -> Result<CountedStore> {
     let capacity = NonZeroUsize::new(CAPACITY).context("no cache")?;
-    match open_each(alloc, CountedNand::new(nand), SPARE, capacity) {
+    match open_each(alloc, CountedNand::new(alloc, nand)?, SPARE, capacity) {
         Ok(store) => Ok(store),
         Err(fault) => Err(anyhow!("no store: {fault:?}")),
     }

@@ -1,26 +1,32 @@
 // A device whose calls are counted by their kind.
-ghost use Rattle.std.specs.Prelude.{◌≡◌, ◌<◌, true, false, length, Some};
+ghost use Rattle.std.specs.Prelude.{◌≡◌, ◌<◌, IfOk, true, false, length, Some};
 ghost use Rattle.nand_model.specs.Calls.{Device, Reads, ReadTells, Fills, bytes_of, tag_of, Programs, Erases, Marks};
 
-use crate::counted_nand::counts::Counts;
+use crate::counts::Counts;
 use nand_model::{EraseFault, Geometry, Gone, Nand, PageKind, ProgramFault};
+use std::alloc::{AllocError, Global};
 
-/// A device, and how many of its calls were made.
+/// A device, how many of its calls were made, and how often each block was erased.
 #[derive(Drop)]
 pub struct CountedNand<N: Nand> {
     inner: N,
     counts: Counts,
+    erases: Vec<u64>,
 }
 
-impl<N: Nand> CountedNand<N> {
-    ghost use Rattle.measures.specs.Counted.{counts_of, none};
+impl<N: Nand + Drop> CountedNand<N> {
+    ghost use Rattle.volume_bench.specs.Counted.{counts_of, none};
 
     /// Nothing is counted yet.
-    pub fn new(inner: N) -> CountedNand<N>
-        ensures state { ⟦<CountedNand<N> as Nand>⟧.state result ≡ N.state inner }
-        ensures counts { counts_of result ≡ none }
+    ///
+    /// Errors: want of memory.
+    pub fn new(alloc: Global, inner: N) -> Result<CountedNand<N>, AllocError>
+        ensures state { IfOk result (λ d. ⟦<CountedNand<N> as Nand>⟧.state d ≡ N.state inner) }
+        ensures counts { IfOk result (λ d. counts_of d ≡ none) }
     {
-        CountedNand {
+        let blocks = inner.geometry().blocks();
+        let erases = vec![in alloc; 0u64; blocks as usize]?;
+        Ok(CountedNand {
             inner,
             counts: Counts {
                 reads: 0,
@@ -29,7 +35,8 @@ impl<N: Nand> CountedNand<N> {
                 erases: 0,
                 marks: 0,
             },
-        }
+            erases,
+        })
     }
 
     /// The calls since it was made.
@@ -37,6 +44,18 @@ impl<N: Nand> CountedNand<N> {
         ensures { result ≡ counts_of self.now }
     {
         self.counts
+    }
+
+    /// How often each block was erased since it was made.
+    pub fn erases(&self) -> &[u64] {
+        &self.erases
+    }
+}
+
+/// Counts an erase of a block.
+fn count_erase(erases: &mut Vec<u64>, block: u32) {
+    if let Some(count) = erases.get_mut(block as usize) {
+        *count = count.saturating_add(1);
     }
 }
 
@@ -87,6 +106,7 @@ impl<N: Nand> Nand for CountedNand<N> {
 
     fn erase(&mut self, block: u32) -> Result<(), EraseFault> {
         self.counts.erases = self.counts.erases.saturating_add(1);
+        count_erase(&mut self.erases, block);
         self.inner.erase(block)
     }
 

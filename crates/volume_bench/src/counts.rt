@@ -1,5 +1,6 @@
 // How many calls there were.
-ghost use Rattle.std.specs.Prelude.{◌≡◌, ◌-◌};
+ghost use Rattle.std.specs.Prelude.{◌≡◌};
+ghost use Rattle.volume_bench.specs.Counted.{calls_after};
 
 /// How many calls of each kind there were.
 #[derive(Clone, Copy, Debug, PartialEq, Eq)]
@@ -14,9 +15,9 @@ pub struct Counts {
 }
 
 impl Counts {
-    /// Those after others.
+    /// Those after others, with which they begin.
     pub fn since(self, before: Counts) -> Counts
-        ensures { result ≡ record { reads = self.reads - before.reads; tags = self.tags - before.tags; programs = self.programs - before.programs; erases = self.erases - before.erases; marks = self.marks - before.marks } }
+        ensures { result ≡ calls_after before self }
     {
         Counts {
             reads: self.reads.saturating_sub(before.reads),

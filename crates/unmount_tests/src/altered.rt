@@ -11,7 +11,6 @@ use plain_tree::PlainTree;
 use posix_calls::MountFault;
 use std::alloc::Global;
 use std::process::Abort;
-use std::test::Fail;
 use volume_terms::VolumeSizes;
 
 /// Another byte at a place of a page of the checkpoint, or of its tag.
@@ -72,21 +71,22 @@ const REFUSED: [&[Patch]; 27] = [
 const TAKEN: [&[Patch]; 2] = [&[], &[Byte(0, 8, 18), Byte(1, 64, 9), Byte(1, 80, 1)]];
 
 /// A formatted device after a session that makes a directory with a file.
-fn with_file(rt: &impl Abort, alloc: Global) -> Result<MemNand, Fail> {
-    let bytes = "x".repeat(alloc, 2560)?;
-    let lines = format!(in alloc; "mkdir /a\nopen /a/f wc\nwrite 0 {bytes}\nwrite 0 {bytes}")?;
+fn with_file(rt: &impl Abort, alloc: Global) -> MemNand {
+    let bytes = "x".repeat(alloc, 2560).expect(rt, "memory");
+    let lines = format!(in alloc; "mkdir /a\nopen /a/f wc\nwrite 0 {bytes}\nwrite 0 {bytes}");
+    let lines = lines.expect(rt, "memory");
     let replies = "ok\nfd 0\nwrote 2560\nwrote 2560\n";
-    session(rt, alloc, formatted(alloc, 8, 1)?, &lines, replies)
+    session(rt, alloc, formatted(rt, alloc, 8, 1), &lines, replies)
 }
 
 /// A device with such a checkpoint in block 3. The format took block 0, the first session block 1, and block 2 for a
 /// checkpoint, which the second session took for its pages.
-fn device(rt: &impl Abort, alloc: Global) -> Result<MemNand, Fail> {
-    let mut nand = session(rt, alloc, with_file(rt, alloc)?, "mkdir /b", "ok\n")?;
-    expect_entries(rt, alloc, &mut nand, 17)?;
-    let found = checkpoint_of(&mut nand)?.ok_or("no checkpoint")?;
+fn device(rt: &impl Abort, alloc: Global) -> MemNand {
+    let mut nand = session(rt, alloc, with_file(rt, alloc), "mkdir /b", "ok\n");
+    expect_entries(rt, alloc, &mut nand, 17);
+    let found = checkpoint_of(rt, &mut nand).expect(rt, "no checkpoint");
     assert_eq!(rt; (found.block, found.page, found.tag.count), (3, 0, 2));
-    Ok(nand)
+    nand
 }
 
 fn set(bytes: &mut [u8], at: usize, byte: u8) {
@@ -96,19 +96,18 @@ fn set(bytes: &mut [u8], at: usize, byte: u8) {
 }
 
 /// Exchanges so many bytes at two places.
-fn exchange(bytes: &mut [u8], one: usize, other: usize, count: usize) -> Result<(), Fail> {
+fn exchange(rt: &impl Abort, bytes: &mut [u8], one: usize, other: usize, count: usize) {
     for number in 0..count {
         let (one, other) = (one.saturating_add(number), other.saturating_add(number));
-        let first = bytes.get(one).copied().ok_or("no such byte")?;
-        let second = bytes.get(other).copied().ok_or("no such byte")?;
+        let first = bytes.get(one).copied().expect(rt, "no such byte");
+        let second = bytes.get(other).copied().expect(rt, "no such byte");
         set(bytes, one, second);
         set(bytes, other, first);
     }
-    Ok(())
 }
 
 /// Alters the checkpoint in block 3.
-fn alter(alloc: Global, nand: &mut MemNand, patch: Patch) -> Result<(), Fail> {
+fn alter(rt: &impl Abort, alloc: Global, nand: &mut MemNand, patch: Patch) {
     let page = match patch {
         Byte(page, _, _) => page,
         TagByte(page, _, _) => page,
@@ -116,14 +115,14 @@ fn alter(alloc: Global, nand: &mut MemNand, patch: Patch) -> Result<(), Fail> {
         Erased(page) => page,
     };
     let mut bytes = Vec::new(alloc);
-    let mut tag = read(nand, 3, page, &mut bytes)?;
+    let mut tag = read(rt, nand, 3, page, &mut bytes);
     match patch {
         Byte(_, at, byte) => set(&mut bytes, at, byte),
         TagByte(_, at, byte) => set(&mut tag, at, byte),
-        Exchanged(one, other, count) => exchange(&mut bytes, one, other, count)?,
+        Exchanged(one, other, count) => exchange(rt, &mut bytes, one, other, count),
         Erased(_) => bytes.clear(),
     }
-    put(nand, 3, page, &bytes, &tag)
+    put(rt, nand, 3, page, &bytes, &tag)
 }
 
 /// How a mount goes, of a device with a checkpoint in block 3.
@@ -159,153 +158,141 @@ fn expect_way(rt: &impl Abort, alloc: Global, nand: MemNand, way: Way) -> MemNan
 }
 
 /// The device without its checkpoint.
-fn bare(nand: &MemNand) -> Result<MemNand, Fail> {
-    let mut nand = nand.copy()?;
+fn bare(rt: &impl Abort, nand: &MemNand) -> MemNand {
+    let mut nand = nand.copy().expect(rt, "memory");
     for page in 0..2 {
-        put(&mut nand, 3, page, &[], &[0; 48])?;
+        put(rt, &mut nand, 3, page, &[], &[0; 48]);
     }
-    Ok(nand)
+    nand
 }
 
 /// That the volume of a device goes on, with this tree.
-fn expect_going(
-    rt: &impl Abort,
-    alloc: Global,
-    nand: MemNand,
-    mut tree: PlainTree,
-) -> Result<(), Fail> {
-    step_all(alloc, &mut tree, "mkdir /z")?;
-    let nand = session(rt, alloc, nand, "mkdir /z", "ok\n")?;
-    let mut volume = mount(alloc, nand)?;
-    assert!(rt; tree.same(&mut volume)?);
-    Ok(())
+fn expect_going(rt: &impl Abort, alloc: Global, nand: MemNand, mut tree: PlainTree) {
+    step_all(rt, alloc, &mut tree, "mkdir /z");
+    let nand = session(rt, alloc, nand, "mkdir /z", "ok\n");
+    let mut volume = mount(rt, alloc, nand);
+    assert!(rt; tree.same(&mut volume).expect(rt, "a tree"));
 }
 
 /// The tree that a mount shows, or its fault.
-fn shown(alloc: Global, nand: MemNand) -> Result<Result<PlainTree, MountFault>, Fail> {
+fn shown(rt: &impl Abort, alloc: Global, nand: MemNand) -> Result<PlainTree, MountFault> {
     match try_mount(alloc, nand) {
         Ok(mut volume) => {
             let sizes = VolumeSizes::new(512, 32, 8, 1);
-            Ok(Ok(PlainTree::read_from(alloc, sizes, &mut volume)?))
+            Ok(PlainTree::read_from(alloc, sizes, &mut volume).expect(rt, "a tree"))
         }
-        Err((_nand, fault)) => Ok(Err(fault)),
+        Err((_nand, fault)) => Err(fault),
     }
 }
 
 /// That a mount shows this tree, and that the volume goes on.
-fn expect_tree(rt: &impl Abort, alloc: Global, nand: MemNand, tree: PlainTree) -> Result<(), Fail> {
-    let mut volume = mount_as_it_is(alloc, nand)?;
-    assert!(rt; tree.same(&mut volume)?);
+fn expect_tree(rt: &impl Abort, alloc: Global, nand: MemNand, tree: PlainTree) {
+    let mut volume = mount_as_it_is(rt, alloc, nand);
+    assert!(rt; tree.same(&mut volume).expect(rt, "a tree"));
     expect_going(rt, alloc, abandon(volume), tree)
 }
 
 /// That a mount of a device goes this way and shows what a mount does where the checkpoint is not there, and that the volume goes on.
-fn expect_same(rt: &impl Abort, alloc: Global, nand: MemNand, way: Way) -> Result<(), Fail> {
+fn expect_same(rt: &impl Abort, alloc: Global, nand: MemNand, way: Way) {
     let nand = expect_way(rt, alloc, nand, way);
-    match shown(alloc, bare(&nand)?)? {
+    match shown(rt, alloc, bare(rt, &nand)) {
         Ok(tree) => expect_tree(rt, alloc, nand, tree),
-        Err(wanted) => {
-            assert_eq!(rt; shown(alloc, nand)?.err(), Some(wanted));
-            Ok(())
-        }
+        Err(wanted) => assert_eq!(rt; shown(rt, alloc, nand).err(), Some(wanted)),
     }
 }
 
 /// A copy of a device whose checkpoint is altered so.
-fn altered(alloc: Global, nand: &MemNand, patches: &[Patch]) -> Result<MemNand, Fail> {
-    let mut nand = nand.copy()?;
+fn altered(rt: &impl Abort, alloc: Global, nand: &MemNand, patches: &[Patch]) -> MemNand {
+    let mut nand = nand.copy().expect(rt, "memory");
     for patch in patches {
-        alter(alloc, &mut nand, *patch)?;
+        alter(rt, alloc, &mut nand, *patch);
     }
-    Ok(nand)
+    nand
 }
 
 #[test]
-fn a_mount_by_an_altered_checkpoint_is_that_of_a_scan(rt: HostRuntime) -> Result<(), Fail> {
+fn a_mount_by_an_altered_checkpoint_is_that_of_a_scan(rt: HostRuntime) {
     let alloc = rt.alloc();
-    let whole = device(&rt, alloc)?;
+    let whole = device(&rt, alloc);
     for patches in REFUSED {
-        let nand = altered(alloc, &whole, patches)?;
-        expect_same(&rt, alloc, nand, Way::Scan)?;
+        let nand = altered(&rt, alloc, &whole, patches);
+        expect_same(&rt, alloc, nand, Way::Scan);
     }
     for patches in TAKEN {
-        let nand = altered(alloc, &whole, patches)?;
-        expect_same(&rt, alloc, nand, Way::Checkpoint)?;
+        let nand = altered(&rt, alloc, &whole, patches);
+        expect_same(&rt, alloc, nand, Way::Checkpoint);
     }
-    Ok(())
 }
 
 /// Puts a copy of the first page of the checkpoint into block 7, with a number that is so much greater.
-fn add_candidate(alloc: Global, nand: &mut MemNand, more: i8) -> Result<(), Fail> {
+fn add_candidate(rt: &impl Abort, alloc: Global, nand: &mut MemNand, more: i8) {
     let mut bytes = Vec::new(alloc);
-    let tag = Tag::decode(&read(nand, 3, 0, &mut bytes)?).ok_or("no tag")?;
+    let tag = Tag::decode(&read(rt, nand, 3, 0, &mut bytes)).expect(rt, "no tag");
     let seq = tag.seq.saturating_add_signed(i64::from(more));
-    put(nand, 7, 0, &bytes, &Tag { seq, ..tag }.encode())
+    put(rt, nand, 7, 0, &bytes, &Tag { seq, ..tag }.encode())
 }
 
-fn mark(nand: &mut MemNand, block: u32) -> Result<(), Fail> {
+fn mark(rt: &impl Abort, nand: &mut MemNand, block: u32) {
     if block >= nand.geometry().blocks() {
-        return Err("no such block".into());
+        panic!(rt; "no such block");
     }
     nand.put_mark(block);
-    Ok(())
 }
 
 /// A candidate with a greater number is read in place of the checkpoint, and is not whole; one with a lesser number is not read.
 #[test]
-fn the_candidate_with_the_greatest_number_is_read(rt: HostRuntime) -> Result<(), Fail> {
+fn the_candidate_with_the_greatest_number_is_read(rt: HostRuntime) {
     let alloc = rt.alloc();
-    let whole = device(&rt, alloc)?;
+    let whole = device(&rt, alloc);
     for (more, way) in [(1i8, Way::Scan), (-1, Way::Checkpoint)] {
-        let mut nand = whole.copy()?;
-        add_candidate(alloc, &mut nand, more)?;
-        expect_same(&rt, alloc, nand, way)?;
+        let mut nand = whole.copy().expect(&rt, "memory");
+        add_candidate(&rt, alloc, &mut nand, more);
+        expect_same(&rt, alloc, nand, way);
     }
-    Ok(())
 }
 
 /// A copy of a device with a bad block.
-fn marked(nand: &MemNand, block: u32) -> Result<MemNand, Fail> {
-    let mut nand = nand.copy()?;
-    mark(&mut nand, block)?;
-    Ok(nand)
+fn marked(rt: &impl Abort, nand: &MemNand, block: u32) -> MemNand {
+    let mut nand = nand.copy().expect(rt, "memory");
+    mark(rt, &mut nand, block);
+    nand
 }
 
 /// An entry does not lead into a bad block, be it another than before or the same, nor is a checkpoint in one.
 #[test]
-fn a_block_of_a_checkpoint_is_bad(rt: HostRuntime) -> Result<(), Fail> {
+fn a_block_of_a_checkpoint_is_bad(rt: HostRuntime) {
     let alloc = rt.alloc();
-    let whole = device(&rt, alloc)?;
-    let nand = altered(alloc, &whole, &[Byte(0, 56, 7)])?;
-    expect_same(&rt, alloc, marked(&nand, 7)?, Way::Scan)?;
+    let whole = device(&rt, alloc);
+    let nand = altered(&rt, alloc, &whole, &[Byte(0, 56, 7)]);
+    expect_same(&rt, alloc, marked(&rt, &nand, 7), Way::Scan);
     for block in [1, 2, 3] {
-        expect_same(&rt, alloc, marked(&whole, block)?, Way::Scan)?;
+        expect_same(&rt, alloc, marked(&rt, &whole, block), Way::Scan);
     }
-    Ok(())
 }
 
 /// A copy of a device whose newest page of a key is erased.
-fn without_newest(nand: &MemNand, object: u64, chunk: u64) -> Result<MemNand, Fail> {
-    let mut nand = nand.copy()?;
-    let found = newest(&mut nand, Key { object, chunk })?.ok_or("no page")?;
-    put(&mut nand, found.block, found.page, &[], &[0; 48])?;
-    Ok(nand)
+fn without_newest(rt: &impl Abort, nand: &MemNand, object: u64, chunk: u64) -> MemNand {
+    let mut nand = nand.copy().expect(rt, "memory");
+    let found = newest(&mut nand, Key { object, chunk })
+        .expect(rt, "a search")
+        .expect(rt, "no page");
+    put(rt, &mut nand, found.block, found.page, &[], &[0; 48]);
+    nand
 }
 
 /// A kept page of the tree is erased: the header of the root, of a directory and of a file, and entries of a directory. A page of a
 /// file is not read by the mount; its loss is told where it is read.
 #[test]
-fn a_kept_page_is_erased(rt: HostRuntime) -> Result<(), Fail> {
+fn a_kept_page_is_erased(rt: HostRuntime) {
     let alloc = rt.alloc();
-    let whole = device(&rt, alloc)?;
+    let whole = device(&rt, alloc);
     for (object, chunk) in [(1, 0), (1, 1), (1, 2), (2, 0), (2, 1), (3, 0), (4, 0)] {
-        let nand = without_newest(&whole, object, chunk)?;
-        expect_same(&rt, alloc, nand, Way::Scan)?;
+        let nand = without_newest(&rt, &whole, object, chunk);
+        expect_same(&rt, alloc, nand, Way::Scan);
     }
-    let nand = without_newest(&whole, 3, 4)?;
+    let nand = without_newest(&rt, &whole, 3, 4);
     let nand = expect_way(&rt, alloc, nand, Way::Checkpoint);
     let lines = "open /a/f r\nread 0 3\nseek 0 1536 set\nread 0 3\nlist /";
     let replies = "fd 0\ndata 3 xxx\nat 1536\nerror EIO\nerror EIO\n";
-    let _volume = asked(&rt, alloc, nand, lines, replies)?;
-    Ok(())
+    let _volume = asked(&rt, alloc, nand, lines, replies);
 }

@@ -3,17 +3,18 @@
 use nand_model::{Fate, Geometry, MemNand};
 use posix_calls::format;
 use std::alloc::Global;
-use std::test::Fail;
+use std::process::Abort;
 
 /// A device of so many blocks of 32 pages of 512 bytes that was just formatted, after a power-up.
-pub(crate) fn formatted(alloc: Global, blocks: u32, spare: u32) -> Result<MemNand, Fail> {
-    let nand = MemNand::new(alloc, Geometry::new(512, 32, blocks)?)?;
+pub(crate) fn formatted(rt: &impl Abort, alloc: Global, blocks: u32, spare: u32) -> MemNand {
+    let geometry = Geometry::new(512, 32, blocks).expect(rt, "a geometry");
+    let nand = MemNand::new(alloc, geometry).expect(rt, "memory");
     match format(alloc, nand, spare) {
         Ok(mut nand) => {
             nand.power_up();
-            Ok(nand)
+            nand
         }
-        Err((_nand, fault)) => Err(fault.into()),
+        Err((_nand, fault)) => panic!(rt; "{fault:?}"),
     }
 }
 
@@ -21,20 +22,23 @@ pub(crate) fn formatted(alloc: Global, blocks: u32, spare: u32) -> Result<MemNan
 pub(crate) const FATES: [Fate; 4] = [Fate::Old, Fate::New, Fate::Erased, Fate::Uncorrectable];
 
 /// The device, of which this call is cut.
-pub(crate) fn cut(alloc: Global, nand: MemNand, call: u64, fate: Fate) -> Result<MemNand, Fail> {
-    Ok(nand.with_fuse(call, vec![in alloc; fate; 32]?))
+pub(crate) fn cut(rt: &impl Abort, alloc: Global, nand: MemNand, call: u64, fate: Fate) -> MemNand {
+    nand.with_fuse(call, vec![in alloc; fate; 32].expect(rt, "memory"))
 }
 
 /// The device, of which these calls fail.
 pub(crate) fn failing(
+    rt: &impl Abort,
     alloc: Global,
     nand: MemNand,
     calls: &[u64],
     fate: Fate,
-) -> Result<MemNand, Fail> {
+) -> MemNand {
     let mut failures = Vec::new(alloc);
     for call in calls {
-        failures.push((*call, vec![in alloc; fate; 32]?))?;
+        failures
+            .push((*call, vec![in alloc; fate; 32].expect(rt, "memory")))
+            .expect(rt, "memory");
     }
-    Ok(nand.with_failures(failures))
+    nand.with_failures(failures)
 }

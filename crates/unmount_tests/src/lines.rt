@@ -6,7 +6,6 @@ use plain_tree::PlainTree;
 use posix_calls::{MountFault, Reply, Stamped, Volume};
 use std::alloc::Global;
 use std::process::Abort;
-use std::test::Fail;
 
 /// A volume on a device in memory.
 pub(crate) type Mounted = Volume<MemNand>;
@@ -34,22 +33,22 @@ pub(crate) fn unmount(volume: Mounted) -> (MemNand, bool) {
 }
 
 /// Mounts a device as it is, and fails where it is no volume.
-pub(crate) fn mount_as_it_is(alloc: Global, nand: MemNand) -> Result<Mounted, Fail> {
+pub(crate) fn mount_as_it_is(rt: &impl Abort, alloc: Global, nand: MemNand) -> Mounted {
     match try_mount(alloc, nand) {
-        Ok(volume) => Ok(volume),
-        Err((_nand, fault)) => Err(fault.into()),
+        Ok(volume) => volume,
+        Err((_nand, fault)) => panic!(rt; "{fault:?}"),
     }
 }
 
 /// Mounts a device after a power-up.
-pub(crate) fn mount(alloc: Global, mut nand: MemNand) -> Result<Mounted, Fail> {
+pub(crate) fn mount(rt: &impl Abort, alloc: Global, mut nand: MemNand) -> Mounted {
     nand.power_up();
-    mount_as_it_is(alloc, nand)
+    mount_as_it_is(rt, alloc, nand)
 }
 
 /// The device after a mount and no command.
-pub(crate) fn mounted(alloc: Global, nand: MemNand) -> Result<MemNand, Fail> {
-    Ok(abandon(mount(alloc, nand)?))
+pub(crate) fn mounted(rt: &impl Abort, alloc: Global, nand: MemNand) -> MemNand {
+    abandon(mount(rt, alloc, nand))
 }
 
 /// That a device counts so many calls and changes since its power-up.
@@ -58,17 +57,16 @@ pub(crate) fn expect_counts(rt: &impl Abort, nand: &MemNand, calls: u64, changes
 }
 
 /// What a volume is told of these lines.
-pub(crate) fn told(alloc: Global, volume: &mut Mounted, lines: &str) -> Result<Vec<u8>, Fail> {
+pub(crate) fn told(rt: &impl Abort, alloc: Global, volume: &mut Mounted, lines: &str) -> Vec<u8> {
     let mut told = Vec::new(alloc);
-    for stamped in &script(alloc, lines)? {
-        write_reply(&mut told, &answer(volume, stamped))?;
+    for stamped in &script(rt, alloc, lines) {
+        write_reply(&mut told, &answer(volume, stamped)).expect(rt, "a reply");
     }
-    Ok(told)
+    told
 }
 
-fn expect_told(rt: &impl Abort, told: &[u8], replies: &str) -> Result<(), Fail> {
-    assert_eq!(rt; str::from_utf8(told)?, replies);
-    Ok(())
+fn expect_told(rt: &impl Abort, told: &[u8], replies: &str) {
+    assert_eq!(rt; str::from_utf8(told).expect(rt, "a text"), replies);
 }
 
 /// The volume of a device after these lines, which are to be told these replies.
@@ -78,11 +76,11 @@ pub(crate) fn asked(
     nand: MemNand,
     lines: &str,
     replies: &str,
-) -> Result<Mounted, Fail> {
-    let mut volume = mount(alloc, nand)?;
-    let told = told(alloc, &mut volume, lines)?;
-    expect_told(rt, &told, replies)?;
-    Ok(volume)
+) -> Mounted {
+    let mut volume = mount(rt, alloc, nand);
+    let told = told(rt, alloc, &mut volume, lines);
+    expect_told(rt, &told, replies);
+    volume
 }
 
 /// The device after such a session, which ends with an unmount.
@@ -92,10 +90,10 @@ pub(crate) fn session(
     nand: MemNand,
     lines: &str,
     replies: &str,
-) -> Result<MemNand, Fail> {
-    let (nand, is_done) = unmount(asked(rt, alloc, nand, lines, replies)?);
+) -> MemNand {
+    let (nand, is_done) = unmount(asked(rt, alloc, nand, lines, replies));
     assert!(rt; is_done, "{lines}");
-    Ok(nand)
+    nand
 }
 
 /// The device after such a session, which ends as if power were lost.
@@ -105,27 +103,26 @@ pub(crate) fn lost_session(
     nand: MemNand,
     lines: &str,
     replies: &str,
-) -> Result<MemNand, Fail> {
-    Ok(abandon(asked(rt, alloc, nand, lines, replies)?))
+) -> MemNand {
+    abandon(asked(rt, alloc, nand, lines, replies))
 }
 
 /// The commands of a text of lines.
-fn script(alloc: Global, lines: &str) -> Result<Vec<Stamped>, Fail> {
+fn script(rt: &impl Abort, alloc: Global, lines: &str) -> Vec<Stamped> {
     let mut reader = lines.as_bytes();
-    Ok(read_script(alloc, &mut reader)?)
+    read_script(alloc, &mut reader).expect(rt, "a script")
 }
 
 /// Does these lines to a tree.
-pub(crate) fn step_all(alloc: Global, tree: &mut PlainTree, lines: &str) -> Result<(), Fail> {
-    for stamped in &script(alloc, lines)? {
-        let _reply = tree.step(stamped)?;
+pub(crate) fn step_all(rt: &impl Abort, alloc: Global, tree: &mut PlainTree, lines: &str) {
+    for stamped in &script(rt, alloc, lines) {
+        let _reply = tree.step(stamped).expect(rt, "memory");
     }
-    Ok(())
 }
 
 /// The tree after these lines.
-pub(crate) fn stepped(alloc: Global, tree: &PlainTree, lines: &str) -> Result<PlainTree, Fail> {
-    let mut tree = tree.copy()?;
-    step_all(alloc, &mut tree, lines)?;
-    Ok(tree)
+pub(crate) fn stepped(rt: &impl Abort, alloc: Global, tree: &PlainTree, lines: &str) -> PlainTree {
+    let mut tree = tree.copy().expect(rt, "memory");
+    step_all(rt, alloc, &mut tree, lines);
+    tree
 }

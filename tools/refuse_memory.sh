@@ -35,18 +35,27 @@ is_meant() {
     return 1
 }
 
+# Whether a test ended for want of memory, by its status and what it wrote: with an error, or by a panic.
+is_want_of_memory() {
+    case $1 in
+    101) grep -q '^error: \(AllocError\|AllocFailed\|NoMemory\|Kind(OutOfMemory)\)' "$2" ;;
+    134) grep -q '^\([a-z ]*: \)\?\(AllocError\|AllocFailed\|NoMemory\|Kind(OutOfMemory)\)' "$2" ;;
+    *) return 1 ;;
+    esac
+}
+
 # Refuses each growth of a test of a crate.
 refuse() {
     local program=crates/$1/out/$1_tests test=$2 number=0 passed=0 ended=0 wrong=0 status
     [ -x "$program" ] || { echo "$1 $test: there is no $program"; return 1; }
     while :; do
         number=$((number + 1))
-        REFUSE=$number LD_PRELOAD=$work/refuse.so timeout 60 "$program" "$test" 9>"$work/mark" >"$work/told" 2>&1
+        { REFUSE=$number LD_PRELOAD=$work/refuse.so timeout 60 "$program" "$test" 9>"$work/mark" >"$work/told" 2>&1; } 2>/dev/null
         status=$?
         [ -s "$work/mark" ] || break
         if [ $status = 0 ]; then
             passed=$((passed + 1))
-        elif [ $status = 101 ] && grep -q '^error: \(AllocError\|AllocFailed\|NoMemory\|Kind(OutOfMemory)\)' "$work/told"; then
+        elif is_want_of_memory "$status" "$work/told"; then
             ended=$((ended + 1))
         else
             wrong=$((wrong + 1))

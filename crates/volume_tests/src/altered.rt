@@ -12,7 +12,6 @@ use plain_search::newest;
 use posix_calls::MountFault;
 use std::alloc::Global;
 use std::process::Abort;
-use std::test::Fail;
 
 /// The page of an object's chunk: its first bytes. All others are zero.
 #[derive(Clone, Copy)]
@@ -265,17 +264,16 @@ fn tag_of(page: TestPage, number: u64) -> [u8; 48] {
 }
 
 /// Writes a page as the first one of a block.
-fn write_page<N: Nand>(nand: &mut N, block: u32, bytes: &[u8], tag: &[u8; 48]) -> Result<(), Fail> {
+fn write_page<N: Nand>(rt: &impl Abort, nand: &mut N, block: u32, bytes: &[u8], tag: &[u8; 48]) {
     let geometry = nand.geometry();
     if block >= geometry.blocks() || nand.is_bad(block) {
-        return Err("no such block".into());
+        panic!(rt; "no such block");
     }
     if bytes.len() != geometry.bytes() as usize {
-        return Err("no such page".into());
+        panic!(rt; "no such page");
     }
-    nand.erase(block)?;
-    nand.program(block, 0, bytes, tag)?;
-    Ok(())
+    nand.erase(block).expect(rt, "an erase");
+    nand.program(block, 0, bytes, tag).expect(rt, "a program");
 }
 
 /// Alters a page of this number, and its tag.
@@ -291,74 +289,69 @@ fn alter(patches: &[Patch], number: usize, bytes: &mut [u8], tag: &mut [u8]) {
 
 /// Writes a page, with a header of this format, into the block of its number.
 fn add_page(
+    rt: &impl Abort,
     alloc: Global,
     nand: &mut MemNand,
     number: usize,
     page: TestPage,
     format: u8,
     patches: &[Patch],
-) -> Result<(), Fail> {
-    let mut bytes = vec![in alloc; 0u8; 512]?;
+) {
+    let mut bytes = vec![in alloc; 0u8; 512].expect(rt, "memory");
     put(&mut bytes, 0, page.bytes);
     if page.chunk == 0 {
         put(&mut bytes, 4, &[format]);
     }
     let mut tag = tag_of(page, (number as u64).saturating_add(1));
     alter(patches, number, &mut bytes, &mut tag);
-    write_page(nand, number.min(8) as u32, &bytes, &tag)
+    write_page(rt, nand, number.min(8) as u32, &bytes, &tag)
 }
 
 /// A device with these pages, each in a block of its own, altered.
 pub(crate) fn flash_of(
+    rt: &impl Abort,
     alloc: Global,
     pages: &[TestPage],
     format: u8,
     patches: &[Patch],
-) -> Result<MemNand, Fail> {
-    let mut nand = erased(alloc)?;
+) -> MemNand {
+    let mut nand = erased(rt, alloc);
     for (number, page) in pages.iter().enumerate() {
-        add_page(alloc, &mut nand, number, *page, format, patches)?;
+        add_page(rt, alloc, &mut nand, number, *page, format, patches);
     }
     nand.power_up();
-    Ok(nand)
+    nand
 }
 
 /// That a mount of a device answers this, and changes nothing.
-fn expect_answer(
-    rt: &impl Abort,
-    alloc: Global,
-    nand: MemNand,
-    answer: Answer,
-) -> Result<(), Fail> {
+fn expect_answer(rt: &impl Abort, alloc: Global, nand: MemNand, answer: Answer) {
     let nand = match (try_mount(alloc, nand, 16), answer) {
         (Ok(mut served), Answer::Told(rows)) => {
-            expect(rt, alloc, &mut served, rows)?;
+            expect(rt, alloc, &mut served, rows);
             served.abandon()
         }
         (Err((nand, told)), Answer::Fault(fault)) => {
             assert_eq!(rt; told, fault);
             nand
         }
-        _ => return Err("the other answer".into()),
+        _ => panic!(rt; "the other answer"),
     };
     assert_eq!(rt; nand.changes(), 0);
-    Ok(())
 }
 
 #[test]
-fn an_altered_flash_has_its_fault(rt: HostRuntime) -> Result<(), Fail> {
+fn an_altered_flash_has_its_fault(rt: HostRuntime) {
     let alloc = rt.alloc();
     for format in [1u8, 2] {
         for (patches, answer) in FILE_CASES {
-            let nand = flash_of(alloc, &WITH_FILE, format, patches)?;
-            expect_answer(&rt, alloc, nand, answer)?;
+            let nand = flash_of(&rt, alloc, &WITH_FILE, format, patches);
+            expect_answer(&rt, alloc, nand, answer);
         }
         for (pages, patches, answer) in OTHER_CASES {
-            let nand = flash_of(alloc, pages, format, patches)?;
-            expect_answer(&rt, alloc, nand, answer)?;
+            let nand = flash_of(&rt, alloc, pages, format, patches);
+            expect_answer(&rt, alloc, nand, answer);
         }
     }
-    Ok(())
 }
 
 /// Mounts a device, and once more where memory is refused, which is counted.
@@ -415,34 +408,36 @@ const FAULTS: [(&[TestPage], &[Patch], Option<MountFault>); 6] = [
 // Run it with each allocation refused in turn.
 /// Want of memory is told of one mount at most, and the next one tells the fault.
 #[test]
-fn a_mount_that_is_refused_memory_has_its_fault_next(rt: HostRuntime) -> Result<(), Fail> {
+fn a_mount_that_is_refused_memory_has_its_fault_next(rt: HostRuntime) {
     let alloc = rt.alloc();
     let mut refused = 0;
     for (pages, patches, wanted) in FAULTS {
-        let nand = flash_of(alloc, pages, 2, patches)?;
+        let nand = flash_of(&rt, alloc, pages, 2, patches);
         assert_eq!(&rt; fault_of(&rt, alloc, nand, &mut refused), wanted);
     }
     let hit = Hit {
         call: 100,
         left: &[],
     };
-    let nand = cut(alloc, &formatted(alloc)?, hit)?;
+    let nand = cut(&rt, alloc, &formatted(&rt, alloc), hit);
     let fault = fault_of(&rt, alloc, nand, &mut refused);
     assert_eq!(&rt; fault, Some(MountFault::Gone));
     assert!(&rt; refused <= 1, "{refused}");
-    Ok(())
 }
 
 /// The newest header of an object.
-fn header_of<N: Nand>(alloc: Global, nand: &mut N, object: u64) -> Result<Vec<u8>, Fail> {
-    let found = newest(nand, Key { object, chunk: 0 })?.ok_or("no header")?;
+fn header_of<N: Nand>(rt: &impl Abort, alloc: Global, nand: &mut N, object: u64) -> Vec<u8> {
+    let found = newest(nand, Key { object, chunk: 0 })
+        .expect(rt, "a search")
+        .expect(rt, "no header");
     let geometry = nand.geometry();
     if found.block >= geometry.blocks() || found.page >= geometry.pages() {
-        return Err("no such page".into());
+        panic!(rt; "no such page");
     }
-    let mut bytes = vec![in alloc; 0u8; geometry.bytes() as usize]?;
-    nand.read_page(found.block, found.page, &mut bytes, &mut [0; 48])?;
-    Ok(bytes)
+    let mut bytes = vec![in alloc; 0u8; geometry.bytes() as usize].expect(rt, "memory");
+    nand.read_page(found.block, found.page, &mut bytes, &mut [0; 48])
+        .expect(rt, "a page");
+    bytes
 }
 
 /// That the newest header of an object has the bytes of a page, with another byte at a place.
@@ -453,13 +448,12 @@ fn expect_header(
     page: TestPage,
     place: usize,
     byte: u8,
-) -> Result<(), Fail> {
-    let mut wanted = vec![in alloc; 0u8; 512]?;
+) {
+    let mut wanted = vec![in alloc; 0u8; 512].expect(rt, "memory");
     put(&mut wanted, 0, page.bytes);
     put(&mut wanted, place, &[byte]);
-    let told = header_of(alloc, nand, page.object)?;
+    let told = header_of(rt, alloc, nand, page.object);
     assert_eq!(rt; told.as_slice(), wanted.as_slice());
-    Ok(())
 }
 
 const MADE: Part = Rows(
@@ -480,12 +474,12 @@ stat /a -> info file 2 1 5 4",
 
 /// A header is written in the newer format, and one of the older format stays until it is written.
 #[test]
-fn headers_have_their_bytes(rt: HostRuntime) -> Result<(), Fail> {
+fn headers_have_their_bytes(rt: HostRuntime) {
     let alloc = rt.alloc();
-    let mut nand = tell(&rt, alloc, formatted(alloc)?, &[MADE])?;
-    expect_header(&rt, alloc, &mut nand, FILE, 16, 7)?;
-    let old = flash_of(alloc, &WITH_FILE, 1, &[])?;
-    let mut nand = tell(&rt, alloc, old, &[CHANGED])?;
-    expect_header(&rt, alloc, &mut nand, FILE, 16, 4)?;
+    let mut nand = tell(&rt, alloc, formatted(&rt, alloc), &[MADE]);
+    expect_header(&rt, alloc, &mut nand, FILE, 16, 7);
+    let old = flash_of(&rt, alloc, &WITH_FILE, 1, &[]);
+    let mut nand = tell(&rt, alloc, old, &[CHANGED]);
+    expect_header(&rt, alloc, &mut nand, FILE, 16, 4);
     expect_header(&rt, alloc, &mut nand, ROOT, 4, 1)
 }

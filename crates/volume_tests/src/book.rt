@@ -5,7 +5,6 @@ use plain_tree::{Answers, PlainTree};
 use posix_calls::{Reply, Stamped};
 use std::alloc::Global;
 use std::process::Abort;
-use std::test::Fail;
 use volume_terms::VolumeSizes;
 
 /// Commands, and what a plain tree tells of them.
@@ -18,77 +17,87 @@ pub(crate) struct Book {
 }
 
 /// The tree of a device of eight blocks of 32 pages of 512 bytes that was just formatted with one block to spare.
-pub(crate) fn new_tree(alloc: Global) -> Result<PlainTree, Fail> {
-    Ok(PlainTree::new(alloc, VolumeSizes::new(512, 32, 8, 1))?)
+pub(crate) fn new_tree(rt: &impl Abort, alloc: Global) -> PlainTree {
+    PlainTree::new(alloc, VolumeSizes::new(512, 32, 8, 1)).expect(rt, "memory")
 }
 
 /// The text of a reply.
-pub(crate) fn text_of(alloc: Global, reply: &Reply) -> Result<String, Fail> {
+pub(crate) fn text_of(rt: &impl Abort, alloc: Global, reply: &Reply) -> String {
     let mut text = Vec::new(alloc);
-    write_reply(&mut text, reply)?;
-    Ok(String::from_str(alloc, str::from_utf8(&text)?)?)
+    write_reply(&mut text, reply).expect(rt, "a reply");
+    String::from_str(alloc, str::from_utf8(&text).expect(rt, "a text")).expect(rt, "memory")
 }
 
 /// What a plain tree tells of a command.
-pub(crate) fn step(alloc: Global, tree: &mut PlainTree, stamped: &Stamped) -> Result<String, Fail> {
-    let reply = tree.step(stamped)?;
-    text_of(alloc, &reply)
+pub(crate) fn step(
+    rt: &impl Abort,
+    alloc: Global,
+    tree: &mut PlainTree,
+    stamped: &Stamped,
+) -> String {
+    let reply = tree.step(stamped).expect(rt, "memory");
+    text_of(rt, alloc, &reply)
 }
 
 /// The commands of some lines.
-pub(crate) fn commands_of(alloc: Global, lines: &str) -> Result<Vec<Stamped>, Fail> {
+pub(crate) fn commands_of(rt: &impl Abort, alloc: Global, lines: &str) -> Vec<Stamped> {
     let mut reader = lines.as_bytes();
-    Ok(read_script(alloc, &mut reader)?)
+    read_script(alloc, &mut reader).expect(rt, "a script")
 }
 
 /// The trees before the first of some commands and after each.
-fn trees_of(alloc: Global, commands: &[Stamped]) -> Result<Vec<PlainTree>, Fail> {
+fn trees_of(rt: &impl Abort, alloc: Global, commands: &[Stamped]) -> Vec<PlainTree> {
     let mut trees = Vec::new(alloc);
-    let mut tree = new_tree(alloc)?;
+    let mut tree = new_tree(rt, alloc);
     for stamped in commands {
-        trees.push(tree.copy()?)?;
-        let _reply = tree.step(stamped)?;
+        trees
+            .push(tree.copy().expect(rt, "memory"))
+            .expect(rt, "memory");
+        let _reply = tree.step(stamped).expect(rt, "memory");
     }
-    trees.push(tree)?;
-    Ok(trees)
+    trees.push(tree).expect(rt, "memory");
+    trees
 }
 
 /// What a plain tree tells of some commands.
-fn replies_of(alloc: Global, commands: &[Stamped]) -> Result<Vec<String>, Fail> {
+fn replies_of(rt: &impl Abort, alloc: Global, commands: &[Stamped]) -> Vec<String> {
     let mut replies = Vec::new(alloc);
-    let mut tree = new_tree(alloc)?;
+    let mut tree = new_tree(rt, alloc);
     for stamped in commands {
-        replies.push(step(alloc, &mut tree, stamped)?)?;
+        replies
+            .push(step(rt, alloc, &mut tree, stamped))
+            .expect(rt, "memory");
     }
-    Ok(replies)
+    replies
 }
 
 /// The book of these lines.
-pub(crate) fn book_of(alloc: Global, lines: &str) -> Result<Book, Fail> {
-    let commands = commands_of(alloc, lines)?;
-    let replies = replies_of(alloc, &commands)?;
-    let trees = trees_of(alloc, &commands)?;
-    Ok(Book {
+pub(crate) fn book_of(rt: &impl Abort, alloc: Global, lines: &str) -> Book {
+    let commands = commands_of(rt, alloc, lines);
+    let replies = replies_of(rt, alloc, &commands);
+    let trees = trees_of(rt, alloc, &commands);
+    Book {
         commands,
         replies,
         trees,
-    })
+    }
 }
 
 impl Book {
     /// Looks whether a volume has the tree before the command of a number, or that of one after it, up to another number.
     pub(crate) fn has_tree<V: Answers>(
         &self,
+        rt: &impl Abort,
         volume: &mut V,
         from: usize,
         to: usize,
-    ) -> Result<bool, Fail> {
+    ) -> bool {
         for tree in self.trees.get(from..=to).unwrap_or(&[]) {
-            if tree.same(volume)? {
-                return Ok(true);
+            if tree.same(volume).expect(rt, "a tree") {
+                return true;
             }
         }
-        Ok(false)
+        false
     }
 
     /// Looks whether this is told of the command of a number.
@@ -98,10 +107,9 @@ impl Book {
         alloc: Global,
         number: usize,
         reply: &Reply,
-    ) -> Result<(), Fail> {
-        let wanted = self.replies.get(number).ok_or("no such command")?;
-        let told = text_of(alloc, reply)?;
+    ) {
+        let wanted = self.replies.get(number).expect(rt, "no such command");
+        let told = text_of(rt, alloc, reply);
         assert_eq!(rt; told.as_str(), wanted.as_str(), "{number}");
-        Ok(())
     }
 }

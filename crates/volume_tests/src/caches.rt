@@ -7,7 +7,6 @@ use crate::stories::Part::{Rows, Turns};
 use crate::stories::{Part, ask_part, served_after, tell, tell_part};
 use std::alloc::Global;
 use std::process::Abort;
-use std::test::Fail;
 
 const READ: Part = Rows("seek 0 0 set -> at 0\nread 0 10 -> data 5 hello");
 
@@ -47,56 +46,48 @@ const READINGS: [(Reading, usize, bool); 5] = [
 ];
 
 /// The calls of a device in a story, which ends with these rows.
-fn calls_of(
-    rt: &impl Abort,
-    alloc: Global,
-    reading: Reading,
-    capacity: usize,
-    last: Part,
-) -> Result<u64, Fail> {
-    let mut served = served_after(rt, alloc, formatted(alloc)?, capacity, reading.story)?;
-    served = tell_part(rt, alloc, served, capacity, last)?;
-    Ok(served.abandon().calls())
+fn calls_of(rt: &impl Abort, alloc: Global, reading: Reading, capacity: usize, last: Part) -> u64 {
+    let mut served = served_after(rt, alloc, formatted(rt, alloc), capacity, reading.story);
+    served = tell_part(rt, alloc, served, capacity, last);
+    served.abandon().calls()
 }
 
 #[test]
-fn what_is_in_the_cache_is_read_without_a_call(rt: HostRuntime) -> Result<(), Fail> {
+fn what_is_in_the_cache_is_read_without_a_call(rt: HostRuntime) {
     let alloc = rt.alloc();
     for (reading, capacity, calls) in READINGS {
-        let before = calls_of(&rt, alloc, reading, capacity, Rows(""))?;
-        let after = calls_of(&rt, alloc, reading, capacity, reading.last)?;
+        let before = calls_of(&rt, alloc, reading, capacity, Rows(""));
+        let after = calls_of(&rt, alloc, reading, capacity, reading.last);
         assert_eq!(rt; after > before, calls, "{capacity}");
     }
-    Ok(())
 }
 
 /// The calls of a device on which a file of so many pages is read from its first to its last page, so many times, after a mount.
-fn calls_of_turns(rt: &impl Abort, alloc: Global, pages: u32, turns: u32) -> Result<u64, Fail> {
+fn calls_of_turns(rt: &impl Abort, alloc: Global, pages: u32, turns: u32) -> u64 {
     let story = [
         Rows("open /a rwc -> fd 0"),
         Turns(pages, "write 0 [x*512] -> wrote 512"),
         Rows("fsync 0 -> ok"),
     ];
-    let mut nand = tell(rt, alloc, formatted(alloc)?, &story)?;
+    let mut nand = tell(rt, alloc, formatted(rt, alloc), &story);
     nand.power_up();
-    let mut served = mount_by_itself(alloc, nand)?;
-    ask_part(rt, alloc, &mut served, Rows("open /a r -> fd 0"))?;
+    let mut served = mount_by_itself(rt, alloc, nand);
+    ask_part(rt, alloc, &mut served, Rows("open /a r -> fd 0"));
     for _turn in 0..turns {
-        ask_part(rt, alloc, &mut served, Rows("seek 0 0 set -> at 0"))?;
+        ask_part(rt, alloc, &mut served, Rows("seek 0 0 set -> at 0"));
         let read = Turns(pages, "read 0 512 -> data 512 [x*512]");
-        ask_part(rt, alloc, &mut served, read)?;
+        ask_part(rt, alloc, &mut served, read);
     }
-    Ok(served.abandon().calls())
+    served.abandon().calls()
 }
 
 /// Sixteen pages stay in the cache of a mount. Of seventeen that are read in turn each one is gone when it is read again.
 #[test]
-fn a_mount_caches_sixteen_pages(rt: HostRuntime) -> Result<(), Fail> {
+fn a_mount_caches_sixteen_pages(rt: HostRuntime) {
     let alloc = rt.alloc();
     for (pages, calls) in [(16, 0_u64), (17, 17)] {
-        let once = calls_of_turns(&rt, alloc, pages, 1)?;
-        let twice = calls_of_turns(&rt, alloc, pages, 2)?;
+        let once = calls_of_turns(&rt, alloc, pages, 1);
+        let twice = calls_of_turns(&rt, alloc, pages, 2);
         assert_eq!(rt; twice, once.wrapping_add(calls), "{pages}");
     }
-    Ok(())
 }

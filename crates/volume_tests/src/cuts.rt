@@ -9,7 +9,6 @@ use crate::stories::{Part, served_after, tell};
 use nand_model::{Fate, MemNand};
 use std::alloc::Global;
 use std::process::Abort;
-use std::test::Fail;
 
 /// A session, its last lines, which are asked whatever they are told, and rows of the trees before and after these.
 #[derive(Clone, Copy)]
@@ -52,60 +51,52 @@ rename /x /y -> ok",
 };
 
 /// The device after a session, and after lines that are told whatever they are.
-fn run(
-    rt: &impl Abort,
-    alloc: Global,
-    nand: MemNand,
-    before: &[Part],
-    last: &str,
-) -> Result<MemNand, Fail> {
-    let mut served = served_after(rt, alloc, nand, 16, before)?;
-    let _told = told(alloc, &mut served, last.as_bytes())?;
-    Ok(served.abandon())
+fn run(rt: &impl Abort, alloc: Global, nand: MemNand, before: &[Part], last: &str) -> MemNand {
+    let mut served = served_after(rt, alloc, nand, 16, before);
+    let _told = told(rt, alloc, &mut served, last.as_bytes());
+    served.abandon()
 }
 
 impl Trial {
     /// Cuts a call of the last lines, and looks at the tree that is left.
-    fn cut_at(
-        self,
-        rt: &impl Abort,
-        alloc: Global,
-        nand: &MemNand,
-        hit: Hit,
-        rows: &'static str,
-    ) -> Result<(), Fail> {
-        let mut left = run(rt, alloc, cut(alloc, nand, hit)?, self.before, self.last)?;
+    fn cut_at(self, rt: &impl Abort, alloc: Global, nand: &MemNand, hit: Hit, rows: &'static str) {
+        let mut left = run(rt, alloc, cut(rt, alloc, nand, hit), self.before, self.last);
         assert!(rt; left.gone(), "{}", hit.call);
         left.power_up();
-        let _ = tell(rt, alloc, left, &[Rows(rows)])?;
-        Ok(())
+        let _ = tell(rt, alloc, left, &[Rows(rows)]);
     }
 
     /// Cuts each call of the last lines. The tree is the new one where the last call is cut and its page is there. Gives the
     /// number of these calls.
-    fn cut_each(self, rt: &impl Abort, alloc: Global, nand: &MemNand) -> Result<u64, Fail> {
-        let before = run(rt, alloc, nand.copy()?, self.before, "")?.calls();
-        let after = run(rt, alloc, nand.copy()?, self.before, self.last)?.calls();
+    fn cut_each(self, rt: &impl Abort, alloc: Global, nand: &MemNand) -> u64 {
+        let before = run(rt, alloc, nand.copy().expect(rt, "memory"), self.before, "").calls();
+        let after = run(
+            rt,
+            alloc,
+            nand.copy().expect(rt, "memory"),
+            self.before,
+            self.last,
+        )
+        .calls();
         for call in before..after {
             let call = call.saturating_add(1);
             for left in ALL_LEFT {
                 let is_new = call == after && matches!(left, [Fate::New]);
                 let rows = if is_new { self.new } else { self.old };
-                self.cut_at(rt, alloc, nand, Hit { call, left }, rows)?;
+                self.cut_at(rt, alloc, nand, Hit { call, left }, rows);
             }
         }
-        Ok(after.saturating_sub(before))
+        after.saturating_sub(before)
     }
 }
 
 #[test]
-fn a_cut_change_is_there_as_a_whole_or_not_at_all(rt: HostRuntime) -> Result<(), Fail> {
+fn a_cut_change_is_there_as_a_whole_or_not_at_all(rt: HostRuntime) {
     let alloc = rt.alloc();
-    let nand = formatted(alloc)?;
-    assert_eq!(&rt; SYNC.cut_each(&rt, alloc, &nand)?, 5);
-    assert_eq!(&rt; FULL_BUFFER.cut_each(&rt, alloc, &nand)?, 8);
-    let _calls = REPLACED.cut_each(&rt, alloc, &nand)?;
-    Ok(())
+    let nand = formatted(&rt, alloc);
+    assert_eq!(&rt; SYNC.cut_each(&rt, alloc, &nand), 5);
+    assert_eq!(&rt; FULL_BUFFER.cut_each(&rt, alloc, &nand), 8);
+    let _calls = REPLACED.cut_each(&rt, alloc, &nand);
 }
 
 /// A file of one page, and another that takes all other room.
@@ -137,20 +128,32 @@ const REWRITTEN: Trial = Trial {
 
 /// A sync with a collection in it: an erase, a copy of each page that is read, and the pages of the buffer.
 #[test]
-fn a_cut_collection_loses_nothing(rt: HostRuntime) -> Result<(), Fail> {
+fn a_cut_collection_loses_nothing(rt: HostRuntime) {
     let alloc = rt.alloc();
-    let mut nand = tell(&rt, alloc, formatted(alloc)?, &FILLED)?;
+    let mut nand = tell(&rt, alloc, formatted(&rt, alloc), &FILLED);
     for _ in 0..40u32 {
         nand.power_up();
-        let before = run(&rt, alloc, nand.copy()?, REWRITTEN.before, "")?;
-        let after = run(&rt, alloc, nand.copy()?, REWRITTEN.before, REWRITTEN.last)?;
+        let before = run(
+            &rt,
+            alloc,
+            nand.copy().expect(&rt, "memory"),
+            REWRITTEN.before,
+            "",
+        );
+        let after = run(
+            &rt,
+            alloc,
+            nand.copy().expect(&rt, "memory"),
+            REWRITTEN.before,
+            REWRITTEN.last,
+        );
         let calls = after.calls().saturating_sub(before.calls());
         let changes = after.changes().saturating_sub(before.changes());
         if calls > changes {
-            assert_eq!(&rt; REWRITTEN.cut_each(&rt, alloc, &nand)?, calls);
-            return Ok(());
+            assert_eq!(&rt; REWRITTEN.cut_each(&rt, alloc, &nand), calls);
+            return;
         }
         nand = after;
     }
-    Err("no block is collected".into())
+    panic!(&rt; "no block is collected")
 }

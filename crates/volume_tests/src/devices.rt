@@ -4,11 +4,11 @@ use flash_tree::count_bad;
 use nand_model::{Fate, Geometry, MemNand};
 use posix_calls::{FormatFault, format};
 use std::alloc::Global;
-use std::test::Fail;
+use std::process::Abort;
 
 /// An erased device of eight blocks of 32 pages of 512 bytes.
-pub(crate) fn erased(alloc: Global) -> Result<MemNand, Fail> {
-    Ok(MemNand::new(alloc, Geometry::new(512, 32, 8)?)?)
+pub(crate) fn erased(rt: &impl Abort, alloc: Global) -> MemNand {
+    MemNand::new(alloc, Geometry::new(512, 32, 8).expect(rt, "memory")).expect(rt, "memory")
 }
 
 /// How a format ends, with the device.
@@ -24,18 +24,18 @@ pub(crate) fn format_of(
 }
 
 /// The device, formatted with so many blocks to spare, after a power-up.
-pub(crate) fn formatted_with(alloc: Global, nand: MemNand, spare: u32) -> Result<MemNand, Fail> {
+pub(crate) fn formatted_with(rt: &impl Abort, alloc: Global, nand: MemNand, spare: u32) -> MemNand {
     let (mut nand, fault) = format_of(alloc, nand, spare);
     nand.power_up();
     match fault {
-        None => Ok(nand),
-        Some(fault) => Err(fault.into()),
+        None => nand,
+        Some(fault) => panic!(rt; "{fault:?}"),
     }
 }
 
 /// An erased device that was formatted with one block to spare, after a power-up.
-pub(crate) fn formatted(alloc: Global) -> Result<MemNand, Fail> {
-    formatted_with(alloc, erased(alloc)?, 1)
+pub(crate) fn formatted(rt: &impl Abort, alloc: Global) -> MemNand {
+    formatted_with(rt, alloc, erased(rt, alloc), 1)
 }
 
 /// What is left of the pages of a call that is cut or fails: these fates in turn.
@@ -58,32 +58,34 @@ pub(crate) struct Hit {
 }
 
 /// The fates of 32 pages.
-fn fates_of(alloc: Global, left: Left) -> Result<Vec<Fate>, Fail> {
+fn fates_of(rt: &impl Abort, alloc: Global, left: Left) -> Vec<Fate> {
     let mut fates = Vec::new(alloc);
     for _ in 0..32u32 {
         for fate in left {
-            fates.push(*fate)?;
+            fates.push(*fate).expect(rt, "memory");
         }
     }
-    Ok(fates)
+    fates
 }
 
 /// A copy of the device after a power-up, of which a call is cut.
-pub(crate) fn cut(alloc: Global, nand: &MemNand, hit: Hit) -> Result<MemNand, Fail> {
-    let mut nand = nand.copy()?;
+pub(crate) fn cut(rt: &impl Abort, alloc: Global, nand: &MemNand, hit: Hit) -> MemNand {
+    let mut nand = nand.copy().expect(rt, "memory");
     nand.power_up();
-    Ok(nand.with_fuse(hit.call, fates_of(alloc, hit.left)?))
+    nand.with_fuse(hit.call, fates_of(rt, alloc, hit.left))
 }
 
 /// A copy of the device after a power-up, of which these calls fail.
-pub(crate) fn failing(alloc: Global, nand: &MemNand, hits: &[Hit]) -> Result<MemNand, Fail> {
+pub(crate) fn failing(rt: &impl Abort, alloc: Global, nand: &MemNand, hits: &[Hit]) -> MemNand {
     let mut failures = Vec::new(alloc);
     for hit in hits {
-        failures.push((hit.call, fates_of(alloc, hit.left)?))?;
+        failures
+            .push((hit.call, fates_of(rt, alloc, hit.left)))
+            .expect(rt, "memory");
     }
-    let mut nand = nand.copy()?;
+    let mut nand = nand.copy().expect(rt, "memory");
     nand.power_up();
-    Ok(nand.with_failures(failures))
+    nand.with_failures(failures)
 }
 
 /// How many blocks are marked.

@@ -10,7 +10,6 @@ use rand_core::{Rng, SeedableRng};
 use rand_pcg::Lcg128Xsl64;
 use std::alloc::{AllocError, Global};
 use std::process::Abort;
-use std::test::Fail;
 
 /// Lines in which a path stands in place of each `P`, a descriptor for `F`, a number below 4,000 for `N`, and some bytes for `X`.
 const LINES: [&str; 30] = [
@@ -108,13 +107,13 @@ fn push_line(
 }
 
 /// So many commands that are drawn.
-fn drawn(alloc: Global, seed: u64, count: u32) -> Result<Vec<Stamped>, Fail> {
+fn drawn(rt: &impl Abort, alloc: Global, seed: u64, count: u32) -> Vec<Stamped> {
     let mut random = Lcg128Xsl64::seed_from_u64(seed);
     let mut lines = String::new(alloc);
     for _ in 0..count {
-        push_line(alloc, &mut lines, &mut random)?;
+        push_line(alloc, &mut lines, &mut random).expect(rt, "memory");
     }
-    commands_of(alloc, &lines)
+    commands_of(rt, alloc, &lines)
 }
 
 /// Does a command in both, which tell the same. Tells whether it was done.
@@ -124,11 +123,11 @@ fn do_both(
     served: &mut Served,
     tree: &mut PlainTree,
     stamped: &Stamped,
-) -> Result<bool, Fail> {
-    let wanted = step(alloc, tree, stamped)?;
-    let told = text_of(alloc, &served.answer(stamped))?;
+) -> bool {
+    let wanted = step(rt, alloc, tree, stamped);
+    let told = text_of(rt, alloc, &served.answer(stamped));
     assert_eq!(rt; told.as_str(), wanted.as_str(), "{stamped:?}");
-    Ok(!told.starts_with("error"))
+    !told.starts_with("error")
 }
 
 /// Unmounts, and mounts again, by the checkpoint; or loses power after a sync, and mounts again, by a scan.
@@ -138,38 +137,37 @@ fn mount_again(
     mut served: Served,
     capacity: usize,
     is_unmounted: bool,
-) -> Result<Served, Fail> {
+) -> Served {
     let mut nand = if is_unmounted {
         let (nand, is_done) = served.unmount();
         assert!(rt; is_done);
         nand
     } else {
-        expect(rt, alloc, &mut served, "sync -> ok")?;
+        expect(rt, alloc, &mut served, "sync -> ok");
         served.abandon()
     };
     nand.power_up();
-    mount(alloc, nand, capacity)
+    mount(rt, alloc, nand, capacity)
 }
 
 /// Each fifty commands are followed by an unmount or a loss of power, in turn, and a mount.
 #[test]
-fn a_volume_tells_what_a_plain_tree_does(rt: HostRuntime) -> Result<(), Fail> {
+fn a_volume_tells_what_a_plain_tree_does(rt: HostRuntime) {
     let alloc = rt.alloc();
     for (seed, capacity) in [(1u64, 1usize), (1, 16), (2, 2)] {
-        let mut tree = new_tree(alloc)?;
-        let mut served = mount(alloc, formatted(alloc)?, capacity)?;
+        let mut tree = new_tree(&rt, alloc);
+        let mut served = mount(&rt, alloc, formatted(&rt, alloc), capacity);
         let mut done = 0u32;
-        for (turn, commands) in drawn(alloc, seed, 1100)?.chunks(50).enumerate() {
+        for (turn, commands) in drawn(&rt, alloc, seed, 1100).chunks(50).enumerate() {
             for stamped in commands {
-                if do_both(&rt, alloc, &mut served, &mut tree, stamped)? {
+                if do_both(&rt, alloc, &mut served, &mut tree, stamped) {
                     done = done.saturating_add(1);
                 }
             }
-            served = mount_again(&rt, alloc, served, capacity, turn % 2 == 0)?;
-            tree.settle()?;
+            served = mount_again(&rt, alloc, served, capacity, turn % 2 == 0);
+            tree.settle().expect(&rt, "memory");
         }
         // Enough of them are not refused.
         assert!(rt; done > 300, "{done}");
     }
-    Ok(())
 }

@@ -6,7 +6,6 @@ use crate::stories::{Part, tell};
 use nand_model::{Fate, MemNand};
 use std::alloc::Global;
 use std::process::Abort;
-use std::test::Fail;
 
 const NEW: Left = &[Fate::New];
 
@@ -19,9 +18,9 @@ fn next_call(
     nand: &MemNand,
     hits: &[Hit],
     story: &[Part],
-) -> Result<(u64, u32), Fail> {
-    let nand = tell(rt, alloc, failing(alloc, nand, hits)?, story)?;
-    Ok((nand.calls().saturating_add(1), marked(&nand)))
+) -> (u64, u32) {
+    let nand = tell(rt, alloc, failing(rt, alloc, nand, hits), story);
+    (nand.calls().saturating_add(1), marked(&nand))
 }
 
 const ONE: Part = Rows("mkdir /a -> ok");
@@ -40,37 +39,36 @@ const READ_ONLY: Part = Rows("list / -> names 1 a\nmkdir /c -> error EROFS");
 
 /// A block that fails in a sync is to spare. A second one is not.
 #[test]
-fn a_volume_stops_where_more_blocks_fail_than_are_to_spare(rt: HostRuntime) -> Result<(), Fail> {
+fn a_volume_stops_where_more_blocks_fail_than_are_to_spare(rt: HostRuntime) {
     let alloc = rt.alloc();
-    let nand = formatted(alloc)?;
+    let nand = formatted(&rt, alloc);
     for left in [NEW, UNCORRECTABLE] {
         // An erase and two programs come before the third program of the first sync.
-        let (erase, _) = next_call(&rt, alloc, &nand, &[], &[ONE])?;
+        let (erase, _) = next_call(&rt, alloc, &nand, &[], &[ONE]);
         let third = Hit {
             call: erase.saturating_add(3),
             left,
         };
-        let (call, bad) = next_call(&rt, alloc, &nand, &[third], &[ONE, TWO])?;
+        let (call, bad) = next_call(&rt, alloc, &nand, &[third], &[ONE, TWO]);
         assert_eq!(rt; bad, 1);
         let first = Hit {
             call,
             left: UNCORRECTABLE,
         };
         let story = [ONE, TWO, STOPPED, Lost, READ_ONLY];
-        let (_, bad) = next_call(&rt, alloc, &nand, &[third, first], &story)?;
+        let (_, bad) = next_call(&rt, alloc, &nand, &[third, first], &story);
         assert_eq!(rt; bad, 2);
     }
-    Ok(())
 }
 
 /// The first so many calls.
-fn first_calls(alloc: Global, count: u64, left: Left) -> Result<Vec<Hit>, Fail> {
+fn first_calls(rt: &impl Abort, alloc: Global, count: u64, left: Left) -> Vec<Hit> {
     let mut hits = Vec::new(alloc);
     for number in 0..count {
         let call = number.saturating_add(1);
-        hits.push(Hit { call, left })?;
+        hits.push(Hit { call, left }).expect(rt, "memory");
     }
-    Ok(hits)
+    hits
 }
 
 const OPEN: Part = Rows("open /a rwc -> fd 0");
@@ -81,16 +79,16 @@ const WRITTEN: Part = Turns(
 );
 
 #[test]
-fn failures_within_the_spare_are_not_told(rt: HostRuntime) -> Result<(), Fail> {
+fn failures_within_the_spare_are_not_told(rt: HostRuntime) {
     let alloc = rt.alloc();
-    let nand = formatted_with(alloc, erased(alloc)?, 4)?;
-    let (first, _) = next_call(&rt, alloc, &nand, &[], &[])?;
+    let nand = formatted_with(&rt, alloc, erased(&rt, alloc), 4);
+    let (first, _) = next_call(&rt, alloc, &nand, &[], &[]);
     let end = first.saturating_add(60);
     for left in [NEW, UNCORRECTABLE] {
         for one in first..end {
             for other in one..end {
                 let hits = [one, other].map(|call| Hit { call, left });
-                let (next, bad) = next_call(&rt, alloc, &nand, &hits, &[OPEN, WRITTEN])?;
+                let (next, bad) = next_call(&rt, alloc, &nand, &hits, &[OPEN, WRITTEN]);
                 assert!(rt; bad <= 2, "{one} {other}");
                 // A call that is not made does not fail, nor does a later one.
                 if next <= other {
@@ -99,7 +97,6 @@ fn failures_within_the_spare_are_not_told(rt: HostRuntime) -> Result<(), Fail> {
             }
         }
     }
-    Ok(())
 }
 
 const ALL_FAIL: [Part; 4] = [
@@ -115,13 +112,12 @@ seek 0 0 set -> error EIO",
 ];
 
 #[test]
-fn a_volume_stops_where_all_fails(rt: HostRuntime) -> Result<(), Fail> {
+fn a_volume_stops_where_all_fails(rt: HostRuntime) {
     let alloc = rt.alloc();
-    let nand = formatted_with(alloc, erased(alloc)?, 4)?;
+    let nand = formatted_with(&rt, alloc, erased(&rt, alloc), 4);
     for left in [NEW, UNCORRECTABLE, &[]] {
-        let hits = first_calls(alloc, 1000, left)?;
-        let (_, bad) = next_call(&rt, alloc, &nand, &hits, &ALL_FAIL)?;
+        let hits = first_calls(&rt, alloc, 1000, left);
+        let (_, bad) = next_call(&rt, alloc, &nand, &hits, &ALL_FAIL);
         assert_eq!(rt; bad, 5);
     }
-    Ok(())
 }

@@ -7,36 +7,38 @@ use nand_model::{Fate, MemNand, Nand, PageKind};
 use posix_calls::FormatFault;
 use std::alloc::Global;
 use std::process::Abort;
-use std::test::Fail;
 
 /// An erased device whose calls from one number to another fail. What they touch stays as it was.
-fn failing_from(alloc: Global, first: u64, last: u64) -> Result<MemNand, Fail> {
+fn failing_from(rt: &impl Abort, alloc: Global, first: u64, last: u64) -> MemNand {
     let mut hits = Vec::new(alloc);
     for call in first..=last {
-        hits.push(Hit { call, left: &[] })?;
+        hits.push(Hit { call, left: &[] }).expect(rt, "memory");
     }
-    failing(alloc, &erased(alloc)?, &hits)
+    failing(rt, alloc, &erased(rt, alloc), &hits)
 }
 
 /// A page of a block: what it is, its data and its tag.
 fn read(
+    rt: &impl Abort,
     nand: &mut MemNand,
     block: u32,
     page: u32,
-) -> Result<(PageKind, [u8; 512], [u8; 48]), Fail> {
+) -> (PageKind, [u8; 512], [u8; 48]) {
     let geometry = nand.geometry();
     if block >= geometry.blocks() || page >= geometry.pages() || geometry.bytes() != 512 {
-        return Err("no such page".into());
+        panic!(rt; "no such page");
     }
     let mut bytes = [0; 512];
     let mut tag = [0; 48];
-    let kind = nand.read_page(block, page, &mut bytes, &mut tag)?;
-    Ok((kind, bytes, tag))
+    let kind = nand
+        .read_page(block, page, &mut bytes, &mut tag)
+        .expect(rt, "a page");
+    (kind, bytes, tag)
 }
 
 /// That the root with one spare block stands in a block, with this number.
-fn expect_root(rt: &impl Abort, nand: &mut MemNand, block: u32, number: u8) -> Result<(), Fail> {
-    let (kind, bytes, tag) = read(nand, block, 0)?;
+fn expect_root(rt: &impl Abort, nand: &mut MemNand, block: u32, number: u8) {
+    let (kind, bytes, tag) = read(rt, nand, block, 0);
     let mut header = [0u8; 512];
     header[..7].copy_from_slice(b"NLFS\x02\x02\x01");
     let mut root = [0u8; 48];
@@ -52,80 +54,79 @@ fn expect_root(rt: &impl Abort, nand: &mut MemNand, block: u32, number: u8) -> R
     assert_eq!(rt; kind, PageKind::Written);
     assert!(rt; bytes == header);
     assert_eq!(rt; tag, root);
-    Ok(())
 }
 
 /// On a fresh device, and on one that was used and whose first block is bad: what stands in good blocks is erased.
 #[test]
-fn the_root_stands_in_the_first_good_block(rt: HostRuntime) -> Result<(), Fail> {
+fn the_root_stands_in_the_first_good_block(rt: HostRuntime) {
     let alloc = rt.alloc();
-    let (mut nand, fault) = format_of(alloc, erased(alloc)?, 1);
+    let (mut nand, fault) = format_of(alloc, erased(&rt, alloc), 1);
     assert_eq!(rt; (fault, marked(&nand), nand.changes()), (None, 0, 9));
-    expect_root(&rt, &mut nand, 0, 1)?;
-    assert_eq!(rt; read(&mut nand, 0, 1)?.0, PageKind::Erased);
-    assert_eq!(rt; read(&mut nand, 1, 0)?.0, PageKind::Erased);
+    expect_root(&rt, &mut nand, 0, 1);
+    assert_eq!(rt; read(&rt, &mut nand, 0, 1).0, PageKind::Erased);
+    assert_eq!(rt; read(&rt, &mut nand, 1, 0).0, PageKind::Erased);
     nand.power_up();
     assert!(rt; nand.geometry().blocks() > 0);
-    nand.mark_bad(0)?;
+    nand.mark_bad(0).expect(&rt, "a mark");
     let (mut nand, fault) = format_of(alloc, nand, 1);
     assert_eq!(rt; (fault, marked(&nand)), (None, 1));
-    expect_root(&rt, &mut nand, 0, 1)?;
-    expect_root(&rt, &mut nand, 1, 1)?;
-    Ok(())
+    expect_root(&rt, &mut nand, 0, 1);
+    expect_root(&rt, &mut nand, 1, 1);
 }
 
 /// A device that has too few blocks is left as it is.
 #[test]
-fn four_blocks_stand_beside_the_spare_ones(rt: HostRuntime) -> Result<(), Fail> {
+fn four_blocks_stand_beside_the_spare_ones(rt: HostRuntime) {
     let alloc = rt.alloc();
     for spare in [5u32, 8, u32::MAX] {
-        let (nand, fault) = format_of(alloc, erased(alloc)?, spare);
+        let (nand, fault) = format_of(alloc, erased(&rt, alloc), spare);
         assert_eq!(rt; fault, Some(FormatFault::Spare), "{spare}");
         assert_eq!(rt; nand.changes(), 0, "{spare}");
     }
-    let nand = formatted_with(alloc, erased(alloc)?, 4)?;
-    let _ = tell(&rt, alloc, nand, &[Rows("space -> space 512 72 71")])?;
-    Ok(())
+    let nand = formatted_with(&rt, alloc, erased(&rt, alloc), 4);
+    let _ = tell(&rt, alloc, nand, &[Rows("space -> space 512 72 71")]);
 }
 
 /// A block that fails is marked, and the root stands in another; more marks than spare blocks are told.
 #[test]
-fn what_fails_is_marked_bad(rt: HostRuntime) -> Result<(), Fail> {
+fn what_fails_is_marked_bad(rt: HostRuntime) {
     let alloc = rt.alloc();
     // The first erase, then the mark, seven erases and a program.
-    let (mut nand, fault) = format_of(alloc, failing_from(alloc, 1, 1)?, 1);
+    let (mut nand, fault) = format_of(alloc, failing_from(&rt, alloc, 1, 1), 1);
     assert_eq!(rt; (fault, marked(&nand), nand.changes()), (None, 1, 10));
-    expect_root(&rt, &mut nand, 1, 1)?;
+    expect_root(&rt, &mut nand, 1, 1);
     nand.power_up();
-    let _ = tell(&rt, alloc, nand, &[Rows("space -> space 512 144 143")])?;
+    let _ = tell(&rt, alloc, nand, &[Rows("space -> space 512 144 143")]);
     // Eight erases, then the first program, the mark and a program.
-    let (mut nand, fault) = format_of(alloc, failing_from(alloc, 9, 9)?, 1);
+    let (mut nand, fault) = format_of(alloc, failing_from(&rt, alloc, 9, 9), 1);
     assert_eq!(rt; (fault, marked(&nand), nand.changes()), (None, 1, 11));
-    expect_root(&rt, &mut nand, 1, 2)?;
+    expect_root(&rt, &mut nand, 1, 2);
     // One bad block and no spare one.
-    let (nand, fault) = format_of(alloc, failing_from(alloc, 1, 1)?, 0);
+    let (nand, fault) = format_of(alloc, failing_from(&rt, alloc, 1, 1), 0);
     assert_eq!(rt; (fault, marked(&nand)), (Some(FormatFault::Worn), 1));
     // Every erase, and every program.
-    let (nand, fault) = format_of(alloc, failing_from(alloc, 1, 1000)?, 1);
+    let (nand, fault) = format_of(alloc, failing_from(&rt, alloc, 1, 1000), 1);
     assert_eq!(rt;
         (fault, marked(&nand), nand.changes()),
         (Some(FormatFault::Worn), 8, 16)
     );
-    let (nand, fault) = format_of(alloc, failing_from(alloc, 9, 1000)?, 4);
+    let (nand, fault) = format_of(alloc, failing_from(&rt, alloc, 9, 1000), 4);
     assert_eq!(rt;
         (fault, marked(&nand), nand.changes()),
         (Some(FormatFault::Worn), 8, 24)
     );
-    Ok(())
 }
 
 /// A cut is told at each call of a format whose third erase fails: eight erases, with a mark after the third, and a program.
 #[test]
-fn each_cut_of_a_format_is_told(rt: HostRuntime) -> Result<(), Fail> {
+fn each_cut_of_a_format_is_told(rt: HostRuntime) {
     let alloc = rt.alloc();
     for call in 1..=10u64 {
         for fate in [Fate::Old, Fate::New, Fate::Uncorrectable] {
-            let nand = failing_from(alloc, 3, 3)?.with_fuse(call, vec![in alloc; fate; 32]?);
+            let nand = failing_from(&rt, alloc, 3, 3).with_fuse(
+                call,
+                vec![in alloc; fate; 32].expect(&rt, "memory"),
+            );
             let (nand, fault) = format_of(alloc, nand, 1);
             assert_eq!(rt; fault, Some(FormatFault::Gone), "{call} {fate:?}");
             assert_eq!(rt;
@@ -135,18 +136,16 @@ fn each_cut_of_a_format_is_told(rt: HostRuntime) -> Result<(), Fail> {
             );
         }
     }
-    Ok(())
 }
 
 // Run it with each allocation of the format refused in turn.
 #[test]
-fn a_format_that_is_refused_memory_changes_nothing(rt: HostRuntime) -> Result<(), Fail> {
+fn a_format_that_is_refused_memory_changes_nothing(rt: HostRuntime) {
     let alloc = rt.alloc();
-    let (nand, fault) = format_of(alloc, erased(alloc)?, 1);
+    let (nand, fault) = format_of(alloc, erased(&rt, alloc), 1);
     if fault == Some(FormatFault::NoMemory) {
         assert_eq!(rt; nand.changes(), 0);
     } else {
         assert_eq!(rt; (fault, nand.changes()), (None, 9));
     }
-    Ok(())
 }

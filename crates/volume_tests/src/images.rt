@@ -8,7 +8,6 @@ use posix_calls::{Reply, Stamped, Volume, format};
 use std::alloc::Global;
 use std::io::{Cursor, Error, ErrorKind, Read, Result as IoResult, Seek, SeekFrom, Write};
 use std::process::Abort;
-use std::test::Fail;
 
 /// What a file is asked for.
 #[derive(Clone, Copy, Debug, PartialEq, Eq)]
@@ -84,10 +83,10 @@ type Image = ImageNand<CountingFile>;
 
 // What these four call promises much, which is not said again, so that what calls them is checked fast.
 
-fn mounted(alloc: Global, image: Image) -> Result<Volume<Image>, Fail> {
+fn mounted(rt: &impl Abort, alloc: Global, image: Image) -> Volume<Image> {
     match Volume::mount(alloc, image) {
-        Ok(volume) => Ok(volume),
-        Err((_image, fault)) => Err(fault.into()),
+        Ok(volume) => volume,
+        Err((_image, fault)) => panic!(rt; "{fault:?}"),
     }
 }
 
@@ -107,66 +106,66 @@ fn abandoned(volume: Volume<Image>) -> Image {
 const NONE: (FileCall, u64) = (FileCall::Read, 0);
 
 /// The bytes of an image of eight blocks of 32 pages of 512 bytes, just formatted with one block to spare.
-fn formatted_image(alloc: Global) -> Result<Vec<u8>, Fail> {
+fn formatted_image(rt: &impl Abort, alloc: Global) -> Vec<u8> {
     let file = CountingFile::new(Vec::new(alloc), NONE);
-    let image = create_image(alloc, file, Geometry::new(512, 32, 8)?)?;
+    let geometry = Geometry::new(512, 32, 8).expect(rt, "a geometry");
+    let image = create_image(alloc, file, geometry).expect(rt, "an image");
     match format(alloc, image, 1) {
-        Ok(image) => Ok(image.into_file().cursor.into_inner()),
-        Err((_image, fault)) => Err(fault.into()),
+        Ok(image) => image.into_file().cursor.into_inner(),
+        Err((_image, fault)) => panic!(rt; "{fault:?}"),
     }
 }
 
 /// Opens an image of these bytes. No write and no seek is made.
-fn opened(alloc: Global, bytes: &[u8], fails: (FileCall, u64)) -> Result<Image, Fail> {
-    let file = CountingFile::new(Vec::from_slice(alloc, bytes)?, fails);
-    Ok(open_image(alloc, file)?)
+fn opened(rt: &impl Abort, alloc: Global, bytes: &[u8], fails: (FileCall, u64)) -> Image {
+    let file = CountingFile::new(Vec::from_slice(alloc, bytes).expect(rt, "memory"), fails);
+    open_image(alloc, file).expect(rt, "an image")
 }
 
 /// Adds what a volume is told of these lines.
 fn ask(
+    rt: &impl Abort,
     alloc: Global,
     volume: &mut Volume<Image>,
     lines: &str,
     told: &mut Vec<u8>,
-) -> Result<(), Fail> {
-    for stamped in &commands_of(alloc, lines)? {
-        write_reply(told, &answered(volume, stamped))?;
+) {
+    for stamped in &commands_of(rt, alloc, lines) {
+        write_reply(told, &answered(volume, stamped)).expect(rt, "a reply");
     }
-    Ok(())
 }
 
 /// What a session of these lines and an unmount are told, and the file after it.
-fn told_of(alloc: Global, image: Image, lines: &str) -> Result<(Vec<u8>, CountingFile), Fail> {
-    let mut volume = mounted(alloc, image)?;
+fn told_of(rt: &impl Abort, alloc: Global, image: Image, lines: &str) -> (Vec<u8>, CountingFile) {
+    let mut volume = mounted(rt, alloc, image);
     let mut told = Vec::new(alloc);
-    ask(alloc, &mut volume, lines, &mut told)?;
+    ask(rt, alloc, &mut volume, lines, &mut told);
     let (image, reply) = unmounted(volume);
-    write_reply(&mut told, &reply)?;
-    Ok((told, image.into_file()))
+    write_reply(&mut told, &reply).expect(rt, "a reply");
+    (told, image.into_file())
 }
 
 /// A volume that was mounted and looked at.
-fn looked_at(rt: &impl Abort, alloc: Global, bytes: &[u8]) -> Result<Volume<Image>, Fail> {
-    let mut volume = mounted(alloc, opened(alloc, bytes, NONE)?)?;
+fn looked_at(rt: &impl Abort, alloc: Global, bytes: &[u8]) -> Volume<Image> {
+    let mut volume = mounted(rt, alloc, opened(rt, alloc, bytes, NONE));
     let mut told = Vec::new(alloc);
-    ask(alloc, &mut volume, "list /\n", &mut told)?;
-    assert_eq!(rt; str::from_utf8(&told)?, "names 0\n");
-    Ok(volume)
+    ask(rt, alloc, &mut volume, "list /\n", &mut told);
+    assert_eq!(rt; str::from_utf8(&told).expect(rt, "a text"), "names 0\n");
+    volume
 }
 
 /// The unmount after it makes the calls of a checkpoint: it erases a block, with a write for each of its 32 pages, and programs
 /// one page, with three writes. There is a seek before each write.
 #[test]
-fn a_mount_makes_no_call_of_the_file(rt: HostRuntime) -> Result<(), Fail> {
+fn a_mount_makes_no_call_of_the_file(rt: HostRuntime) {
     let alloc = rt.alloc();
-    let bytes = formatted_image(alloc)?;
-    let calls = opened(alloc, &bytes, NONE)?.into_file().calls;
-    let image = abandoned(looked_at(&rt, alloc, &bytes)?);
+    let bytes = formatted_image(&rt, alloc);
+    let calls = opened(&rt, alloc, &bytes, NONE).into_file().calls;
+    let image = abandoned(looked_at(&rt, alloc, &bytes));
     assert_eq!(rt; image.into_file().calls, calls);
-    let (image, reply) = unmounted(looked_at(&rt, alloc, &bytes)?);
+    let (image, reply) = unmounted(looked_at(&rt, alloc, &bytes));
     assert!(rt; matches!(reply, Reply::Done));
     assert_eq!(rt; image.into_file().calls, calls.wrapping_add(2 * (32 + 3)));
-    Ok(())
 }
 
 const LINES: &str = "mkdir /a\nsync\nmkdir /b\n";
@@ -184,30 +183,26 @@ fn wanted(number: u64) -> &'static str {
 }
 
 /// The call in which the file fails is told EIO, and so is each later one; the file is not called again.
-fn fails_once(
-    rt: &impl Abort,
-    alloc: Global,
-    bytes: &[u8],
-    kind: FileCall,
-    number: u64,
-) -> Result<(), Fail> {
-    let image = opened(alloc, bytes, (kind, number))?;
-    let (told, file) = told_of(alloc, image, LINES)?;
-    assert_eq!(rt; str::from_utf8(&told)?, wanted(number), "{kind:?} {number}");
+fn fails_once(rt: &impl Abort, alloc: Global, bytes: &[u8], kind: FileCall, number: u64) {
+    let image = opened(rt, alloc, bytes, (kind, number));
+    let (told, file) = told_of(rt, alloc, image, LINES);
+    assert_eq!(rt;
+        str::from_utf8(&told).expect(rt, "a text"),
+        wanted(number),
+        "{kind:?} {number}"
+    );
     if let Some(failed) = file.failed {
         assert_eq!(rt; file.calls, failed, "{kind:?} {number}");
     }
     assert_eq!(rt; file.failed.is_some(), number <= 85, "{kind:?} {number}");
-    Ok(())
 }
 
 #[test]
-fn a_file_that_fails_stops_its_volume(rt: HostRuntime) -> Result<(), Fail> {
+fn a_file_that_fails_stops_its_volume(rt: HostRuntime) {
     let alloc = rt.alloc();
-    let bytes = formatted_image(alloc)?;
+    let bytes = formatted_image(&rt, alloc);
     for number in 1..87u64 {
-        fails_once(&rt, alloc, &bytes, FileCall::Write, number)?;
-        fails_once(&rt, alloc, &bytes, FileCall::Seek, number)?;
+        fails_once(&rt, alloc, &bytes, FileCall::Write, number);
+        fails_once(&rt, alloc, &bytes, FileCall::Seek, number);
     }
-    Ok(())
 }

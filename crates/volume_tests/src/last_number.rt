@@ -7,7 +7,6 @@ use crate::served::{Served, mount};
 use nand_model::MemNand;
 use std::alloc::Global;
 use std::process::Abort;
-use std::test::Fail;
 
 /// 2^62 - 1.
 const LAST: &[u8] = b"\xff\xff\xff\xff\xff\xff\xff\x3f";
@@ -61,35 +60,34 @@ const KEPT: &str =
     "list / -> names 1 a\nopen /a r -> fd 0\nread 0 10 -> data 5 hello\nspace -> space 512 144 140";
 
 /// A volume that can be written, of one file, on a flash with the last number.
-fn mounted(alloc: Global, tag: &[Patch]) -> Result<Served, Fail> {
-    mount(alloc, flash_of(alloc, &WITH_FILE, 2, tag)?, 16)
+fn mounted(rt: &impl Abort, alloc: Global, tag: &[Patch]) -> Served {
+    mount(rt, alloc, flash_of(rt, alloc, &WITH_FILE, 2, tag), 16)
 }
 
 /// That the file is there as it was.
-fn expect_kept(rt: &impl Abort, alloc: Global, mut nand: MemNand) -> Result<(), Fail> {
+fn expect_kept(rt: &impl Abort, alloc: Global, mut nand: MemNand) {
     nand.power_up();
-    expect(rt, alloc, &mut mount(alloc, nand, 16)?, KEPT)
+    expect(rt, alloc, &mut mount(rt, alloc, nand, 16), KEPT)
 }
 
 #[test]
-fn what_needs_no_number_is_answered(rt: HostRuntime) -> Result<(), Fail> {
+fn what_needs_no_number_is_answered(rt: HostRuntime) {
     let alloc = rt.alloc();
     for tag in TAGS {
-        let mut served = mounted(alloc, tag)?;
-        expect(&rt, alloc, &mut served, ANSWERED)?;
+        let mut served = mounted(&rt, alloc, tag);
+        expect(&rt, alloc, &mut served, ANSWERED);
         let (nand, is_done) = served.unmount();
         assert!(&rt; is_done);
         assert_eq!(&rt; nand.changes(), 0);
-        expect_kept(&rt, alloc, nand)?;
+        expect_kept(&rt, alloc, nand);
     }
-    Ok(())
 }
 
 /// Asks rows of a volume. It does not unmount then, and a mount shows the file.
-fn stop(rt: &impl Abort, alloc: Global, tag: &[Patch], rows: &[&str]) -> Result<(), Fail> {
-    let mut served = mounted(alloc, tag)?;
+fn stop(rt: &impl Abort, alloc: Global, tag: &[Patch], rows: &[&str]) {
+    let mut served = mounted(rt, alloc, tag);
     for rows in rows {
-        expect(rt, alloc, &mut served, rows)?;
+        expect(rt, alloc, &mut served, rows);
     }
     let (nand, is_done) = served.unmount();
     assert!(rt; !is_done, "{rows:?}");
@@ -97,14 +95,13 @@ fn stop(rt: &impl Abort, alloc: Global, tag: &[Patch], rows: &[&str]) -> Result<
 }
 
 #[test]
-fn a_change_is_answered_and_its_commit_stops_the_volume(rt: HostRuntime) -> Result<(), Fail> {
+fn a_change_is_answered_and_its_commit_stops_the_volume(rt: HostRuntime) {
     let alloc = rt.alloc();
     for tag in TAGS {
         for change in CHANGES {
-            stop(&rt, alloc, tag, &[change, STOPPED])?;
-            stop(&rt, alloc, tag, &[change])?;
+            stop(&rt, alloc, tag, &[change, STOPPED]);
+            stop(&rt, alloc, tag, &[change]);
         }
-        stop(&rt, alloc, tag, &[FILLED])?;
+        stop(&rt, alloc, tag, &[FILLED]);
     }
-    Ok(())
 }

@@ -8,7 +8,6 @@ use plain_tree::Answers;
 use posix_calls::{Command, Errno, Reply};
 use std::alloc::Global;
 use std::process::Abort;
-use std::test::Fail;
 
 /// Directories and files, syncs, and changes for which the buffer has no room.
 pub(crate) const SESSION: &str = "mkdir /a
@@ -50,19 +49,18 @@ fn do_commands(
     served: &mut Served,
     book: &Book,
     reached: &mut Reached,
-) -> Result<(), Fail> {
+) {
     for stamped in &book.commands {
         let reply = served.answer(stamped);
         if matches!(reply, Reply::Error(Errno::EIO)) {
-            return Ok(());
+            return ();
         }
-        book.expect_reply(rt, alloc, reached.answered, &reply)?;
+        book.expect_reply(rt, alloc, reached.answered, &reply);
         reached.answered = reached.answered.saturating_add(1);
         if matches!(stamped.command, Command::Sync | Command::Fsync { .. }) {
             reached.covered = reached.answered;
         }
     }
-    Ok(())
 }
 
 /// Does the session of a book on a device that may be cut, and gives the device back.
@@ -72,46 +70,41 @@ fn do_session(
     nand: MemNand,
     book: &Book,
     reached: &mut Reached,
-) -> Result<MemNand, Fail> {
+) -> MemNand {
     match try_mount(alloc, nand, 16) {
         Ok(mut served) => {
-            do_commands(rt, alloc, &mut served, book, reached)?;
-            Ok(served.abandon())
+            do_commands(rt, alloc, &mut served, book, reached);
+            served.abandon()
         }
-        Err((nand, _fault)) => Ok(nand),
+        Err((nand, _fault)) => nand,
     }
 }
 
 /// Whether a mount shows the tree after some of the commands, all that a sync covers among them.
 fn shows_tree(
+    rt: &impl Abort,
     alloc: Global,
     mut nand: MemNand,
     book: &Book,
     reached: Reached,
-) -> Result<bool, Fail> {
+) -> bool {
     nand.power_up();
-    let mut served = mount(alloc, nand, 16)?;
-    book.has_tree(&mut served, reached.covered, reached.answered)
+    let mut served = mount(rt, alloc, nand, 16);
+    book.has_tree(rt, &mut served, reached.covered, reached.answered)
 }
 
 /// Cuts a call of a session, and looks at the tree that is left. Tells whether there is such a call.
-fn cut_at(
-    rt: &impl Abort,
-    alloc: Global,
-    nand: &MemNand,
-    book: &Book,
-    hit: Hit,
-) -> Result<bool, Fail> {
+fn cut_at(rt: &impl Abort, alloc: Global, nand: &MemNand, book: &Book, hit: Hit) -> bool {
     let mut reached = Reached {
         covered: 0,
         answered: 0,
     };
-    let nand = cut(alloc, nand, hit)?;
-    let nand = do_session(rt, alloc, nand, book, &mut reached)?;
+    let nand = cut(rt, alloc, nand, hit);
+    let nand = do_session(rt, alloc, nand, book, &mut reached);
     let is_cut = nand.gone();
-    let is_there = shows_tree(alloc, nand, book, reached)?;
+    let is_there = shows_tree(rt, alloc, nand, book, reached);
     assert!(rt; is_there, "{}", hit.call);
-    Ok(is_cut)
+    is_cut
 }
 
 /// Cuts each call from a number on. Gives the number of the first that is not made.
@@ -122,27 +115,28 @@ fn cut_from(
     book: &Book,
     from: u64,
     left: Left,
-) -> Result<u64, Fail> {
+) -> u64 {
     for call in from..1000 {
-        if !cut_at(rt, alloc, nand, book, Hit { call, left })? {
-            return Ok(call);
+        if !cut_at(rt, alloc, nand, book, Hit { call, left }) {
+            return call;
         }
     }
-    Err("too many calls".into())
+    panic!(rt; "too many calls")
 }
 
 #[test]
-fn a_cut_session_leaves_what_was_synced(rt: HostRuntime) -> Result<(), Fail> {
+fn a_cut_session_leaves_what_was_synced(rt: HostRuntime) {
     let alloc = rt.alloc();
-    let nand = formatted(alloc)?;
-    let book = book_of(alloc, SESSION)?;
-    let mounted = mount(alloc, nand.copy()?, 16)?.abandon().calls();
+    let nand = formatted(&rt, alloc);
+    let book = book_of(&rt, alloc, SESSION);
+    let mounted = mount(&rt, alloc, nand.copy().expect(&rt, "memory"), 16)
+        .abandon()
+        .calls();
     // A cut leaves the same of each call that only reads, as those of the mount.
     let mut from = 1;
     for left in ALL_LEFT {
-        let end = cut_from(&rt, alloc, &nand, &book, from, left)?;
+        let end = cut_from(&rt, alloc, &nand, &book, from, left);
         assert!(rt; mounted < end);
         from = mounted;
     }
-    Ok(())
 }

@@ -12,7 +12,6 @@ use plain_search::greatest;
 use posix_calls::MountFault;
 use std::alloc::Global;
 use std::process::Abort;
-use std::test::Fail;
 
 /// Each page reads as before.
 const OLD: Left = &[Fate::Old];
@@ -24,51 +23,51 @@ const STOPPED: Part = Rows("sync -> error EIO");
 const KEPT: Part = Rows("fsync 0 -> ok");
 
 /// The device after a session whose sync is cut at this call.
-fn cut_at(rt: &impl Abort, alloc: Global, nand: &MemNand, call: u64) -> Result<MemNand, Fail> {
-    let nand = cut(alloc, nand, Hit { call, left: OLD })?;
-    let nand = tell(rt, alloc, nand, &[MADE, STOPPED])?;
+fn cut_at(rt: &impl Abort, alloc: Global, nand: &MemNand, call: u64) -> MemNand {
+    let nand = cut(rt, alloc, nand, Hit { call, left: OLD });
+    let nand = tell(rt, alloc, nand, &[MADE, STOPPED]);
     assert!(rt; nand.gone());
-    Ok(nand)
+    nand
 }
 
 /// The device after a session whose mount is cut at its first call.
-fn cut_in_mount(rt: &impl Abort, alloc: Global, nand: &MemNand) -> Result<MemNand, Fail> {
-    match try_mount(alloc, cut(alloc, nand, Hit { call: 1, left: OLD })?, 16) {
-        Ok(_served) => Err("a mount without power".into()),
+fn cut_in_mount(rt: &impl Abort, alloc: Global, nand: &MemNand) -> MemNand {
+    match try_mount(alloc, cut(rt, alloc, nand, Hit { call: 1, left: OLD }), 16) {
+        Ok(_served) => panic!(rt; "a mount without power"),
         Err((nand, fault)) => {
             assert_eq!(rt; fault, MountFault::Gone);
-            Ok(nand)
+            nand
         }
     }
 }
 
 /// The device after three sessions on a formatted one: one that is cut in its second program, one in its erase, and one in
 /// its mount.
-fn cut_three_times(rt: &impl Abort, alloc: Global) -> Result<MemNand, Fail> {
-    let nand = formatted(alloc)?;
+fn cut_three_times(rt: &impl Abort, alloc: Global) -> MemNand {
+    let nand = formatted(rt, alloc);
     // The calls of a mount of the same tree are the same each time; then come the erase and the programs of the sync.
-    let erase = tell(rt, alloc, nand.copy()?, &[MADE])?
+    let erase = tell(rt, alloc, nand.copy().expect(rt, "memory"), &[MADE])
         .calls()
         .saturating_add(1);
-    let nand = cut_at(rt, alloc, &nand, erase.saturating_add(2))?;
-    let nand = cut_at(rt, alloc, &nand, erase)?;
-    let mut nand = cut_in_mount(rt, alloc, &nand)?;
+    let nand = cut_at(rt, alloc, &nand, erase.saturating_add(2));
+    let nand = cut_at(rt, alloc, &nand, erase);
+    let mut nand = cut_in_mount(rt, alloc, &nand);
     nand.power_up();
-    Ok(nand)
+    nand
 }
 
 /// The valid tags of eight blocks of 32 pages.
-fn tags_of(rt: &impl Abort, alloc: Global, nand: &mut MemNand) -> Result<Vec<Tag>, Fail> {
+fn tags_of(rt: &impl Abort, alloc: Global, nand: &mut MemNand) -> Vec<Tag> {
     let mut tags = Vec::new(alloc);
     for place in 0..256u32 {
         let (block, page) = (place / 32, place % 32);
         let geometry = nand.geometry();
         assert!(rt; block < geometry.blocks() && page < geometry.pages());
-        if let Some(tag) = tag_at(nand, block, page)? {
-            tags.push(tag)?;
+        if let Some(tag) = tag_at(nand, block, page).expect(rt, "a tag") {
+            tags.push(tag).expect(rt, "memory");
         }
     }
-    Ok(tags)
+    tags
 }
 
 /// Whether all numbers of a tag are above these.
@@ -90,13 +89,12 @@ fn count_above(tags: &[Tag], numbers: TagNumbers) -> u32 {
 /// Two pages can be read after the three sessions: the header of the root, and the first page of the group that was cut. The
 /// four pages of the next group have numbers above those of both.
 #[test]
-fn cut_sessions_leave_nothing_but_their_numbers(rt: HostRuntime) -> Result<(), Fail> {
+fn cut_sessions_leave_nothing_but_their_numbers(rt: HostRuntime) {
     let alloc = rt.alloc();
-    let mut nand = cut_three_times(&rt, alloc)?;
-    assert_eq!(rt; tags_of(&rt, alloc, &mut nand)?.len(), 2);
-    let before = greatest(&mut nand)?;
-    let mut nand = tell(&rt, alloc, nand, &[Rows(HELLO), KEPT])?;
-    let tags = tags_of(&rt, alloc, &mut nand)?;
+    let mut nand = cut_three_times(&rt, alloc);
+    assert_eq!(rt; tags_of(&rt, alloc, &mut nand).len(), 2);
+    let before = greatest(&mut nand).expect(&rt, "a search");
+    let mut nand = tell(&rt, alloc, nand, &[Rows(HELLO), KEPT]);
+    let tags = tags_of(&rt, alloc, &mut nand);
     assert_eq!(rt; count_above(&tags, before), 4);
-    Ok(())
 }

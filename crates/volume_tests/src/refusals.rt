@@ -17,7 +17,6 @@ use refusing_pages::RefusingPages;
 use std::alloc::Global;
 use std::num::NonZeroUsize;
 use std::process::Abort;
-use std::test::Fail;
 use trusted_nand::TrustedNand;
 
 /// A volume over the pages of a flash, of which one call is refused.
@@ -38,10 +37,11 @@ impl Answers for Refusing {
 
 /// A volume over the pages of a mount, which refuse memory after so many calls.
 fn volume_over(
+    rt: &impl Abort,
     alloc: Global,
     mounted: Mounted<TrustedNand<MemNand>>,
     calls: u64,
-) -> Result<Refusing, Fail> {
+) -> Refusing {
     let Mounted {
         pages,
         table,
@@ -50,16 +50,16 @@ fn volume_over(
     } = mounted;
     let pages = RefusingPages::new(pages, calls);
     let objects = PagedObjects::new(alloc, pages, table, names);
-    let descriptors = DescriptorTable::new(alloc)?;
+    let descriptors = DescriptorTable::new(alloc).expect(rt, "memory");
     let volume = PageVolume::new(alloc, objects, descriptors, read_only);
-    Ok(Refusing { volume })
+    Refusing { volume }
 }
 
 /// Mounts a device as it is, with a cache of one page.
-fn mount_refusing(alloc: Global, nand: MemNand, calls: u64) -> Result<Refusing, Fail> {
+fn mount_refusing(rt: &impl Abort, alloc: Global, nand: MemNand, calls: u64) -> Refusing {
     match mounting::mount(alloc, nand, NonZeroUsize::MIN) {
-        Ok(mounted) => volume_over(alloc, mounted, calls),
-        Err((_nand, fault)) => Err(fault.into()),
+        Ok(mounted) => volume_over(rt, alloc, mounted, calls),
+        Err((_nand, fault)) => panic!(rt; "{fault:?}"),
     }
 }
 
@@ -82,65 +82,57 @@ fn takes_memory(command: &Command) -> bool {
 }
 
 /// Does the commands of a book. One that is refused memory leaves the tree, and is done once more. Gives how many were refused.
-fn do_commands(
-    rt: &impl Abort,
-    alloc: Global,
-    refusing: &mut Refusing,
-    book: &Book,
-) -> Result<u32, Fail> {
+fn do_commands(rt: &impl Abort, alloc: Global, refusing: &mut Refusing, book: &Book) -> u32 {
     let mut refused = 0u32;
     for (number, stamped) in book.commands.iter().enumerate() {
         let mut reply = refusing.answer(stamped);
         if matches!(reply, Reply::Error(Errno::ENOMEM)) {
             refused = refused.saturating_add(1);
             assert!(rt; takes_memory(&stamped.command), "{number}");
-            assert!(rt; book.has_tree(refusing, number, number)?, "{number}");
+            assert!(rt; book.has_tree(rt, refusing, number, number), "{number}");
             reply = refusing.answer(stamped);
         }
-        book.expect_reply(rt, alloc, number, &reply)?;
+        book.expect_reply(rt, alloc, number, &reply);
     }
-    Ok(refused)
+    refused
 }
 
 /// Does the session of a book with a call refused: one command is answered by ENOMEM then. A mount shows the tree after all. Tells
 /// whether there is such a call.
-fn refuse_at(
-    rt: &impl Abort,
-    alloc: Global,
-    nand: &MemNand,
-    book: &Book,
-    calls: u64,
-) -> Result<bool, Fail> {
-    let mut refusing = mount_refusing(alloc, nand.copy()?, calls)?;
-    let refused = do_commands(rt, alloc, &mut refusing, book)?;
+fn refuse_at(rt: &impl Abort, alloc: Global, nand: &MemNand, book: &Book, calls: u64) -> bool {
+    let mut refusing = mount_refusing(rt, alloc, nand.copy().expect(rt, "memory"), calls);
+    let refused = do_commands(rt, alloc, &mut refusing, book);
     let (mut nand, is_refused) = into_device(refusing);
     assert_eq!(rt; refused, u32::from(is_refused), "{calls}");
     nand.power_up();
     let count = book.commands.len();
-    let mut served = mount(alloc, nand, 16)?;
-    assert!(rt; book.has_tree(&mut served, count, count)?, "{calls}");
-    Ok(is_refused)
+    let mut served = mount(rt, alloc, nand, 16);
+    assert!(rt; book.has_tree(rt, &mut served, count, count), "{calls}");
+    is_refused
 }
 
 /// Refuses each call of a session of these lines and a sync. Gives how many there are.
-fn refuse_each(rt: &impl Abort, alloc: Global, lines: &str) -> Result<u64, Fail> {
-    let nand = formatted(alloc)?;
-    let book = book_of(alloc, &format!(in alloc; "{lines}\nsync")?)?;
+fn refuse_each(rt: &impl Abort, alloc: Global, lines: &str) -> u64 {
+    let nand = formatted(rt, alloc);
+    let book = book_of(
+        rt,
+        alloc,
+        &format!(in alloc; "{lines}\nsync").expect(rt, "memory"),
+    );
     for calls in 0..1000 {
-        if !refuse_at(rt, alloc, &nand, &book, calls)? {
-            return Ok(calls);
+        if !refuse_at(rt, alloc, &nand, &book, calls) {
+            return calls;
         }
     }
-    Err("too many calls".into())
+    panic!(rt; "too many calls")
 }
 
 /// Each command but a few makes such a call.
 #[test]
-fn each_call_of_the_pages_is_refused_in_turn(rt: HostRuntime) -> Result<(), Fail> {
+fn each_call_of_the_pages_is_refused_in_turn(rt: HostRuntime) {
     let alloc = rt.alloc();
     for (lines, least) in [(FILE, 4), (TREE, 19), (SESSION, 24)] {
-        let calls = refuse_each(&rt, alloc, lines)?;
+        let calls = refuse_each(&rt, alloc, lines);
         assert!(&rt; calls >= least, "{calls}");
     }
-    Ok(())
 }

@@ -9,7 +9,6 @@ use plain_tree::{Answers, PlainTree};
 use posix_calls::{Errno, MountFault, Reply, Stamped};
 use std::alloc::Global;
 use std::process::Abort;
-use std::test::Fail;
 
 /// A file that is written and read.
 pub(crate) const FILE: &str = "open /a rwc
@@ -40,28 +39,22 @@ mkdir /f
 stat /f";
 
 /// Mounts a device, once more where memory is refused.
-fn mount_again(rt: &impl Abort, alloc: Global, nand: MemNand) -> Result<Served, Fail> {
+fn mount_again(rt: &impl Abort, alloc: Global, nand: MemNand) -> Served {
     match try_mount(alloc, nand, 16) {
-        Ok(served) => Ok(served),
+        Ok(served) => served,
         Err((nand, fault)) => {
             assert_eq!(rt; fault, MountFault::NoMemory);
-            mount(alloc, nand, 16)
+            mount(rt, alloc, nand, 16)
         }
     }
 }
 
 /// Does a command of the book. Where memory is refused the tree stays, and it is done once more.
-fn call_again(
-    rt: &impl Abort,
-    alloc: Global,
-    served: &mut Served,
-    book: &Book,
-    number: usize,
-) -> Result<(), Fail> {
-    let stamped = book.commands.get(number).ok_or("no such command")?;
+fn call_again(rt: &impl Abort, alloc: Global, served: &mut Served, book: &Book, number: usize) {
+    let stamped = book.commands.get(number).expect(rt, "no such command");
     let mut reply = served.answer(stamped);
     if matches!(reply, Reply::Error(Errno::ENOMEM)) {
-        assert!(rt; book.has_tree(served, number, number)?, "{number}");
+        assert!(rt; book.has_tree(rt, served, number, number), "{number}");
         reply = served.answer(stamped);
     }
     book.expect_reply(rt, alloc, number, &reply)
@@ -75,13 +68,13 @@ enum End {
 }
 
 /// Does a session of these lines, call by call, ends it, and mounts its device again.
-fn do_calls(rt: &impl Abort, alloc: Global, lines: &str, end: End) -> Result<(), Fail> {
-    let nand = formatted(alloc)?;
-    let book = book_of(alloc, lines)?;
+fn do_calls(rt: &impl Abort, alloc: Global, lines: &str, end: End) {
+    let nand = formatted(rt, alloc);
+    let book = book_of(rt, alloc, lines);
     let count = book.commands.len();
-    let mut served = mount_again(rt, alloc, nand)?;
+    let mut served = mount_again(rt, alloc, nand);
     for number in 0..count {
-        call_again(rt, alloc, &mut served, &book, number)?;
+        call_again(rt, alloc, &mut served, &book, number);
     }
     let (mut nand, is_done) = match end {
         End::Unmount => served.unmount(),
@@ -89,40 +82,34 @@ fn do_calls(rt: &impl Abort, alloc: Global, lines: &str, end: End) -> Result<(),
     };
     assert!(rt; is_done);
     nand.power_up();
-    let mut served = mount_again(rt, alloc, nand)?;
-    assert!(rt; book.has_tree(&mut served, count, count)?);
-    Ok(())
+    let mut served = mount_again(rt, alloc, nand);
+    assert!(rt; book.has_tree(rt, &mut served, count, count));
 }
 
 // Run these with each allocation refused in turn.
 /// The session ends with a sync.
 #[test]
-fn what_is_refused_memory_is_done_by_the_next_call(rt: HostRuntime) -> Result<(), Fail> {
+fn what_is_refused_memory_is_done_by_the_next_call(rt: HostRuntime) {
     do_calls(&rt, rt.alloc(), SESSION, End::Abandon)
 }
 
 #[test]
-fn a_file_is_refused_memory(rt: HostRuntime) -> Result<(), Fail> {
+fn a_file_is_refused_memory(rt: HostRuntime) {
     do_calls(&rt, rt.alloc(), FILE, End::Unmount)
 }
 
 #[test]
-fn a_tree_is_refused_memory(rt: HostRuntime) -> Result<(), Fail> {
+fn a_tree_is_refused_memory(rt: HostRuntime) {
     do_calls(&rt, rt.alloc(), TREE, End::Unmount)
 }
 
 /// Does the commands in a run, and once more those that it did not begin.
-fn run_again(
-    served: &mut Served,
-    replies: &mut Vec<Reply>,
-    commands: &[Stamped],
-) -> Result<(), Fail> {
+fn run_again(rt: &impl Abort, served: &mut Served, replies: &mut Vec<Reply>, commands: &[Stamped]) {
     if served.run(commands, replies).is_ok() {
-        return Ok(());
+        return ();
     }
-    let rest = commands.get(replies.len()..).ok_or("too many replies")?;
-    served.run(rest, replies)?;
-    Ok(())
+    let rest = commands.get(replies.len()..).expect(rt, "too many replies");
+    served.run(rest, replies).expect(rt, "memory");
 }
 
 /// Looks whether a tree tells the same of each command, but for those that were refused memory, which it leaves out.
@@ -132,48 +119,48 @@ fn expect_replies(
     tree: &mut PlainTree,
     commands: &[Stamped],
     replies: &[Reply],
-) -> Result<(), Fail> {
+) {
     assert_eq!(rt; replies.len(), commands.len());
     for (stamped, reply) in commands.iter().zip(replies) {
         if !matches!(reply, Reply::Error(Errno::ENOMEM)) {
-            let wanted = step(alloc, tree, stamped)?;
+            let wanted = step(rt, alloc, tree, stamped);
             assert_eq!(rt;
-                text_of(alloc, reply)?.as_str(),
+                text_of(rt, alloc, reply).as_str(),
                 wanted.as_str(),
                 "{stamped:?}"
             );
         }
     }
-    Ok(())
 }
 
 /// The same commands as one list.
 #[test]
-fn a_run_tells_what_its_commands_do(rt: HostRuntime) -> Result<(), Fail> {
+fn a_run_tells_what_its_commands_do(rt: HostRuntime) {
     let alloc = rt.alloc();
     let mut replies = Vec::new(alloc);
-    let mut served = mount(alloc, formatted(alloc)?, 16)?;
-    served.run(&commands_of(alloc, FILE)?, &mut replies)?;
+    let mut served = mount(&rt, alloc, formatted(&rt, alloc), 16);
+    served
+        .run(&commands_of(&rt, alloc, FILE), &mut replies)
+        .expect(&rt, "memory");
     let mut told = String::new(alloc);
     for reply in &replies {
-        told.push_str(&text_of(alloc, reply)?)?;
+        told.push_str(&text_of(&rt, alloc, reply))
+            .expect(&rt, "memory");
     }
     assert_eq!(&rt;
         told.as_str(),
         "fd 0\nwrote 5\nat 0\ndata 5 hello\nspace 512 144 140\n"
     );
-    Ok(())
 }
 
 #[test]
-fn a_run_that_is_refused_memory_goes_on(rt: HostRuntime) -> Result<(), Fail> {
+fn a_run_that_is_refused_memory_goes_on(rt: HostRuntime) {
     let alloc = rt.alloc();
-    let commands = commands_of(alloc, TREE)?;
-    let mut tree = new_tree(alloc)?;
+    let commands = commands_of(&rt, alloc, TREE);
+    let mut tree = new_tree(&rt, alloc);
     let mut replies = Vec::new(alloc);
-    let mut served = mount_again(&rt, alloc, formatted(alloc)?)?;
-    run_again(&mut served, &mut replies, &commands)?;
-    expect_replies(&rt, alloc, &mut tree, &commands, &replies)?;
-    assert!(&rt; tree.same(&mut served)?);
-    Ok(())
+    let mut served = mount_again(&rt, alloc, formatted(&rt, alloc));
+    run_again(&rt, &mut served, &mut replies, &commands);
+    expect_replies(&rt, alloc, &mut tree, &commands, &replies);
+    assert!(&rt; tree.same(&mut served).expect(&rt, "a tree"));
 }

@@ -4,7 +4,6 @@ use crate::served::told;
 use line_shell::Serve;
 use std::alloc::{AllocError, Global};
 use std::process::Abort;
-use std::test::Fail;
 
 /// Lines, and what is to be told of them.
 #[derive(Drop)]
@@ -14,20 +13,25 @@ struct Script {
 }
 
 /// The rows, with each text that is repeated.
-fn written_out(alloc: Global, rows: &str) -> Result<String, Fail> {
+fn written_out(rt: &impl Abort, alloc: Global, rows: &str) -> String {
     let mut text = String::new(alloc);
     for piece in rows.split('[') {
         let rest = match piece.split_once(']') {
             Some((run, rest)) => {
-                let (unit, count) = run.split_once('*').ok_or("no count")?;
-                text.push_str(&unit.repeat(alloc, count.parse()?)?)?;
+                let (unit, count) = run.split_once('*').expect(rt, "no count");
+                text.push_str(
+                    &unit
+                        .repeat(alloc, count.parse().expect(rt, "a line"))
+                        .expect(rt, "memory"),
+                )
+                .expect(rt, "memory");
                 rest
             }
             None => piece,
         };
-        text.push_str(rest)?;
+        text.push_str(rest).expect(rt, "memory");
     }
-    Ok(text)
+    text
 }
 
 fn push_line(text: &mut String, line: &str) -> Result<(), AllocError> {
@@ -52,14 +56,14 @@ fn script_of(alloc: Global, rows: &str) -> Result<Script, AllocError> {
 }
 
 /// Asks the lines of the rows, which are to be told their replies.
-pub(crate) fn expect<S: Serve>(
-    rt: &impl Abort,
-    alloc: Global,
-    served: &mut S,
-    rows: &str,
-) -> Result<(), Fail> {
-    let Script { lines, replies } = script_of(alloc, &written_out(alloc, rows)?)?;
-    let told = told(alloc, served, lines.as_bytes())?;
-    assert_eq!(rt; str::from_utf8(&told)?, replies.as_str());
-    Ok(())
+pub(crate) fn expect<S: Serve>(rt: &impl Abort, alloc: Global, served: &mut S, rows: &str) {
+    let Script { lines, replies } = script_of(alloc, &written_out(rt, alloc, rows)).expect(
+        rt,
+        "script of",
+    );
+    let told = told(rt, alloc, served, lines.as_bytes());
+    assert_eq!(rt;
+        str::from_utf8(&told).expect(rt, "a text"),
+        replies.as_str()
+    );
 }

@@ -5,7 +5,7 @@ use nand_model::MemNand;
 use plain_tree::Answers;
 use posix_calls::{MountFault, Reply, Stamped, Volume};
 use std::alloc::{AllocError, Global};
-use std::test::Fail;
+use std::process::Abort;
 
 /// A volume on a device in memory.
 #[derive(Drop)]
@@ -44,27 +44,32 @@ pub(crate) fn try_mount(
 }
 
 /// Mounts a device as it is, and fails where it is no volume.
-pub(crate) fn mount(alloc: Global, nand: MemNand, capacity: usize) -> Result<Served, Fail> {
+pub(crate) fn mount(rt: &impl Abort, alloc: Global, nand: MemNand, capacity: usize) -> Served {
     match try_mount(alloc, nand, capacity) {
-        Ok(served) => Ok(served),
-        Err((_nand, fault)) => Err(fault.into()),
+        Ok(served) => served,
+        Err((_nand, fault)) => panic!(rt; "{fault:?}"),
     }
 }
 
 /// Mounts a device as it is, with the cache that a mount has by itself, and fails where it is no volume.
-pub(crate) fn mount_by_itself(alloc: Global, nand: MemNand) -> Result<Served, Fail> {
+pub(crate) fn mount_by_itself(rt: &impl Abort, alloc: Global, nand: MemNand) -> Served {
     match Volume::mount(alloc, nand) {
-        Ok(volume) => Ok(Served { volume }),
-        Err((_nand, fault)) => Err(fault.into()),
+        Ok(volume) => Served { volume },
+        Err((_nand, fault)) => panic!(rt; "{fault:?}"),
     }
 }
 
 /// What the shell tells of these lines.
-pub(crate) fn told<S: Serve>(alloc: Global, served: &mut S, lines: &[u8]) -> Result<Vec<u8>, Fail> {
+pub(crate) fn told<S: Serve>(
+    rt: &impl Abort,
+    alloc: Global,
+    served: &mut S,
+    lines: &[u8],
+) -> Vec<u8> {
     let mut reader = lines;
     let mut told = Vec::new(alloc);
-    shell(alloc, &mut reader, &mut told, served)?;
-    Ok(told)
+    shell(alloc, &mut reader, &mut told, served).expect(rt, "a shell");
+    told
 }
 
 impl Served {

@@ -8,7 +8,6 @@ use line_shell::Serve;
 use plain_tree::PlainTree;
 use posix_calls::{Errno, Reply, Stamped};
 use std::process::Abort;
-use std::test::Fail;
 
 /// A file that is written and read.
 pub(crate) const HELLO: &str = "open /a rwc -> fd 0
@@ -301,14 +300,13 @@ const STORIES: [&[Part]; 23] = [
 ];
 
 #[test]
-fn sessions_are_told_their_replies(rt: HostRuntime) -> Result<(), Fail> {
+fn sessions_are_told_their_replies(rt: HostRuntime) {
     let alloc = rt.alloc();
     for story in STORIES {
         for capacity in [1usize, 2, 16] {
-            let _ = served_after(&rt, alloc, formatted(alloc)?, capacity, story)?;
+            let _ = served_after(&rt, alloc, formatted(&rt, alloc), capacity, story);
         }
     }
-    Ok(())
 }
 
 /// A plain tree that a shell serves.
@@ -330,17 +328,16 @@ impl Serve for Plain {
 
 /// A plain tree is told the same, up to the first loss or unmount of a story.
 #[test]
-fn a_plain_tree_is_told_the_same(rt: HostRuntime) -> Result<(), Fail> {
+fn a_plain_tree_is_told_the_same(rt: HostRuntime) {
     let alloc = rt.alloc();
     for story in STORIES {
         let mut plain = Plain {
-            tree: new_tree(alloc)?,
+            tree: new_tree(&rt, alloc),
         };
         for part in story {
-            if !ask_part(&rt, alloc, &mut plain, *part)? {
+            if !ask_part(&rt, alloc, &mut plain, *part) {
                 break;
             }
         }
     }
-    Ok(())
 }

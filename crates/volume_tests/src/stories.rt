@@ -6,7 +6,6 @@ use line_shell::Serve;
 use nand_model::MemNand;
 use std::alloc::Global;
 use std::process::Abort;
-use std::test::Fail;
 
 /// A part of a story.
 #[derive(Clone, Copy)]
@@ -23,19 +22,12 @@ pub(crate) enum Part {
 }
 
 /// Asks rows so many times.
-fn expect_turns<S: Serve>(
-    rt: &impl Abort,
-    alloc: Global,
-    served: &mut S,
-    count: u32,
-    rows: &str,
-) -> Result<(), Fail> {
+fn expect_turns<S: Serve>(rt: &impl Abort, alloc: Global, served: &mut S, count: u32, rows: &str) {
     for number in 0..count {
-        let number = format!(in alloc; "{number}")?;
-        let rows = rows.replace(alloc, "#", &number)?;
-        expect(rt, alloc, served, &rows)?;
+        let number = format!(in alloc; "{number}").expect(rt, "memory");
+        let rows = rows.replace(alloc, "#", &number).expect(rt, "memory");
+        expect(rt, alloc, served, &rows);
     }
-    Ok(())
 }
 
 /// Asks the rows of a part, and tells whether the volume goes on.
@@ -44,13 +36,13 @@ pub(crate) fn ask_part<S: Serve>(
     alloc: Global,
     served: &mut S,
     part: Part,
-) -> Result<bool, Fail> {
+) -> bool {
     match part {
-        Part::Rows(rows) => expect(rt, alloc, served, rows)?,
-        Part::Turns(count, rows) => expect_turns(rt, alloc, served, count, rows)?,
-        _ => return Ok(false),
+        Part::Rows(rows) => expect(rt, alloc, served, rows),
+        Part::Turns(count, rows) => expect_turns(rt, alloc, served, count, rows),
+        _ => return false,
     }
-    Ok(true)
+    true
 }
 
 /// Ends a volume as a part says, and gives the device back.
@@ -74,13 +66,13 @@ pub(crate) fn tell_part(
     mut served: Served,
     capacity: usize,
     part: Part,
-) -> Result<Served, Fail> {
-    if ask_part(rt, alloc, &mut served, part)? {
-        return Ok(served);
+) -> Served {
+    if ask_part(rt, alloc, &mut served, part) {
+        return served;
     }
     let mut nand = end(rt, served, part);
     nand.power_up();
-    mount(alloc, nand, capacity)
+    mount(rt, alloc, nand, capacity)
 }
 
 /// The volume of a device, mounted as it is, after a story.
@@ -90,20 +82,15 @@ pub(crate) fn served_after(
     nand: MemNand,
     capacity: usize,
     story: &[Part],
-) -> Result<Served, Fail> {
-    let mut served = mount(alloc, nand, capacity)?;
+) -> Served {
+    let mut served = mount(rt, alloc, nand, capacity);
     for part in story {
-        served = tell_part(rt, alloc, served, capacity, *part)?;
+        served = tell_part(rt, alloc, served, capacity, *part);
     }
-    Ok(served)
+    served
 }
 
 /// The device after a story, as if power were lost.
-pub(crate) fn tell(
-    rt: &impl Abort,
-    alloc: Global,
-    nand: MemNand,
-    story: &[Part],
-) -> Result<MemNand, Fail> {
-    Ok(served_after(rt, alloc, nand, 16, story)?.abandon())
+pub(crate) fn tell(rt: &impl Abort, alloc: Global, nand: MemNand, story: &[Part]) -> MemNand {
+    served_after(rt, alloc, nand, 16, story).abandon()
 }

@@ -4,7 +4,6 @@ use nand_model::{EraseFault, Geometry, Gone, Nand, PageKind, ProgramFault};
 use std::alloc::Global;
 use std::io::{Cursor, Error, ErrorKind, Read, Result as IoResult, Seek, SeekFrom, Write};
 use std::process::Abort;
-use std::test::Fail;
 
 const DATA: [u8; 512] = [7; 512];
 
@@ -86,8 +85,8 @@ fn create(
 }
 
 /// Creates an image of eight blocks.
-fn created(alloc: Global) -> Result<ImageNand<TestFile>, ImageFault> {
-    create(alloc, 8, 0, ErrorKind::Other)
+fn created(rt: &impl Abort, alloc: Global) -> ImageNand<TestFile> {
+    create(alloc, 8, 0, ErrorKind::Other).expect(rt, "an image")
 }
 
 fn open(
@@ -126,24 +125,18 @@ fn write_page(
     rt: &impl Abort,
     nand: &mut ImageNand<TestFile>,
     call: u64,
-) -> Result<Result<(), ProgramFault>, Fail> {
+) -> Result<(), ProgramFault> {
     fail_at(nand, call);
     let geometry = nand.geometry();
     assert!(rt; geometry.bytes() == 512);
     if nand.is_bad(1) {
-        return Ok(Err(ProgramFault::Failed));
+        return Err(ProgramFault::Failed);
     }
-    nand.erase(1)?;
-    Ok(nand.program(1, 0, &DATA, &TAG))
+    nand.erase(1).expect(rt, "an erase");
+    nand.program(1, 0, &DATA, &TAG)
 }
 
-fn expect_page<N: Nand>(
-    rt: &impl Abort,
-    nand: &mut N,
-    block: u32,
-    page: u32,
-    want: PageKind,
-) -> Result<(), Fail> {
+fn expect_page<N: Nand>(rt: &impl Abort, nand: &mut N, block: u32, page: u32, want: PageKind) {
     let geometry = nand.geometry();
     assert!(rt; block < geometry.blocks() && page < geometry.pages() && geometry.bytes() == 512);
     let mut bytes = [0; 512];
@@ -153,31 +146,32 @@ fn expect_page<N: Nand>(
         assert!(rt; bytes == DATA);
         assert!(rt; tag == TAG);
     }
-    Ok(())
 }
 
 #[test]
-fn a_new_image_has_its_size_and_opens(rt: HostRuntime) -> Result<(), Fail> {
-    let bytes = bytes_of(created(rt.alloc())?);
+fn a_new_image_has_its_size_and_opens(rt: HostRuntime) {
+    let bytes = bytes_of(created(&rt, rt.alloc()));
     assert_eq!(rt; bytes.len(), IMAGE_BYTES);
     assert!(rt; &bytes[..20] == b"NANDIMG1\0\x02\0\0\x20\0\0\0\x08\0\0\0".as_slice());
     assert!(rt; bytes[20..].iter().all(|byte| *byte == 0));
-    let mut nand = opened(rt.alloc(), &bytes)?;
-    expect_page(&rt, &mut nand, 0, 0, PageKind::Erased)?;
-    expect_page(&rt, &mut nand, 7, 31, PageKind::Erased)?;
+    let mut nand = opened(rt.alloc(), &bytes).expect(&rt, "an image");
+    expect_page(&rt, &mut nand, 0, 0, PageKind::Erased);
+    expect_page(&rt, &mut nand, 7, 31, PageKind::Erased);
     assert!(rt; bytes_of(nand) == bytes);
 
     let file = TestFile::new(Vec::new(rt.alloc()), 0, ErrorKind::Other);
-    let large = bytes_of(create_image(rt.alloc(), file, Geometry::new(2048, 64, 64)?)?);
+    let geometry = Geometry::new(2048, 64, 64).expect(&rt, "a geometry");
+    let large = create_image(rt.alloc(), file, geometry).expect(&rt, "an image");
+    let large = bytes_of(large);
     assert_eq!(rt; large.len(), 8_589_408);
-    assert_eq!(rt; opened(rt.alloc(), &large)?.geometry().blocks(), 64);
-    Ok(())
+    let opened = opened(rt.alloc(), &large).expect(&rt, "an image");
+    assert_eq!(rt; opened.geometry().blocks(), 64);
 }
 
 #[test]
-fn what_is_written_is_read_from_the_file(rt: HostRuntime) -> Result<(), Fail> {
-    let mut nand = created(rt.alloc())?;
-    assert_eq!(rt; write_page(&rt, &mut nand, 0)?, Ok(()));
+fn what_is_written_is_read_from_the_file(rt: HostRuntime) {
+    let mut nand = created(&rt, rt.alloc());
+    assert_eq!(rt; write_page(&rt, &mut nand, 0), Ok(()));
     assert!(rt; nand.geometry().blocks() > 3);
     assert_eq!(rt; nand.mark_bad(3), Ok(()));
     let mut bytes = bytes_of(nand);
@@ -188,8 +182,8 @@ fn what_is_written_is_read_from_the_file(rt: HostRuntime) -> Result<(), Fail> {
     assert!(rt; bytes[PAGE_PLACE + 49..PAGE_PLACE + SLOT_BYTES] == DATA[..]);
 
     bytes[PAGE_PLACE + SLOT_BYTES] = 2;
-    let mut nand = opened(rt.alloc(), &bytes)?;
-    let mut memory = nand.to_memory()?;
+    let mut nand = opened(rt.alloc(), &bytes).expect(&rt, "an image");
+    let mut memory = nand.to_memory().expect(&rt, "memory");
     for block in 0..nand.geometry().blocks() {
         assert_eq!(rt; nand.is_bad(block), block == 3);
     }
@@ -198,8 +192,8 @@ fn what_is_written_is_read_from_the_file(rt: HostRuntime) -> Result<(), Fail> {
         (1, PageKind::Uncorrectable),
         (2, PageKind::Erased),
     ] {
-        expect_page(&rt, &mut nand, 1, page, want)?;
-        expect_page(&rt, &mut memory, 1, page, want)?;
+        expect_page(&rt, &mut nand, 1, page, want);
+        expect_page(&rt, &mut memory, 1, page, want);
     }
 
     assert!(rt; nand.geometry().blocks() > 3);
@@ -208,12 +202,11 @@ fn what_is_written_is_read_from_the_file(rt: HostRuntime) -> Result<(), Fail> {
     assert_eq!(rt; bytes.len(), IMAGE_BYTES);
     assert_eq!(rt; bytes[PAGE_PLACE], 0);
     assert_eq!(rt; bytes[PAGE_PLACE + SLOT_BYTES], 0);
-    Ok(())
 }
 
 #[test]
-fn other_bytes_are_no_image(rt: HostRuntime) -> Result<(), Fail> {
-    let mut bytes = bytes_of(created(rt.alloc())?);
+fn other_bytes_are_no_image(rt: HostRuntime) {
+    let mut bytes = bytes_of(created(&rt, rt.alloc()));
     assert_eq!(rt; bytes.len(), IMAGE_BYTES);
     for length in 0..32usize {
         let fault = opened(rt.alloc(), &bytes[..length]).err();
@@ -224,7 +217,7 @@ fn other_bytes_are_no_image(rt: HostRuntime) -> Result<(), Fail> {
         let fault = opened(rt.alloc(), &bytes[..length]).err();
         assert_eq!(rt; fault, Some(ImageFault::Size), "{length}");
     }
-    bytes.push(0)?;
+    bytes.push(0).expect(&rt, "memory");
     assert_eq!(rt; opened(rt.alloc(), &bytes).err(), Some(ImageFault::Size));
     bytes.pop();
     assert_eq!(rt; bytes.len(), IMAGE_BYTES);
@@ -236,21 +229,20 @@ fn other_bytes_are_no_image(rt: HostRuntime) -> Result<(), Fail> {
     );
     bytes[0] = b'M';
     assert_eq!(rt; opened(rt.alloc(), &bytes).err(), Some(ImageFault::Magic));
-    let text = format!(in rt.alloc(); "{}", ImageFault::Magic)?;
+    let text = format!(in rt.alloc(); "{}", ImageFault::Magic).expect(&rt, "memory");
     assert_eq!(rt;
         text.as_str(),
         "the file is not an image: give one that `format` made"
     );
-    Ok(())
 }
 
 #[test]
-fn a_file_that_fails_is_no_image(rt: HostRuntime) -> Result<(), Fail> {
+fn a_file_that_fails_is_no_image(rt: HostRuntime) {
     for call in 1..163u64 {
         let fault = create(rt.alloc(), 5, call, ErrorKind::Other).err();
         assert_eq!(rt; fault, Some(ImageFault::Write), "{call}");
     }
-    let bytes = bytes_of(create(rt.alloc(), 5, 163, ErrorKind::Other)?);
+    let bytes = bytes_of(create(rt.alloc(), 5, 163, ErrorKind::Other).expect(&rt, "an image"));
     for call in 1..164u64 {
         let fault = open(rt.alloc(), &bytes, call, ErrorKind::Other).err();
         assert_eq!(rt; fault, Some(ImageFault::Read), "{call}");
@@ -262,15 +254,10 @@ fn a_file_that_fails_is_no_image(rt: HostRuntime) -> Result<(), Fail> {
         let fault = open(rt.alloc(), &bytes, call, ErrorKind::Interrupted).err();
         assert_eq!(rt; fault, None, "{call}");
     }
-    Ok(())
 }
 
 /// Nothing is answered any more, the file is not called, and the page is still this in memory.
-fn expect_gone(
-    rt: &impl Abort,
-    nand: &mut ImageNand<TestFile>,
-    page: PageKind,
-) -> Result<(), Fail> {
+fn expect_gone(rt: &impl Abort, nand: &mut ImageNand<TestFile>, page: PageKind) {
     let geometry = nand.geometry();
     assert!(rt; geometry.blocks() > 1 && geometry.pages() > 0);
     fail_at(nand, 0);
@@ -279,50 +266,49 @@ fn expect_gone(
     assert_eq!(rt; nand.mark_bad(1), Err(Gone));
     assert_eq!(rt; nand.file.calls, 0);
     assert!(rt; !nand.is_bad(1));
-    expect_page(rt, &mut nand.to_memory()?, 1, 0, page)
+    let mut memory = nand.to_memory().expect(rt, "memory");
+    expect_page(rt, &mut memory, 1, 0, page)
 }
 
 #[test]
-fn a_program_sets_the_kind_last(rt: HostRuntime) -> Result<(), Fail> {
+fn a_program_sets_the_kind_last(rt: HostRuntime) {
     for call in 65..71u64 {
-        let mut nand = created(rt.alloc())?;
+        let mut nand = created(&rt, rt.alloc());
         assert_eq!(rt;
-            write_page(&rt, &mut nand, call)?,
+            write_page(&rt, &mut nand, call),
             Err(ProgramFault::Gone),
             "{call}"
         );
-        expect_gone(&rt, &mut nand, PageKind::Erased)?;
+        expect_gone(&rt, &mut nand, PageKind::Erased);
         let bytes = bytes_of(nand);
         assert_eq!(rt; bytes.len(), IMAGE_BYTES);
         assert_eq!(rt; bytes[PAGE_PLACE], 0);
         assert_eq!(rt; bytes[PAGE_PLACE + 1] == 9, call > 68);
         assert_eq!(rt; bytes[PAGE_PLACE + 49] == 7, call > 66);
     }
-    Ok(())
 }
 
 #[test]
-fn an_erase_and_a_mark_that_fail(rt: HostRuntime) -> Result<(), Fail> {
+fn an_erase_and_a_mark_that_fail(rt: HostRuntime) {
     for call in 1..65u64 {
-        let mut nand = created(rt.alloc())?;
-        assert_eq!(rt; write_page(&rt, &mut nand, 0)?, Ok(()));
+        let mut nand = created(&rt, rt.alloc());
+        assert_eq!(rt; write_page(&rt, &mut nand, 0), Ok(()));
         fail_at(&mut nand, call);
         assert!(rt; nand.geometry().blocks() > 1);
         assert_eq!(rt; nand.erase(1), Err(EraseFault::Gone), "{call}");
-        expect_gone(&rt, &mut nand, PageKind::Written)?;
+        expect_gone(&rt, &mut nand, PageKind::Written);
         let bytes = bytes_of(nand);
         assert_eq!(rt; bytes.len(), IMAGE_BYTES);
         assert_eq!(rt; bytes[PAGE_PLACE] == 0, call > 2);
     }
     for call in 1..3u64 {
-        let mut nand = created(rt.alloc())?;
+        let mut nand = created(&rt, rt.alloc());
         fail_at(&mut nand, call);
         assert!(rt; nand.geometry().blocks() > 1);
         assert_eq!(rt; nand.mark_bad(1), Err(Gone), "{call}");
-        expect_gone(&rt, &mut nand, PageKind::Erased)?;
+        expect_gone(&rt, &mut nand, PageKind::Erased);
         let bytes = bytes_of(nand);
         assert_eq!(rt; bytes.len(), IMAGE_BYTES);
         assert_eq!(rt; bytes[33], 0);
     }
-    Ok(())
 }

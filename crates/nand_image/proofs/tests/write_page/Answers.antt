@@ -4,4 +4,4 @@ use Rattle.nand_image.proofs.tests.write_page.Goals as goal
 pub program-requires-clause-good : goal.program-requires-clause-good
 program-requires-clause-good g c =
     let not_bad : c.is_bad.result ≡ false = search rules in
-    ap (λ (f : ℕ → Bool). f 1) c.in_ok-erase.ensures.erases.bad ∙ sym c.is_bad.ensures ∙ not_bad
+    ap (λ (f : ℕ → Bool). f 1) c.erase.ensures.erases.bad ∙ sym c.is_bad.ensures ∙ not_bad

@@ -1,7 +1,7 @@
 -- What the calls of the tests keep of their devices.
-use Rattle.std.specs.Prelude.{◌≡◌, ℕ, Bool, false, List, Result}
+use Rattle.std.specs.Prelude.{◌≡◌, ◌+◌, ℕ, Bool, false, List, Result, Ok}
 use Rattle.std.proofs.Common.{ap, sym, subst, ◌∙◌}
-use Rattle.nand_model.specs.Calls.{Device, Reads, Programs, Erases}
+use Rattle.nand_model.specs.Calls.{Device, Reads, Programs, ProgramNext, Erases, EraseNext}
 use Rattle.nand_model.specs.Changes.{PowersUp}
 use Rattle.device_tests.specs.SmallDevices.{IsSmall, TakesPage}
 use Rattle.nand_model.specs.declared.geometry.Geometry.{Geometry}
@@ -36,6 +36,20 @@ small_program b p bytes tag old new result small does = small_kept old new small
 
 pub small_erase : (b : ℕ) (old new : Device) (result : Result (Unit {0}) EraseFault) → IsSmall old → Erases b old new result → IsSmall new
 small_erase b old new result small does = small_kept old new small does.lasts.geometry does.bad
+
+-- after an erase that is done the first page of the block is the next
+pub open_erased : (old new : Device) (result : Result (Unit {0}) EraseFault) (done : Unit {0}) → result ≡ Ok done → IsSmall old → Erases 1 old new result → TakesPage 0 new
+open_erased old new result done ok small does = record {
+  small = small_erase 1 old new result small does;
+  next = subst (λ r. EraseNext old.gone r (new.flash.next 1)) ok does.next;
+}
+
+-- after a program that is done the page behind it is the next
+pub open_programmed : (p : ℕ) (bytes tag : List ℕ) (old new : Device) (result : Result (Unit {0}) ProgramFault) (done : Unit {0}) → result ≡ Ok done → IsSmall old → Programs 1 p bytes tag old new result → TakesPage (p + 1) new
+open_programmed p bytes tag old new result done ok small does = record {
+  small = small_program 1 p bytes tag old new result small does;
+  next = subst (λ r. ProgramNext old.gone p r (new.flash.next 1)) ok does.next;
+}
 
 pub ruleset small_laws = (small_same, open_same, small_read, small_up, small_program, small_erase)
 

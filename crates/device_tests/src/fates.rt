@@ -1,14 +1,13 @@
 // What a device in memory leaves of a page, a block or a mark where a call is cut or fails, and the numbers of its calls.
 #![tactic(auto, using(crate::proofs::SmallDeviceLaws::small_laws))]
 
-ghost use Rattle.std.specs.Prelude.{◌+◌, ◌<◌, IfOk, OnOk};
+ghost use Rattle.std.specs.Prelude.{◌+◌, ◌<◌};
 ghost use Rattle.nand_model.specs.MemoryState.{device};
 ghost use Rattle.device_tests.specs.SmallDevices.{IsSmall, TakesPage};
 
 use nand_model::{EraseFault, Fate, Geometry, Gone, MemNand, Nand, PageKind, ProgramFault};
 use std::alloc::Global;
 use std::process::Abort;
-use std::test::Fail;
 
 /// The data of each page.
 const DATA: [u8; 512] = [7; 512];
@@ -17,121 +16,129 @@ const DATA: [u8; 512] = [7; 512];
 const TAG: [u8; 48] = [9; 48];
 
 /// Eight blocks of 32 pages of 512 bytes.
-fn small(alloc: Global) -> Result<MemNand, Fail>
-    ensures { IfOk result (λ d. IsSmall (device d)) }
+fn small(rt: &impl Abort, alloc: Global) -> MemNand
+    ensures { IsSmall (device result) }
 {
-    let geometry = Geometry::new(512, 32, 8)?;
-    Ok(MemNand::new(alloc, geometry)?)
+    let geometry = Geometry::new(512, 32, 8).expect(rt, "a geometry");
+    MemNand::new(alloc, geometry).expect(rt, "memory")
 }
 
 /// Block 1 is erased, by call 1.
-fn erased(alloc: Global) -> Result<MemNand, Fail>
-    ensures { IfOk result (λ d. TakesPage 0 (device d)) }
+fn erased(rt: &impl Abort, alloc: Global) -> MemNand
+    ensures { TakesPage 0 (device result) }
 {
-    let mut nand = small(alloc)?;
-    nand.erase(1)?;
-    Ok(nand)
+    let mut nand = small(rt, alloc);
+    nand.erase(1).expect(rt, "an erase");
+    nand
 }
 
 /// Writes the next page of block 1.
-fn write(nand: &mut MemNand, page: u32) -> Result<(), Fail>
+fn write(rt: &impl Abort, nand: &mut MemNand, page: u32)
     requires page { page < 32 }
     requires open { TakesPage page (device nand.old) }
-    ensures { OnOk result (TakesPage (page + 1) (device nand.new)) }
+    ensures { TakesPage (page + 1) (device nand.new) }
 {
-    nand.program(1, page, &DATA, &TAG)?;
-    Ok(())
+    nand.program(1, page, &DATA, &TAG).expect(rt, "a program");
 }
 
 /// Block 1 has five written pages, by calls 1 to 6.
-fn written(alloc: Global) -> Result<MemNand, Fail>
-    ensures { IfOk result (λ d. TakesPage 5 (device d)) }
+fn written(rt: &impl Abort, alloc: Global) -> MemNand
+    ensures { TakesPage 5 (device result) }
 {
-    let mut nand = erased(alloc)?;
-    write(&mut nand, 0)?;
-    write(&mut nand, 1)?;
-    write(&mut nand, 2)?;
-    write(&mut nand, 3)?;
-    write(&mut nand, 4)?;
-    Ok(nand)
+    let mut nand = erased(rt, alloc);
+    write(rt, &mut nand, 0);
+    write(rt, &mut nand, 1);
+    write(rt, &mut nand, 2);
+    write(rt, &mut nand, 3);
+    write(rt, &mut nand, 4);
+    nand
 }
 
 /// The same device, of which the call of this number is cut.
-fn erased_cut(alloc: Global, call: u64, fates: Vec<Fate>) -> Result<MemNand, Fail>
-    ensures { IfOk result (λ d. TakesPage 0 (device d)) }
+fn erased_cut(rt: &impl Abort, alloc: Global, call: u64, fates: Vec<Fate>) -> MemNand
+    ensures { TakesPage 0 (device result) }
 {
-    let nand = erased(alloc)?;
-    Ok(nand.with_fuse(call, fates))
+    let nand = erased(rt, alloc);
+    nand.with_fuse(call, fates)
 }
 
 /// The same device, of which the calls of these numbers fail.
-fn erased_failing(alloc: Global, failures: Vec<(u64, Vec<Fate>)>) -> Result<MemNand, Fail>
-    ensures { IfOk result (λ d. TakesPage 0 (device d)) }
+fn erased_failing(rt: &impl Abort, alloc: Global, failures: Vec<(u64, Vec<Fate>)>) -> MemNand
+    ensures { TakesPage 0 (device result) }
 {
-    let nand = erased(alloc)?;
-    Ok(nand.with_failures(failures))
+    let nand = erased(rt, alloc);
+    nand.with_failures(failures)
 }
 
 /// The same, and the call of this number is cut.
-fn written_cut(alloc: Global, call: u64, fates: Vec<Fate>) -> Result<MemNand, Fail>
-    ensures { IfOk result (λ d. TakesPage 5 (device d)) }
+fn written_cut(rt: &impl Abort, alloc: Global, call: u64, fates: Vec<Fate>) -> MemNand
+    ensures { TakesPage 5 (device result) }
 {
-    let nand = written(alloc)?;
-    Ok(nand.with_fuse(call, fates))
+    let nand = written(rt, alloc);
+    nand.with_fuse(call, fates)
 }
 
 /// The same, and the calls of these numbers fail.
-fn written_failing(alloc: Global, failures: Vec<(u64, Vec<Fate>)>) -> Result<MemNand, Fail>
-    ensures { IfOk result (λ d. TakesPage 5 (device d)) }
+fn written_failing(rt: &impl Abort, alloc: Global, failures: Vec<(u64, Vec<Fate>)>) -> MemNand
+    ensures { TakesPage 5 (device result) }
 {
-    let nand = written(alloc)?;
-    Ok(nand.with_failures(failures))
+    let nand = written(rt, alloc);
+    nand.with_failures(failures)
 }
 
 /// Whether a page of block 1 reads as this, its tag with it.
-fn reads_as(nand: &mut MemNand, page: u32, want: PageKind) -> Result<bool, Fail> {
+fn reads_as(rt: &impl Abort, nand: &mut MemNand, page: u32, want: PageKind) -> bool {
     let geometry = nand.geometry();
     if page >= geometry.pages() {
-        return Ok(false);
+        return false;
     }
     let mut tag = [0; 48];
-    let kind = nand.read_tag(1, page, &mut tag)?;
+    let kind = nand.read_tag(1, page, &mut tag).expect(rt, "a read");
     let filled = if want == PageKind::Written {
         TAG
     } else {
         [0; 48]
     };
-    Ok(kind == want && tag == filled)
+    kind == want && tag == filled
 }
 
 /// The first pages of block 1 read as these.
-fn expect_pages(rt: &impl Abort, nand: &mut MemNand, want: &[PageKind; 6]) -> Result<(), Fail> {
+fn expect_pages(rt: &impl Abort, nand: &mut MemNand, want: &[PageKind; 6]) {
     for page in 0..6u32 {
-        let as_wanted = reads_as(nand, page, want[page as usize])?;
+        let as_wanted = reads_as(rt, nand, page, want[page as usize]);
         assert!(rt; as_wanted, "page {page}");
     }
-    Ok(())
 }
 
 /// What a program with these fates leaves of its page.
-fn program_cases(alloc: Global) -> Result<Vec<(Vec<Fate>, PageKind)>, Fail> {
-    Ok(vec![in alloc;
+fn program_cases(rt: &impl Abort, alloc: Global) -> Vec<(Vec<Fate>, PageKind)> {
+    vec![in alloc;
         (Vec::new(alloc), PageKind::Erased),
-        (vec![in alloc; Fate::Old, Fate::New]?, PageKind::Erased),
-        (vec![in alloc; Fate::New]?, PageKind::Written),
-        (vec![in alloc; Fate::Erased]?, PageKind::Erased),
         (
-            vec![in alloc; Fate::Uncorrectable]?,
+            vec![in alloc; Fate::Old, Fate::New].expect(rt, "memory"),
+            PageKind::Erased
+        ),
+        (
+            vec![in alloc; Fate::New].expect(rt, "memory"),
+            PageKind::Written
+        ),
+        (
+            vec![in alloc; Fate::Erased].expect(rt, "memory"),
+            PageKind::Erased
+        ),
+        (
+            vec![in alloc; Fate::Uncorrectable].expect(rt, "memory"),
             PageKind::Uncorrectable
         ),
-    ]?)
+    ]
+    .expect(rt, "memory")
 }
 
 /// A device that is gone answers so until the power-up, and counts its calls but no changes.
 #[test]
-fn a_cut_program_takes_the_first_fate(rt: HostRuntime) -> Result<(), Fail> {
-    for (fates, want) in program_cases(rt.alloc())? {
-        let mut nand = erased_cut(rt.alloc(), 2, fates)?;
+fn a_cut_program_takes_the_first_fate(rt: HostRuntime) {
+    for (fates, want) in program_cases(&rt, rt.alloc()) {
+        let mut nand = erased_cut(&rt, rt.alloc(), 2, fates);
         assert_eq!(rt; nand.program(1, 0, &DATA, &TAG), Err(ProgramFault::Gone));
         assert!(rt; nand.gone());
         assert_eq!(rt; nand.read_tag(1, 0, &mut [0; 48]), Err(Gone));
@@ -142,31 +149,30 @@ fn a_cut_program_takes_the_first_fate(rt: HostRuntime) -> Result<(), Fail> {
         nand.power_up();
         assert_eq!(rt; nand.calls(), 0);
         assert_eq!(rt; nand.changes(), 0);
-        assert!(rt; reads_as(&mut nand, 0, want)?, "{want:?}");
+        assert!(rt; reads_as(&rt, &mut nand, 0, want), "{want:?}");
         assert_eq!(rt; nand.calls(), 1);
         assert_eq!(rt; nand.erase(1), Ok(()));
     }
-    Ok(())
 }
 
 /// The first entry of a call's number is the one that is taken.
 #[test]
-fn a_failed_program_takes_the_first_fate(rt: HostRuntime) -> Result<(), Fail> {
-    for (fates, want) in program_cases(rt.alloc())? {
-        let failures = vec![in rt.alloc(); (2, fates), (2, vec![in rt.alloc(); Fate::New]?)]?;
-        let mut nand = erased_failing(rt.alloc(), failures)?;
+fn a_failed_program_takes_the_first_fate(rt: HostRuntime) {
+    for (fates, want) in program_cases(&rt, rt.alloc()) {
+        let later = vec![in rt.alloc(); Fate::New].expect(&rt, "memory");
+        let failures = vec![in rt.alloc(); (2, fates), (2, later)].expect(&rt, "memory");
+        let mut nand = erased_failing(&rt, rt.alloc(), failures);
         assert_eq!(rt; nand.program(1, 0, &DATA, &TAG), Err(ProgramFault::Failed));
         assert!(rt; !nand.gone());
-        assert!(rt; reads_as(&mut nand, 0, want)?, "{want:?}");
+        assert!(rt; reads_as(&rt, &mut nand, 0, want), "{want:?}");
         assert_eq!(rt; nand.erase(1), Ok(()));
         assert_eq!(rt; nand.changes(), 3);
     }
-    Ok(())
 }
 
 /// The fates of the pages of block 1: the last two have none.
-fn erase_fates(alloc: Global) -> Result<Vec<Fate>, Fail> {
-    Ok(vec![in alloc; Fate::Old, Fate::New, Fate::Erased, Fate::Uncorrectable]?)
+fn erase_fates(rt: &impl Abort, alloc: Global) -> Vec<Fate> {
+    vec![in alloc; Fate::Old, Fate::New, Fate::Erased, Fate::Uncorrectable].expect(rt, "memory")
 }
 
 /// What these fates leave of five written pages, and of one that is erased.
@@ -181,32 +187,35 @@ const ERASE_LEAVES: [PageKind; 6] = [
 
 /// An erase that is cut, one that fails, and one that is whole.
 #[test]
-fn an_erase_takes_a_fate_for_each_page(rt: HostRuntime) -> Result<(), Fail> {
-    let mut nand = written_cut(rt.alloc(), 7, erase_fates(rt.alloc())?)?;
+fn an_erase_takes_a_fate_for_each_page(rt: HostRuntime) {
+    let fates = erase_fates(&rt, rt.alloc());
+    let mut nand = written_cut(&rt, rt.alloc(), 7, fates);
     assert_eq!(rt; nand.erase(1), Err(EraseFault::Gone));
     nand.power_up();
-    expect_pages(&rt, &mut nand, &ERASE_LEAVES)?;
+    expect_pages(&rt, &mut nand, &ERASE_LEAVES);
 
-    let failures = vec![in rt.alloc(); (7, erase_fates(rt.alloc())?)]?;
-    let mut nand = written_failing(rt.alloc(), failures)?;
+    let fates = erase_fates(&rt, rt.alloc());
+    let failures = vec![in rt.alloc(); (7, fates)].expect(&rt, "memory");
+    let mut nand = written_failing(&rt, rt.alloc(), failures);
     assert_eq!(rt; nand.erase(1), Err(EraseFault::Failed));
-    expect_pages(&rt, &mut nand, &ERASE_LEAVES)?;
+    expect_pages(&rt, &mut nand, &ERASE_LEAVES);
 
-    let mut nand = written(rt.alloc())?;
+    let mut nand = written(&rt, rt.alloc());
     assert_eq!(rt; nand.erase(1), Ok(()));
     expect_pages(&rt, &mut nand, &[PageKind::Erased; 6])
 }
 
 /// A second mark sets it, and leaves the block before.
 #[test]
-fn a_cut_mark_is_set_by_new_alone(rt: HostRuntime) -> Result<(), Fail> {
+fn a_cut_mark_is_set_by_new_alone(rt: HostRuntime) {
     for (fate, want) in [
         (Fate::Old, false),
         (Fate::New, true),
         (Fate::Erased, false),
         (Fate::Uncorrectable, false),
     ] {
-        let mut nand = small(rt.alloc())?.with_fuse(1, vec![in rt.alloc(); fate]?);
+        let fates = vec![in rt.alloc(); fate].expect(&rt, "memory");
+        let mut nand = small(&rt, rt.alloc()).with_fuse(1, fates);
         assert_eq!(rt; nand.mark_bad(3), Err(Gone));
         nand.power_up();
         assert_eq!(rt; nand.is_bad(3), want, "{fate:?}");
@@ -214,48 +223,45 @@ fn a_cut_mark_is_set_by_new_alone(rt: HostRuntime) -> Result<(), Fail> {
         assert!(rt; nand.is_bad(3));
         assert!(rt; !nand.is_bad(2));
     }
-    Ok(())
 }
 
 /// The ninth call is a read, and so is the second after the power-up.
 #[test]
-fn a_read_can_be_cut_and_never_fails(rt: HostRuntime) -> Result<(), Fail> {
-    let failures = vec![in rt.alloc(); (2, Vec::new(rt.alloc()))]?;
-    let mut nand = written_cut(rt.alloc(), 9, Vec::new(rt.alloc()))?;
-    assert!(rt; reads_as(&mut nand, 0, PageKind::Written)?);
-    assert!(rt; reads_as(&mut nand, 4, PageKind::Written)?);
+fn a_read_can_be_cut_and_never_fails(rt: HostRuntime) {
+    let failures = vec![in rt.alloc(); (2, Vec::new(rt.alloc()))].expect(&rt, "memory");
+    let mut nand = written_cut(&rt, rt.alloc(), 9, Vec::new(rt.alloc()));
+    assert!(rt; reads_as(&rt, &mut nand, 0, PageKind::Written));
+    assert!(rt; reads_as(&rt, &mut nand, 4, PageKind::Written));
     assert_eq!(rt; nand.read_tag(1, 0, &mut [0; 48]), Err(Gone));
     nand.power_up();
     let mut nand = nand.with_failures(failures);
-    assert!(rt; reads_as(&mut nand, 0, PageKind::Written)?);
-    assert!(rt; reads_as(&mut nand, 0, PageKind::Written)?);
+    assert!(rt; reads_as(&rt, &mut nand, 0, PageKind::Written));
+    assert!(rt; reads_as(&rt, &mut nand, 0, PageKind::Written));
     assert_eq!(rt; nand.changes(), 0);
-    Ok(())
 }
 
 /// A call that is to be cut and to fail is cut, and a copy has the plan of its device.
 #[test]
-fn the_fuse_goes_before_and_later_plans_replace(rt: HostRuntime) -> Result<(), Fail> {
-    let nothing = vec![in rt.alloc(); (1, Vec::new(rt.alloc()))]?;
-    let mut nand = small(rt.alloc())?
+fn the_fuse_goes_before_and_later_plans_replace(rt: HostRuntime) {
+    let nothing = vec![in rt.alloc(); (1, Vec::new(rt.alloc()))].expect(&rt, "memory");
+    let mut nand = small(&rt, rt.alloc())
         .with_fuse(1, Vec::new(rt.alloc()))
         .with_failures(nothing);
     assert_eq!(rt; nand.erase(0), Err(EraseFault::Gone));
 
-    let later = vec![in rt.alloc(); (2, Vec::new(rt.alloc()))]?;
-    let earlier = vec![in rt.alloc(); (1, Vec::new(rt.alloc()))]?;
-    let mut nand = small(rt.alloc())?
+    let later = vec![in rt.alloc(); (2, Vec::new(rt.alloc()))].expect(&rt, "memory");
+    let earlier = vec![in rt.alloc(); (1, Vec::new(rt.alloc()))].expect(&rt, "memory");
+    let mut nand = small(&rt, rt.alloc())
         .with_fuse(1, Vec::new(rt.alloc()))
         .with_fuse(3, Vec::new(rt.alloc()))
         .with_failures(earlier)
         .with_failures(later);
     assert_eq!(rt; nand.erase(0), Ok(()));
-    let copy = nand.copy()?;
+    let copy = nand.copy().expect(&rt, "memory");
     assert_eq!(rt; nand.erase(0), Err(EraseFault::Failed));
     assert_eq!(rt; nand.erase(0), Err(EraseFault::Gone));
 
     let mut nand = copy;
     assert_eq!(rt; nand.erase(0), Err(EraseFault::Failed));
     assert_eq!(rt; nand.erase(0), Err(EraseFault::Gone));
-    Ok(())
 }

@@ -1,22 +1,21 @@
 // Devices of each size, and sizes that no device has.
 
 use nand_model::{BadGeometry, Geometry, MemNand, Nand, PageKind};
-use std::test::Fail;
 
 /// The tag of a page.
 const TAG: [u8; 48] = [9; 48];
 
 /// A page of data and its tag are read from a copy of the device.
 #[test]
-fn a_page_of_each_size_reads_back(rt: HostRuntime) -> Result<(), Fail> {
+fn a_page_of_each_size_reads_back(rt: HostRuntime) {
     for size in [512u32, 1024, 2048, 4096] {
-        let geometry = Geometry::new(size, 64, 5)?;
-        let mut nand = MemNand::new(rt.alloc(), geometry)?;
-        let data = vec![in rt.alloc(); 5u8; size as usize]?;
-        nand.erase(4)?;
-        nand.program(4, 0, &data, &TAG)?;
-        let mut copy = nand.copy()?;
-        let mut bytes = vec![in rt.alloc(); 0u8; size as usize]?;
+        let geometry = Geometry::new(size, 64, 5).expect(&rt, "a geometry");
+        let mut nand = MemNand::new(rt.alloc(), geometry).expect(&rt, "memory");
+        let data = vec![in rt.alloc(); 5u8; size as usize].expect(&rt, "memory");
+        nand.erase(4).expect(&rt, "an erase");
+        nand.program(4, 0, &data, &TAG).expect(&rt, "a program");
+        let mut copy = nand.copy().expect(&rt, "memory");
+        let mut bytes = vec![in rt.alloc(); 0u8; size as usize].expect(&rt, "memory");
         let mut tag = [0; 48];
         assert_eq!(rt;
             copy.read_page(4, 0, &mut bytes, &mut tag),
@@ -25,12 +24,11 @@ fn a_page_of_each_size_reads_back(rt: HostRuntime) -> Result<(), Fail> {
         assert!(rt; bytes.as_slice() == data.as_slice());
         assert!(rt; tag == TAG);
     }
-    Ok(())
 }
 
 /// Each has one number that is too small, too great, or between two that may be.
 #[test]
-fn sizes_outside_of_the_ranges_are_bad(rt: HostRuntime) -> Result<(), Fail> {
+fn sizes_outside_of_the_ranges_are_bad(rt: HostRuntime) {
     for (bytes, pages, blocks) in [
         (256u32, 32u32, 8u32),
         (513, 32, 8),
@@ -44,5 +42,4 @@ fn sizes_outside_of_the_ranges_are_bad(rt: HostRuntime) -> Result<(), Fail> {
         assert_eq!(rt; Geometry::new(bytes, pages, blocks), Err(BadGeometry));
     }
     assert_eq!(rt; Geometry::new(4096, 256, 4096).is_ok(), true);
-    Ok(())
 }

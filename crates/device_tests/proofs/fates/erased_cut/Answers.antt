@@ -2,4 +2,4 @@ use Rattle.device_tests.proofs.SmallDeviceLaws.{open_same, open_unsteady}
 use Rattle.device_tests.proofs.fates.erased_cut.Goals as goal
 
 pub returns : goal.returns
-returns c = open_same _ _ c.with_fuse.ensures.device 0 (open_unsteady 0 _ c.in_ok-nand.ensures)
+returns g c = open_same _ _ c.with_fuse.ensures.device 0 (open_unsteady 0 _ c.erased-nand.ensures)

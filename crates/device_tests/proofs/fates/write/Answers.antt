@@ -1,7 +1,5 @@
-use Rattle.device_tests.proofs.SmallDeviceLaws.{small_program}
+use Rattle.device_tests.proofs.SmallDeviceLaws.{open_programmed}
 use Rattle.device_tests.proofs.fates.write.Goals as goal
 
 pub returns : goal.returns
-returns c =
-    let does = c.in_ok-program.ensures.programs in
-    record { small = small_program _ _ _ _ _ _ _ c.requires.open.small does; next = does.next }
+returns g c = open_programmed _ _ _ _ _ _ _ c.expect.ensures c.requires.open.small c.program.ensures.programs

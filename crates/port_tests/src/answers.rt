@@ -1,8 +1,8 @@
 // Each form of answer, by a script.
 use nand_model::{EraseFault, Gone, Nand, PageKind, ProgramFault};
 use port_nand::{Answer, Calls, OpenFault, Port, PortDevice, Request, into_port, open};
-use std::alloc::{AllocError, Global};
-use std::test::Fail;
+use std::alloc::Global;
+use std::process::Abort;
 
 /// A driver that answers by a script, whatever it is asked, and keeps the requests. Past the script power is gone. It has 512
 /// bytes of a page, 32 pages of a block, and as many blocks and bytes of a tag as it is made with; all other bytes that it gives
@@ -21,16 +21,16 @@ struct Lines {
 }
 
 impl Script {
-    fn new(alloc: Global, sizes: (u8, u8), answers: &[Answer]) -> Result<Script, AllocError> {
+    fn new(rt: &impl Abort, alloc: Global, sizes: (u8, u8), answers: &[Answer]) -> Script {
         let lines = Lines {
             sizes,
-            answers: Vec::from_slice(alloc, answers)?,
+            answers: Vec::from_slice(alloc, answers).expect(rt, "memory"),
             asked: Vec::new(alloc),
         };
-        Ok(Script {
+        Script {
             lines,
             calls: Calls::new(),
-        })
+        }
     }
 }
 
@@ -71,24 +71,25 @@ use Answer::{Lost, One, Two, Zero};
 const OPENED: [Answer; 6] = [Zero, Zero, One, Zero, Zero, Zero];
 
 /// The device of a script, after the sizes and the marks.
-fn opened(alloc: Global, answers: &[Answer]) -> Result<PortDevice<Script>, Fail> {
-    let mut script = Vec::from_slice(alloc, &OPENED)?;
-    script.extend_from_slice(answers)?;
-    Ok(open(alloc, Script::new(alloc, (5, 48), script.as_slice())?)?)
+fn opened(rt: &impl Abort, alloc: Global, answers: &[Answer]) -> PortDevice<Script> {
+    let mut script = Vec::from_slice(alloc, &OPENED).expect(rt, "memory");
+    script.extend_from_slice(answers).expect(rt, "memory");
+    open(alloc, Script::new(rt, alloc, (5, 48), script.as_slice())).expect(rt, "a device")
 }
 
 fn open_fault(
+    rt: &impl Abort,
     alloc: Global,
     sizes: (u8, u8),
     answers: &[Answer],
-) -> Result<Option<OpenFault>, Fail> {
-    Ok(open(alloc, Script::new(alloc, sizes, answers)?).err())
+) -> Option<OpenFault> {
+    open(alloc, Script::new(rt, alloc, sizes, answers)).err()
 }
 
 #[test]
-fn the_sizes_and_marks_are_asked_first(rt: HostRuntime) -> Result<(), Fail> {
+fn the_sizes_and_marks_are_asked_first(rt: HostRuntime) {
     let alloc = rt.alloc();
-    let nand = opened(alloc, &[])?;
+    let nand = opened(&rt, alloc, &[]);
     assert_eq!(rt; nand.geometry().bytes(), 512);
     assert_eq!(rt; nand.geometry().pages(), 32);
     assert_eq!(rt; nand.geometry().blocks(), 5);
@@ -98,75 +99,77 @@ fn the_sizes_and_marks_are_asked_first(rt: HostRuntime) -> Result<(), Fail> {
     assert_eq!(rt; asked.first().copied(), Some(Request::Sizes));
     assert_eq!(rt; asked.last().copied(), Some(Request::IsMarked { block: 4 }));
     assert_eq!(rt;
-        open_fault(alloc, (5, 48), &[])?,
+        open_fault(&rt, alloc, (5, 48), &[]),
         Some(OpenFault::BadGeometry)
     );
     assert_eq!(rt;
-        open_fault(alloc, (5, 48), &OPENED[..5])?,
+        open_fault(&rt, alloc, (5, 48), &OPENED[..5]),
         Some(OpenFault::Gone)
     );
     assert_eq!(rt;
-        open_fault(alloc, (4, 48), &OPENED)?,
+        open_fault(&rt, alloc, (4, 48), &OPENED),
         Some(OpenFault::BadGeometry)
     );
     assert_eq!(rt;
-        open_fault(alloc, (5, 0), &OPENED)?,
+        open_fault(&rt, alloc, (5, 0), &OPENED),
         Some(OpenFault::BadGeometry)
     );
-    assert_eq!(rt; open_fault(alloc, (5, 24), &OPENED)?, None);
-    Ok(())
+    assert_eq!(rt; open_fault(&rt, alloc, (5, 24), &OPENED), None);
 }
 
 /// What the reads of a page say that have these answers, and whether they fill its tag.
-fn read_page(alloc: Global, answers: &[Answer]) -> Result<(Result<PageKind, Gone>, bool), Fail> {
-    let mut nand = opened(alloc, answers)?;
+fn read_page(rt: &impl Abort, alloc: Global, answers: &[Answer]) -> (Result<PageKind, Gone>, bool) {
+    let mut nand = opened(rt, alloc, answers);
     if nand.geometry().bytes() != 512 {
-        return Err("a page of another size".into());
+        panic!(rt; "a page of another size");
     }
     let mut bytes = [0u8; 512];
     let mut tag = [0u8; 48];
     let answer = nand.read_page(2, 3, &mut bytes, &mut tag);
-    Ok((answer, bytes == [7; 512] && tag == [7; 48]))
+    (answer, bytes == [7; 512] && tag == [7; 48])
 }
 
 /// What an erase, and a program after it, say that have these answers.
 fn change(
+    rt: &impl Abort,
     alloc: Global,
     answers: &[Answer],
-) -> Result<(Result<(), EraseFault>, Result<(), ProgramFault>), Fail> {
-    let mut nand = opened(alloc, answers)?;
+) -> (Result<(), EraseFault>, Result<(), ProgramFault>) {
+    let mut nand = opened(rt, alloc, answers);
     if let Err(fault) = nand.erase(2) {
-        return Ok((Err(fault), Err(ProgramFault::Gone)));
+        return (Err(fault), Err(ProgramFault::Gone));
     }
     if nand.geometry().bytes() != 512 || nand.is_bad(2) {
-        return Err("another device".into());
+        panic!(rt; "another device");
     }
-    Ok((Ok(()), nand.program(2, 0, &[7; 512], &[9; 48])))
+    (Ok(()), nand.program(2, 0, &[7; 512], &[9; 48]))
 }
 
 #[test]
-fn each_answer_has_its_meaning(rt: HostRuntime) -> Result<(), Fail> {
+fn each_answer_has_its_meaning(rt: HostRuntime) {
     let alloc = rt.alloc();
     let lost = Err(ProgramFault::Gone);
-    assert_eq!(rt; read_page(alloc, &[Zero])?, (Ok(PageKind::Erased), false));
     assert_eq!(rt;
-        read_page(alloc, &[One, Zero])?,
+        read_page(&rt, alloc, &[Zero]),
+        (Ok(PageKind::Erased), false)
+    );
+    assert_eq!(rt;
+        read_page(&rt, alloc, &[One, Zero]),
         (Ok(PageKind::Written), true)
     );
     assert_eq!(rt;
-        read_page(alloc, &[Two])?,
+        read_page(&rt, alloc, &[Two]),
         (Ok(PageKind::Uncorrectable), false)
     );
-    assert_eq!(rt; read_page(alloc, &[One, One])?, (Err(Gone), false));
-    assert_eq!(rt; read_page(alloc, &[Lost])?, (Err(Gone), false));
-    assert_eq!(rt; change(alloc, &[Zero, Zero, Zero])?, (Ok(()), Ok(())));
+    assert_eq!(rt; read_page(&rt, alloc, &[One, One]), (Err(Gone), false));
+    assert_eq!(rt; read_page(&rt, alloc, &[Lost]), (Err(Gone), false));
+    assert_eq!(rt; change(&rt, alloc, &[Zero, Zero, Zero]), (Ok(()), Ok(())));
     assert_eq!(rt;
-        change(alloc, &[Zero, Zero, One])?,
+        change(&rt, alloc, &[Zero, Zero, One]),
         (Ok(()), Err(ProgramFault::Failed))
     );
-    assert_eq!(rt; change(alloc, &[Zero, Zero, Two])?, (Ok(()), lost));
-    assert_eq!(rt; change(alloc, &[Zero, One, Zero])?, (Ok(()), lost));
-    assert_eq!(rt; change(alloc, &[One])?.0, Err(EraseFault::Failed));
-    assert_eq!(rt; change(alloc, &[])?.0, Err(EraseFault::Gone));
-    Ok(())
+    assert_eq!(rt; change(&rt, alloc, &[Zero, Zero, Two]), (Ok(()), lost));
+    assert_eq!(rt; change(&rt, alloc, &[Zero, One, Zero]), (Ok(()), lost));
+    assert_eq!(rt; change(&rt, alloc, &[One]).0, Err(EraseFault::Failed));
+    assert_eq!(rt; change(&rt, alloc, &[]).0, Err(EraseFault::Gone));
 }

@@ -1,6 +1,7 @@
 // A driver of a chip in memory, behind a port.
 use port_nand::{Answer, Calls, Port, Request};
-use std::alloc::{AllocError, Global};
+use std::alloc::Global;
+use std::process::Abort;
 
 /// What a page of the chip reads as, its tag and its data.
 #[derive(Clone, Copy)]
@@ -43,17 +44,17 @@ fn fill(buffer: &mut [u8], bytes: &[u8]) {
 }
 
 impl Chip {
-    pub(crate) fn new(alloc: Global, tag_bytes: u8) -> Result<Chip, AllocError> {
+    pub(crate) fn new(rt: &impl Abort, alloc: Global, tag_bytes: u8) -> Chip {
         let memory = Memory {
-            pages: Vec::from_elem(alloc, ERASED, 256)?,
+            pages: Vec::from_elem(alloc, ERASED, 256).expect(rt, "memory"),
             tag: [0; 48],
             tag_bytes,
             left: u32::MAX,
         };
-        Ok(Chip {
+        Chip {
             memory,
             calls: Calls::new(),
-        })
+        }
     }
 }
 

@@ -7,89 +7,105 @@ use rand_core::utils::NextWord;
 use rand_pcg::Pcg32;
 use std::alloc::Global;
 use std::collections::BTreeMap;
-use std::test::Fail;
+use std::process::Abort;
 
 /// The names that a directory should have, and the objects that they should lead to.
 type Names = BTreeMap<Vec<u8>, u64>;
 
+/// The object that a name of a directory of so many names leads to.
+fn found_at(
+    rt: &impl Abort,
+    store: &mut Store,
+    directory: u64,
+    count: u64,
+    name: &[u8],
+) -> Option<u64> {
+    find(&store.names, &mut store.pages, directory, count, name).expect(rt, "a search")
+}
+
 /// Whether the directory has these names and no others, and lists them in the order of their bytes. Some of them are
 /// looked for one by one.
 fn has_names(
+    rt: &impl Abort,
     alloc: Global,
     store: &mut Store,
     directory: u64,
     wanted: &Names,
-) -> Result<bool, Fail> {
-    let listed = names(alloc, &mut store.pages, directory)?;
-    let found = entries(alloc, &mut store.pages, directory)?;
-    let length = read_head(&mut store.pages, directory)?.length as usize;
+) -> bool {
+    let listed = names(alloc, &mut store.pages, directory).expect(rt, "names");
+    let found = entries(alloc, &mut store.pages, directory).expect(rt, "entries");
+    let head = read_head(&mut store.pages, directory).expect(rt, "a header");
+    let length = head.length as usize;
     if [listed.as_slice().len(), found.len(), length] != [wanted.len(); 3] {
-        return Ok(false);
+        return false;
     }
     for (name, (key, object)) in listed.as_slice().iter().zip(wanted.iter()) {
         let led = found.get(key.as_slice());
         if name.as_slice() != key.as_slice() || led != Some(*object) {
-            return Ok(false);
+            return false;
         }
         if *object % 16 == 0
-            && find(
-                &store.names,
-                &mut store.pages,
-                directory,
-                length as u64,
-                key.as_slice(),
-            )? != led
+            && found_at(rt, store, directory, length as u64, key.as_slice()) != led
         {
-            return Ok(false);
+            return false;
         }
     }
-    Ok(find(
-        &store.names,
-        &mut store.pages,
-        directory,
-        length as u64,
-        b"nowhere",
-    )?
-    .is_none())
+    found_at(rt, store, directory, length as u64, b"nowhere").is_none()
+}
+
+/// Lets a name lead to an object; what it led to before.
+fn lead(
+    rt: &impl Abort,
+    alloc: Global,
+    names: &mut Names,
+    name: &[u8],
+    object: u64,
+) -> Option<u64> {
+    let key = name.to_vec(alloc).expect(rt, "memory");
+    let before: Result<_, _> = names.insert(key, object);
+    before.expect(rt, "memory")
 }
 
 /// The store after a name leads to an object, whether it is there or not.
 fn put(
+    rt: &impl Abort,
     alloc: Global,
     mut store: Store,
     directory: u64,
     wanted: &mut Names,
     name: &[u8],
     object: u64,
-) -> Result<Store, Fail> {
-    let slot = slot_of(name, object)?;
-    let change = match wanted.insert(name.to_vec(alloc)?, object)? {
-        None => add(alloc, &mut store.pages, directory, &slot, object)?,
-        Some(_) => replace(alloc, &mut store.pages, directory, &slot, object)?.ok_or(
-            "it has no name",
-        )?,
+) -> Store {
+    let slot = slot_of(rt, name, object);
+    let change = match lead(rt, alloc, wanted, name, object) {
+        None => add(alloc, &mut store.pages, directory, &slot, object).expect(rt, "a change"),
+        Some(_) => replace(alloc, &mut store.pages, directory, &slot, object)
+            .expect(rt, "a change")
+            .expect(rt, "it has no name"),
     };
-    taken(alloc, store, change)
+    taken(rt, alloc, store, change)
 }
 
 /// The store after a name is removed where it is there.
 fn take_away(
+    rt: &impl Abort,
     alloc: Global,
     mut store: Store,
     directory: u64,
     wanted: &mut Names,
     name: &[u8],
-) -> Result<Store, Fail> {
-    let change = remove(alloc, &store.names, &mut store.pages, directory, name, 7)?;
-    match (change, wanted.remove(name)) {
-        (Some(change), Some(_)) => taken_from(alloc, store, change, directory, name),
-        (None, None) => Ok(store),
-        _ => Err("a name is there and is not".into()),
+) -> Store {
+    let change = remove(alloc, &store.names, &mut store.pages, directory, name, 7);
+    match (change.expect(rt, "a change"), wanted.remove(name)) {
+        (Some(change), Some(_)) => taken_from(rt, alloc, store, change, directory, name),
+        (None, None) => store,
+        _ => panic!(rt; "a name is there and is not"),
     }
 }
 
 /// The store after a name gives way to another of the same directory where it is there.
 fn rename(
+    rt: &impl Abort,
     alloc: Global,
     mut store: Store,
     directory: u64,
@@ -97,28 +113,30 @@ fn rename(
     from: &[u8],
     to: &[u8],
     object: u64,
-) -> Result<Store, Fail> {
+) -> Store {
     let change = rename_within(
         alloc,
         &store.names,
         &mut store.pages,
         directory,
         from,
-        &slot_of(to, object)?,
+        &slot_of(rt, to, object),
         8,
-    )?;
+    )
+    .expect(rt, "a change");
     match (change, wanted.remove(from)) {
         (Some(change), Some(_)) => {
-            wanted.insert(to.to_vec(alloc)?, object)?;
-            taken_from(alloc, store, change, directory, from)
+            lead(rt, alloc, wanted, to, object);
+            taken_from(rt, alloc, store, change, directory, from)
         }
-        (None, None) => Ok(store),
-        _ => Err("a name is there and is not".into()),
+        (None, None) => store,
+        _ => panic!(rt; "a name is there and is not"),
     }
 }
 
 /// The store after a name of one directory gives way to one of another where it is there.
 fn carry(
+    rt: &impl Abort,
     alloc: Global,
     mut store: Store,
     wanted: &mut Names,
@@ -126,7 +144,7 @@ fn carry(
     from: &[u8],
     to: &[u8],
     object: u64,
-) -> Result<Store, Fail> {
+) -> Store {
     let route = Route {
         source: HOME,
         target: AWAY,
@@ -137,78 +155,81 @@ fn carry(
         &mut store.pages,
         route,
         from,
-        &slot_of(to, object)?,
+        &slot_of(rt, to, object),
         9,
-    )?;
+    )
+    .expect(rt, "a change");
     match (change, wanted.remove(from)) {
         (Some(change), Some(_)) => {
-            others.insert(to.to_vec(alloc)?, object)?;
-            taken_from(alloc, store, change, HOME, from)
+            lead(rt, alloc, others, to, object);
+            taken_from(rt, alloc, store, change, HOME, from)
         }
-        (None, None) => Ok(store),
-        _ => Err("a name is there and is not".into()),
+        (None, None) => store,
+        _ => panic!(rt; "a name is there and is not"),
     }
 }
 
 /// The name of a number.
-fn name_of(alloc: Global, number: u32) -> Result<Vec<u8>, Fail> {
-    let text = format!(in alloc; "n{number}")?;
-    Ok(text.as_bytes().to_vec(alloc)?)
+fn name_of(rt: &impl Abort, alloc: Global, number: u32) -> Vec<u8> {
+    let text = format!(in alloc; "n{number}").expect(rt, "memory");
+    text.as_bytes().to_vec(alloc).expect(rt, "memory")
 }
 
 /// The numbers below one, in a random order.
-fn shuffled(alloc: Global, random: &mut Pcg32, count: u32) -> Result<Vec<u32>, Fail> {
+fn shuffled(rt: &impl Abort, alloc: Global, random: &mut Pcg32, count: u32) -> Vec<u32> {
     let mut drawn = Vec::new(alloc);
     for number in 0..count {
-        drawn.push((random.next_word(), number))?;
+        drawn
+            .push((random.next_word(), number))
+            .expect(rt, "memory");
     }
-    drawn.sort()?;
+    drawn.sort().expect(rt, "memory");
     let mut numbers = Vec::new(alloc);
     for (_, number) in drawn {
-        numbers.push(number)?;
+        numbers.push(number).expect(rt, "memory");
     }
-    Ok(numbers)
+    numbers
 }
 
 /// Adds so many names in a random order, and removes them in another.
 fn fill_and_empty(
+    rt: &impl Abort,
     alloc: Global,
     random: &mut Pcg32,
     page_bytes: u32,
     count: u32,
-) -> Result<bool, Fail> {
-    let mut store = two_directories(alloc, page_bytes)?;
+) -> bool {
+    let mut store = two_directories(rt, alloc, page_bytes);
     let mut wanted = BTreeMap::new(alloc);
-    for number in shuffled(alloc, random, count)? {
-        let name = name_of(alloc, number)?;
+    for number in shuffled(rt, alloc, random, count) {
+        let name = name_of(rt, alloc, number);
         store = put(
+            rt,
             alloc,
             store,
             HOME,
             &mut wanted,
             &name,
             2 + u64::from(number),
-        )?;
+        );
     }
-    if !has_names(alloc, &mut store, HOME, &wanted)? {
-        return Ok(false);
+    if !has_names(rt, alloc, &mut store, HOME, &wanted) {
+        return false;
     }
-    for number in shuffled(alloc, random, count)? {
-        let name = name_of(alloc, number)?;
-        store = take_away(alloc, store, HOME, &mut wanted, &name)?;
-        if number % 128 == 0 && !has_names(alloc, &mut store, HOME, &wanted)? {
-            return Ok(false);
+    for number in shuffled(rt, alloc, random, count) {
+        let name = name_of(rt, alloc, number);
+        store = take_away(rt, alloc, store, HOME, &mut wanted, &name);
+        if number % 128 == 0 && !has_names(rt, alloc, &mut store, HOME, &wanted) {
+            return false;
         }
     }
-    Ok(
-        wanted.is_empty()
-            && has_names(alloc, &mut store, HOME, &wanted)?
-            && has_names(alloc, &mut store, AWAY, &wanted)?,
-    )
+    wanted.is_empty()
+        && has_names(rt, alloc, &mut store, HOME, &wanted)
+        && has_names(rt, alloc, &mut store, AWAY, &wanted)
 }
 
 #[test]
-fn names_are_added_and_removed_in_any_order(rt: HostRuntime) -> Result<(), Fail> {
+fn names_are_added_and_removed_in_any_order(rt: HostRuntime) {
     let alloc = rt.alloc();
     let mut random = Pcg32::new(1, 2);
     for (page_bytes, count) in [
@@ -222,48 +243,54 @@ fn names_are_added_and_removed_in_any_order(rt: HostRuntime) -> Result<(), Fail>
         (4096, 15),
         (4096, 16),
     ] {
-        assert!(rt; fill_and_empty(alloc, &mut random, page_bytes, count)?);
+        assert!(rt; fill_and_empty(&rt, alloc, &mut random, page_bytes, count));
     }
-    Ok(())
 }
 
 #[test]
-fn a_thousand_names_are_added_and_removed(rt: HostRuntime) -> Result<(), Fail> {
+fn a_thousand_names_are_added_and_removed(rt: HostRuntime) {
     let alloc = rt.alloc();
     let mut random = Pcg32::new(5, 6);
-    assert!(rt; fill_and_empty(alloc, &mut random, 4096, 1000)?);
-    Ok(())
+    assert!(rt; fill_and_empty(&rt, alloc, &mut random, 4096, 1000));
 }
 
 /// Changes of two directories at random, with few names, so that many are there already.
-fn change_at_random(alloc: Global, random: &mut Pcg32, page_bytes: u32) -> Result<bool, Fail> {
-    let mut store = two_directories(alloc, page_bytes)?;
+fn change_at_random(rt: &impl Abort, alloc: Global, random: &mut Pcg32, page_bytes: u32) -> bool {
+    let mut store = two_directories(rt, alloc, page_bytes);
     let mut wanted = BTreeMap::new(alloc);
     let mut others = BTreeMap::new(alloc);
     for object in 2..120u64 {
-        let name = name_of(alloc, random.next_word() % 20)?;
-        let to = name_of(alloc, random.next_word() % 20)?;
+        let name = name_of(rt, alloc, random.next_word() % 20);
+        let to = name_of(rt, alloc, random.next_word() % 20);
         store = match random.next_word() % 6 {
-            0 => take_away(alloc, store, HOME, &mut wanted, &name)?,
-            1 => rename(alloc, store, HOME, &mut wanted, &name, &to, object)?,
-            2 => carry(alloc, store, &mut wanted, &mut others, &name, &to, object)?,
-            _ => put(alloc, store, HOME, &mut wanted, &name, object)?,
+            0 => take_away(rt, alloc, store, HOME, &mut wanted, &name),
+            1 => rename(rt, alloc, store, HOME, &mut wanted, &name, &to, object),
+            2 => carry(
+                rt,
+                alloc,
+                store,
+                &mut wanted,
+                &mut others,
+                &name,
+                &to,
+                object,
+            ),
+            _ => put(rt, alloc, store, HOME, &mut wanted, &name, object),
         };
-        if !has_names(alloc, &mut store, HOME, &wanted)?
-            || !has_names(alloc, &mut store, AWAY, &others)?
+        if !has_names(rt, alloc, &mut store, HOME, &wanted)
+            || !has_names(rt, alloc, &mut store, AWAY, &others)
         {
-            return Ok(false);
+            return false;
         }
     }
-    Ok(!wanted.is_empty() && !others.is_empty())
+    !wanted.is_empty() && !others.is_empty()
 }
 
 #[test]
-fn directories_are_as_maps(rt: HostRuntime) -> Result<(), Fail> {
+fn directories_are_as_maps(rt: HostRuntime) {
     let alloc = rt.alloc();
     let mut random = Pcg32::new(3, 4);
     for page_bytes in [512, 1024, 2048, 4096] {
-        assert!(rt; change_at_random(alloc, &mut random, page_bytes)?);
+        assert!(rt; change_at_random(&rt, alloc, &mut random, page_bytes));
     }
-    Ok(())
 }

@@ -12,7 +12,6 @@ use page_tags::Slot;
 use pages::{Change, Lack, PageFault, Refusal};
 use std::alloc::Global;
 use std::process::Abort;
-use std::test::Fail;
 
 const FILE: u64 = 5;
 
@@ -111,20 +110,21 @@ fn ask(alloc: Global, store: &mut Store, call: Call, slot: &Slot) -> Result<usiz
 }
 
 /// A store with three names in the first directory, and a file of 700 bytes in two chunks.
-fn three_names(alloc: Global) -> Result<Store, Fail> {
-    let mut store = two_directories(alloc, 512)?;
+fn three_names(rt: &impl Abort, alloc: Global) -> Store {
+    let mut store = two_directories(rt, alloc, 512);
     for (name, object) in [(b"a", 2), (b"b", 3), (b"c", 4)] {
-        let change = add(alloc, &mut store.pages, HOME, &slot_of(name, object)?, 1)?;
-        store = taken(alloc, store, change)?;
+        let slot = slot_of(rt, name, object);
+        let change = add(alloc, &mut store.pages, HOME, &slot, 1).expect(rt, "a change");
+        store = taken(rt, alloc, store, change);
     }
-    let header = create(alloc, &store.pages, FILE, 1)?;
+    let header = create(alloc, &store.pages, FILE, 1).expect(rt, "memory");
     let change = Change {
-        pages: vec![in alloc; header]?,
+        pages: vec![in alloc; header].expect(rt, "memory"),
         cuts: Vec::new(alloc),
     };
-    store = taken(alloc, store, change)?;
-    let change = write_at(alloc, &mut store.pages, FILE, 0, &[1; 700], 1)?;
-    taken(alloc, store, change)
+    store = taken(rt, alloc, store, change);
+    let change = write_at(alloc, &mut store.pages, FILE, 0, &[1; 700], 1).expect(rt, "a write");
+    taken(rt, alloc, store, change)
 }
 
 /// Refuses each page of a call in turn: the call says what lacked, and made again it tells what it should.
@@ -135,8 +135,8 @@ fn refuse_each(
     call: Call,
     asked: u64,
     told: usize,
-) -> Result<(), Fail> {
-    let slot = slot_of(b"new", 6)?;
+) {
+    let slot = slot_of(rt, b"new", 6);
     for number in 1..=asked {
         for (lack, fault) in [
             (Lack::Memory, PageFault::NoMemory),
@@ -149,27 +149,27 @@ fn refuse_each(
                 Some(fault),
                 "{call:?}"
             );
-            assert_eq!(rt; ask(alloc, store, call, &slot)?, told, "{call:?}");
+            let answer = ask(alloc, store, call, &slot).expect(rt, "an answer");
+            assert_eq!(rt; answer, told, "{call:?}");
         }
     }
     let before = store.pages.finds();
-    assert_eq!(rt; ask(alloc, store, call, &slot)?, told, "{call:?}");
+    let answer = ask(alloc, store, call, &slot).expect(rt, "an answer");
+    assert_eq!(rt; answer, told, "{call:?}");
     assert_eq!(rt;
         store.pages.finds().saturating_sub(before),
         asked,
         "{call:?}"
     );
-    Ok(())
 }
 
 #[test]
-fn a_refused_page_changes_nothing(rt: HostRuntime) -> Result<(), Fail> {
+fn a_refused_page_changes_nothing(rt: HostRuntime) {
     let alloc = rt.alloc();
-    let mut store = three_names(alloc)?;
+    let mut store = three_names(&rt, alloc);
     for (call, asked, told) in CALLS {
-        refuse_each(&rt, alloc, &mut store, call, asked, told)?;
+        refuse_each(&rt, alloc, &mut store, call, asked, told);
     }
-    Ok(())
 }
 
 /// What a call tells, which is asked for once more where memory was refused.
@@ -184,16 +184,12 @@ fn ask_again(alloc: Global, store: &mut Store, call: Call, slot: &Slot) -> Resul
 
 // Run it with each allocation of the calls refused in turn.
 #[test]
-fn a_refused_growth_changes_nothing(rt: HostRuntime) -> Result<(), Fail> {
+fn a_refused_growth_changes_nothing(rt: HostRuntime) {
     let alloc = rt.alloc();
-    let mut store = three_names(alloc)?;
-    let slot = slot_of(b"new", 6)?;
+    let mut store = three_names(&rt, alloc);
+    let slot = slot_of(&rt, b"new", 6);
     for (call, _, told) in CALLS {
-        assert_eq!(rt;
-            ask_again(alloc, &mut store, call, &slot)?,
-            told,
-            "{call:?}"
-        );
+        let answer = ask_again(alloc, &mut store, call, &slot).expect(&rt, "an answer");
+        assert_eq!(rt; answer, told, "{call:?}");
     }
-    Ok(())
 }

@@ -1,5 +1,5 @@
 // A store in memory that takes changes, with an index of its names, and slots that a directory takes.
-ghost use Rattle.std.specs.Prelude.{◌≤◌, IfOk};
+ghost use Rattle.std.specs.Prelude.{◌≤◌};
 ghost use Rattle.page_tags.specs.SlotEntry.{entry_of};
 ghost use Rattle.flash_tree.specs.Slots.{IsTreeSlot};
 
@@ -11,7 +11,7 @@ use object_store::{DirectoryEntry, ObjectChange};
 use page_tags::Slot;
 use pages::{Change, MemPages, Pages, are_sized};
 use std::alloc::Global;
-use std::test::Fail;
+use std::process::Abort;
 use volume_terms::is_name;
 
 /// The two directories of a store.
@@ -28,66 +28,67 @@ pub(crate) struct Store {
 
 impl Store {
     /// A store without pages.
-    fn new(alloc: Global, page_bytes: u32) -> Result<Store, Fail>
+    fn new(rt: &impl Abort, alloc: Global, page_bytes: u32) -> Store
         requires least { 512 ≤ page_bytes }
         requires most { page_bytes ≤ 4096 }
     {
-        Ok(Store {
+        Store {
             names: NameIndex::new(alloc),
-            pages: MemPages::new(alloc, page_bytes)?,
-        })
+            pages: MemPages::new(alloc, page_bytes).expect(rt, "memory"),
+        }
     }
 }
 
 /// The store after a change.
-pub(crate) fn taken(alloc: Global, store: Store, change: Change) -> Result<Store, Fail> {
+pub(crate) fn taken(rt: &impl Abort, alloc: Global, store: Store, change: Change) -> Store {
     let Store { mut names, pages } = store;
     if !are_sized(&change.pages, pages.page_bytes()) {
-        return Err("a page of another size".into());
+        panic!(rt; "a page of another size");
     }
-    hash_names(&mut names, &pages, &change)?;
-    let pages = pages.apply(alloc, change)?;
-    Ok(Store { names, pages })
+    hash_names(&mut names, &pages, &change).expect(rt, "memory");
+    let pages = pages.apply(alloc, change).expect(rt, "memory");
+    Store { names, pages }
 }
 
 /// The store after a change that takes a name from a directory. Where its slot has a name with another hash then, the
 /// index does not hold the slot under the first one's any more.
 pub(crate) fn taken_from(
+    rt: &impl Abort,
     alloc: Global,
     store: Store,
     change: Change,
     directory: u64,
     name: &[u8],
-) -> Result<Store, Fail> {
+) -> Store {
     let page_bytes = store.pages.page_bytes();
     if !are_sized(&change.pages, page_bytes) {
-        return Err("a page of another size".into());
+        panic!(rt; "a page of another size");
     }
     let left = left_slot(&store.names, page_bytes, &change, directory, name);
-    let Store { mut names, pages } = taken(alloc, store, change)?;
+    let Store { mut names, pages } = taken(rt, alloc, store, change);
     if let Some(left) = left {
         names.remove(directory, name_hash(name), left.slot);
     }
-    Ok(Store { names, pages })
+    Store { names, pages }
 }
 
 /// A store with the two directories, without names.
-pub(crate) fn two_directories(alloc: Global, page_bytes: u32) -> Result<Store, Fail> {
+pub(crate) fn two_directories(rt: &impl Abort, alloc: Global, page_bytes: u32) -> Store {
     if !(512..=4096).contains(&page_bytes) {
-        return Err("no such page".into());
+        panic!(rt; "no such page");
     }
     let head = DirectoryHead {
         spare: 0,
         length: 0,
         moment: 0,
     };
-    let home = head_page(alloc, page_bytes, HOME, head)?;
-    let away = head_page(alloc, page_bytes, AWAY, head)?;
+    let home = head_page(alloc, page_bytes, HOME, head).expect(rt, "memory");
+    let away = head_page(alloc, page_bytes, AWAY, head).expect(rt, "memory");
     let change = Change {
-        pages: vec![in alloc; home, away]?,
+        pages: vec![in alloc; home, away].expect(rt, "memory"),
         cuts: Vec::new(alloc),
     };
-    taken(alloc, Store::new(alloc, page_bytes)?, change)
+    taken(rt, alloc, Store::new(rt, alloc, page_bytes), change)
 }
 
 /// The root of a volume.
@@ -99,37 +100,38 @@ pub(crate) fn entry(directory: u64, name: &[u8]) -> DirectoryEntry<'_> {
 }
 
 /// A volume with a root without names, whose header says three spare blocks.
-pub(crate) fn empty_volume(alloc: Global) -> Result<Store, Fail> {
+pub(crate) fn empty_volume(rt: &impl Abort, alloc: Global) -> Store {
     let head = DirectoryHead {
         spare: 3,
         length: 0,
         moment: 0,
     };
-    let root = head_page(alloc, 512, ROOT, head)?;
+    let root = head_page(alloc, 512, ROOT, head).expect(rt, "memory");
     let change = Change {
-        pages: vec![in alloc; root]?,
+        pages: vec![in alloc; root].expect(rt, "memory"),
         cuts: Vec::new(alloc),
     };
-    taken(alloc, Store::new(alloc, 512)?, change)
+    taken(rt, alloc, Store::new(rt, alloc, 512), change)
 }
 
 /// The store after a change of objects.
 pub(crate) fn changed(
+    rt: &impl Abort,
     alloc: Global,
     mut store: Store,
     change: ObjectChange<'_>,
     new: u64,
-) -> Result<Store, Fail> {
-    let change = plan(&store.names, &mut store.pages, alloc, &change, new)?;
-    taken(alloc, store, change)
+) -> Store {
+    let change = plan(&store.names, &mut store.pages, alloc, &change, new).expect(rt, "a change");
+    taken(rt, alloc, store, change)
 }
 
 /// A slot with this name, which leads to the object.
-pub(crate) fn slot_of(name: &[u8], object: u64) -> Result<Slot<'_>, Fail>
-    ensures { IfOk result (λ slot. IsTreeSlot (entry_of slot)) }
+pub(crate) fn slot_of<'a>(rt: &impl Abort, name: &'a [u8], object: u64) -> Slot<'a>
+    ensures { IsTreeSlot (entry_of result) }
 {
     if object < 2 || object == CHECK_OBJECT || !is_name(name) {
-        return Err("no such slot".into());
+        panic!(rt; "no such slot");
     }
-    Ok(Slot { object, name })
+    Slot { object, name }
 }

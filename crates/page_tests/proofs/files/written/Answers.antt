@@ -1,12 +1,14 @@
 use Rattle.std.proofs.Common.{◌≤◌, ◌*◌, ℕ, sym, subst, length, arith}
 use Rattle.std.proofs.Math.Nat.{mul-le-mul_left}
+use Rattle.std.proofs.lemmas.Result.{IfOk-at_ok}
 use Rattle.pages.specs.Changes.{AreSized}
 use Rattle.page_tests.proofs.files.written.Goals as goal
 
 -- so many bytes lie over at most so many chunks
 pub apply-requires : goal.apply-requires
-apply-requires c =
+apply-requires g c =
     let n : ℕ = length c.args.bytes.now in
     let some : 1 ≤ c.args.pages.page_bytes = omega (arith, c.args.pages.least) in
     let few : n ≤ n * c.args.pages.page_bytes = omega (arith, mul-le-mul_left n some) in
-    subst (AreSized c.in_ok-change.change.pages.items) (sym c.write_at.ensures.finds.page_bytes) (c.in_ok-change.ensures.change n few).size
+    let change = IfOk-at_ok _ c.expect-change.ensures (c.write_at.ensures.change n few) in
+    subst (AreSized c.expect-change.result.pages.items) (sym c.write_at.ensures.finds.page_bytes) change.size

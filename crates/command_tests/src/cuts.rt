@@ -5,9 +5,8 @@ use fused_store::{FusedStore, LastCall};
 use object_commands::Volume;
 use plain_volume::PlainObjects;
 use posix_profile::{Access, Command, Errno, FilePath, OpenFlags, Reply, Stamped};
-use std::alloc::{AllocError, Global};
+use std::alloc::Global;
 use std::process::Abort;
-use std::test::Fail;
 use volume_terms::VolumeSizes;
 
 /// The commands, with rising moments.
@@ -41,12 +40,12 @@ rmdir /c
 list /
 sync";
 
-pub(crate) fn no_objects(alloc: Global) -> Result<PlainObjects, AllocError> {
-    PlainObjects::new(alloc, VolumeSizes::new(512, 32, 8, 1))
+pub(crate) fn no_objects(rt: &impl Abort, alloc: Global) -> PlainObjects {
+    PlainObjects::new(alloc, VolumeSizes::new(512, 32, 8, 1)).expect(rt, "memory")
 }
 
-fn path_of(alloc: Global, path: &[u8]) -> Result<FilePath, AllocError> {
-    Ok(FilePath::new(path.to_vec(alloc)?))
+fn path_of(rt: &impl Abort, alloc: Global, path: &[u8]) -> FilePath {
+    FilePath::new(path.to_vec(alloc).expect(rt, "memory"))
 }
 
 fn told(volume: &mut Volume<PlainObjects>, command: Command) -> Reply {
@@ -55,11 +54,12 @@ fn told(volume: &mut Volume<PlainObjects>, command: Command) -> Reply {
 
 /// What is told of the bytes of a file.
 fn bytes_text(
+    rt: &impl Abort,
     alloc: Global,
     volume: &mut Volume<PlainObjects>,
     path: &[u8],
-) -> Result<String, Fail> {
-    let path = path_of(alloc, path)?;
+) -> String {
+    let path = path_of(rt, alloc, path);
     let flags = OpenFlags {
         access: Access::Read,
         create: false,
@@ -70,102 +70,115 @@ fn bytes_text(
     let _fd = told(volume, Command::Open { path, flags });
     let bytes = told(volume, Command::Read { fd: 0, count: 4096 });
     let _done = told(volume, Command::Close { fd: 0 });
-    reply_text(alloc, &bytes)
+    reply_text(rt, alloc, &bytes)
 }
 
 /// Adds what is told of an object to the text, and the paths of what a directory names.
 fn add_object(
+    rt: &impl Abort,
     alloc: Global,
     volume: &mut Volume<PlainObjects>,
     path: &[u8],
     paths: &mut Vec<Vec<u8>>,
     text: &mut String,
-) -> Result<(), Fail> {
+) {
     let info = told(
         volume,
         Command::Stat {
-            path: path_of(alloc, path)?,
+            path: path_of(rt, alloc, path),
         },
     );
-    text.push_str(&reply_text(alloc, &info)?)?;
+    text.push_str(&reply_text(rt, alloc, &info))
+        .expect(rt, "memory");
     let list = told(
         volume,
         Command::List {
-            path: path_of(alloc, path)?,
+            path: path_of(rt, alloc, path),
         },
     );
-    text.push_str(" ")?;
+    text.push_str(" ").expect(rt, "memory");
     match list {
         Reply::Names(names) => {
             for name in names.as_slice() {
-                let mut below = path.to_vec(alloc)?;
-                below.push(b'/')?;
-                below.extend_from_slice(name.as_slice())?;
-                paths.push(below)?;
+                let mut below = path.to_vec(alloc).expect(rt, "memory");
+                below.push(b'/').expect(rt, "memory");
+                below
+                    .extend_from_slice(name.as_slice())
+                    .expect(rt, "memory");
+                paths.push(below).expect(rt, "memory");
             }
-            text.push_str(&reply_text(alloc, &Reply::Names(names))?)?;
+            text.push_str(&reply_text(rt, alloc, &Reply::Names(names)))
+                .expect(rt, "memory");
         }
-        _ => text.push_str(&bytes_text(alloc, volume, path)?)?,
+        _ => text
+            .push_str(&bytes_text(rt, alloc, volume, path))
+            .expect(rt, "memory"),
     }
-    text.push_str("\n")?;
-    Ok(())
+    text.push_str("\n").expect(rt, "memory");
 }
 
 /// What a tree of at most 50 objects holds: what is told of each.
-fn tree_text(alloc: Global, objects: PlainObjects) -> Result<String, Fail> {
+fn tree_text(rt: &impl Abort, alloc: Global, objects: PlainObjects) -> String {
     let mut volume = match Volume::new(alloc, objects, true) {
         Ok(volume) => volume,
-        Err((_objects, error)) => return Err(error.into()),
+        Err((_objects, error)) => panic!(rt; "{error:?}"),
     };
     let mut text = String::new(alloc);
     let mut paths = Vec::new(alloc);
-    paths.push(b"/".to_vec(alloc)?)?;
+    paths
+        .push(b"/".to_vec(alloc).expect(rt, "memory"))
+        .expect(rt, "memory");
     for _ in 0..50 {
         match paths.pop() {
-            Some(path) => add_object(alloc, &mut volume, &path, &mut paths, &mut text)?,
-            None => return Ok(text),
+            Some(path) => add_object(rt, alloc, &mut volume, &path, &mut paths, &mut text),
+            None => return text,
         }
     }
-    Ok(text)
+    text
 }
 
 /// The trees before the first command and after each one, as a mount would show them.
-fn trees_of(alloc: Global, commands: &[Stamped]) -> Result<Vec<String>, Fail> {
-    let mut volume = match Volume::new(alloc, no_objects(alloc)?, false) {
+fn trees_of(rt: &impl Abort, alloc: Global, commands: &[Stamped]) -> Vec<String> {
+    let mut volume = match Volume::new(alloc, no_objects(rt, alloc), false) {
         Ok(volume) => volume,
-        Err((_objects, error)) => return Err(error.into()),
+        Err((_objects, error)) => panic!(rt; "{error:?}"),
     };
     let mut trees = Vec::new(alloc);
-    trees.push(tree_text(alloc, volume.store().settled()?)?)?;
+    trees
+        .push(tree_text(rt, alloc, volume.store().settled().expect(rt, "memory")))
+        .expect(rt, "memory");
     for command in commands {
         let _reply = volume.call(command);
-        trees.push(tree_text(alloc, volume.store().settled()?)?)?;
+        trees
+            .push(tree_text(rt, alloc, volume.store().settled().expect(rt, "memory")))
+            .expect(rt, "memory");
     }
-    Ok(trees)
+    trees
 }
 
 /// What is left of a run, and what it answered.
 fn cut_run(
+    rt: &impl Abort,
     alloc: Global,
     commands: &[Stamped],
     calls: u64,
     last: LastCall,
-) -> Result<(Vec<Reply>, String), Fail> {
-    let inner = KeptObjects::new(no_objects(alloc)?)?;
+) -> (Vec<Reply>, String) {
+    let inner = KeptObjects::new(no_objects(rt, alloc)).expect(rt, "memory");
     let store = FusedStore { inner, calls, last };
     let mut volume = match Volume::new(alloc, store, false) {
         Ok(volume) => volume,
-        Err((_store, error)) => return Err(error.into()),
+        Err((_store, error)) => panic!(rt; "{error:?}"),
     };
     let mut replies = Vec::new(alloc);
-    volume.run(commands, &mut replies)?;
+    volume.run(commands, &mut replies).expect(rt, "memory");
     let FusedStore {
         inner,
         calls: _,
         last: _,
     } = volume.into_store();
     let KeptObjects { objects: _, shown } = inner;
-    Ok((replies, tree_text(alloc, shown)?))
+    (replies, tree_text(rt, alloc, shown))
 }
 
 fn is_stop(reply: &Reply) -> bool {
@@ -200,8 +213,8 @@ fn cut_at(
     trees: &[String],
     calls: u64,
     last: LastCall,
-) -> Result<bool, Fail> {
-    let (replies, left) = cut_run(alloc, commands, calls, last)?;
+) -> bool {
+    let (replies, left) = cut_run(rt, alloc, commands, calls, last);
     let from = covered(commands, &replies);
     let to = answered(&replies);
     let mut is_left = false;
@@ -212,23 +225,22 @@ fn cut_at(
     }
     assert!(rt; is_left);
     assert_eq!(rt; replies.len(), commands.len());
-    Ok(to < commands.len())
+    to < commands.len()
 }
 
 #[test]
-fn what_a_cut_leaves_is_the_tree_after_some_commands(rt: HostRuntime) -> Result<(), Fail> {
+fn what_a_cut_leaves_is_the_tree_after_some_commands(rt: HostRuntime) {
     let alloc = rt.alloc();
-    let commands = commands_of(alloc, SESSION)?;
-    let trees = trees_of(alloc, &commands)?;
+    let commands = commands_of(&rt, alloc, SESSION);
+    let trees = trees_of(&rt, alloc, &commands);
     let mut cuts = 0u64;
     for calls in 0..100 {
-        let before = cut_at(&rt, alloc, &commands, &trees, calls, LastCall::NotDone)?;
-        let after = cut_at(&rt, alloc, &commands, &trees, calls, LastCall::Done)?;
+        let before = cut_at(&rt, alloc, &commands, &trees, calls, LastCall::NotDone);
+        let after = cut_at(&rt, alloc, &commands, &trees, calls, LastCall::Done);
         assert_eq!(&rt; before, after);
         if before {
             cuts = calls + 1;
         }
     }
     assert_eq!(&rt; cuts, 31);
-    Ok(())
 }

@@ -2,22 +2,23 @@
 use line_shell::{read_script, write_reply};
 use posix_profile::{Reply, Stamped};
 use std::alloc::Global;
-use std::test::Fail;
+use std::process::Abort;
 
 /// The commands of some lines.
-pub(crate) fn commands_of(alloc: Global, lines: &str) -> Result<Vec<Stamped>, Fail> {
+pub(crate) fn commands_of(rt: &impl Abort, alloc: Global, lines: &str) -> Vec<Stamped> {
     let mut reader = lines.as_bytes();
-    Ok(read_script(alloc, &mut reader)?)
+    read_script(alloc, &mut reader).expect(rt, "a script")
 }
 
 /// The command of a line.
-pub(crate) fn command_of(alloc: Global, line: &str) -> Result<Stamped, Fail> {
-    Ok(commands_of(alloc, line)?.pop().ok_or("no command")?)
+pub(crate) fn command_of(rt: &impl Abort, alloc: Global, line: &str) -> Stamped {
+    commands_of(rt, alloc, line).pop().expect(rt, "no command")
 }
 
 /// The text of a reply, without the end of its line.
-pub(crate) fn reply_text(alloc: Global, reply: &Reply) -> Result<String, Fail> {
+pub(crate) fn reply_text(rt: &impl Abort, alloc: Global, reply: &Reply) -> String {
     let mut text = Vec::new(alloc);
-    write_reply(&mut text, reply)?;
-    Ok(String::from_str(alloc, str::from_utf8(&text)?.trim_end())?)
+    write_reply(&mut text, reply).expect(rt, "a reply");
+    let text = str::from_utf8(&text).expect(rt, "a text");
+    String::from_str(alloc, text.trim_end()).expect(rt, "memory")
 }

@@ -6,10 +6,8 @@ use object_commands::Volume;
 use object_store::ObjectStore;
 use plain_volume::PlainObjects;
 use posix_profile::{Command, Errno, Kind, Reply, Stamped};
-use std::alloc::{AllocError, Global};
+use std::alloc::Global;
 use std::process::Abort;
-use std::test::Fail;
-use volume_terms::StoreFault;
 
 /// A volume over maps that may refuse memory.
 type RefusingVolume = Volume<RefusingStore<PlainObjects>>;
@@ -22,22 +20,23 @@ const NUMBERS: u64 = 80;
 
 /// A volume over these maps, which refuse nothing, with no descriptor open.
 fn volume_over(
+    rt: &impl Abort,
     alloc: Global,
     inner: PlainObjects,
     read_only: bool,
-) -> Result<RefusingVolume, AllocError> {
+) -> RefusingVolume {
     match Volume::new(alloc, RefusingStore { inner, calls: None }, read_only) {
-        Ok(volume) => Ok(volume),
-        Err((_store, error)) => Err(error),
+        Ok(volume) => volume,
+        Err((_store, error)) => panic!(rt; "{error:?}"),
     }
 }
 
 /// The same volume over a copy of its maps, which refuses memory after so many calls.
-fn refusing(volume: &RefusingVolume, calls: Option<u64>) -> Result<RefusingVolume, AllocError> {
-    let inner = volume.store().inner.copy()?;
+fn refusing(rt: &impl Abort, volume: &RefusingVolume, calls: Option<u64>) -> RefusingVolume {
+    let inner = volume.store().inner.copy().expect(rt, "memory");
     match volume.copy_over(RefusingStore { inner, calls }) {
-        Ok(copy) => Ok(copy),
-        Err((_store, error)) => Err(error),
+        Ok(copy) => copy,
+        Err((_store, error)) => panic!(rt; "{error:?}"),
     }
 }
 
@@ -64,31 +63,34 @@ fn expect_same_names(
     left: &mut PlainObjects,
     right: &mut PlainObjects,
     directory: u64,
-) -> Result<(), StoreFault> {
-    let names = left.names(alloc, directory)?;
-    let others = right.names(alloc, directory)?;
+) {
+    let names = left.names(alloc, directory).expect(rt, "names");
+    let others = right.names(alloc, directory).expect(rt, "names");
     assert_eq!(rt; names.as_slice().len(), others.as_slice().len());
     for (name, other) in names.as_slice().iter().zip(others.as_slice()) {
         assert_eq!(rt; name.as_slice(), other.as_slice());
-        let there = left.find(directory, name.as_slice())?;
-        assert_eq!(rt; there, right.find(directory, name.as_slice())?);
+        let there = left.find(directory, name.as_slice()).expect(rt, "a name");
+        assert_eq!(rt;
+            there,
+            right.find(directory, name.as_slice()).expect(rt, "a name")
+        );
     }
-    Ok(())
 }
 
 /// The bytes of a file of this size.
 fn bytes_of(
+    rt: &impl Abort,
     alloc: Global,
     objects: &mut PlainObjects,
     number: u64,
     size: u64,
-) -> Result<Vec<u8>, StoreFault> {
-    let Ok(mut bytes) = vec![in alloc; 0; size as usize] else {
-        return Err(StoreFault::NoMemory);
-    };
-    let read = objects.read_into(number, 0, &mut bytes)?;
+) -> Vec<u8> {
+    let mut bytes = vec![in alloc; 0; size as usize].expect(rt, "memory");
+    let read = objects
+        .read_into(number, 0, &mut bytes)
+        .expect(rt, "a read");
     bytes.truncate(read);
-    Ok(bytes)
+    bytes
 }
 
 /// Looks whether an object is the same.
@@ -98,20 +100,19 @@ fn expect_same_object(
     left: &mut PlainObjects,
     right: &mut PlainObjects,
     number: u64,
-) -> Result<(), StoreFault> {
+) {
     let info = left.info(number);
     assert_eq!(rt; info, right.info(number));
     match info {
         Some(info) => match info.kind {
             Kind::File => {
-                let bytes = bytes_of(alloc, left, number, info.size)?;
-                let others = bytes_of(alloc, right, number, info.size)?;
+                let bytes = bytes_of(rt, alloc, left, number, info.size);
+                let others = bytes_of(rt, alloc, right, number, info.size);
                 assert!(rt; bytes.as_slice() == others.as_slice());
-                Ok(())
             }
             Kind::Directory => expect_same_names(rt, alloc, left, right, number),
         },
-        None => Ok(()),
+        None => {}
     }
 }
 
@@ -121,30 +122,27 @@ fn expect_same_objects(
     alloc: Global,
     left: &RefusingVolume,
     right: &RefusingVolume,
-) -> Result<(), AllocError> {
-    let mut left = left.store().inner.copy()?;
-    let mut right = right.store().inner.copy()?;
+) {
+    let mut left = left.store().inner.copy().expect(rt, "memory");
+    let mut right = right.store().inner.copy().expect(rt, "memory");
     assert!(rt; left.new_number() < NUMBERS);
     for number in 0..NUMBERS {
-        match expect_same_object(rt, alloc, &mut left, &mut right, number) {
-            Ok(()) => {}
-            Err(_) => return Err(AllocError),
-        }
+        expect_same_object(rt, alloc, &mut left, &mut right, number);
     }
-    Ok(())
 }
 
 /// What a volume tells of a command, which is asked again where memory was refused.
 fn told_again(
+    rt: &impl Abort,
     alloc: Global,
     volume: &mut RefusingVolume,
     stamped: &Stamped,
-) -> Result<String, Fail> {
+) -> String {
     let mut reply = volume.call(stamped);
     if is_no_memory(&reply) {
         reply = volume.call(stamped);
     }
-    reply_text(alloc, &reply)
+    reply_text(rt, alloc, &reply)
 }
 
 /// What becomes of a volume whose command is refused this call, and is then asked again: it was as before, and is as after.
@@ -157,18 +155,18 @@ fn refused_at(
     stamped: &Stamped,
     told: &str,
     calls: u64,
-) -> Result<Option<RefusingVolume>, Fail> {
-    let mut volume = refusing(before, Some(calls))?;
+) -> Option<RefusingVolume> {
+    let mut volume = refusing(rt, before, Some(calls));
     let reply = volume.call(stamped);
     if volume.store().calls.is_some() {
-        return Ok(None);
+        return None;
     }
     assert!(rt; is_no_memory(&reply));
     assert!(rt; takes_memory(&stamped.command));
-    expect_same_objects(rt, alloc, &volume, before)?;
-    assert_eq!(rt; told_again(alloc, &mut volume, stamped)?.as_str(), told);
-    expect_same_objects(rt, alloc, &volume, after)?;
-    Ok(Some(volume))
+    expect_same_objects(rt, alloc, &volume, before);
+    assert_eq!(rt; told_again(rt, alloc, &mut volume, stamped).as_str(), told);
+    expect_same_objects(rt, alloc, &volume, after);
+    Some(volume)
 }
 
 /// Does a command with each of its calls refused in turn, and asks for it again after each. The volume becomes the one that
@@ -179,20 +177,20 @@ fn refuse_each(
     volume: &mut RefusingVolume,
     stamped: &Stamped,
     told: &str,
-) -> Result<u64, Fail> {
-    let mut after = refusing(volume, None)?;
-    assert_eq!(rt; told_again(alloc, &mut after, stamped)?.as_str(), told);
+) -> u64 {
+    let mut after = refusing(rt, volume, None);
+    assert_eq!(rt; told_again(rt, alloc, &mut after, stamped).as_str(), told);
     for calls in 0..MOST_CALLS {
-        match refused_at(rt, alloc, volume, &after, stamped, told, calls)? {
+        match refused_at(rt, alloc, volume, &after, stamped, told, calls) {
             Some(again) => after = again,
             None => {
                 *volume = after;
-                return Ok(calls);
+                return calls;
             }
         }
     }
     assert!(rt; false, "more than {MOST_CALLS} calls");
-    Ok(MOST_CALLS)
+    MOST_CALLS
 }
 
 /// What is asked, what is told, and how many calls of the store may be refused.
@@ -218,15 +216,14 @@ const COUNTED: [(&str, &str, u64); 18] = [
 ];
 
 #[test]
-fn each_call_may_be_refused(rt: HostRuntime) -> Result<(), Fail> {
+fn each_call_may_be_refused(rt: HostRuntime) {
     let alloc = rt.alloc();
-    let mut volume = volume_over(alloc, no_objects(alloc)?, false)?;
+    let mut volume = volume_over(&rt, alloc, no_objects(&rt, alloc), false);
     for (line, told, calls) in COUNTED {
-        let stamped = command_of(alloc, line)?;
-        let refused = refuse_each(&rt, alloc, &mut volume, &stamped, told)?;
+        let stamped = command_of(&rt, alloc, line);
+        let refused = refuse_each(&rt, alloc, &mut volume, &stamped, told);
         assert_eq!(&rt; refused, calls, "{line}");
     }
-    Ok(())
 }
 
 /// What a volume that can only be read answers, over a file of five bytes and an empty directory.
@@ -258,17 +255,16 @@ const READ_ONLY: [(&str, &str); 24] = [
 ];
 
 #[test]
-fn what_may_only_be_read_stays(rt: HostRuntime) -> Result<(), Fail> {
+fn what_may_only_be_read_stays(rt: HostRuntime) {
     let alloc = rt.alloc();
-    let mut volume = volume_over(alloc, no_objects(alloc)?, false)?;
+    let mut volume = volume_over(&rt, alloc, no_objects(&rt, alloc), false);
     for line in ["open /a rwc", "write 0 hello", "close 0", "mkdir /d"] {
-        let _reply = volume.call(&command_of(alloc, line)?);
+        let _reply = volume.call(&command_of(&rt, alloc, line));
     }
-    let objects = volume.store().inner.settled()?;
-    let mut volume = volume_over(alloc, objects, true)?;
+    let objects = volume.store().inner.settled().expect(&rt, "memory");
+    let mut volume = volume_over(&rt, alloc, objects, true);
     for (line, told) in READ_ONLY {
-        let stamped = command_of(alloc, line)?;
-        let _calls = refuse_each(&rt, alloc, &mut volume, &stamped, told)?;
+        let stamped = command_of(&rt, alloc, line);
+        let _calls = refuse_each(&rt, alloc, &mut volume, &stamped, told);
     }
-    Ok(())
 }

@@ -7,10 +7,9 @@ use posix_profile::{
 use std::alloc::{AllocError, Global};
 use std::io::{self, BufReader, ErrorKind, Read, Write};
 use std::process::Abort;
-use std::test::Fail;
 
-fn path(alloc: Global, text: &[u8]) -> Result<FilePath, AllocError> {
-    Ok(FilePath::new(text.to_vec(alloc)?))
+fn path(rt: &impl Abort, alloc: Global, text: &[u8]) -> FilePath {
+    FilePath::new(text.to_vec(alloc).expect(rt, "memory"))
 }
 
 fn text(alloc: Global, text: &[u8]) -> Result<Bytes, AllocError> {
@@ -18,20 +17,19 @@ fn text(alloc: Global, text: &[u8]) -> Result<Bytes, AllocError> {
 }
 
 /// What the text of a reply is.
-fn reply_of(alloc: Global, reply: &Reply) -> Result<Vec<u8>, Fail> {
+fn reply_of(rt: &impl Abort, alloc: Global, reply: &Reply) -> Vec<u8> {
     let mut told = Vec::new(alloc);
-    write_reply(&mut told, reply)?;
-    Ok(told)
+    write_reply(&mut told, reply).expect(rt, "a reply");
+    told
 }
 
 /// Asserts that the line asks for the command.
-fn asks(rt: &impl Abort, alloc: Global, line: &str, command: Command) -> Result<(), Fail> {
-    let found = parse(alloc, line.as_bytes())?;
-    let found = format!(in alloc; "{found:?}")?;
+fn asks(rt: &impl Abort, alloc: Global, line: &str, command: Command) {
+    let found = parse(alloc, line.as_bytes()).expect(rt, "memory");
+    let found = format!(in alloc; "{found:?}").expect(rt, "memory");
     let wanted = Line::Do(command);
-    let wanted = format!(in alloc; "{wanted:?}")?;
+    let wanted = format!(in alloc; "{wanted:?}").expect(rt, "memory");
     assert_eq!(rt; found.as_str(), wanted.as_str(), "{line}");
-    Ok(())
 }
 
 const APPEND: OpenFlags = OpenFlags {
@@ -59,7 +57,7 @@ const CREATE: OpenFlags = OpenFlags {
 };
 
 #[test]
-fn each_line_of_the_table_asks_for_its_command(rt: HostRuntime) -> Result<(), Fail> {
+fn each_line_of_the_table_asks_for_its_command(rt: HostRuntime) {
     let alloc = rt.alloc();
     for (line, flags) in [
         ("open /a r", READ),
@@ -71,13 +69,13 @@ fn each_line_of_the_table_asks_for_its_command(rt: HostRuntime) -> Result<(), Fa
             alloc,
             line,
             Command::Open {
-                path: path(alloc, b"/a")?,
+                path: path(&rt, alloc, b"/a"),
                 flags,
             },
-        )?;
+        );
     }
-    asks(&rt, alloc, "close 3", Command::Close { fd: 3 })?;
-    asks(&rt, alloc, "fsync 00", Command::Fsync { fd: 0 })?;
+    asks(&rt, alloc, "close 3", Command::Close { fd: 3 });
+    asks(&rt, alloc, "fsync 00", Command::Fsync { fd: 0 });
     asks(
         &rt,
         alloc,
@@ -86,25 +84,25 @@ fn each_line_of_the_table_asks_for_its_command(rt: HostRuntime) -> Result<(), Fa
             fd: 1,
             count: u32::MAX,
         },
-    )?;
+    );
     asks(
         &rt,
         alloc,
         "write 2 a\\x20b\\\\",
         Command::Write {
             fd: 2,
-            bytes: text(alloc, b"a b\\")?,
+            bytes: text(alloc, b"a b\\").expect(&rt, "memory"),
         },
-    )?;
+    );
     asks(
         &rt,
         alloc,
         "write 2 \\e",
         Command::Write {
             fd: 2,
-            bytes: text(alloc, b"")?,
+            bytes: text(alloc, b"").expect(&rt, "memory"),
         },
-    )?;
+    );
     asks(
         &rt,
         alloc,
@@ -114,7 +112,7 @@ fn each_line_of_the_table_asks_for_its_command(rt: HostRuntime) -> Result<(), Fa
             offset: 0,
             whence: Whence::Set,
         },
-    )?;
+    );
     asks(
         &rt,
         alloc,
@@ -124,7 +122,7 @@ fn each_line_of_the_table_asks_for_its_command(rt: HostRuntime) -> Result<(), Fa
             offset: i64::MAX,
             whence: Whence::Cur,
         },
-    )?;
+    );
     asks(
         &rt,
         alloc,
@@ -134,93 +132,93 @@ fn each_line_of_the_table_asks_for_its_command(rt: HostRuntime) -> Result<(), Fa
             offset: i64::MIN,
             whence: Whence::End,
         },
-    )?;
+    );
     asks(
         &rt,
         alloc,
         "truncate 7 00000000000000000000000005",
         Command::Truncate { fd: 7, length: 5 },
-    )?;
+    );
     asks(
         &rt,
         alloc,
         "truncate 7 -5",
         Command::Truncate { fd: 7, length: -5 },
-    )?;
-    asks(&rt, alloc, "sync", Command::Sync)?;
-    asks(&rt, alloc, "space", Command::Space)?;
+    );
+    asks(&rt, alloc, "sync", Command::Sync);
+    asks(&rt, alloc, "space", Command::Space);
     asks(
         &rt,
         alloc,
         "stat /",
         Command::Stat {
-            path: path(alloc, b"/")?,
+            path: path(&rt, alloc, b"/"),
         },
-    )?;
+    );
     asks(
         &rt,
         alloc,
         "  mkdir   /a\tb\r ",
         Command::Mkdir {
-            path: path(alloc, b"/a\tb\r")?,
+            path: path(&rt, alloc, b"/a\tb\r"),
         },
-    )?;
+    );
     asks(
         &rt,
         alloc,
         "\\x6dkdir \\x2Fa\\xfF",
         Command::Mkdir {
-            path: path(alloc, b"/a\xff")?,
+            path: path(&rt, alloc, b"/a\xff"),
         },
-    )?;
+    );
     asks(
         &rt,
         alloc,
         "m\\ekdir \\e",
         Command::Mkdir {
-            path: path(alloc, b"")?,
+            path: path(&rt, alloc, b""),
         },
-    )?;
+    );
     asks(
         &rt,
         alloc,
         "rmdir /b",
         Command::Rmdir {
-            path: path(alloc, b"/b")?,
+            path: path(&rt, alloc, b"/b"),
         },
-    )?;
+    );
     asks(
         &rt,
         alloc,
         "unlink /b",
         Command::Unlink {
-            path: path(alloc, b"/b")?,
+            path: path(&rt, alloc, b"/b"),
         },
-    )?;
+    );
     asks(
         &rt,
         alloc,
         "list /",
         Command::List {
-            path: path(alloc, b"/")?,
+            path: path(&rt, alloc, b"/"),
         },
-    )?;
+    );
     asks(
         &rt,
         alloc,
         "link /a /b",
         Command::Link {
-            old: path(alloc, b"/a")?,
-            new: path(alloc, b"/b")?,
+            old: path(&rt, alloc, b"/a"),
+            new: path(&rt, alloc, b"/b"),
         },
-    )?;
+    );
     asks(
         &rt,
         alloc,
         "rename /a /b",
         Command::Rename {
-            old: path(alloc, b"/a")?,
-            new: path(alloc, b"/b")?,
+            old: path(&rt, alloc, b"/a"),
+            new: path(&rt, alloc, b"/b"),
         },
     )
 }
@@ -235,30 +233,29 @@ const BAD: [&[u8]; 5] = [
 ];
 
 #[test]
-fn other_lines_ask_for_no_command(rt: HostRuntime) -> Result<(), Fail> {
+fn other_lines_ask_for_no_command(rt: HostRuntime) {
     let alloc = rt.alloc();
     for (kind, lines) in BAD.iter().enumerate() {
         for (place, line) in lines.split(|byte| *byte == b'\n').enumerate() {
-            assert!(rt; matches!(parse(alloc, line)?, Line::Bad), "{kind} {place}");
+            let found = parse(alloc, line).expect(&rt, "memory");
+            assert!(rt; matches!(found, Line::Bad), "{kind} {place}");
         }
     }
-    Ok(())
 }
 
 #[test]
-fn moments_and_empty_lines(rt: HostRuntime) -> Result<(), Fail> {
+fn moments_and_empty_lines(rt: HostRuntime) {
     let alloc = rt.alloc();
     for line in ["", "   "] {
-        assert!(rt; matches!(parse(alloc, line.as_bytes())?, Line::Nothing));
+        let found = parse(alloc, line.as_bytes()).expect(&rt, "memory");
+        assert!(rt; matches!(found, Line::Nothing));
     }
     for (line, moment) in [
         ("now 0", 0),
         (" n\\x6fw 0009223372036854775807", 9_223_372_036_854_775_807),
     ] {
-        assert!(rt;
-            matches!(parse(alloc, line.as_bytes())?, Line::Now(n) if n == moment),
-            "{line}"
-        );
+        let found = parse(alloc, line.as_bytes()).expect(&rt, "memory");
+        assert!(rt; matches!(found, Line::Now(n) if n == moment), "{line}");
     }
     for line in [
         "now",
@@ -267,16 +264,13 @@ fn moments_and_empty_lines(rt: HostRuntime) -> Result<(), Fail> {
         "now 1 1",
         "now \\e",
     ] {
-        assert!(rt;
-            matches!(parse(alloc, line.as_bytes())?, Line::Bad),
-            "{line}"
-        );
+        let found = parse(alloc, line.as_bytes()).expect(&rt, "memory");
+        assert!(rt; matches!(found, Line::Bad), "{line}");
     }
-    Ok(())
 }
 
 #[test]
-fn each_reply_has_its_text(rt: HostRuntime) -> Result<(), Fail> {
+fn each_reply_has_its_text(rt: HostRuntime) {
     let alloc = rt.alloc();
     let file = Info {
         kind: Kind::File,
@@ -297,15 +291,22 @@ fn each_reply_has_its_text(rt: HostRuntime) -> Result<(), Fail> {
         total: 100,
         free: 0,
     };
-    let names = vec![in alloc; text(alloc, b"a b")?, text(alloc, b"c\\")?]?;
+    let names = vec![in alloc;
+        text(alloc, b"a b").expect(&rt, "memory"),
+        text(alloc, b"c\\").expect(&rt, "memory"),
+    ]
+    .expect(&rt, "memory");
     for (reply, wanted) in [
         (Reply::Done, "ok\n"),
         (Reply::Fd(0), "fd 0\n"),
         (
-            Reply::Data(text(alloc, b"!~ \\\x00\x7f\xff\n")?),
+            Reply::Data(text(alloc, b"!~ \\\x00\x7f\xff\n").expect(&rt, "memory")),
             "data 8 !~\\x20\\\\\\x00\\x7f\\xff\\x0a\n",
         ),
-        (Reply::Data(text(alloc, b"")?), "data 0 \\e\n"),
+        (
+            Reply::Data(text(alloc, b"").expect(&rt, "memory")),
+            "data 0 \\e\n",
+        ),
         (Reply::Wrote(4_294_967_295), "wrote 4294967295\n"),
         (Reply::At(10), "at 10\n"),
         (Reply::Info(file), "info file 2 1 10 18446744073709551615\n"),
@@ -320,12 +321,11 @@ fn each_reply_has_its_text(rt: HostRuntime) -> Result<(), Fail> {
         (Reply::Error(Errno::EIO), "error EIO\n"),
     ] {
         assert_eq!(rt;
-            reply_of(alloc, &reply)?.as_slice(),
+            reply_of(&rt, alloc, &reply).as_slice(),
             wanted.as_bytes(),
             "{wanted}"
         );
     }
-    Ok(())
 }
 
 /// It answers Done to each directory that it is asked to make, and to a list the two bytes of how many these were and
@@ -377,11 +377,11 @@ impl Serve for Counter {
 }
 
 /// What a shell tells over an input, and how it ends.
-fn told(alloc: Global, input: &[u8]) -> Result<(Vec<u8>, Result<(), ShellFault>), AllocError> {
+fn told(alloc: Global, input: &[u8]) -> (Vec<u8>, Result<(), ShellFault>) {
     let mut reader = input;
     let mut writer = Vec::new(alloc);
     let ends = shell(alloc, &mut reader, &mut writer, &mut Counter::new(alloc));
-    Ok((writer, ends))
+    (writer, ends)
 }
 
 const INPUT: &[u8] =
@@ -391,7 +391,7 @@ const TOLD: &[u8] =
     b"ok\nbad line\nnames 2 1 0\nok\nok\nnames 2 2 5\nbad line\nbad line\nerror EIO\n";
 
 #[test]
-fn a_shell_answers_its_lines(rt: HostRuntime) -> Result<(), Fail> {
+fn a_shell_answers_its_lines(rt: HostRuntime) {
     let alloc = rt.alloc();
     for (input, wanted) in [
         (INPUT, TOLD),
@@ -402,17 +402,16 @@ fn a_shell_answers_its_lines(rt: HostRuntime) -> Result<(), Fail> {
         (b"mkdir /\r\r\nmkdir\r\n", b"ok\nbad line\n"),
         (b"sync\r", b"bad line\n"),
     ] {
-        let (text, ends) = told(alloc, input)?;
+        let (text, ends) = told(alloc, input);
         assert_eq!(rt; text.as_slice(), wanted);
         assert_eq!(rt; ends, Ok(()));
     }
-    Ok(())
 }
 
 #[test]
-fn a_line_has_a_greatest_size(rt: HostRuntime) -> Result<(), Fail> {
+fn a_line_has_a_greatest_size(rt: HostRuntime) {
     let alloc = rt.alloc();
-    let mut input = vec![in alloc; b'a'; 65_535]?;
+    let mut input = vec![in alloc; b'a'; 65_535].expect(&rt, "memory");
     for (end, wanted, ends) in [
         ("", "bad line\n", Ok(())),
         ("\n", "bad line\n", Ok(())),
@@ -423,12 +422,13 @@ fn a_line_has_a_greatest_size(rt: HostRuntime) -> Result<(), Fail> {
         ("ab", "", Err(ShellFault::TooLong)),
     ] {
         input.truncate(65_535);
-        input.extend_from_slice(end.as_bytes())?;
-        let found = told(alloc, &input)?;
+        input
+            .extend_from_slice(end.as_bytes())
+            .expect(&rt, "memory");
+        let found = told(alloc, &input);
         assert_eq!(rt; found.0.as_slice(), wanted.as_bytes(), "{end:?}");
         assert_eq!(rt; found.1, ends, "{end:?}");
     }
-    Ok(())
 }
 
 /// It gives up to three bytes a call, is interrupted at each second call, and fails at one of its calls.
@@ -483,7 +483,7 @@ impl Write for FailingWriter {
 }
 
 #[test]
-fn a_reader_fails_at_each_call(rt: HostRuntime) -> Result<(), Fail> {
+fn a_reader_fails_at_each_call(rt: HostRuntime) {
     let alloc = rt.alloc();
     for fails_at in 1..1000 {
         let reader = FailingReader {
@@ -491,24 +491,23 @@ fn a_reader_fails_at_each_call(rt: HostRuntime) -> Result<(), Fail> {
             calls: 0,
             fails_at,
         };
-        let mut reader = BufReader::with_capacity(alloc, 7, reader)?;
+        let mut reader = BufReader::with_capacity(alloc, 7, reader).expect(&rt, "memory");
         let mut writer = Vec::new(alloc);
         let ends = shell(alloc, &mut reader, &mut writer, &mut Counter::new(alloc));
         if ends == Ok(()) {
             assert_eq!(rt; writer.as_slice(), TOLD);
             assert!(rt; fails_at > 40);
-            return Ok(());
+            return;
         }
         assert_eq!(rt; ends, Err(ShellFault::Read));
         assert!(rt; TOLD.starts_with(&writer));
         assert!(rt; writer.is_empty() || writer.ends_with(b"\n"));
     }
     assert!(rt; false, "it still fails");
-    Ok(())
 }
 
 #[test]
-fn a_writer_fails_at_each_call(rt: HostRuntime) -> Result<(), Fail> {
+fn a_writer_fails_at_each_call(rt: HostRuntime) {
     let alloc = rt.alloc();
     let mut most = 0;
     for fails_at in 1..1000 {
@@ -529,12 +528,11 @@ fn a_writer_fails_at_each_call(rt: HostRuntime) -> Result<(), Fail> {
         if ends == Ok(()) {
             assert_eq!(rt; writer.told.as_slice(), TOLD);
             assert!(rt; fails_at > 60);
-            return Ok(());
+            return;
         }
         assert_eq!(rt; ends, Err(ShellFault::Write));
     }
     assert!(rt; false, "it still fails");
-    Ok(())
 }
 
 /// A writer that takes no memory.
@@ -576,7 +574,7 @@ impl Serve for Turns {
 
 /// With the tool that refuses one allocation after another, the shell ends with NoMemory, and the replies before are out.
 #[test]
-fn a_refused_allocation_ends_the_shell(rt: HostRuntime) -> Result<(), Fail> {
+fn a_refused_allocation_ends_the_shell(rt: HostRuntime) {
     let input = b"mkdir /a\nlist /\n\nx y z\nsync\nnow 3\nmkdir /bb\n";
     let text = b"wrote 1\nwrote 2\nbad line\nwrote 3\nok\nwrote 4\n";
     let mut reader = input.as_slice();
@@ -588,7 +586,7 @@ fn a_refused_allocation_ends_the_shell(rt: HostRuntime) -> Result<(), Fail> {
     let ends = shell(rt.alloc(), &mut reader, &mut writer, &mut volume);
     let Held { bytes, count } = writer;
     let Turns { calls } = volume;
-    let told = bytes.as_slice().get(..count).ok_or("too many")?;
+    let told = bytes.as_slice().get(..count).expect(&rt, "too many");
     assert!(rt; text.starts_with(told));
     if ends == Ok(()) {
         assert_eq!(rt; told, text.as_slice());
@@ -600,25 +598,24 @@ fn a_refused_allocation_ends_the_shell(rt: HostRuntime) -> Result<(), Fail> {
             calls as usize
         );
     }
-    Ok(())
 }
 
 /// The commands of a script as a text.
-fn script_of(alloc: Global, input: &[u8]) -> Result<String, Fail> {
+fn script_of(rt: &impl Abort, alloc: Global, input: &[u8]) -> String {
     let mut reader = input;
     let script = read_script(alloc, &mut reader);
-    Ok(format!(in alloc; "{script:?}")?)
+    format!(in alloc; "{script:?}").expect(rt, "memory")
 }
 
 const SCRIPT: &[u8] = b"mkdir /a\n\nnow 5\r\n  \nsync\nnow 3\nclose 1";
 
 /// The commands of the script, each with its moment, as a text.
-fn wanted_script(alloc: Global) -> Result<String, Fail> {
+fn wanted_script(rt: &impl Abort, alloc: Global) -> String {
     let commands = vec![in alloc;
         Stamped {
             moment: 0,
             command: Command::Mkdir {
-                path: path(alloc, b"/a")?
+                path: path(rt, alloc, b"/a")
             }
         },
         Stamped {
@@ -629,46 +626,45 @@ fn wanted_script(alloc: Global) -> Result<String, Fail> {
             moment: 3,
             command: Command::Close { fd: 1 }
         },
-    ]?;
+    ]
+    .expect(rt, "memory");
     let wanted: Result<Vec<Stamped>, ScriptFault> = Ok(commands);
-    Ok(format!(in alloc; "{wanted:?}")?)
+    format!(in alloc; "{wanted:?}").expect(rt, "memory")
 }
 
 #[test]
-fn a_script_is_read_with_its_moments(rt: HostRuntime) -> Result<(), Fail> {
+fn a_script_is_read_with_its_moments(rt: HostRuntime) {
     let alloc = rt.alloc();
-    let wanted = wanted_script(alloc)?;
-    assert_eq!(rt; script_of(alloc, SCRIPT)?.as_str(), wanted.as_str());
+    let wanted = wanted_script(&rt, alloc);
+    assert_eq!(rt; script_of(&rt, alloc, SCRIPT).as_str(), wanted.as_str());
     assert_eq!(rt;
-        script_of(alloc, b"sync\nnope\nsync")?.as_str(),
+        script_of(&rt, alloc, b"sync\nnope\nsync").as_str(),
         "Err(Line)"
     );
-    let long = vec![in alloc; b'a'; 65_537]?;
-    assert_eq!(rt; script_of(alloc, &long)?.as_str(), "Err(TooLong)");
-    Ok(())
+    let long = vec![in alloc; b'a'; 65_537].expect(&rt, "memory");
+    assert_eq!(rt; script_of(&rt, alloc, &long).as_str(), "Err(TooLong)");
 }
 
 /// The 38 bytes take 13 calls and their end two, and between these 15 are 14 that are interrupted.
 #[test]
-fn a_reader_of_a_script_fails_at_each_call(rt: HostRuntime) -> Result<(), Fail> {
+fn a_reader_of_a_script_fails_at_each_call(rt: HostRuntime) {
     let alloc = rt.alloc();
-    let wanted = wanted_script(alloc)?;
+    let wanted = wanted_script(&rt, alloc);
     for fails_at in 1..1000 {
         let reader = FailingReader {
             rest: SCRIPT,
             calls: 0,
             fails_at,
         };
-        let mut reader = BufReader::with_capacity(alloc, 7, reader)?;
+        let mut reader = BufReader::with_capacity(alloc, 7, reader).expect(&rt, "memory");
         let script = read_script(alloc, &mut reader);
         if script.is_ok() {
-            let found = format!(in alloc; "{script:?}")?;
+            let found = format!(in alloc; "{script:?}").expect(&rt, "memory");
             assert_eq!(rt; found.as_str(), wanted.as_str());
             assert_eq!(rt; fails_at, 30);
-            return Ok(());
+            return;
         }
         assert!(rt; matches!(script, Err(ScriptFault::Read)), "{fails_at}");
     }
     assert!(rt; false, "it still fails");
-    Ok(())
 }

@@ -6,7 +6,6 @@ use plain_volume::PlainObjects;
 use posix_profile::{Errno, Stamped};
 use std::alloc::Global;
 use std::process::Abort;
-use std::test::Fail;
 use volume_terms::VolumeSizes;
 
 /// A directory in a directory, a file with a hole under two names, an empty file, and a number that is free again.
@@ -60,16 +59,16 @@ list /
 space";
 
 /// A volume in which these commands were done.
-fn volume_of(alloc: Global, lines: &str) -> Result<Volume<PlainObjects>, Fail> {
-    let objects = PlainObjects::new(alloc, VolumeSizes::new(512, 32, 8, 1))?;
+fn volume_of(rt: &impl Abort, alloc: Global, lines: &str) -> Volume<PlainObjects> {
+    let objects = PlainObjects::new(alloc, VolumeSizes::new(512, 32, 8, 1)).expect(rt, "memory");
     let mut volume = match Volume::new(alloc, objects, false) {
         Ok(volume) => volume,
-        Err((_objects, error)) => return Err(error.into()),
+        Err((_objects, error)) => panic!(rt; "{error:?}"),
     };
-    for stamped in &commands_of(alloc, lines)? {
+    for stamped in &commands_of(rt, alloc, lines) {
         let _reply = volume.call(stamped);
     }
-    Ok(volume)
+    volume
 }
 
 fn read_back(alloc: Global, volume: &mut Volume<PlainObjects>) -> Result<PlainTree, TreeFault> {
@@ -77,25 +76,23 @@ fn read_back(alloc: Global, volume: &mut Volume<PlainObjects>) -> Result<PlainTr
 }
 
 /// Does the commands in a tree.
-fn step_all(alloc: Global, tree: &mut PlainTree, lines: &str) -> Result<(), Fail> {
-    for stamped in &commands_of(alloc, lines)? {
-        let _reply = tree.step(stamped)?;
+fn step_all(rt: &impl Abort, alloc: Global, tree: &mut PlainTree, lines: &str) {
+    for stamped in &commands_of(rt, alloc, lines) {
+        let _reply = tree.step(stamped).expect(rt, "memory");
     }
-    Ok(())
 }
 
 #[test]
-fn a_tree_differs_where_one_thing_does(rt: HostRuntime) -> Result<(), Fail> {
+fn a_tree_differs_where_one_thing_does(rt: HostRuntime) {
     let alloc = rt.alloc();
-    let mut volume = volume_of(alloc, SMALL)?;
-    let tree = read_back(alloc, &mut volume)?;
-    assert!(&rt; tree.same(&mut volume)?);
+    let mut volume = volume_of(&rt, alloc, SMALL);
+    let tree = read_back(alloc, &mut volume).expect(&rt, "a tree");
+    assert!(&rt; tree.same(&mut volume).expect(&rt, "a tree"));
     for change in CHANGES {
-        let mut other = tree.copy()?;
-        step_all(alloc, &mut other, change)?;
-        assert!(&rt; !other.same(&mut volume)?);
+        let mut other = tree.copy().expect(&rt, "memory");
+        step_all(&rt, alloc, &mut other, change);
+        assert!(&rt; !other.same(&mut volume).expect(&rt, "a tree"));
     }
-    Ok(())
 }
 
 /// Does a command in both, which reply the same.
@@ -105,48 +102,44 @@ fn step_both(
     tree: &mut PlainTree,
     volume: &mut Volume<PlainObjects>,
     stamped: &Stamped,
-) -> Result<(), Fail> {
-    let reply = reply_text(alloc, &tree.step(stamped)?)?;
-    let other = reply_text(alloc, &volume.call(stamped))?;
+) {
+    let reply = reply_text(rt, alloc, &tree.step(stamped).expect(rt, "memory"));
+    let other = reply_text(rt, alloc, &volume.call(stamped));
     assert_eq!(rt; reply.as_str(), other.as_str());
-    Ok(())
 }
 
 #[test]
-fn a_tree_goes_on_as_its_volume(rt: HostRuntime) -> Result<(), Fail> {
+fn a_tree_goes_on_as_its_volume(rt: HostRuntime) {
     let alloc = rt.alloc();
-    let mut volume = volume_of(alloc, SMALL)?;
-    let mut tree = read_back(alloc, &mut volume)?;
-    for stamped in &commands_of(alloc, MORE)? {
-        step_both(&rt, alloc, &mut tree, &mut volume, stamped)?;
+    let mut volume = volume_of(&rt, alloc, SMALL);
+    let mut tree = read_back(alloc, &mut volume).expect(&rt, "a tree");
+    for stamped in &commands_of(&rt, alloc, MORE) {
+        step_both(&rt, alloc, &mut tree, &mut volume, stamped);
     }
-    assert!(&rt; tree.same(&mut volume)?);
-    Ok(())
+    assert!(&rt; tree.same(&mut volume).expect(&rt, "a tree"));
 }
 
 #[test]
-fn a_settled_tree_has_what_names_keep(rt: HostRuntime) -> Result<(), Fail> {
+fn a_settled_tree_has_what_names_keep(rt: HostRuntime) {
     let alloc = rt.alloc();
-    let mut volume = volume_of(alloc, "")?;
-    let mut tree = PlainTree::new(alloc, VolumeSizes::new(512, 32, 8, 1))?;
-    assert!(&rt; tree.same(&mut volume)?);
-    step_all(alloc, &mut tree, "open /e rwc\nunlink /e")?;
-    tree.settle()?;
-    assert!(&rt; tree.same(&mut volume)?);
-    let again = read_back(alloc, &mut volume)?;
-    assert!(&rt; again.same(&mut volume)?);
-    Ok(())
+    let mut volume = volume_of(&rt, alloc, "");
+    let mut tree = PlainTree::new(alloc, VolumeSizes::new(512, 32, 8, 1)).expect(&rt, "memory");
+    assert!(&rt; tree.same(&mut volume).expect(&rt, "a tree"));
+    step_all(&rt, alloc, &mut tree, "open /e rwc\nunlink /e");
+    tree.settle().expect(&rt, "memory");
+    assert!(&rt; tree.same(&mut volume).expect(&rt, "a tree"));
+    let again = read_back(alloc, &mut volume).expect(&rt, "a tree");
+    assert!(&rt; again.same(&mut volume).expect(&rt, "a tree"));
 }
 
 #[test]
-fn a_tree_needs_a_descriptor(rt: HostRuntime) -> Result<(), Fail> {
+fn a_tree_needs_a_descriptor(rt: HostRuntime) {
     let alloc = rt.alloc();
-    let mut volume = volume_of(alloc, SMALL)?;
-    let open = command_of(alloc, "now 13\nopen /e r")?;
+    let mut volume = volume_of(&rt, alloc, SMALL);
+    let open = command_of(&rt, alloc, "now 13\nopen /e r");
     for _ in 0..64 {
         let _reply = volume.call(&open);
     }
     let fault = read_back(alloc, &mut volume).err();
     assert!(&rt; matches!(fault, Some(TreeFault::Refused(Errno::EMFILE))));
-    Ok(())
 }

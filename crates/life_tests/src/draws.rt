@@ -3,10 +3,9 @@ use exerciser::draw;
 use nand_model::Fate;
 use rand_core::SeedableRng;
 use rand_pcg::Lcg128Xsl64;
-use std::test::Fail;
 
 #[test]
-fn three_draws_follow_the_words_of_a_seed(rt: HostRuntime) -> Result<(), Fail> {
+fn three_draws_follow_the_words_of_a_seed(rt: HostRuntime) {
     let mut generator = Lcg128Xsl64::seed_from_u64(1);
     let many = [
         Fate::Uncorrectable,
@@ -31,9 +30,8 @@ fn three_draws_follow_the_words_of_a_seed(rt: HostRuntime) -> Result<(), Fail> {
         (1, 6, 1, some.as_slice()),
         (u64::MAX, 0, 11_629_852_450_240_508_455, &[]),
     ] {
-        let drawn = draw(rt.alloc(), &mut generator, operations, pages)?;
+        let drawn = draw(rt.alloc(), &mut generator, operations, pages).expect(&rt, "memory");
         assert_eq!(rt; drawn.0, operation);
         assert_eq!(rt; drawn.1.as_slice(), fates);
     }
-    Ok(())
 }

@@ -9,37 +9,38 @@ use powercut::SessionEnd;
 use std::alloc::Global;
 use std::io::{self, Write};
 use std::process::Abort;
-use std::test::Fail;
 use volume_terms::VolumeSizes;
 
 const LINES: &str = "open /a rwc\nwrite 0 hello\nseek 0 0 set\nread 0 10\nspace\nfsync 0\n";
 
-fn blank(alloc: Global) -> Result<MemNand, Fail> {
-    Ok(MemNand::new(alloc, Geometry::new(512, 32, 8)?)?)
+fn blank(rt: &impl Abort, alloc: Global) -> MemNand {
+    let geometry = Geometry::new(512, 32, 8).expect(rt, "a geometry");
+    MemNand::new(alloc, geometry).expect(rt, "memory")
 }
 
 /// What is told of the sessions, and how they end.
 fn told(
+    rt: &impl Abort,
     alloc: Global,
     device: MemNand,
     seed: u64,
     sessions: u32,
-) -> Result<(String, Result<(), CutFault>), Fail> {
-    let commands = script(alloc, LINES)?;
+) -> (String, Result<(), CutFault>) {
+    let commands = script(rt, alloc, LINES);
     let mut writer = Vec::new(alloc);
     let ended = cut(alloc, device, commands, seed, sessions, &mut writer);
-    Ok((String::from_utf8(writer)?, ended))
+    (String::from_utf8(writer).expect(rt, "a text"), ended)
 }
 
 #[test]
-fn each_session_keeps_a_tree(rt: HostRuntime) -> Result<(), Fail> {
+fn each_session_keeps_a_tree(rt: HostRuntime) {
     let alloc = rt.alloc();
-    let (text, ended) = told(alloc, formatted(alloc)?, 1, 20)?;
+    let (text, ended) = told(&rt, alloc, formatted(&rt, alloc), 1, 20);
     assert_eq!(rt; ended, Ok(()));
     let mut number = 0_u32;
     for line in text.lines() {
         number = number.wrapping_add(1);
-        let front = format!(in alloc; "session {number} op ")?;
+        let front = format!(in alloc; "session {number} op ").expect(&rt, "memory");
         assert!(rt; line.starts_with(front.as_str()), "{line}");
         assert!(rt;
             line.contains(" kept ") && line.ends_with(" of 6"),
@@ -47,48 +48,45 @@ fn each_session_keeps_a_tree(rt: HostRuntime) -> Result<(), Fail> {
         );
     }
     assert_eq!(rt; number, 20);
-    let (again, _) = told(alloc, formatted(alloc)?, 1, 20)?;
+    let (again, _) = told(&rt, alloc, formatted(&rt, alloc), 1, 20);
     assert_eq!(rt; again.as_str(), text.as_str());
-    let (other, _) = told(alloc, formatted(alloc)?, 2, 20)?;
+    let (other, _) = told(&rt, alloc, formatted(&rt, alloc), 2, 20);
     assert!(rt; other.as_str() != text.as_str());
-    Ok(())
 }
 
 /// A session of these lines makes 272 calls: its mount reads the tags of the 8 first pages for a checkpoint, those of 256 pages, and
 /// the root's header; that header is read once more for the new name; the sync erases a block and programs three pages; and the
 /// unmount erases a block and programs the one page of a checkpoint of three entries. The first three sessions are cut in their mounts, by the words 15492934433077865799, 5092013759793669961 and 16206103987400358024 of the seed 1.
 #[test]
-fn a_call_is_drawn_among_those_of_the_session(rt: HostRuntime) -> Result<(), Fail> {
+fn a_call_is_drawn_among_those_of_the_session(rt: HostRuntime) {
     let alloc = rt.alloc();
-    let commands = script(alloc, "mkdir /a\nsync\n")?;
+    let commands = script(&rt, alloc, "mkdir /a\nsync\n");
     let mut writer = Vec::new(alloc);
-    let ended = cut(alloc, formatted(alloc)?, commands, 1, 3, &mut writer);
+    let ended = cut(alloc, formatted(&rt, alloc), commands, 1, 3, &mut writer);
     assert_eq!(rt; ended, Ok(()));
     assert_eq!(rt;
-        str::from_utf8(&writer)?,
+        str::from_utf8(&writer).expect(&rt, "a text"),
         "session 1 op 72 kept 0 of 2\nsession 2 op 122 kept 0 of 2\nsession 3 op 217 kept 0 of 2\n"
     );
-    Ok(())
 }
 
 #[test]
-fn a_device_without_a_volume_is_not_cut(rt: HostRuntime) -> Result<(), Fail> {
+fn a_device_without_a_volume_is_not_cut(rt: HostRuntime) {
     let alloc = rt.alloc();
-    let (text, ended) = told(alloc, blank(alloc)?, 1, 1)?;
+    let (text, ended) = told(&rt, alloc, blank(&rt, alloc), 1, 1);
     assert_eq!(rt; ended, Err(CutFault::Mount(MountFault::NotAVolume)));
     assert_eq!(rt; text.as_str(), "");
-    Ok(())
 }
 
 /// The line of session 3, cut at call 17, of 6 commands.
-fn line(alloc: Global, finding: Finding) -> Result<String, Fail> {
+fn line(rt: &impl Abort, alloc: Global, finding: Finding) -> String {
     let mut writer = Vec::new(alloc);
-    tell(&mut writer, 3, 17, finding, 6)?;
-    Ok(String::from_utf8(writer)?)
+    tell(&mut writer, 3, 17, finding, 6).expect(rt, "a line");
+    String::from_utf8(writer).expect(rt, "a text")
 }
 
 #[test]
-fn each_finding_has_its_line(rt: HostRuntime) -> Result<(), Fail> {
+fn each_finding_has_its_line(rt: HostRuntime) {
     let alloc = rt.alloc();
     for (finding, text) in [
         (Finding::Kept(0), "session 3 op 17 kept 0 of 6\n"),
@@ -98,7 +96,7 @@ fn each_finding_has_its_line(rt: HostRuntime) -> Result<(), Fail> {
             "session 3 op 17 mount Newer\n",
         ),
     ] {
-        assert_eq!(rt; line(alloc, finding)?.as_str(), text);
+        assert_eq!(rt; line(&rt, alloc, finding).as_str(), text);
     }
     for (fault, name) in [
         (MountFault::Gone, "Gone"),
@@ -108,7 +106,6 @@ fn each_finding_has_its_line(rt: HostRuntime) -> Result<(), Fail> {
     ] {
         assert_eq!(rt; mount_fault_name(fault), name.as_bytes());
     }
-    Ok(())
 }
 
 /// Takes twenty bytes.
@@ -136,24 +133,23 @@ impl Write for Short {
 }
 
 #[test]
-fn a_writer_that_fails_ends_the_sessions(rt: HostRuntime) -> Result<(), Fail> {
+fn a_writer_that_fails_ends_the_sessions(rt: HostRuntime) {
     let alloc = rt.alloc();
-    let (text, _) = told(alloc, formatted(alloc)?, 1, 1)?;
+    let (text, _) = told(&rt, alloc, formatted(&rt, alloc), 1, 1);
     let mut writer = Short {
         bytes: [0; 20],
         count: 0,
     };
     let ended = cut(
         alloc,
-        formatted(alloc)?,
-        script(alloc, LINES)?,
+        formatted(&rt, alloc),
+        script(&rt, alloc, LINES),
         1,
         2,
         &mut writer,
     );
     assert_eq!(rt; ended, Err(CutFault::Write));
     assert!(rt; text.as_bytes().starts_with(&writer.bytes));
-    Ok(())
 }
 
 /// A tree as a volume.
@@ -175,19 +171,19 @@ impl Answers for Shown {
     ghost sound = { λ v z read_only s shown. absurd shown };
 }
 
-fn tree_after(alloc: Global, lines: &str) -> Result<PlainTree, Fail> {
-    let mut tree = PlainTree::new(alloc, VolumeSizes::new(512, 32, 8, 1))?;
-    for stamped in &script(alloc, lines)? {
-        let _reply = tree.step(stamped)?;
+fn tree_after(rt: &impl Abort, alloc: Global, lines: &str) -> PlainTree {
+    let mut tree = PlainTree::new(alloc, VolumeSizes::new(512, 32, 8, 1)).expect(rt, "memory");
+    for stamped in &script(rt, alloc, lines) {
+        let _reply = tree.step(stamped).expect(rt, "memory");
     }
-    Ok(tree)
+    tree
 }
 
 /// Of five commands the second is a sync that is done, the fourth changes nothing, and the last was cut.
 #[test]
-fn the_least_number_is_kept_from_the_last_sync_on(rt: HostRuntime) -> Result<(), Fail> {
+fn the_least_number_is_kept_from_the_last_sync_on(rt: HostRuntime) {
     let alloc = rt.alloc();
-    let commands = script(alloc, "mkdir /a\nsync\nmkdir /b\nrmdir /x\nmkdir /c\n")?;
+    let commands = script(&rt, alloc, "mkdir /a\nsync\nmkdir /b\nrmdir /x\nmkdir /c\n");
     let end = SessionEnd {
         mounted: Ok(()),
         replies: vec![in alloc;
@@ -196,12 +192,13 @@ fn the_least_number_is_kept_from_the_last_sync_on(rt: HostRuntime) -> Result<(),
             Reply::Done,
             Reply::Error(Errno::ENOENT),
             Reply::Error(Errno::EIO),
-        ]?,
+        ]
+        .expect(&rt, "memory"),
         begun: 5,
         unmounted: None,
         cut: true,
     };
-    let before = tree_after(alloc, "")?;
+    let before = tree_after(&rt, alloc, "");
     for (lines, count) in [
         ("", None),
         ("mkdir /a\n", Some(2)),
@@ -210,15 +207,14 @@ fn the_least_number_is_kept_from_the_last_sync_on(rt: HostRuntime) -> Result<(),
         ("mkdir /b\n", None),
     ] {
         let mut volume = Shown {
-            tree: tree_after(alloc, lines)?,
+            tree: tree_after(&rt, alloc, lines),
         };
         assert_eq!(rt;
-            kept(alloc, &before, &commands, &end, &mut volume)?,
+            kept(alloc, &before, &commands, &end, &mut volume).expect(&rt, "a tree"),
             count,
             "{lines}"
         );
     }
-    Ok(())
 }
 
 /// How two sessions end, where memory lasts until they begin.
@@ -235,7 +231,7 @@ fn two_sessions(alloc: Global) -> Option<Result<(), CutFault>> {
 /// With the tool that refuses one allocation after another, sessions go on, or end for want of memory: no tree is torn, and no
 /// volume is lost.
 #[test]
-fn a_refused_allocation_tears_no_tree(rt: HostRuntime) -> Result<(), Fail> {
+fn a_refused_allocation_tears_no_tree(rt: HostRuntime) {
     let ended = two_sessions(rt.alloc());
     assert!(rt;
         matches!(
@@ -244,5 +240,4 @@ fn a_refused_allocation_tears_no_tree(rt: HostRuntime) -> Result<(), Fail> {
         ),
         "{ended:?}"
     );
-    Ok(())
 }

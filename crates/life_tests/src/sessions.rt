@@ -5,32 +5,31 @@ use posix_calls::{Command, FilePath, MountFault, Reply, Stamped};
 use powercut::{Session, SessionEnd};
 use std::alloc::Global;
 use std::process::Abort;
-use std::test::Fail;
 
-fn path(alloc: Global, text: &str) -> Result<FilePath, Fail> {
-    Ok(FilePath::new(Vec::from_slice(alloc, text.as_bytes())?))
+fn path(rt: &impl Abort, alloc: Global, text: &str) -> FilePath {
+    FilePath::new(Vec::from_slice(alloc, text.as_bytes()).expect(rt, "memory"))
 }
 
-fn mkdir(alloc: Global, text: &str) -> Result<Command, Fail> {
-    Ok(Command::Mkdir {
-        path: path(alloc, text)?,
-    })
+fn mkdir(rt: &impl Abort, alloc: Global, text: &str) -> Command {
+    Command::Mkdir {
+        path: path(rt, alloc, text),
+    }
 }
 
-fn list(alloc: Global) -> Result<Command, Fail> {
-    Ok(Command::List {
-        path: path(alloc, "/")?,
-    })
+fn list(rt: &impl Abort, alloc: Global) -> Command {
+    Command::List {
+        path: path(rt, alloc, "/"),
+    }
 }
 
 /// A session of one command, on a device that is not disturbed.
-fn session(alloc: Global, command: Command, unmount: bool) -> Result<Session, Fail> {
-    Ok(Session {
-        commands: vec![in alloc; Stamped { moment: 0, command }]?,
+fn session(rt: &impl Abort, alloc: Global, command: Command, unmount: bool) -> Session {
+    Session {
+        commands: vec![in alloc; Stamped { moment: 0, command }].expect(rt, "memory"),
         fuse: None,
         failures: Vec::new(alloc),
         unmount,
-    })
+    }
 }
 
 /// What a session tells.
@@ -78,35 +77,29 @@ fn is_unmounted(end: &SessionEnd, asked: bool) -> bool {
 }
 
 /// Lives through the sessions and compares what each tells.
-fn expect(
-    rt: &impl Abort,
-    alloc: Global,
-    nand: MemNand,
-    sessions: &[Session],
-    told: &[Told],
-) -> Result<(), Fail> {
-    let (_nand, ends) = live_through(alloc, nand, sessions)?;
+fn expect(rt: &impl Abort, alloc: Global, nand: MemNand, sessions: &[Session], told: &[Told]) {
+    let (_nand, ends) = live_through(rt, alloc, nand, sessions);
     assert_eq!(rt; ends.len(), told.len());
     for ((end, session), told) in ends.iter().zip(sessions).zip(told) {
         assert!(rt; told.is_of(end), "{told:?} {end:?}");
         assert!(rt; is_unmounted(end, session.unmount), "{end:?}");
     }
-    Ok(())
 }
 
 #[test]
-fn what_was_unmounted_is_there_again(rt: HostRuntime) -> Result<(), Fail> {
+fn what_was_unmounted_is_there_again(rt: HostRuntime) {
     let alloc = rt.alloc();
-    let mut cut = session(alloc, list(alloc)?, false)?;
+    let mut cut = session(&rt, alloc, list(&rt, alloc), false);
     cut.fuse = Some((1, Vec::new(alloc)));
     let sessions = vec![in alloc;
-        session(alloc, mkdir(alloc, "/a")?, false)?,
-        session(alloc, list(alloc)?, true)?,
-        session(alloc, mkdir(alloc, "/a")?, true)?,
-        session(alloc, list(alloc)?, false)?,
+        session(&rt, alloc, mkdir(&rt, alloc, "/a"), false),
+        session(&rt, alloc, list(&rt, alloc), true),
+        session(&rt, alloc, mkdir(&rt, alloc, "/a"), true),
+        session(&rt, alloc, list(&rt, alloc), false),
         cut,
-        session(alloc, list(alloc)?, false)?,
-    ]?;
+        session(&rt, alloc, list(&rt, alloc), false),
+    ]
+    .expect(&rt, "memory");
     let told = [
         Told::Done,
         Told::NoNames,
@@ -115,5 +108,5 @@ fn what_was_unmounted_is_there_again(rt: HostRuntime) -> Result<(), Fail> {
         Told::Gone,
         Told::Name("a"),
     ];
-    expect(&rt, alloc, formatted(alloc)?, &sessions, &told)
+    expect(&rt, alloc, formatted(&rt, alloc), &sessions, &told)
 }

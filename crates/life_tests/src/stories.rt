@@ -4,7 +4,6 @@ use nand_model::{Fate, MemNand};
 use powercut::Session;
 use std::alloc::Global;
 use std::process::Abort;
-use std::test::Fail;
 
 /// All that a cut may leave of a page.
 const FATES: [Fate; 4] = [Fate::Old, Fate::New, Fate::Erased, Fate::Uncorrectable];
@@ -28,29 +27,34 @@ struct Story<'a> {
 }
 
 /// How many calls of the device a session makes, from its power-up on.
-fn calls_of(alloc: Global, nand: &MemNand, lines: &[&str]) -> Result<u64, Fail> {
-    let sessions = vec![in alloc; session(alloc, lines)?]?;
-    let (nand, _ends) = live_through(alloc, nand.copy()?, &sessions)?;
-    Ok(nand.calls())
+fn calls_of(rt: &impl Abort, alloc: Global, nand: &MemNand, lines: &[&str]) -> u64 {
+    let sessions = vec![in alloc; session(rt, alloc, lines)].expect(rt, "memory");
+    let (nand, _ends) = live_through(rt, alloc, nand.copy().expect(rt, "memory"), &sessions);
+    nand.calls()
 }
 
 /// The sessions of a cut, of a mount and an unmount that are cut too where a call is told, and of looks.
 fn sessions_of(
+    rt: &impl Abort,
     alloc: Global,
     story: Story<'_>,
     call: u64,
     fates: &[Fate],
     again: Option<u64>,
-) -> Result<Vec<Session>, Fail> {
+) -> Vec<Session> {
     let mut sessions = Vec::new(alloc);
-    sessions.push(cut_session(alloc, story.all, call, fates)?)?;
+    sessions
+        .push(cut_session(rt, alloc, story.all, call, fates))
+        .expect(rt, "memory");
     if let Some(again) = again {
-        let mut second = cut_session(alloc, &[], again, fates)?;
+        let mut second = cut_session(rt, alloc, &[], again, fates);
         second.unmount = true;
-        sessions.push(second)?;
+        sessions.push(second).expect(rt, "memory");
     }
-    sessions.push(session(alloc, story.looks)?)?;
-    Ok(sessions)
+    sessions
+        .push(session(rt, alloc, story.looks))
+        .expect(rt, "memory");
+    sessions
 }
 
 /// What is left of a story that is cut at this call.
@@ -60,47 +64,43 @@ fn left_by(
     nand: &MemNand,
     story: Story<'_>,
     sessions: &[Session],
-) -> Result<Left, Fail> {
-    let (_nand, ends) = live_through(alloc, nand.copy()?, sessions)?;
+) -> Left {
+    let (_nand, ends) = live_through(rt, alloc, nand.copy().expect(rt, "memory"), sessions);
     let (Some(first), Some(last)) = (ends.first(), ends.last()) else {
-        return Err("a session has no end".into());
+        panic!(rt; "a session has no end");
     };
     assert!(rt; first.cut);
-    let text = told(alloc, last)?;
+    let text = told(rt, alloc, last);
     if text.as_slice() == story.new.as_bytes() {
-        return Ok(Left::New);
+        return Left::New;
     }
-    assert_eq!(rt; str::from_utf8(&text)?, story.old);
-    Ok(Left::Old)
+    assert_eq!(rt; str::from_utf8(&text).expect(rt, "a text"), story.old);
+    Left::Old
 }
 
 /// Cuts each of the last calls with all pages left in one way, alone and with a cut in the next session. Gives the calls
 /// and the fates after which the tree is the one after the last lines, the first of the last calls being 0.
-fn cut_each(
-    rt: &impl Abort,
-    alloc: Global,
-    nand: &MemNand,
-    story: Story<'_>,
-) -> Result<Vec<(u64, Fate)>, Fail> {
-    let first = calls_of(alloc, nand, story.before)?.saturating_add(1);
+fn cut_each(rt: &impl Abort, alloc: Global, nand: &MemNand, story: Story<'_>) -> Vec<(u64, Fate)> {
+    let first = calls_of(rt, alloc, nand, story.before).saturating_add(1);
     let mut news = Vec::new(alloc);
-    for call in first..=calls_of(alloc, nand, story.all)? {
+    for call in first..=calls_of(rt, alloc, nand, story.all) {
         for fate in FATES {
             let fates = [fate; 32];
-            let once = sessions_of(alloc, story, call, &fates, None)?;
-            let left = left_by(rt, alloc, nand, story, &once)?;
-            let twice = sessions_of(alloc, story, call, &fates, Some(100))?;
-            assert_eq!(rt; left_by(rt, alloc, nand, story, &twice)?, left);
+            let once = sessions_of(rt, alloc, story, call, &fates, None);
+            let left = left_by(rt, alloc, nand, story, &once);
+            let twice = sessions_of(rt, alloc, story, call, &fates, Some(100));
+            assert_eq!(rt; left_by(rt, alloc, nand, story, &twice), left);
             if left == Left::New {
-                news.push((call.saturating_sub(first), fate))?;
+                news.push((call.saturating_sub(first), fate))
+                    .expect(rt, "memory");
             }
         }
     }
-    Ok(news)
+    news
 }
 
 #[test]
-fn a_sync_is_done_by_its_last_page(rt: HostRuntime) -> Result<(), Fail> {
+fn a_sync_is_done_by_its_last_page(rt: HostRuntime) {
     let story = Story {
         before: &["open /a rwc", "write 0 hello"],
         all: &["open /a rwc", "write 0 hello", "fsync 0"],
@@ -109,16 +109,16 @@ fn a_sync_is_done_by_its_last_page(rt: HostRuntime) -> Result<(), Fail> {
         new: "names 1 a\nfd 0\ndata 5 hello\n",
     };
     let alloc = rt.alloc();
-    let news = cut_each(&rt, alloc, &formatted(alloc)?, story)?;
+    let news = cut_each(&rt, alloc, &formatted(&rt, alloc), story);
     assert_eq!(rt; news.as_slice(), [(4, Fate::New)].as_slice());
-    Ok(())
 }
 
 #[test]
-fn a_renamed_file_takes_the_place_of_another_at_once(rt: HostRuntime) -> Result<(), Fail> {
+fn a_renamed_file_takes_the_place_of_another_at_once(rt: HostRuntime) {
     let alloc = rt.alloc();
     let files = vec![in alloc;
         session(
+            &rt,
             alloc,
             &[
                 "open /x wc",
@@ -127,9 +127,10 @@ fn a_renamed_file_takes_the_place_of_another_at_once(rt: HostRuntime) -> Result<
                 "write 1 old",
                 "sync",
             ]
-        )?,
-    ]?;
-    let (nand, _ends) = live_through(alloc, formatted(alloc)?, &files)?;
+        ),
+    ]
+    .expect(&rt, "memory");
+    let (nand, _ends) = live_through(&rt, alloc, formatted(&rt, alloc), &files);
     let story = Story {
         before: &["rename /x /y"],
         all: &["rename /x /y", "sync"],
@@ -137,9 +138,8 @@ fn a_renamed_file_takes_the_place_of_another_at_once(rt: HostRuntime) -> Result<
         old: "names 2 x y\nfd 0\ndata 3 old\n",
         new: "names 1 y\nfd 0\ndata 3 new\n",
     };
-    let news = cut_each(&rt, alloc, &nand, story)?;
+    let news = cut_each(&rt, alloc, &nand, story);
     assert_eq!(rt; news.len(), 1);
-    Ok(())
 }
 
 /// Lives through the sessions, of which the first and the last are told this. Gives back how many calls the last made.
@@ -150,14 +150,20 @@ fn tells_at_its_ends(
     sessions: &[Session],
     first_told: &str,
     last_told: &str,
-) -> Result<u64, Fail> {
-    let (after, ends) = live_through(alloc, nand.copy()?, sessions)?;
+) -> u64 {
+    let (after, ends) = live_through(rt, alloc, nand.copy().expect(rt, "memory"), sessions);
     let (Some(first), Some(last)) = (ends.first(), ends.last()) else {
-        return Err("a session has no end".into());
+        panic!(rt; "a session has no end");
     };
-    assert_eq!(rt; str::from_utf8(&told(alloc, first)?)?, first_told);
-    assert_eq!(rt; str::from_utf8(&told(alloc, last)?)?, last_told);
-    Ok(after.calls())
+    assert_eq!(rt;
+        str::from_utf8(&told(rt, alloc, first)).expect(rt, "a text"),
+        first_told
+    );
+    assert_eq!(rt;
+        str::from_utf8(&told(rt, alloc, last)).expect(rt, "a text"),
+        last_told
+    );
+    after.calls()
 }
 
 /// The program of this call fails, and the page is left so; a block to spare makes up for it. Then the first program of the
@@ -168,17 +174,19 @@ fn stops_without_a_spare_block(
     nand: &MemNand,
     call: u64,
     fate: Fate,
-) -> Result<(), Fail> {
+) {
     let lines = ["mkdir /a", "sync"];
-    let sync = vec![in alloc; failing_session(alloc, &lines, &[(call, fate)])?]?;
-    let calls = tells_at_its_ends(rt, alloc, nand, &sync, "ok\nok\n", "ok\nok\n")?;
+    let failing = failing_session(rt, alloc, &lines, &[(call, fate)]);
+    let sync = vec![in alloc; failing].expect(rt, "memory");
+    let calls = tells_at_its_ends(rt, alloc, nand, &sync, "ok\nok\n", "ok\nok\n");
     let next = calls.saturating_add(1);
     let lines = ["mkdir /a", "sync", "mkdir /b", "sync", "list /"];
     let failures = [(call, fate), (next, Fate::Uncorrectable)];
     let sessions = vec![in alloc;
-        failing_session(alloc, &lines, &failures)?,
-        session(alloc, &["list /", "mkdir /c"])?,
-    ]?;
+        failing_session(rt, alloc, &lines, &failures),
+        session(rt, alloc, &["list /", "mkdir /c"]),
+    ]
+    .expect(rt, "memory");
     let stopped = "ok\nok\nok\nerror EIO\n";
     tells_at_its_ends(
         rt,
@@ -187,16 +195,15 @@ fn stops_without_a_spare_block(
         &sessions,
         stopped,
         "names 1 a\nerror EROFS\n",
-    )?;
-    Ok(())
+    );
 }
 
 #[test]
-fn a_volume_that_lost_its_spare_block_is_only_read(rt: HostRuntime) -> Result<(), Fail> {
+fn a_volume_that_lost_its_spare_block_is_only_read(rt: HostRuntime) {
     let alloc = rt.alloc();
-    let nand = formatted(alloc)?;
+    let nand = formatted(&rt, alloc);
     // The mount, the erase and two programs come before.
-    let third = calls_of(alloc, &nand, &["mkdir /a"])?.saturating_add(4);
-    stops_without_a_spare_block(&rt, alloc, &nand, third, Fate::New)?;
+    let third = calls_of(&rt, alloc, &nand, &["mkdir /a"]).saturating_add(4);
+    stops_without_a_spare_block(&rt, alloc, &nand, third, Fate::New);
     stops_without_a_spare_block(&rt, alloc, &nand, third, Fate::Uncorrectable)
 }

@@ -7,7 +7,6 @@ use posix_calls::{Bytes, Command, Errno, FilePath, NameList, Reply, Stamped};
 use powercut::SessionEnd;
 use std::alloc::{AllocError, Global};
 use std::process::Abort;
-use std::test::Fail;
 use volume_terms::VolumeSizes;
 
 /// The reply of what does commands where memory may be refused.
@@ -120,116 +119,117 @@ impl Answers for HalfRenamed {
 
 /// The end of a session of these commands on what answers them, in which power is lost after the last.
 fn end_of<V: Answers>(
+    rt: &impl Abort,
     alloc: Global,
     volume: &mut V,
     commands: &[Stamped],
-) -> Result<SessionEnd, Fail> {
+) -> SessionEnd {
     let mut replies = Vec::new(alloc);
     for stamped in commands {
-        replies.push(volume.answer(stamped))?;
+        replies.push(volume.answer(stamped)).expect(rt, "memory");
     }
     let begun = replies.len() as u64;
-    Ok(SessionEnd {
+    SessionEnd {
         mounted: Ok(()),
         replies,
         begun,
         unmounted: None,
         cut: true,
-    })
+    }
 }
 
 /// The tree after these lines, from an empty one on.
-fn tree_after(alloc: Global, lines: &str) -> Result<PlainTree, Fail> {
-    let mut tree = PlainTree::new(alloc, VolumeSizes::new(512, 32, 8, 1))?;
-    for stamped in &script(alloc, lines)? {
-        let _reply = tree.step(stamped)?;
+fn tree_after(rt: &impl Abort, alloc: Global, lines: &str) -> PlainTree {
+    let mut tree = PlainTree::new(alloc, VolumeSizes::new(512, 32, 8, 1)).expect(rt, "memory");
+    for stamped in &script(rt, alloc, lines) {
+        let _reply = tree.step(stamped).expect(rt, "memory");
     }
-    Ok(tree)
+    tree
 }
 
 /// What is seen of a session of these commands on this tree, which ended so, where this is shown.
 fn seen_of<V: Answers>(
+    rt: &impl Abort,
     alloc: Global,
     before: &PlainTree,
     commands: &[Stamped],
     end: &SessionEnd,
     shown: &mut V,
-) -> Result<Seen, Fail> {
-    let geometry = Geometry::new(512, 32, 8)?;
+) -> Seen {
+    let geometry = Geometry::new(512, 32, 8).expect(rt, "a geometry");
     match compare(alloc, geometry, before, commands, end, shown) {
-        Ok(seen) => Ok(seen),
-        Err(fault) => Err(fault.into()),
+        Ok(seen) => seen,
+        Err(fault) => panic!(rt; "{fault:?}"),
     }
 }
 
 /// The device and the end of a session of these lines that begins with the tree after `first`.
 fn forgetful_session(
+    rt: &impl Abort,
     alloc: Global,
     first: &str,
     commands: &[Stamped],
-) -> Result<(Forgetful, SessionEnd), Fail> {
+) -> (Forgetful, SessionEnd) {
     let mut volume = Forgetful {
-        tree: tree_after(alloc, first)?,
-        kept: tree_after(alloc, first)?,
+        tree: tree_after(rt, alloc, first),
+        kept: tree_after(rt, alloc, first),
     };
-    let end = end_of(alloc, &mut volume, commands)?;
-    Ok((volume, end))
+    let end = end_of(rt, alloc, &mut volume, commands);
+    (volume, end)
 }
 
 #[test]
-fn a_sync_that_is_forgotten_tears_the_tree(rt: HostRuntime) -> Result<(), Fail> {
+fn a_sync_that_is_forgotten_tears_the_tree(rt: HostRuntime) {
     let alloc = rt.alloc();
-    let commands = script(alloc, "mkdir /b\nsync\nmkdir /c\n")?;
-    let (volume, end) = forgetful_session(alloc, "mkdir /a\n", &commands)?;
-    let before = tree_after(alloc, "mkdir /a\n")?;
+    let commands = script(&rt, alloc, "mkdir /b\nsync\nmkdir /c\n");
+    let (volume, end) = forgetful_session(&rt, alloc, "mkdir /a\n", &commands);
+    let before = tree_after(&rt, alloc, "mkdir /a\n");
     let mut shown = Shown {
         tree: volume.kept,
         is_lost: false,
     };
-    let seen = seen_of(alloc, &before, &commands, &end, &mut shown)?;
+    let seen = seen_of(&rt, alloc, &before, &commands, &end, &mut shown);
     assert_eq!(rt; seen.finding(), Finding::Torn);
     let mut shown = Shown {
         tree: volume.tree,
         is_lost: false,
     };
-    let seen = seen_of(alloc, &before, &commands, &end, &mut shown)?;
+    let seen = seen_of(&rt, alloc, &before, &commands, &end, &mut shown);
     assert_eq!(rt; seen.finding(), Finding::Kept(3));
-    Ok(())
 }
 
 #[test]
-fn a_page_that_is_lost_tears_the_tree(rt: HostRuntime) -> Result<(), Fail> {
+fn a_page_that_is_lost_tears_the_tree(rt: HostRuntime) {
     let alloc = rt.alloc();
     let commands = script(
+        &rt,
         alloc,
         "open /a rwc\nseek 0 600 set\nwrite 0 hello\nfsync 0\n",
-    )?;
-    let (volume, end) = forgetful_session(alloc, "", &commands)?;
-    let before = tree_after(alloc, "")?;
+    );
+    let (volume, end) = forgetful_session(&rt, alloc, "", &commands);
+    let before = tree_after(&rt, alloc, "");
     let mut shown = Shown {
         tree: volume.tree,
         is_lost: true,
     };
-    let seen = seen_of(alloc, &before, &commands, &end, &mut shown)?;
+    let seen = seen_of(&rt, alloc, &before, &commands, &end, &mut shown);
     assert_eq!(rt; seen.finding(), Finding::Torn);
     shown.is_lost = false;
-    let seen = seen_of(alloc, &before, &commands, &end, &mut shown)?;
+    let seen = seen_of(&rt, alloc, &before, &commands, &end, &mut shown);
     assert_eq!(rt; seen.finding(), Finding::Kept(4));
-    Ok(())
 }
 
 /// What is shown cannot be made again: no directory has two names.
 #[test]
-fn half_of_a_rename_tears_the_tree(rt: HostRuntime) -> Result<(), Fail> {
+fn half_of_a_rename_tears_the_tree(rt: HostRuntime) {
     let alloc = rt.alloc();
-    let commands = script(alloc, "rename /x /y\n")?;
-    let (volume, end) = forgetful_session(alloc, "mkdir /x\n", &commands)?;
-    let before = tree_after(alloc, "mkdir /x\n")?;
+    let commands = script(&rt, alloc, "rename /x /y\n");
+    let (volume, end) = forgetful_session(&rt, alloc, "mkdir /x\n", &commands);
+    let before = tree_after(&rt, alloc, "mkdir /x\n");
     let mut shown = HalfRenamed {
         alloc,
         tree: volume.tree,
     };
-    let seen = seen_of(alloc, &before, &commands, &end, &mut shown)?;
+    let seen = seen_of(&rt, alloc, &before, &commands, &end, &mut shown);
     assert!(rt; matches!(seen, Seen::Torn(None)));
-    Ok(())
 }

@@ -3,8 +3,8 @@ use nandfs_program::{
     Bench, BenchForm, FlashTimes, ImageSizes, ToolFault, bench, nanoseconds_in, show_bench,
 };
 use std::alloc::Global;
+use std::process::Abort;
 use std::str;
-use std::test::Fail;
 use volume_bench::{BenchFault, Bin, bins};
 
 /// Eight blocks of 32 pages of 512 bytes, one of them spare.
@@ -84,45 +84,42 @@ fn measured(rt: &HostRuntime, lines: &str) -> Result<Bench, ToolFault> {
 }
 
 /// A report of a run.
-fn shown(alloc: Global, measured: &Bench, form: BenchForm) -> Result<Vec<u8>, ToolFault> {
+fn shown(rt: &impl Abort, alloc: Global, measured: &Bench, form: BenchForm) -> Vec<u8> {
     let mut out = Vec::new(alloc);
-    show_bench(alloc, &mut out, measured, TIMES, form)?;
-    Ok(out)
+    show_bench(alloc, &mut out, measured, TIMES, form).expect(rt, "a report");
+    out
 }
 
 #[test]
-fn a_run_is_reported(rt: HostRuntime) -> Result<(), Fail> {
+fn a_run_is_reported(rt: HostRuntime) {
     let alloc = rt.alloc();
-    let bench = measured(&rt, LINES)?;
-    let text = shown(alloc, &bench, BenchForm::Text)?;
-    assert_eq!(&rt; str::from_utf8(&text)?, TEXT);
+    let bench = measured(&rt, LINES).expect(&rt, "a run");
+    let text = shown(&rt, alloc, &bench, BenchForm::Text);
+    assert_eq!(&rt; str::from_utf8(&text).expect(&rt, "a text"), TEXT);
     for (form, part) in PARTS {
-        let report = shown(alloc, &bench, form)?;
-        assert!(&rt; str::from_utf8(&report)?.contains(part));
+        let report = shown(&rt, alloc, &bench, form);
+        assert!(&rt; str::from_utf8(&report).expect(&rt, "a text").contains(part));
     }
-    Ok(())
 }
 
 #[test]
-fn lines_that_are_none_are_named(rt: HostRuntime) -> Result<(), Fail> {
+fn lines_that_are_none_are_named(rt: HostRuntime) {
     for (lines, fault) in FAULTS {
         let ended = measured(&rt, lines);
         assert!(&rt; matches!(ended, Err(ToolFault::Bench(found)) if found == fault));
     }
-    Ok(())
 }
 
 #[test]
-fn microseconds_have_three_places(rt: HostRuntime) -> Result<(), Fail> {
+fn microseconds_have_three_places(rt: HostRuntime) {
     for (text, nanoseconds) in MICROSECONDS {
         assert!(&rt; nanoseconds_in(text).ok() == nanoseconds);
     }
-    Ok(())
 }
 
 #[test]
-fn a_histogram_has_sixteen_bins_at_most(rt: HostRuntime) -> Result<(), Fail> {
-    let bins = bins(rt.alloc(), &[0, 100, 6, 7])?;
+fn a_histogram_has_sixteen_bins_at_most(rt: HostRuntime) {
+    let bins = bins(rt.alloc(), &[0, 100, 6, 7]).expect(&rt, "memory");
     let first = Bin {
         least: 0,
         most: 6,
@@ -136,5 +133,4 @@ fn a_histogram_has_sixteen_bins_at_most(rt: HostRuntime) -> Result<(), Fail> {
     assert_eq!(&rt; bins.len(), 15);
     assert!(&rt; bins.first() == Some(&first));
     assert!(&rt; bins.last() == Some(&last));
-    Ok(())
 }

@@ -3,8 +3,8 @@ use crate::rows::{Row, Sample, folder_of};
 use image_tools::{Refusal, RefusalCause, TreeFault, pack, refusals, unpack};
 use plain_volume::PlainVolume;
 use posix_profile::Errno;
-use std::alloc::{AllocError, Global};
-use std::test::Fail;
+use std::alloc::Global;
+use std::process::Abort;
 use volume_terms::VolumeSizes;
 
 /// Files of no byte, of one, of a page less one, of a page and of one more, and of three writes; directories in directories, one
@@ -45,48 +45,46 @@ const OTHER: &[Row] = &[
 ];
 
 /// Eight blocks of 32 pages of 512 bytes, one of them spare: room for 144 pages.
-fn new_volume(alloc: Global) -> Result<PlainVolume, AllocError> {
-    PlainVolume::new(alloc, VolumeSizes::new(512, 32, 8, 1), false)
+fn new_volume(rt: &impl Abort, alloc: Global) -> PlainVolume {
+    PlainVolume::new(alloc, VolumeSizes::new(512, 32, 8, 1), false).expect(rt, "memory")
 }
 
 #[test]
-fn a_folder_that_was_packed_is_unpacked(rt: HostRuntime) -> Result<(), Fail> {
+fn a_folder_that_was_packed_is_unpacked(rt: HostRuntime) {
     let alloc = rt.alloc();
     for rows in [WHOLE, NOTHING] {
-        let folder = folder_of(alloc, rows)?;
-        let mut volume = new_volume(alloc)?;
-        pack(alloc, &folder, &mut volume)?;
-        let found = unpack(alloc, &mut volume)?;
-        let told = format!(in alloc; "{found:?}")?;
-        let wanted = format!(in alloc; "{folder:?}")?;
+        let folder = folder_of(&rt, alloc, rows);
+        let mut volume = new_volume(&rt, alloc);
+        pack(alloc, &folder, &mut volume).expect(&rt, "a packed folder");
+        let found = unpack(alloc, &mut volume).expect(&rt, "a folder");
+        let told = format!(in alloc; "{found:?}").expect(&rt, "memory");
+        let wanted = format!(in alloc; "{folder:?}").expect(&rt, "memory");
         assert_eq!(&rt; told, wanted);
     }
-    Ok(())
 }
 
 #[test]
-fn a_volume_without_room_or_with_names_refuses(rt: HostRuntime) -> Result<(), Fail> {
+fn a_volume_without_room_or_with_names_refuses(rt: HostRuntime) {
     let alloc = rt.alloc();
-    let much = folder_of(alloc, TOO_MUCH)?;
-    let mut volume = new_volume(alloc)?;
+    let much = folder_of(&rt, alloc, TOO_MUCH);
+    let mut volume = new_volume(&rt, alloc);
     assert_eq!(&rt;
         pack(alloc, &much, &mut volume),
         Err(TreeFault::Refused(Errno::ENOSPC))
     );
-    let one = folder_of(alloc, ONE)?;
-    let other = folder_of(alloc, OTHER)?;
-    let mut volume = new_volume(alloc)?;
+    let one = folder_of(&rt, alloc, ONE);
+    let other = folder_of(&rt, alloc, OTHER);
+    let mut volume = new_volume(&rt, alloc);
     assert_eq!(&rt; pack(alloc, &one, &mut volume), Ok(()));
     assert_eq!(&rt;
         pack(alloc, &one, &mut volume),
         Err(TreeFault::Refused(Errno::EEXIST))
     );
     assert_eq!(&rt; pack(alloc, &other, &mut volume), Err(TreeFault::Unlike));
-    Ok(())
 }
 
 /// The cause and the path of each refusal, in lines.
-fn lines_of(alloc: Global, refused: &[Refusal]) -> Result<String, AllocError> {
+fn lines_of(rt: &impl Abort, alloc: Global, refused: &[Refusal]) -> String {
     let mut text = String::new(alloc);
     for refusal in refused {
         let cause = match refusal.cause {
@@ -94,12 +92,12 @@ fn lines_of(alloc: Global, refused: &[Refusal]) -> Result<String, AllocError> {
             RefusalCause::BadName => "name ",
             RefusalCause::LongFile => "file ",
         };
-        text.push_str(cause)?;
-        let path = String::from_utf8_lossy(alloc, &refusal.path)?;
-        text.push_str(path.as_str())?;
-        text.push('\n')?;
+        text.push_str(cause).expect(rt, "memory");
+        let path = String::from_utf8_lossy(alloc, &refusal.path).expect(rt, "memory");
+        text.push_str(path.as_str()).expect(rt, "memory");
+        text.push('\n').expect(rt, "memory");
     }
-    Ok(text)
+    text
 }
 
 const REFUSED: &[Row] = &[
@@ -114,21 +112,21 @@ const REFUSED: &[Row] = &[
 ];
 
 #[test]
-fn what_no_volume_can_have_is_listed(rt: HostRuntime) -> Result<(), Fail> {
+fn what_no_volume_can_have_is_listed(rt: HostRuntime) {
     let alloc = rt.alloc();
-    let mut folder = folder_of(alloc, REFUSED)?;
+    let mut folder = folder_of(&rt, alloc, REFUSED);
     for entry in folder.entries.iter_mut().skip(7) {
-        entry.path.resize(4096, b'h')?;
+        entry.path.resize(4096, b'h').expect(&rt, "memory");
     }
-    let refused = refusals(alloc, &folder, 100)?;
+    let refused = refusals(alloc, &folder, 100).expect(&rt, "memory");
     assert_eq!(&rt; refused.len(), 7);
-    let told = lines_of(alloc, &refused[..6])?;
+    let told = lines_of(&rt, alloc, &refused[..6]);
     assert_eq!(&rt;
         told.as_str(),
         "name /a\nname /b\nname /c\nname /d\nname /e\nfile /f\n"
     );
     assert_eq!(&rt; refused[6].cause, RefusalCause::LongPath);
-    let whole = folder_of(alloc, WHOLE)?;
-    assert!(&rt; refusals(alloc, &whole, 4097)?.is_empty());
-    Ok(())
+    let whole = folder_of(&rt, alloc, WHOLE);
+    let refused = refusals(alloc, &whole, 4097).expect(&rt, "memory");
+    assert!(&rt; refused.is_empty());
 }

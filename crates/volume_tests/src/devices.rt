@@ -8,7 +8,7 @@ use std::process::Abort;
 
 /// An erased device of eight blocks of 32 pages of 512 bytes.
 pub(crate) fn erased(rt: &impl Abort, alloc: Global) -> MemNand {
-    MemNand::new(alloc, Geometry::new(512, 32, 8).expect(rt, "memory")).expect(rt, "memory")
+    MemNand::new(alloc, Geometry::new(512, 32, 8).expect(rt, "a geometry")).expect(rt, "memory")
 }
 
 /// How a format ends, with the device.

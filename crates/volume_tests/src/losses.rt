@@ -53,7 +53,7 @@ fn do_commands(
     for stamped in &book.commands {
         let reply = served.answer(stamped);
         if matches!(reply, Reply::Error(Errno::EIO)) {
-            return ();
+            return;
         }
         book.expect_reply(rt, alloc, reached.answered, &reply);
         reached.answered = reached.answered.saturating_add(1);

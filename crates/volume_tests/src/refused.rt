@@ -106,7 +106,7 @@ fn a_tree_is_refused_memory(rt: HostRuntime) {
 /// Does the commands in a run, and once more those that it did not begin.
 fn run_again(rt: &impl Abort, served: &mut Served, replies: &mut Vec<Reply>, commands: &[Stamped]) {
     if served.run(commands, replies).is_ok() {
-        return ();
+        return;
     }
     let rest = commands.get(replies.len()..).expect(rt, "too many replies");
     served.run(rest, replies).expect(rt, "memory");

@@ -4,7 +4,6 @@ use nand_model::{Geometry, MemNand, Nand};
 use page_tags::{HeaderFault, Tag};
 use std::alloc::Global;
 use std::process::Abort;
-use std::test::Fail;
 use volume_check::{Diagnosis, Place, Rule, Verdict, diagnose};
 
 /// A page by its object and its chunk, and how its data begin.
@@ -126,11 +125,12 @@ fn data_of(page: &Page) -> [u8; 512] {
 }
 
 /// A flash with these pages in block 0.
-fn programmed(rt: &impl Abort, alloc: Global, pages: &[Page]) -> Result<MemNand, Fail> {
-    let mut nand = MemNand::new(alloc, Geometry::new(512, 32, 5)?)?;
+fn programmed(rt: &impl Abort, alloc: Global, pages: &[Page]) -> MemNand {
+    let geometry = Geometry::new(512, 32, 5).expect(rt, "a geometry");
+    let mut nand = MemNand::new(alloc, geometry).expect(rt, "memory");
     let geometry = nand.geometry();
     assert!(rt; geometry.bytes() == 512 && geometry.blocks() == 5);
-    nand.erase(0)?;
+    nand.erase(0).expect(rt, "an erase");
     for place in 0..32u32 {
         let geometry = nand.geometry();
         assert!(rt; geometry.bytes() == 512 && geometry.blocks() == 5 && geometry.pages() == 32);
@@ -138,27 +138,28 @@ fn programmed(rt: &impl Abort, alloc: Global, pages: &[Page]) -> Result<MemNand,
         let Some(page) = pages.get(place as usize) else {
             break;
         };
-        nand.program(0, place, &data_of(page), &tag_at(page, place).encode())?;
+        nand.program(0, place, &data_of(page), &tag_at(page, place).encode())
+            .expect(rt, "a program");
     }
-    Ok(nand)
+    nand
 }
 
 /// What a check of these pages finds.
-fn checked(rt: &impl Abort, alloc: Global, pages: &[Page]) -> Result<Diagnosis, Fail> {
-    let nand = programmed(rt, alloc, pages)?;
+fn checked(rt: &impl Abort, alloc: Global, pages: &[Page]) -> Diagnosis {
+    let nand = programmed(rt, alloc, pages);
     let (_nand, found) = diagnose(alloc, nand);
     match found {
-        Ok(found) => Ok(found),
-        Err(_) => Err("nothing was checked".into()),
+        Ok(found) => found,
+        Err(_) => panic!(rt; "nothing was checked"),
     }
 }
 
 /// The check found this.
-fn is_found(rt: &impl Abort, found: &Diagnosis, want: Found) -> Result<(), Fail> {
+fn is_found(rt: &impl Abort, found: &Diagnosis, want: Found) {
     let (verdict, rule, object, chunk, path, place) = want;
     assert_eq!(rt; found.verdict, verdict, "{rule:?}");
     let Some(finding) = &found.finding else {
-        return Err("no rule is broken".into());
+        panic!(rt; "no rule is broken");
     };
     assert_eq!(rt; finding.rule, rule);
     assert_eq!(rt; finding.object, object, "{rule:?}");
@@ -166,26 +167,23 @@ fn is_found(rt: &impl Abort, found: &Diagnosis, want: Found) -> Result<(), Fail>
     assert_eq!(rt; finding.path.as_slice(), path, "{rule:?}");
     let place = place.map(|page| Place { block: 0, page });
     assert_eq!(rt; found.place, place, "{rule:?}");
-    Ok(())
 }
 
 #[test]
-fn finds_where_a_tree_is_damaged(rt: HostRuntime) -> Result<(), Fail> {
+fn finds_where_a_tree_is_damaged(rt: HostRuntime) {
     let alloc = rt.alloc();
     for (at, page, want) in ALTERED {
         let mut pages = PAGES;
         if at < 8 {
             pages[at] = page;
         }
-        let found = checked(&rt, alloc, &pages)?;
-        is_found(&rt, &found, want)?;
+        let found = checked(&rt, alloc, &pages);
+        is_found(&rt, &found, want);
     }
-    Ok(())
 }
 
 #[test]
-fn finds_nothing_in_a_whole_tree(rt: HostRuntime) -> Result<(), Fail> {
-    let found = checked(&rt, rt.alloc(), &PAGES)?;
+fn finds_nothing_in_a_whole_tree(rt: HostRuntime) {
+    let found = checked(&rt, rt.alloc(), &PAGES);
     assert!(rt; found.verdict == Verdict::Whole && found.finding.is_none());
-    Ok(())
 }

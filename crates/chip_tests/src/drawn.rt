@@ -2,7 +2,6 @@
 
 use crate::laid::flash;
 use chip_map::{MapFault, Marked, PageCounts, count, survey, write_svg, write_text};
-use std::test::Fail;
 
 /// The text with object 3 highlighted.
 const TEXT: &str = "   0 #-#?!...........................
@@ -39,10 +38,10 @@ const ROW: &str = "<text x=\"54\" y=\"238\" text-anchor=\"end\">2</text>
 ";
 
 #[test]
-fn draws_each_state(rt: HostRuntime) -> Result<(), Fail> {
+fn draws_each_state(rt: HostRuntime) {
     let alloc = rt.alloc();
-    let mut nand = flash(&rt, alloc)?;
-    let chip = survey(alloc, &mut nand)?;
+    let mut nand = flash(&rt, alloc);
+    let chip = survey(alloc, &mut nand).expect(&rt, "a survey");
     let counts = PageCounts {
         bad: 32,
         erased: 120,
@@ -53,26 +52,24 @@ fn draws_each_state(rt: HostRuntime) -> Result<(), Fail> {
     };
     assert_eq!(rt; count(&chip), counts);
     let mut text = Vec::new(alloc);
-    write_text(alloc, &mut text, &chip, Marked::Object(3), false)?;
+    write_text(alloc, &mut text, &chip, Marked::Object(3), false).expect(&rt, "a text");
     assert_eq!(rt; text.as_slice(), TEXT.as_bytes());
     let mut coloured = Vec::new(alloc);
-    write_text(alloc, &mut coloured, &chip, Marked::Nothing, true)?;
+    write_text(alloc, &mut coloured, &chip, Marked::Nothing, true).expect(&rt, "a text");
     assert!(rt; coloured.starts_with(COLOURED.as_bytes()));
-    Ok(())
 }
 
 #[test]
-fn draws_rows_of_cells(rt: HostRuntime) -> Result<(), Fail> {
+fn draws_rows_of_cells(rt: HostRuntime) {
     let alloc = rt.alloc();
-    let mut nand = flash(&rt, alloc)?;
-    let chip = survey(alloc, &mut nand)?;
+    let mut nand = flash(&rt, alloc);
+    let chip = survey(alloc, &mut nand).expect(&rt, "a survey");
     let mut drawn = Vec::new(alloc);
-    write_svg(alloc, &mut drawn, &chip, Marked::Object(3))?;
+    write_svg(alloc, &mut drawn, &chip, Marked::Object(3)).expect(&rt, "a drawing");
     assert!(rt; drawn.starts_with(HEAD.as_bytes()));
     assert!(rt; drawn.windows(ROW.len()).any(|part| part == ROW.as_bytes()));
     assert!(rt; drawn.ends_with(b"</svg>\n"));
     let mut small = [0u8; 100];
     let refused = write_svg(alloc, &mut &mut small[..], &chip, Marked::Nothing);
     assert_eq!(rt; refused, Err(MapFault::Output));
-    Ok(())
 }

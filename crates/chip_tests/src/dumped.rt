@@ -5,7 +5,6 @@ use chip_map::{MapFault, write_dump};
 use nand_model::{MemNand, Nand};
 use std::alloc::Global;
 use std::process::Abort;
-use std::test::Fail;
 
 /// The beginning of a header of a file of 5 bytes with chunk 1 and moment 7.
 const HEADER: [u8; 33] = [
@@ -38,22 +37,23 @@ block 2 page 1: written
 ";
 
 /// The flash with that header in block 3.
-fn with_header(rt: &impl Abort, alloc: Global) -> Result<MemNand, Fail> {
-    let mut nand = flash(rt, alloc)?;
+fn with_header(rt: &impl Abort, alloc: Global) -> MemNand {
+    let mut nand = flash(rt, alloc);
     let mut page = [0; 512];
     page[..33].copy_from_slice(&HEADER);
     let geometry = nand.geometry();
     assert!(rt; geometry.bytes() == 512 && geometry.blocks() == 5);
-    nand.erase(3)?;
+    nand.erase(3).expect(rt, "an erase");
     assert!(rt; !nand.is_bad(3));
-    nand.program(3, 0, &page, &tag(2, 0, 0, 1, 7, 3).encode())?;
-    Ok(nand)
+    nand.program(3, 0, &page, &tag(2, 0, 0, 1, 7, 3).encode())
+        .expect(rt, "a program");
+    nand
 }
 
 #[test]
-fn shows_pages_and_blocks(rt: HostRuntime) -> Result<(), Fail> {
+fn shows_pages_and_blocks(rt: HostRuntime) {
     let alloc = rt.alloc();
-    let mut nand = with_header(&rt, alloc)?;
+    let mut nand = with_header(&rt, alloc);
     let shown = [
         (3, Some(0), PAGE),
         (2, None, BLOCK),
@@ -63,7 +63,7 @@ fn shows_pages_and_blocks(rt: HostRuntime) -> Result<(), Fail> {
     ];
     for (block, page, text) in shown {
         let mut out = Vec::new(alloc);
-        write_dump(alloc, &mut out, &mut nand, block, page)?;
+        write_dump(alloc, &mut out, &mut nand, block, page).expect(&rt, "a dump");
         assert!(rt; out.starts_with(text.as_bytes()), "block {block}");
     }
     for (block, page) in [(5, None), (0, Some(32))] {
@@ -71,5 +71,4 @@ fn shows_pages_and_blocks(rt: HostRuntime) -> Result<(), Fail> {
         let refused = write_dump(alloc, &mut out, &mut nand, block, page);
         assert_eq!(rt; refused, Err(MapFault::NoPage));
     }
-    Ok(())
 }

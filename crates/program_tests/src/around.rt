@@ -6,7 +6,6 @@ use std::io::{
     BufReader, Cursor, Error, ErrorKind, Read, Result as IoResult, Seek, SeekFrom, Write,
 };
 use std::process::Abort;
-use std::test::Fail;
 
 /// Bytes in memory, of which so many reads, writes and seeks are done; each later one fails.
 #[derive(Drop)]
@@ -74,13 +73,15 @@ pub(crate) struct Around {
 
 impl Around {
     /// An image and lines, none of which fails.
-    pub(crate) fn new(alloc: Global, image: &[u8], lines: &str) -> Result<Around, Fail> {
-        Ok(Around {
-            image: FailingFile::new(Vec::from_slice(alloc, image)?),
-            lines: FailingFile::new(Vec::from_slice(alloc, lines.as_bytes())?),
+    pub(crate) fn new(rt: &impl Abort, alloc: Global, image: &[u8], lines: &str) -> Around {
+        let image = Vec::from_slice(alloc, image).expect(rt, "memory");
+        let lines = Vec::from_slice(alloc, lines.as_bytes()).expect(rt, "memory");
+        Around {
+            image: FailingFile::new(image),
+            lines: FailingFile::new(lines),
             out: FailingFile::new(Vec::new(alloc)),
             err: FailingFile::new(Vec::new(alloc)),
-        })
+        }
     }
 
     /// Asserts how the program with these words ends, and what it tells.
@@ -91,7 +92,7 @@ impl Around {
         words: &[&str],
         status: u8,
         told: (&str, &str),
-    ) -> Result<(), Fail> {
+    ) {
         let Around {
             mut image,
             lines,
@@ -99,9 +100,9 @@ impl Around {
             mut err,
         } = self;
         let Ok(chosen) = choose(alloc, words) else {
-            return Err("the words are not taken".into());
+            panic!(rt; "the words are not taken");
         };
-        let mut lines = BufReader::new(alloc, lines)?;
+        let mut lines = BufReader::new(alloc, lines).expect(rt, "memory");
         let ended = act(
             alloc,
             &chosen,
@@ -113,7 +114,6 @@ impl Around {
         assert_eq!(rt; out.cursor.into_inner().as_slice(), told.0.as_bytes());
         assert_eq!(rt; err.cursor.into_inner().as_slice(), told.1.as_bytes());
         assert_eq!(rt; ended, status);
-        Ok(())
     }
 }
 
@@ -123,9 +123,9 @@ pub(crate) const SMALL: [&str; 10] = [
 ];
 
 /// A small image with a new volume.
-pub(crate) fn small_image(rt: &impl Abort, alloc: Global) -> Result<Vec<u8>, Fail> {
+pub(crate) fn small_image(rt: &impl Abort, alloc: Global) -> Vec<u8> {
     let Ok(chosen) = choose(alloc, &SMALL) else {
-        return Err("the words are not taken".into());
+        panic!(rt; "the words are not taken");
     };
     let mut image = Cursor::new(Vec::new(alloc));
     let mut lines = b"".as_slice();
@@ -142,5 +142,5 @@ pub(crate) fn small_image(rt: &impl Abort, alloc: Global) -> Result<Vec<u8>, Fai
     assert_eq!(rt; status, 0);
     let image = image.into_inner();
     assert_eq!(rt; image.len(), 143_656);
-    Ok(image)
+    image
 }

@@ -2,8 +2,8 @@
 
 use crate::laid::{checkpoint, empty, write};
 use crate::left::{READS, assert_left};
-use bad_blocks::{MoveFault, Moved, move_kept};
 use block_state::Blocks;
+use flash_log::{MoveFault, Moved};
 use flash_tree::{Found, Key};
 use nand_model::{Fate, MemNand, Nand, PageKind};
 use page_tags::Tag;
@@ -61,22 +61,22 @@ fn flash(rt: &impl Abort, alloc: Global) -> Result<MemNand, Fail> {
     Ok(nand)
 }
 
-/// Moves away what block 4 keeps, with two blocks to spare, while the checkpoint in block 3 is noted. How that ends, with the
-/// table afterwards.
+/// Moves away what is committed in block 4, with two blocks to spare, while the checkpoint in block 3 is noted. How that ends,
+/// with the device and the table afterwards.
 fn moved(
     rt: &impl Abort,
     alloc: Global,
-    nand: &mut MemNand,
-) -> Result<(Result<Moved, MoveFault>, Blocks), Fail> {
+    nand: MemNand,
+) -> Result<(Result<Moved, MoveFault>, MemNand, Blocks), Fail> {
     let mut log = mount_log_beside(alloc, nand, 2, 3)?;
     assert_eq!(rt; log.blocks.checkpoint(), Some(3));
     assert_eq!(rt; log.blocks.open_block(), None);
-    assert!(rt; 4 < nand.geometry().blocks());
+    assert!(rt; 4 < log.device.geometry().blocks());
     assert!(rt; 4 < log.blocks.geometry().blocks());
     assert!(rt; !log.blocks.entry(4).bad);
     assert!(rt; log.blocks.entry(4).kept == 3);
-    let result = move_kept(nand, &mut log.blocks, &mut log.index, &mut log.room, 4, 2);
-    Ok((result, log.blocks))
+    let result = log.move_kept(4);
+    Ok((result, log.device, log.blocks))
 }
 
 /// Page i of a block reads with this tag, and its data are those of page i of the group.
@@ -126,8 +126,8 @@ fn assert_newest(rt: &impl Abort, nand: &mut MemNand, copied: bool) -> Result<()
 #[test]
 fn pages_are_moved_into_the_block_of_the_checkpoint(rt: HostRuntime) -> Result<(), Fail> {
     let alloc = rt.alloc();
-    let mut nand = flash(&rt, alloc)?;
-    let (result, blocks) = moved(&rt, alloc, &mut nand)?;
+    let nand = flash(&rt, alloc)?;
+    let (result, mut nand, blocks) = moved(&rt, alloc, nand)?;
     assert_eq!(rt; result, Ok(Moved::Trusted));
     assert_eq!(rt; nand.calls(), READS + 7);
     assert_eq!(rt; (blocks.open_block(), blocks.open_room()), (Some(3), 29));
@@ -156,8 +156,8 @@ fn assert_cut(
     left: Left,
 ) -> Result<(), Fail> {
     let fates = vec![in alloc; fate; 32]?;
-    let mut nand = flash(rt, alloc)?.with_fuse(READS.saturating_add(call), fates);
-    let (result, blocks) = moved(rt, alloc, &mut nand)?;
+    let nand = flash(rt, alloc)?.with_fuse(READS.saturating_add(call), fates);
+    let (result, mut nand, blocks) = moved(rt, alloc, nand)?;
     assert_eq!(rt; result, Err(MoveFault::Gone));
     let noted = if call == 1 { Some(3) } else { None };
     assert_eq!(rt; blocks.checkpoint(), noted);
@@ -194,7 +194,7 @@ fn a_block_that_is_not_free_is_not_noted(rt: HostRuntime) -> Result<(), Fail> {
     assert!(rt; 5 < nand.geometry().blocks());
     nand.mark_bad(5)?;
     for block in [4, 8, 5] {
-        let fault = mount_log_beside(rt.alloc(), &mut nand, 2, block).err();
+        let fault = mount_log_beside(rt.alloc(), nand.copy()?, 2, block).err();
         assert_eq!(rt; fault, Some(LogFault::NotFree), "block {block}");
     }
     Ok(())

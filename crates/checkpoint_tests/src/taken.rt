@@ -2,7 +2,7 @@
 
 use crate::laid::{checkpoint, empty, write};
 use crate::left::{READS, assert_left};
-use bad_blocks::{TakeFault, take_block};
+use flash_log::{Log, TakeFault, take_block};
 use nand_model::{Fate, MemNand};
 use std::alloc::Global;
 use std::process::Abort;
@@ -40,12 +40,16 @@ fn assert_case(rt: &impl Abort, alloc: Global, case: &Case) -> Result<(), Fail> 
     }
     let fates = vec![in alloc; case.fates[0], case.fates[1]]?;
     let nand = flash(rt, alloc)?.with_failures(failures);
-    let mut nand = nand.with_fuse(case.cut, fates);
-    let mut log = mount_log_beside(alloc, &mut nand, 2, 3)?;
-    let result = take_block(&mut nand, &mut log.blocks, 2);
+    let log = mount_log_beside(alloc, nand.with_fuse(case.cut, fates), 2, 3)?;
+    let Log {
+        device: mut nand,
+        mut blocks,
+        ..
+    } = log;
+    let result = take_block(&mut nand, &mut blocks, 2);
     assert_eq!(rt; result, case.result);
-    assert_eq!(rt; log.blocks.open_block(), result.ok());
-    assert_eq!(rt; log.blocks.checkpoint(), case.noted);
+    assert_eq!(rt; blocks.open_block(), result.ok());
+    assert_eq!(rt; blocks.checkpoint(), case.noted);
     assert_left(rt, alloc, &mut nand, case.whole)
 }
 

@@ -5,8 +5,8 @@ use Rattle.nand_model.specs.Calls.{Device}
 use Rattle.flash_tree.specs.Newest.{Numbers}
 use Rattle.pages.specs.State.{PagesState}
 use Rattle.volume_terms.specs.declared.fault.StoreFault.{StoreFault}
-use Rattle.objects.specs.Sealing.{IsSealed}
-use Rattle.objects.specs.laws.Sealing.{ends_going}
+use Rattle.page_store.specs.Sealing.{IsSealed}
+use Rattle.page_store.specs.laws.Sealing.{ends_going}
 use Rattle.flash_pages.specs.ReadOnly.{IsWorn, HasGreatest, IsCarrying, only_read}
 use Rattle.flash_pages.proofs.Keeping.{goes_on, keeps_all}
 

@@ -10,15 +10,15 @@ use Rattle.flash_pages.specs.declared.mounted.FlashPages.TheVariants as kinds
 
 -- the device that the pages lie on
 abbrev pub device_in : {N : Type 0} {nand : Ghosts N} → FlashPages N nand → N
-device_in (kinds.Store store) = store.device
+device_in (kinds.Store store) = store.log.device
 device_in (kinds.ReadOnly pages) = device_of pages.pages
 
 -- the index of the pages that are committed
 abbrev pub index_in : {N : Type 0} {nand : Ghosts N} → FlashPages N nand → Index
-index_in (kinds.Store store) = store.index
+index_in (kinds.Store store) = store.log.index
 index_in (kinds.ReadOnly pages) = index_of pages.pages
 
 -- the table of blocks; pages that are only read need none
 abbrev pub table_in : {N : Type 0} {nand : Ghosts N} → FlashPages N nand → Option Table
-table_in (kinds.Store store) = Some (table store.blocks)
+table_in (kinds.Store store) = Some (table store.log.blocks)
 table_in (kinds.ReadOnly pages) = None

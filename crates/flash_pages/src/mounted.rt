@@ -1,13 +1,13 @@
 // The pages of a mounted volume.
 ghost use Rattle.std.specs.Prelude.{◌≡◌, ◌≤◌, ◌+◌, true, Ok};
 ghost use Rattle.nand_model.specs.Counts.{Costs};
-ghost use Rattle.objects.specs.Sealing.{IsSealed};
+ghost use Rattle.page_store.specs.Sealing.{IsSealed};
 ghost use Rattle.flash_pages.specs.declared.mounted.FlashPages.TheVariants as kinds;
 
 use crate::read_only::ReadOnlyPages;
 use flash_tree::Key;
 use nand_model::Nand;
-use objects::Store;
+use page_store::Store;
 use pages::{Change, Cut, PageStore, Pages, Presence};
 use volume_terms::StoreFault;
 
@@ -89,7 +89,7 @@ impl<N: Nand> Pages for FlashPages<N> {
 
 impl<N: Nand> PageStore for FlashPages<N> {
     ghost use Rattle.block_state.specs.TableOf.{table};
-    ghost use Rattle.objects.specs.laws.Sound.{lost_alone, few_bad};
+    ghost use Rattle.page_store.specs.laws.Sound.{lost_alone, few_bad};
     ghost use Rattle.flash_pages.specs.laws.Sound.{lost_reading, only_worn};
 
     ghost lost = { elim [
@@ -98,7 +98,7 @@ impl<N: Nand> PageStore for FlashPages<N> {
     ] };
 
     ghost few = { elim [
-      | kinds.Store s ↦ λ sound fresh. few_bad (⟦<Store<N> as Pages>⟧.state s).device (table s.blocks) s.spare s.broken s.ready s.few sound
+      | kinds.Store s ↦ λ sound fresh. few_bad (⟦<Store<N> as Pages>⟧.state s).device (table s.log.blocks) s.log.spare s.broken s.log.ready s.few sound
       | kinds.ReadOnly s ↦ λ sound fresh. only_worn _ _ fresh
     ] };
 

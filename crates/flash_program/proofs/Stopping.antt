@@ -29,8 +29,8 @@ use Rattle.page_volume.specs.Calls.{IsCalled}
 use Rattle.posix_calls.specs.Endings.{IsUnmounted}
 use Rattle.posix_calls.specs.laws.Ending.{ends_after}
 use Rattle.posix_calls.specs.laws.Trusting.{read_since, left_as_seen}
-use Rattle.objects.specs.Sealing.{EndsOn}
-use Rattle.objects.specs.laws.Sealing.{ends_going}
+use Rattle.page_store.specs.Sealing.{EndsOn}
+use Rattle.page_store.specs.laws.Sealing.{ends_going}
 use Rattle.powercut.specs.Living.{IsSoundOn}
 use Rattle.posix_profile.specs.Runs.{is_stop}
 use Rattle.posix_profile.specs.State.{Objects, State}

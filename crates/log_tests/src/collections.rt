@@ -4,7 +4,7 @@ use crate::kept::{assert_stored, marked};
 use crate::moves::{FULL, MOUNT, MOVE, full_flash, room_made};
 use crate::same::assert_same;
 use block_state::Blocks;
-use collector::RoomFault;
+use flash_log::RoomFault;
 use nand_model::{MemNand, Nand};
 use std::alloc::Global;
 use std::process::Abort;
@@ -22,8 +22,7 @@ fn made(
     count: u32,
     spare: u32,
 ) -> Result<(Made, Blocks, Vec<u32>), Fail> {
-    let mut nand = flash.copy()?;
-    let (result, blocks) = room_made(alloc, &mut nand, count, spare)?;
+    let (result, mut nand, blocks) = room_made(alloc, flash.copy()?, count, spare)?;
     let made = (result, nand.calls(), blocks.open_block());
     assert_stored(rt, &mut nand, &FULL, "room was asked for")?;
     let marked = marked(rt, alloc, &nand, &blocks)?;

@@ -2,9 +2,8 @@
 
 use crate::kept::Run;
 use crate::volumes::{Volume, pages_from};
-use bad_blocks::{MoveFault, Moved, move_kept, retire};
 use block_state::Blocks;
-use collector::{RoomFault, make_room};
+use flash_log::{MoveFault, Moved, RoomFault};
 use nand_model::{MemNand, Nand};
 use std::alloc::Global;
 use std::process::Abort;
@@ -144,69 +143,48 @@ pub(crate) const FULL: [Run; 5] = [
     },
 ];
 
-/// Mounts a device and retires a block. How that ends, with the table afterwards.
+/// Mounts a device and retires a block. How that ends, with the device and the table afterwards.
 pub(crate) fn retired(
     rt: &impl Abort,
     alloc: Global,
-    nand: &mut MemNand,
+    nand: MemNand,
     block: u32,
     spare: u32,
-) -> Result<(Result<(), MoveFault>, Blocks), Fail> {
+) -> Result<(Result<(), MoveFault>, MemNand, Blocks), Fail> {
     let mut log = mount_log(alloc, nand, spare)?;
-    assert!(rt; block < nand.geometry().blocks());
+    assert!(rt; block < log.device.geometry().blocks());
     assert!(rt; block < log.blocks.geometry().blocks());
     assert!(rt; !log.blocks.entry(block).bad);
     assert!(rt; log.blocks.checkpoint().is_none());
-    let result = retire(
-        nand,
-        &mut log.blocks,
-        &mut log.index,
-        &mut log.room,
-        block,
-        spare,
-    );
-    Ok((result, log.blocks))
+    let result = log.retire(block);
+    Ok((result, log.device, log.blocks))
 }
 
-/// Mounts a device and moves away what a block keeps. How that ends, with the table afterwards.
+/// Mounts a device and moves away what is committed in a block. How that ends, with the device and the table afterwards.
 pub(crate) fn moved(
     rt: &impl Abort,
     alloc: Global,
-    nand: &mut MemNand,
+    nand: MemNand,
     block: u32,
     spare: u32,
-) -> Result<(Result<Moved, MoveFault>, Blocks), Fail> {
+) -> Result<(Result<Moved, MoveFault>, MemNand, Blocks), Fail> {
     let mut log = mount_log(alloc, nand, spare)?;
-    assert!(rt; block < nand.geometry().blocks());
+    assert!(rt; block < log.device.geometry().blocks());
     assert!(rt; block < log.blocks.geometry().blocks());
     assert!(rt; !log.blocks.entry(block).bad);
     assert!(rt; log.blocks.entry(block).kept > 0);
-    let result = move_kept(
-        nand,
-        &mut log.blocks,
-        &mut log.index,
-        &mut log.room,
-        block,
-        spare,
-    );
-    Ok((result, log.blocks))
+    let result = log.move_kept(block);
+    Ok((result, log.device, log.blocks))
 }
 
-/// Mounts a device and makes room for so many pages. How that ends, with the table afterwards.
+/// Mounts a device and makes room for so many pages. How that ends, with the device and the table afterwards.
 pub(crate) fn room_made(
     alloc: Global,
-    nand: &mut MemNand,
+    nand: MemNand,
     count: u32,
     spare: u32,
-) -> Result<(Result<(), RoomFault>, Blocks), Fail> {
+) -> Result<(Result<(), RoomFault>, MemNand, Blocks), Fail> {
     let mut log = mount_log(alloc, nand, spare)?;
-    let result = make_room(
-        nand,
-        &mut log.blocks,
-        &mut log.index,
-        &mut log.room,
-        count,
-        spare,
-    );
-    Ok((result, log.blocks))
+    let result = log.make_room(count);
+    Ok((result, log.device, log.blocks))
 }

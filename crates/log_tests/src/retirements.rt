@@ -3,14 +3,14 @@
 use crate::kept::{assert_stored, marked};
 use crate::moves::{KEPT, MOUNT, MOVE, flash, moved, retired};
 use crate::same::assert_same;
-use bad_blocks::Moved;
+use flash_log::Moved;
 use std::test::Fail;
 
 #[test]
 fn a_retired_block_is_marked_and_its_pages_are_kept(rt: HostRuntime) -> Result<(), Fail> {
     let alloc = rt.alloc();
-    let mut nand = flash(&rt, alloc)?;
-    let (result, blocks) = retired(&rt, alloc, &mut nand, 2, 2)?;
+    let nand = flash(&rt, alloc)?;
+    let (result, mut nand, blocks) = retired(&rt, alloc, nand, 2, 2)?;
     assert_same!(rt; result, Ok(()));
     assert_same!(rt; nand.calls(), MOUNT + MOVE + 1);
     assert_same!(rt; marked(&rt, alloc, &nand, &blocks)?, vec![in alloc; 2]?);
@@ -23,8 +23,8 @@ fn a_retired_block_is_marked_and_its_pages_are_kept(rt: HostRuntime) -> Result<(
 #[test]
 fn what_a_block_keeps_is_moved(rt: HostRuntime) -> Result<(), Fail> {
     let alloc = rt.alloc();
-    let mut nand = flash(&rt, alloc)?;
-    let (result, blocks) = moved(&rt, alloc, &mut nand, 2, 2)?;
+    let nand = flash(&rt, alloc)?;
+    let (result, mut nand, blocks) = moved(&rt, alloc, nand, 2, 2)?;
     assert_same!(rt; result, Ok(Moved::Trusted));
     assert_same!(rt; nand.calls(), MOUNT + MOVE);
     assert!(rt; marked(&rt, alloc, &nand, &blocks)?.is_empty());

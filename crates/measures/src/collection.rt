@@ -8,7 +8,6 @@ use crate::arguments::number;
 use crate::collection::full::{PAGES, SPARE, full_flash};
 use crate::usage::nanoseconds_since;
 use anyhow::{Result, anyhow};
-use collector::make_room;
 use nand_model::MemNand;
 use std::alloc::Global;
 use std::time::CpuClock;
@@ -32,29 +31,25 @@ struct Report {
 /// Mounts a copy of a flash and collects one of its blocks. No block is marked, so what was changed and not programmed
 /// was erased.
 fn collected<R: CpuClock>(rt: &R, alloc: Global, flash: &MemNand) -> Result<Report> {
-    let mut nand = flash.copy()?;
-    let mut log = match mount_log(alloc, &mut nand, SPARE) {
+    let mut log = match mount_log(alloc, flash.copy()?, SPARE) {
         Ok(log) => log,
         Err(fault) => return Err(anyhow!("no mount: {fault:?}")),
     };
-    let (calls, changes) = (nand.calls(), nand.changes());
+    let (calls, changes) = (log.device.calls(), log.device.changes());
     let start = rt.thread_cpu_time()?;
-    let made = make_room(
-        &mut nand,
-        &mut log.blocks,
-        &mut log.index,
-        &mut log.room,
-        COUNT,
-        SPARE,
-    );
+    let made = log.make_room(COUNT);
     let nanoseconds = nanoseconds_since(rt, start)?;
     if let Err(fault) = made {
         return Err(anyhow!("no room: {fault:?}"));
     }
-    let changed = nand.changes().saturating_sub(changes);
+    let changed = log.device.changes().saturating_sub(changes);
     let programs = PAGES.saturating_sub(log.blocks.open_room()) as u64;
     Ok(Report {
-        reads: nand.calls().saturating_sub(calls).saturating_sub(changed),
+        reads: log
+            .device
+            .calls()
+            .saturating_sub(calls)
+            .saturating_sub(changed),
         programs,
         erases: changed.saturating_sub(programs),
         nanoseconds,

@@ -26,7 +26,7 @@ use Rattle.paged_objects.specs.Standing.{volume_of, Shown}
 use Rattle.paged_objects.specs.laws.Showing.{kept_shown}
 use Rattle.flash_pages.specs.ReadOnly.{IsWorn}
 use Rattle.name_index.specs.declared.index.NameIndex.{NameIndex}
-use Rattle.bad_blocks.specs.Standing.{AreKept}
+use Rattle.flash_log.specs.Standing.{AreKept}
 use Rattle.chunk_index.specs.Maps.{kept_pages}
 use Rattle.tree_table.specs.Covering.{CoversObjects}
 use Rattle.tree_walk.specs.Hashes.{CoversTree}

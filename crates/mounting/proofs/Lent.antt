@@ -12,7 +12,7 @@ use Rattle.nand_model.specs.declared.nand.PageKind.TheVariants as page_kinds
 use Rattle.flash_tree.specs.declared.place.Key.{Key}
 use Rattle.flash_tree.specs.Mount.{sizes_of}
 use Rattle.flash_tree.specs.laws.Place.{same_flash}
-use Rattle.bad_blocks.specs.Standing.{IsKeptAt, AreKept}
+use Rattle.flash_log.specs.Standing.{IsKeptAt, AreKept}
 use Rattle.chunk_index.specs.declared.form.KeptPage.{KeptPage}
 use Rattle.chunk_index.specs.declared.index.Index.{Index}
 use Rattle.chunk_index.specs.Maps.{kept_pages}

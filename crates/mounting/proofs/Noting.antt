@@ -24,7 +24,7 @@ use Rattle.block_state.specs.Table.{Table}
 use Rattle.chunk_index.specs.Kept.{HoldsNone}
 use Rattle.chunk_index.specs.Maps.{kept_pages, kept_in}
 use Rattle.chunk_index.specs.declared.index.Index.{Index}
-use Rattle.bad_blocks.specs.Standing.{AreKept}
+use Rattle.flash_log.specs.Standing.{AreKept}
 use Rattle.newest_pages.specs.Checked.{HasTrueFlash}
 use Rattle.newest_pages.specs.Opened.{IsOpenedBy}
 use Rattle.pages.specs.Maps.{PageMap, has}

@@ -19,7 +19,7 @@ use Rattle.flash_tree.specs.laws.NewestTold.{data_or_none}
 use Rattle.flash_tree.specs.laws.OneTree.{one_slot}
 use Rattle.flash_tree.specs.laws.Part.{through_all, volume_all, twice_back}
 use Rattle.flash_tree.specs.laws.WholeList.{IsThereOn, IsWholeList, whole_list}
-use Rattle.bad_blocks.specs.Standing.{AreKept}
+use Rattle.flash_log.specs.Standing.{AreKept}
 use Rattle.chunk_index.specs.declared.form.KeptPage.{KeptPage}
 use Rattle.chunk_index.specs.declared.index.Index.{Index}
 use Rattle.chunk_index.specs.Maps.{kept_pages}

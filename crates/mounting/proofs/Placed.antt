@@ -1,14 +1,12 @@
 -- Pages that lie as a scan finds them.
-use Rattle.std.specs.Prelude.{◌≡◌, ℕ, Option, Some}
+use Rattle.std.specs.Prelude.{◌≡◌, ℕ, Some}
 use Rattle.std.proofs.Common.{refl, sym, ◌∙◌, subst}
 use Rattle.nand_model.specs.Calls.{Device}
-use Rattle.nand_model.specs.Flash.{Flash}
 use Rattle.nand_model.specs.declared.nand.Nand.{Ghosts}
 use Rattle.posix_profile.specs.State.{Objects}
 use Rattle.flash_tree.specs.Mount.{Answers, IsTreeOf, sizes_of}
 use Rattle.block_state.specs.Table.{Table}
 use Rattle.chunk_index.specs.declared.index.Index.{Index}
-use Rattle.chunk_index.specs.Free.{HasMarks}
 use Rattle.chunk_index.specs.Maps.{CountsAgree, kept_pages}
 use Rattle.flash_pages.specs.declared.mounted.FlashPages.{FlashPages}
 use Rattle.mounting.specs.Mounted.{KeepsPlaces}

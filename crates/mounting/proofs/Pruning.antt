@@ -24,8 +24,8 @@ use Rattle.chunk_index.specs.declared.form.Present.TheVariants as presents
 use Rattle.chunk_index.specs.declared.index.Index.{Index}
 use Rattle.chunk_index.specs.Kept.{HoldsNone}
 use Rattle.transactions.specs.Ready.{IsReady}
-use Rattle.bad_blocks.specs.Taking.{LiesApart}
-use Rattle.bad_blocks.specs.Standing.{IsKeptAt, AreKept, MayLie}
+use Rattle.flash_log.specs.Taking.{LiesApart}
+use Rattle.flash_log.specs.Standing.{IsKeptAt, AreKept, MayLie}
 use Rattle.newest_pages.specs.Opened.{IsOpened, IsOpenedBy, AreLeft, kept_at}
 use Rattle.mounting.specs.Marked.{AreFitting}
 use Rattle.mounting.specs.Tables.{KeepsOnly, IsPruned}

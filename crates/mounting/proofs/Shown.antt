@@ -21,7 +21,7 @@ use Rattle.pages.specs.laws.Low.{looked_low}
 use Rattle.chunk_index.specs.Maps.{KeptMap, kept_pages, CountsAgree}
 use Rattle.chunk_index.specs.declared.form.KeptPage.{KeptPage}
 use Rattle.chunk_index.specs.declared.index.Index.{Index}
-use Rattle.bad_blocks.specs.Standing.{AreKept, IsKeptAt}
+use Rattle.flash_log.specs.Standing.{AreKept, IsKeptAt}
 use Rattle.object_pages.specs.Holding.{HoldsObjects}
 use Rattle.page_buffer.specs.Shown.{data_of, data_at, kept_data}
 use Rattle.pages.specs.Maps.{PageMap, has}

@@ -15,7 +15,7 @@ use Rattle.flash_tree.specs.Newest.{Numbers}
 use Rattle.block_state.specs.Table.{Table}
 use Rattle.block_state.specs.laws.Kept.{free_where_closed}
 use Rattle.chunk_index.specs.declared.index.Index.{Index}
-use Rattle.bad_blocks.specs.Standing.{AreKept, KeepsOrdinary, Stands, TablesAgree, HasFreeBlocks}
+use Rattle.flash_log.specs.Standing.{AreKept, KeepsOrdinary, Stands, TablesAgree, HasFreeBlocks}
 use Rattle.newest_pages.specs.Opened.{AreLeft}
 use Rattle.mounting.specs.Marked.{AreFitting}
 use Rattle.mounting.specs.Tables.{IsPruned}

@@ -8,7 +8,7 @@ use Rattle.flash_tree.specs.declared.place.Key.{Key}
 use Rattle.chunk_index.specs.declared.form.KeptPage.{KeptPage}
 use Rattle.chunk_index.specs.declared.index.Index.{Index}
 use Rattle.chunk_index.specs.Maps.{kept_pages}
-use Rattle.bad_blocks.specs.Standing.{AreKept}
+use Rattle.flash_log.specs.Standing.{AreKept}
 use Rattle.pages.specs.State.{PagesState}
 use Rattle.trusted_nand.specs.Trusting.{trusted_as}
 use Rattle.newest_pages.specs.Newest.{seen}

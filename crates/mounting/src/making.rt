@@ -5,7 +5,7 @@ ghost use Rattle.block_state.specs.TableOf.{table};
 ghost use Rattle.flash_pages.specs.Parts.{device_in};
 ghost use Rattle.flash_pages.specs.ReadOnly.{IsWorn};
 ghost use Rattle.newest_pages.specs.Parts.{device_of, index_of};
-ghost use Rattle.bad_blocks.specs.Standing.{KeepsOrdinary};
+ghost use Rattle.flash_log.specs.Standing.{KeepsOrdinary};
 ghost use Rattle.mounting.specs.Made.{ArePagesOn, CanBeWritten};
 ghost use Rattle.mounting.specs.Marked.{AreFitting};
 ghost use Rattle.mounting.specs.Mounted.{IsTreeRead, HasRoomOn};
@@ -13,11 +13,12 @@ ghost use Rattle.mounting.specs.Places.{HasTables};
 
 use crate::tree_on::TreeOn;
 use chunk_index::the_counts_are_of_the_keys;
+use flash_log::Log;
 use flash_pages::{FlashPages, ReadOnlyPages};
 use flash_tree::count_bad;
 use nand_model::Nand;
 use newest_pages::{NewestPages, the_opened_pages_are_the_newest};
-use objects::Store;
+use page_store::Store;
 use pages::Pages;
 use std::alloc::{AllocError, Global};
 use std::num::NonZeroUsize;
@@ -46,9 +47,9 @@ fn store_pages<N: Nand>(
     requires can { CanBeWritten (N.state on.device) (numbers_of on.numbers) on.spare }
     ensures made { IfOk result (λ store. ArePagesOn (N.state on.device) on.index (numbers_of on.numbers) on.spare (⟦<Store<N> as Pages>⟧.state store)) }
     ensures worn { IfOk result (λ store. (⟦<Store<N> as Pages>⟧.state store).worn ≡ false) }
-    ensures device { IfOk result (λ store. store.device ≡ on.device) }
+    ensures device { IfOk result (λ store. store.log.device ≡ on.device) }
     ensures checkpoint { IfOk result (λ store. (⟦<Store<N> as Pages>⟧.state store).checkpoint ≡ (table on.blocks).checkpoint) }
-    ensures tables { IfOk result (λ store. (store.index ≡ on.index) × (table store.blocks ≡ table on.blocks)) }
+    ensures tables { IfOk result (λ store. (store.log.index ≡ on.index) × (table store.log.blocks ≡ table on.blocks)) }
     ensures given_back { IfErr result (λ back. back.0 ≡ on.device) }
 {
     the_counts_are_of_the_keys();
@@ -59,7 +60,11 @@ fn store_pages<N: Nand>(
         spare,
         ..
     } = on;
-    match Store::new(alloc, device, blocks, index, u32::from(spare), capacity) {
+    let log = match Log::new(alloc, device, blocks, index, u32::from(spare)) {
+        Ok(log) => log,
+        Err(refused) => return Err(refused),
+    };
+    match Store::new(alloc, log, capacity) {
         Ok(store) => Ok(store),
         Err(refused) => Err(refused),
     }

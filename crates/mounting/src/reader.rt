@@ -4,7 +4,7 @@ ghost use Rattle.nand_model.specs.Changes.{OnlyReads};
 ghost use Rattle.chunk_index.specs.Maps.{kept_pages};
 ghost use Rattle.chunk_index.specs.declared.form.KeptPage.{KeptPage};
 ghost use Rattle.page_buffer.specs.Shown.{data_at};
-ghost use Rattle.bad_blocks.specs.Standing.{IsKeptAt};
+ghost use Rattle.flash_log.specs.Standing.{IsKeptAt};
 ghost use Rattle.mounting.specs.Lending.{LieWithin, TrustsKept, lent};
 ghost use Rattle.mounting.specs.laws.OneProof.{trusts_prop};
 

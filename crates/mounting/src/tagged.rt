@@ -1,7 +1,7 @@
 // A kept page, read with its tag.
 ghost use Rattle.std.specs.Prelude.{◌≡◌, ◌↔◌, ◌<◌, ◌≤◌, ◌+◌, ◌⊎◌, true, IsTrue, Some, length, OnOk, IfErr};
 ghost use Rattle.nand_model.specs.Changes.{OnlyReads};
-ghost use Rattle.bad_blocks.specs.Standing.{IsKeptAt};
+ghost use Rattle.flash_log.specs.Standing.{IsKeptAt};
 ghost use Rattle.page_buffer.specs.Shown.{data_at};
 ghost use Rattle.mounting.specs.Lending.{IsTagOf};
 

@@ -11,7 +11,7 @@ use Rattle.chunk_index.specs.declared.form.KeptPage.{KeptPage}
 use Rattle.chunk_index.specs.declared.index.Index.{Index}
 use Rattle.chunk_index.specs.Maps.{kept_pages}
 use Rattle.page_buffer.specs.Shown.{data_of, data_at, kept_data}
-use Rattle.bad_blocks.specs.Standing.{AreKept, IsKeptAt}
+use Rattle.flash_log.specs.Standing.{AreKept, IsKeptAt}
 use Rattle.newest_pages.specs.Opened.{IsOpened}
 
 -- the data of a page that is the newest of its key

@@ -26,8 +26,8 @@ use Rattle.chunk_index.specs.declared.form.KeptPage.{KeptPage}
 use Rattle.chunk_index.specs.declared.form.Present.TheVariants as presents
 use Rattle.chunk_index.specs.declared.index.Index.{Index}
 use Rattle.transactions.specs.Ready.{IsWaiting}
-use Rattle.bad_blocks.specs.Standing.{AreKept, MayLie}
-use Rattle.bad_blocks.specs.Taking.{LiesApart}
+use Rattle.flash_log.specs.Standing.{AreKept, MayLie}
+use Rattle.flash_log.specs.Taking.{LiesApart}
 use Rattle.checkpoint_reading.specs.Found.{HasForm}
 use Rattle.newest_pages.specs.Checked.{numbers_at, MayAllBeKept, IsAsSaid, IsTrustedFor}
 use Rattle.newest_pages.specs.Opened.{AreLeft, IsOpenedBy, IsTableOf, OnlySeqs}

@@ -29,7 +29,7 @@ use Rattle.transactions.specs.Sources.{IsPageName}
 use Rattle.transactions.specs.Ready.{IsReady, IsWaiting}
 use Rattle.transactions.specs.laws.Ready.{above_below}
 use Rattle.mount_scan.specs.Scanned.{IsNewestCopy, AreNewest, TellsNewest}
-use Rattle.bad_blocks.specs.Standing.{IsKeptAt, AreKept, MayLie}
+use Rattle.flash_log.specs.Standing.{IsKeptAt, AreKept, MayLie}
 use Rattle.newest_pages.specs.Opened.{OnlySeqs, NotesSeq, HasItsSeq, name_in, HaveNames, AreLeft, IsTableOf, IsOpened, kept_at}
 use Rattle.flash_tree.specs.laws.Place.{same_flash}
 

@@ -17,7 +17,7 @@ use Rattle.block_state.specs.TableOf.{table}
 use Rattle.trusted_nand.specs.Trusting.{trusted_as}
 use Rattle.chunk_index.specs.declared.form.KeptPage.{KeptPage}
 use Rattle.chunk_index.specs.Maps.{kept_pages}
-use Rattle.bad_blocks.specs.Standing.{AreKept}
+use Rattle.flash_log.specs.Standing.{AreKept}
 use Rattle.checkpoint_reading.specs.Found.{IsFirstSeq}
 use Rattle.newest_pages.specs.declared.opening.Opened.{Opened}
 use Rattle.newest_pages.specs.Opened.{AreLeft, IsOpenedBy, kept_at}

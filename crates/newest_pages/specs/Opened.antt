@@ -15,8 +15,8 @@ use Rattle.page_buffer.specs.Buffering.{IsUnbuffered}
 use Rattle.transactions.specs.Ready.{IsReady}
 use Rattle.transactions.specs.Sources.{IsPageName}
 use Rattle.transactions.specs.declared.source.PageName.{PageName}
-use Rattle.bad_blocks.specs.Standing.{AreKept, MayLie}
-use Rattle.bad_blocks.specs.Taking.{LiesApart}
+use Rattle.flash_log.specs.Standing.{AreKept, MayLie}
+use Rattle.flash_log.specs.Taking.{LiesApart}
 use Rattle.mount_scan.specs.declared.fault.ScanFault.{ScanFault}
 use Rattle.mount_scan.specs.declared.fault.ScanFault.TheVariants as scans
 use Rattle.newest_pages.specs.declared.opening.OpenFault.{OpenFault}

@@ -8,7 +8,7 @@ ghost use Rattle.chunk_index.specs.declared.form.KeptPage.{KeptPage};
 ghost use Rattle.chunk_index.specs.declared.index.Index.{Index};
 ghost use Rattle.chunk_index.specs.Maps.{kept_pages};
 ghost use Rattle.page_buffer.specs.Shown.{data_at, kept_data};
-ghost use Rattle.bad_blocks.specs.Standing.{AreKept};
+ghost use Rattle.flash_log.specs.Standing.{AreKept};
 ghost use Rattle.newest_pages.specs.Opened.{IsOpened};
 
 /// Kept pages that are the newest of their keys have data. Of a device that was opened the kept pages are the newest

@@ -9,8 +9,8 @@ use Rattle.object_store.specs.Stores.{settled}
 use Rattle.flash_tree.specs.Mount.{sizes_of}
 use Rattle.flash_tree.specs.Newest.{HasNewest}
 use Rattle.flash_tree.specs.Tree.{InFootprint}
-use Rattle.objects.specs.Sealing.{EndsOn, IsExact, IsSealed, SealEnds}
-use Rattle.objects.specs.laws.Sealing.{ends_going}
+use Rattle.page_store.specs.Sealing.{EndsOn, IsExact, IsSealed, SealEnds}
+use Rattle.page_store.specs.laws.Sealing.{ends_going}
 use Rattle.page_volume.specs.Closing.{KeepsOnly, CanWrite}
 use Rattle.page_volume.specs.Volumes.{pages_of, is_read_only, is_stopped, IsVolumeOf}
 use Rattle.page_volume.specs.declared.volume.PageVolume.{PageVolume}

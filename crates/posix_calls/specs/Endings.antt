@@ -4,7 +4,7 @@ use Rattle.std.specs.Prelude.{◌≡◌, ◌⊎◌, ◌≤◌, ◌+◌, ℕ, Boo
 use Rattle.nand_model.specs.Calls.{Device}
 use Rattle.nand_model.specs.Counts.{Costs}
 use Rattle.object_store.specs.Stores.{settled}
-use Rattle.objects.specs.Sealing.{EndsOn, StaysRight, IsSealed, SealEnds}
+use Rattle.page_store.specs.Sealing.{EndsOn, StaysRight, IsSealed, SealEnds}
 use Rattle.page_volume.specs.Volumes.{pages_of, is_read_only, is_stopped, IsVolumeOf}
 use Rattle.page_volume.specs.declared.volume.PageVolume.{PageVolume}
 use Rattle.pages.specs.State.{PagesState}

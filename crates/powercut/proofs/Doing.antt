@@ -23,8 +23,8 @@ use Rattle.pages.specs.State.{PagesState}
 use Rattle.pages.specs.Stores.{GoesOn, HasFailed}
 use Rattle.paged_objects.specs.Ending.{HasEndedAt}
 use Rattle.paged_objects.specs.Standing.{Shown}
-use Rattle.objects.specs.Sealing.{EndsOn, StaysRight}
-use Rattle.objects.specs.laws.Sealing.{ends_going}
+use Rattle.page_store.specs.Sealing.{EndsOn, StaysRight}
+use Rattle.page_store.specs.laws.Sealing.{ends_going}
 use Rattle.posix_calls.specs.Endings.{LiesOn}
 use Rattle.posix_calls.specs.laws.Ending.{ends_after, goes_right, right_after}
 use Rattle.powercut.specs.Commands.{Meaning, DoesOne, DoesCommands, Does, LeavesFrom, IsUsed}

@@ -33,7 +33,7 @@ use Rattle.posix_calls.specs.laws.Trusting.{read_since, left_as_seen, lasts_seen
 use Rattle.flash_pages.specs.ReadOnly.{next_after}
 use Rattle.mounting.specs.Made.{CanOnlyBeRead, AreNext}
 use Rattle.mounting.specs.Named.{IsTrustedSince}
-use Rattle.objects.specs.Sealing.{EndsOn}
+use Rattle.page_store.specs.Sealing.{EndsOn}
 use Rattle.paged_objects.specs.Ending.{HasEndedAt}
 use Rattle.paged_objects.specs.Standing.{volume_of, Shown}
 use Rattle.paged_objects.specs.laws.OnFlash.{shown_sound}

@@ -5,7 +5,7 @@ use Rattle.std.specs.List.{list_any}
 use Rattle.volume_terms.specs.Sizes.{Sizes}
 use Rattle.nand_model.specs.Calls.{Device}
 use Rattle.object_store.specs.Stores.{settled}
-use Rattle.objects.specs.Sealing.{EndsOn, StaysRight}
+use Rattle.page_store.specs.Sealing.{EndsOn, StaysRight}
 use Rattle.posix_calls.specs.Endings.{LiesOn}
 use Rattle.posix_profile.specs.Losses.{is_synced, LossLeaves, settled_after}
 use Rattle.posix_profile.specs.Runs.{Replies, is_stop, after_one, after, RunHolds}

@@ -2,7 +2,7 @@
 
 use flash_tree::{FreshPage, Key};
 use nand_model::{Geometry, MemNand};
-use objects::Store;
+use page_store::Store;
 use pages::{PageStore, Pages, Presence};
 use std::alloc::Global;
 use std::num::NonZeroUsize;

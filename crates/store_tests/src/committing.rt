@@ -4,7 +4,7 @@ use crate::edits::{Edit, KEYS, apply, change_of};
 use crate::opening::{calls_when_opened, erased, open_store, scanned};
 use crate::plain::{Plain, Stamps, Step, read, read_all, take_step};
 use nand_model::MemNand;
-use objects::Store;
+use page_store::Store;
 use pages::PageStore;
 use std::alloc::Global;
 use std::process::Abort;

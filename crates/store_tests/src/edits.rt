@@ -2,7 +2,7 @@
 
 use flash_tree::{FreshPage, Key};
 use nand_model::MemNand;
-use objects::Store;
+use page_store::Store;
 use pages::{Cut, PageStore};
 use std::alloc::{AllocError, Global};
 use std::process::Abort;

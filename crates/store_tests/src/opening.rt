@@ -7,7 +7,7 @@ use chunk_index::KeyFilter;
 use flash_tree::Key;
 use nand_model::{Fate, Geometry, MemNand};
 use newest_pages::{NewestPages, open, the_opened_pages_are_the_newest};
-use objects::Store;
+use page_store::Store;
 use std::alloc::Global;
 use std::num::NonZeroUsize;
 use std::test::Fail;

@@ -2,7 +2,7 @@
 
 use crate::edits::{Edit, KEYS, apply, key_of, stamp_of};
 use nand_model::MemNand;
-use objects::Store;
+use page_store::Store;
 use pages::{Cut, PageStore, Pages, Presence};
 use std::alloc::Global;
 use std::process::Abort;

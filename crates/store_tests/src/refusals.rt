@@ -4,7 +4,7 @@ use crate::edits::{Edit, KEYS, apply};
 use crate::opening::{erased, open_store, scanned};
 use crate::plain::{Plain, Stamps, are_found, read, read_all};
 use nand_model::MemNand;
-use objects::Store;
+use page_store::Store;
 use pages::{Cut, PageStore};
 use std::alloc::Global;
 use std::process::Abort;

@@ -10,7 +10,7 @@ use Rattle.chunk_index.specs.Maps.{kept_pages, kept_in, CountsAgree, Retains}
 use Rattle.chunk_index.specs.declared.form.KeptPage.{KeptPage}
 use Rattle.chunk_index.specs.declared.index.Index.{Index}
 use Rattle.transactions.specs.Ready.{IsReady, IsWaiting}
-use Rattle.bad_blocks.specs.Standing.{MayLie, Stands}
+use Rattle.flash_log.specs.Standing.{MayLie, Stands}
 use Rattle.test_log.proofs.Mounting.{ready_counted}
 use Rattle.test_log.specs.Scanned.{IsScanned}
 

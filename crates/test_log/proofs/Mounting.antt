@@ -21,7 +21,7 @@ use Rattle.chunk_index.specs.Newest.{IsFoundOf, Indexes, page_of}
 use Rattle.flash_tree.specs.Numbering.{AreBelow}
 use Rattle.transactions.specs.Ready.{IsOpenOn, IsReady}
 use Rattle.mount_scan.specs.Scanned.{TellsNewest, AreCopiesPlaced, IsNewestCopy, AreNewest}
-use Rattle.bad_blocks.specs.Standing.{IsKeptAt, MayLie, IsWithinLimits}
+use Rattle.flash_log.specs.Standing.{IsKeptAt, MayLie, IsWithinLimits}
 use Rattle.test_log.specs.Scanned.{IsScanned}
 
 -- one of the first n pages is of the key, or none is

@@ -6,7 +6,7 @@ use Rattle.chunk_index.specs.Maps.{kept_pages, CountsAgree}
 use Rattle.chunk_index.specs.declared.form.KeptPage.{KeptPage}
 use Rattle.chunk_index.specs.declared.index.Index.{Index}
 use Rattle.transactions.specs.Ready.{IsReady}
-use Rattle.bad_blocks.specs.Standing.{AreKept, MayLie, IsWithinLimits}
+use Rattle.flash_log.specs.Standing.{AreKept, MayLie, IsWithinLimits}
 
 -- The table and the index of a device on which newest pages were found: groups can be written, the counts of blocks are those
 -- of the index, no block is open, and each kept page is the newest of its key and may be copied.

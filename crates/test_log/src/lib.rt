@@ -1,5 +1,5 @@
-//! The log on a device in memory, for tests and benchmarks: the table of its blocks and the index of its newest pages, as
-//! a scan finds them, with room for moves.
+//! The log on a device in memory, for tests and benchmarks, of the table of blocks and the index of newest pages that a scan
+//! finds.
 #![tactic(auto)]
 
 mod fault;
@@ -8,5 +8,5 @@ mod mount;
 mod standing;
 
 pub use fault::LogFault;
-pub use mount::{MountedLog, mount_log, mount_log_beside};
+pub use mount::{mount_log, mount_log_beside};
 pub use standing::has_unkept;

@@ -1,38 +1,37 @@
-// What a scan finds, with room for moves.
-ghost use Rattle.std.specs.Prelude.{◌≡◌, ◌<◌, ◌≤◌, ◌^◌, ℕ, Some, IfOk, IsSome};
+// The log of what a scan finds.
+ghost use Rattle.std.specs.Prelude.{◌≡◌, ◌<◌, ◌^◌, ℕ, Some, IfOk, IsSome};
 ghost use Rattle.nand_model.specs.MemoryState.{device};
 ghost use Rattle.nand_model.specs.Changes.{OnlyReads};
 ghost use Rattle.block_state.specs.TableOf.{table};
 ghost use Rattle.flash_tree.specs.Newest.{Spot, IsNewest};
 ghost use Rattle.chunk_index.specs.Maps.{kept_pages};
-ghost use Rattle.transactions.specs.Checking.{log_of};
-ghost use Rattle.bad_blocks.specs.Room.{IsRoomFor};
-ghost use Rattle.bad_blocks.specs.Steps.{CanWrite};
+ghost use Rattle.flash_log.specs.LogOf.{HasReserve};
+ghost use Rattle.flash_log.specs.Room.{IsRoomFor};
 ghost use Rattle.test_log.specs.Scanned.{IsScanned};
 
 use crate::fault::LogFault;
 use crate::keys::OrdinaryKeys;
 use crate::standing::may_stand;
-use bad_blocks::MoveRoom;
 use block_state::Blocks;
 use chunk_index::Index;
+use flash_log::{Log, MoveRoom};
 use mount_scan::scan_newest;
 use nand_model::{MemNand, Nand};
 use std::alloc::Global;
 use transactions::table_of;
 use volume_terms::NUMBER_END;
 
-/// The log on a device.
+/// The table of blocks and the index of pages that a scan finds, and room for moves.
 #[derive(Drop)]
-pub struct MountedLog {
-    pub blocks: Blocks,
-    /// The newest page of each key of a chunk that a tree may look up is kept; beside a checkpoint none of the object of checkpoints is.
-    pub index: Index,
-    pub room: MoveRoom,
+struct Scanned {
+    blocks: Blocks,
+    index: Index,
+    room: MoveRoom,
 }
 
-/// What a scan of a device finds. Each tag of a good block is read once. No block is open.
-fn scan_log(alloc: Global, nand: &mut MemNand) -> Result<MountedLog, LogFault>
+/// What a scan of a device finds: the newest page of each key of a chunk that a tree may look up is committed. Each tag of a
+/// good block is read once. No block is open.
+fn scan_log(alloc: Global, nand: &mut MemNand) -> Result<Scanned, LogFault>
     ensures reads { OnlyReads (device nand.old) (device nand.new) }
     ensures scanned { IfOk result (λ log. IsScanned (device nand.new) (table log.blocks) log.index) }
     ensures all { IfOk result (λ log. (o c : ℕ) (s : Spot) → c < 2 ^ 32 → IsNewest (device nand.new).flash o c s → IsSome (kept_pages log.index o c)) }
@@ -45,7 +44,7 @@ fn scan_log(alloc: Global, nand: &mut MemNand) -> Result<MountedLog, LogFault>
     let blocks = table_of(alloc, nand, found.numbers)?;
     let (index, blocks) = Index::from_newest(alloc, found.newest, blocks)?;
     let room = MoveRoom::new(alloc, nand.geometry())?;
-    Ok(MountedLog {
+    Ok(Scanned {
         blocks,
         index,
         room,
@@ -53,40 +52,54 @@ fn scan_log(alloc: Global, nand: &mut MemNand) -> Result<MountedLog, LogFault>
 }
 
 /// The log on a device with so many blocks to spare. Each tag of a good block is read once. No block is open.
-pub fn mount_log(alloc: Global, nand: &mut MemNand, spare: u32) -> Result<MountedLog, LogFault>
-    ensures reads { OnlyReads (device nand.old) (device nand.new) }
-    ensures can { IfOk result (λ log. CanWrite spare (log_of (device nand.new) (table log.blocks)) log.index) }
-    ensures all { IfOk result (λ log. (o c : ℕ) (s : Spot) → c < 2 ^ 32 → IsNewest (device nand.new).flash o c s → IsSome (kept_pages log.index o c)) }
-    ensures room { IfOk result (λ log. IsRoomFor (device nand.new).geometry log.room) }
+pub fn mount_log(alloc: Global, nand: MemNand, spare: u32) -> Result<Log<MemNand>, LogFault>
+    ensures reads { IfOk result (λ log. OnlyReads (device nand) (device log.device)) }
+    ensures reserve { IfOk result HasReserve }
+    ensures spare { IfOk result (λ log. log.spare ≡ spare) }
+    ensures all { IfOk result (λ log. (o c : ℕ) (s : Spot) → c < 2 ^ 32 → IsNewest (device log.device).flash o c s → IsSome (kept_pages log.index o c)) }
 {
-    let log = scan_log(alloc, nand)?;
-    if !may_stand(&log.blocks, &log.index, spare) {
+    let mut nand = nand;
+    let found = scan_log(alloc, &mut nand)?;
+    if !may_stand(&found.blocks, &found.index, spare) {
         return Err(LogFault::Worn);
     }
-    Ok(log)
+    Ok(Log {
+        device: nand,
+        blocks: found.blocks,
+        index: found.index,
+        room: found.room,
+        spare,
+    })
 }
 
 /// The log on a device with so many blocks to spare, while this block may have a whole checkpoint: it is noted, and no page
-/// of the object of checkpoints is kept. Each tag of a good block is read once. No block is open.
+/// of the object of checkpoints is committed. Each tag of a good block is read once. No block is open.
 pub fn mount_log_beside(
     alloc: Global,
-    nand: &mut MemNand,
+    nand: MemNand,
     spare: u32,
     checkpoint: u32,
-) -> Result<MountedLog, LogFault>
-    ensures reads { OnlyReads (device nand.old) (device nand.new) }
-    ensures can { IfOk result (λ log. CanWrite spare (log_of (device nand.new) (table log.blocks)) log.index) }
-    ensures room { IfOk result (λ log. IsRoomFor (device nand.new).geometry log.room) }
+) -> Result<Log<MemNand>, LogFault>
+    ensures reads { IfOk result (λ log. OnlyReads (device nand) (device log.device)) }
+    ensures reserve { IfOk result HasReserve }
+    ensures spare { IfOk result (λ log. log.spare ≡ spare) }
     ensures noted { IfOk result (λ log. (table log.blocks).checkpoint ≡ Some checkpoint) }
 {
-    let mut log = scan_log(alloc, nand)?;
-    log.index.retain(&OrdinaryKeys, &mut log.blocks);
-    if !may_stand(&log.blocks, &log.index, spare) {
+    let mut nand = nand;
+    let mut found = scan_log(alloc, &mut nand)?;
+    found.index.retain(&OrdinaryKeys, &mut found.blocks);
+    if !may_stand(&found.blocks, &found.index, spare) {
         return Err(LogFault::Worn);
     }
-    if checkpoint >= log.blocks.geometry().blocks() || !log.blocks.is_free(checkpoint) {
+    if checkpoint >= found.blocks.geometry().blocks() || !found.blocks.is_free(checkpoint) {
         return Err(LogFault::NotFree);
     }
-    log.blocks.note_checkpoint(checkpoint);
-    Ok(log)
+    found.blocks.note_checkpoint(checkpoint);
+    Ok(Log {
+        device: nand,
+        blocks: found.blocks,
+        index: found.index,
+        room: found.room,
+        spare,
+    })
 }

@@ -3,8 +3,8 @@ ghost use Rattle.std.specs.Prelude.{◌≡◌, ◌<◌, ◌≤◌, ℕ, IsTrue};
 ghost use Rattle.nand_model.specs.Calls.{Device};
 ghost use Rattle.block_state.specs.Kept.{bad_count};
 ghost use Rattle.block_state.specs.TableOf.{table};
-ghost use Rattle.bad_blocks.specs.Taking.{HasUnkept};
-ghost use Rattle.bad_blocks.specs.Standing.{KeepsOrdinary, Stands};
+ghost use Rattle.flash_log.specs.Taking.{HasUnkept};
+ghost use Rattle.flash_log.specs.Standing.{KeepsOrdinary, Stands};
 ghost use Rattle.test_log.specs.Scanned.{IsScanned};
 
 use block_state::Blocks;

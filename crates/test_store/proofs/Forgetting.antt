@@ -13,7 +13,7 @@ use Rattle.chunk_index.specs.declared.form.KeptPage.{KeptPage}
 use Rattle.chunk_index.specs.declared.form.Present.TheVariants as presents
 use Rattle.chunk_index.specs.declared.index.Index.{Index}
 use Rattle.transactions.specs.Ready.{IsReady}
-use Rattle.bad_blocks.specs.Standing.{MayLie}
+use Rattle.flash_log.specs.Standing.{MayLie}
 use Rattle.newest_pages.specs.Opened.{IsOpened, AreLeft}
 use Rattle.test_store.specs.Keeping.{KeepsNewest}
 

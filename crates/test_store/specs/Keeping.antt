@@ -8,7 +8,7 @@ use Rattle.chunk_index.specs.declared.index.Index.{Index}
 use Rattle.chunk_index.specs.Maps.{kept_pages, CountsAgree}
 use Rattle.page_buffer.specs.Buffering.{IsUnbuffered}
 use Rattle.transactions.specs.Ready.{IsReady}
-use Rattle.bad_blocks.specs.Standing.{AreKept, MayLie}
+use Rattle.flash_log.specs.Standing.{AreKept, MayLie}
 use Rattle.newest_pages.specs.Opened.{AreLeft}
 
 -- What is kept is the newest page of its key, and no page is buffered; no block is open, and the counts of blocks are those of

@@ -4,7 +4,7 @@ ghost use Rattle.pages.specs.Changes.{AreApart, AreSized, AreOfTrees};
 
 use flash_tree::{CHECK_OBJECT, CHUNK_END, FreshPage};
 use nand_model::Nand;
-use objects::Store;
+use page_store::Store;
 use pages::{Change, Cut, PageStore, Pages, are_sized};
 use std::alloc::{AllocError, Global};
 

@@ -6,17 +6,18 @@ ghost use Rattle.block_state.specs.Kept.{bad_count};
 ghost use Rattle.block_state.specs.TableOf.{table};
 ghost use Rattle.chunk_index.specs.Maps.{CountsAgree};
 ghost use Rattle.transactions.specs.Ready.{IsReady};
-ghost use Rattle.bad_blocks.specs.Standing.{KeepsOrdinary, Stands, HasFreeBlocks};
+ghost use Rattle.flash_log.specs.Standing.{KeepsOrdinary, Stands, HasFreeBlocks};
 ghost use Rattle.newest_pages.specs.Opened.{IsOpened};
 ghost use Rattle.test_store.specs.Keeping.{KeepsNewest};
 
 use crate::fault::StandFault;
 use block_state::Blocks;
 use chunk_index::{Index, KeyFilter};
+use flash_log::Log;
 use flash_tree::{CHECK_OBJECT, Key};
 use nand_model::Nand;
 use newest_pages::{Opened, open};
-use objects::Store;
+use page_store::Store;
 use std::alloc::Global;
 use std::num::NonZeroUsize;
 use volume_terms::NUMBER_END;
@@ -111,7 +112,11 @@ pub fn open_kept<N: Nand + Drop, F: KeyFilter>(
         return Err(StandFault::Worn);
     }
     let Opened { blocks, index, .. } = opened;
-    match Store::new(alloc, device, blocks, index, spare, capacity) {
+    let log = match Log::new(alloc, device, blocks, index, spare) {
+        Ok(log) => log,
+        Err((_, refused)) => return Err(refused.into()),
+    };
+    match Store::new(alloc, log, capacity) {
         Ok(store) => Ok(store),
         Err((_, refused)) => Err(refused.into()),
     }

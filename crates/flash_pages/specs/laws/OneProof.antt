@@ -1,5 +1,5 @@
 -- There is at most one proof that an honest device has what the pages hold, so that it can be kept as a fact.
-use Rattle.objects.specs.laws.OneProof.{carries_prop}
+use Rattle.page_store.specs.laws.OneProof.{carries_prop}
 use Rattle.pages.specs.State.{PagesState}
 use Rattle.flash_pages.specs.ReadOnly.{IsCarrying}
 

@@ -5,7 +5,7 @@ use crate::usage::nanoseconds_since;
 use anyhow::{Context, Result, anyhow};
 use flash_tree::FreshPage;
 use nand_model::MemNand;
-use objects::Store;
+use page_store::Store;
 use pages::{Cut, PageStore, Pages};
 use rand_core::utils::NextWord;
 use rand_pcg::Pcg32;

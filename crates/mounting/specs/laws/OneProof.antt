@@ -3,7 +3,7 @@ use Rattle.std.specs.Prelude.{Bool}
 use Rattle.nand_model.specs.Calls.{Device}
 use Rattle.chunk_index.specs.declared.index.Index.{Index}
 use Rattle.chunk_index.specs.Maps.{kept_pages}
-use Rattle.objects.specs.laws.OneProof.{are_kept_prop}
+use Rattle.flash_log.specs.laws.OneProof.{are_kept_prop}
 use Rattle.mounting.specs.Lending.{TrustsKept}
 
 pub trusts_prop : (d : Device) (told : Bool) (x : Index) → IsProp (TrustsKept d told x)

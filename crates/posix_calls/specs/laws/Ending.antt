@@ -1,7 +1,7 @@
 -- Calls of a store that is given up at the end, one after the other.
 use Rattle.std.proofs.Common.{◌∙◌, arith}
 use Rattle.nand_model.specs.laws.Calls.{lasts_on}
-use Rattle.objects.specs.Sealing.{EndsOn, StaysRight}
+use Rattle.page_store.specs.Sealing.{EndsOn, StaysRight}
 use Rattle.pages.specs.State.{PagesState}
 use Rattle.pages.specs.Stores.{GoesOn}
 use Rattle.paged_objects.specs.laws.Going.{numbers_on}

@@ -1,4 +1,3 @@
-use Rattle.std.proofs.Common.{◌≡◌}
 use Rattle.block_state.specs.Table.{Table}
 use Rattle.block_state.specs.TableOf.{table}
 use Rattle.chunk_index.specs.Free.{HasMarks}
@@ -10,7 +9,7 @@ pub returns-clause-tables : goal.returns-clause-tables
 returns-clause-tables g c =
     let on = c.args.on in
     let flash = (g.N.Nand.state on.device).flash in
-    let blocks = table c.in_ok-store.store.blocks in
+    let blocks = table c.in_ok-store.store.log.blocks in
     let told = c.in_ok-store.ensures.tables in
     let opened = c.requires.read.tables.tables in
     let ready = opened.ready (c.requires.can c.if-worn.false).0 in

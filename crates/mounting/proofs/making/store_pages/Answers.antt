@@ -1,9 +1,13 @@
-use Rattle.std.proofs.Common.{◌≡◌, ◌≤◌, ap, subst, rules}
+use Rattle.std.proofs.Common.{◌≡◌, ◌≤◌, ◌/◌, ◌∙◌, ap, subst, rules}
+use Rattle.nand_model.specs.Calls.{Device}
 use Rattle.flash_tree.specs.Places.{numbers_of}
 use Rattle.block_state.specs.Kept.{bad_count}
 use Rattle.block_state.specs.TableOf.{table}
-use Rattle.bad_blocks.specs.Standing.{Stands, HasFreeBlocks}
-use Rattle.objects.specs.StateOf.{lent_by, state_of}
+use Rattle.flash_log.specs.Standing.{Stands, HasFreeBlocks}
+use Rattle.page_buffer.specs.BufferOf.{buffered}
+use Rattle.page_buffer.specs.Shown.{present_data}
+use Rattle.page_store.specs.StoreOf.{kept_map}
+use Rattle.page_store.specs.StateOf.{lent_by, state_of}
 use Rattle.tree_walk.specs.Trees.{keeps_key}
 use Rattle.mounting.proofs.PagesMade.{ready, stands, few, free, store_pages}
 use Rattle.mounting.proofs.making.store_pages.Goals as goal
@@ -21,26 +25,36 @@ new-requires-clause-stands g c =
     let same : on.spare ≡ c.from.result = search rules in
     subst (λ s. Stands s d (table on.blocks) on.index) same (stands (keeps_key on.tree) d (table on.blocks) on.index (numbers_of on.numbers) on.spare c.requires.read.tables c.requires.fitting c.requires.room c.requires.can c.requires.ordinary)
 
-pub new-requires-clause-few : goal.new-requires-clause-few
-new-requires-clause-few g c =
+pub new-requires-2-clause-few : goal.new-requires-2-clause-few
+new-requires-2-clause-few g c =
     let on = c.args.on in
     let d = g.N.Nand.state on.device in
     let same : on.spare ≡ c.from.result = search rules in
-    subst (λ s. bad_count (table on.blocks) ≤ s) same (few (keeps_key on.tree) d (table on.blocks) on.index (numbers_of on.numbers) on.spare c.requires.read.tables c.requires.fitting c.requires.room c.requires.can)
+    rw (c.in-Ok.ensures.tables.0, c.in-Ok.ensures.spare) (subst (λ s. bad_count (table on.blocks) ≤ s) same (few (keeps_key on.tree) d (table on.blocks) on.index (numbers_of on.numbers) on.spare c.requires.read.tables c.requires.fitting c.requires.room c.requires.can))
 
-pub new-requires-clause-free : goal.new-requires-clause-free
-new-requires-clause-free g c =
+pub new-requires-2-clause-free : goal.new-requires-2-clause-free
+new-requires-2-clause-free g c =
     let on = c.args.on in
     let d = g.N.Nand.state on.device in
     let same : on.spare ≡ c.from.result = search rules in
-    subst (λ s. HasFreeBlocks (table on.blocks) s) same (free (keeps_key on.tree) d (table on.blocks) on.index (numbers_of on.numbers) on.spare c.requires.read.tables c.requires.fitting c.requires.room c.requires.can)
+    rw (c.in-Ok.ensures.tables.0, c.in-Ok.ensures.spare) (subst (λ s. HasFreeBlocks (table on.blocks) s) same (free (keeps_key on.tree) d (table on.blocks) on.index (numbers_of on.numbers) on.spare c.requires.read.tables c.requires.fitting c.requires.room c.requires.can))
 
-pub returns-in-Ok-clause-made : goal.returns-in-Ok-clause-made
-returns-in-Ok-clause-made g c =
+pub new-requires-2-clause-kept : goal.new-requires-2-clause-kept
+new-requires-2-clause-kept g c = rw (c.in-Ok.ensures.device, c.in-Ok.ensures.tables.1) c.requires.read.tables.tables.newest
+
+pub returns-in-Ok-new-clause-made : goal.returns-in-Ok-new-clause-made
+returns-in-Ok-new-clause-made g c =
     let on = c.args.on in
     let d = g.N.Nand.state on.device in
-    let s = c.in-Ok.store in
-    let told = c.in-Ok.ensures in
+    let s = c.in-Ok-new.store in
+    let log = c.in-Ok.log in
+    let logged = c.in-Ok.ensures in
+    let stored = c.in-Ok-new.ensures in
     let same : c.from.result ≡ on.spare = search rules in
+    let device : g.N.Nand.state log.device ≡ d = ap g.N.Nand.state logged.device in
     store_pages (keeps_key on.tree) d (table on.blocks) on.index (numbers_of on.numbers) on.spare c.requires.read.tables c.requires.fitting c.requires.room c.requires.can (c.the_counts_are_of_the_keys.ensures.none on.index)
-    (state_of s) (lent_by s) (ap g.N.Nand.state told.device) (subst (λ k. (table s.blocks ≡ table on.blocks) × (s.spare ≡ k)) same told.blocks) told.whole told.most told.kept told.pages
+    (state_of s) (lent_by s) (ap (λ l. g.N.Nand.state l.device) stored.log ∙ device)
+    (ap (λ l. table l.blocks) stored.log ∙ ap table logged.tables.0, ap (λ l. l.spare) stored.log ∙ logged.spare ∙ same) stored.whole
+    (stored.most ∙ ap (λ (e : Device). e.geometry.pages / 4) device)
+    (λ o k. ap (λ l. kept_map (g.N.Nand.state l.device) l.index o k) stored.log ∙ ap (λ (e : Device). kept_map e log.index o k) device ∙ ap (λ x. kept_map d x o k) logged.tables.1)
+    (λ o k. ap (λ l. present_data l.index (buffered s.buffer) d.flash o k) stored.log ∙ ap (λ x. present_data x (buffered s.buffer) d.flash o k) logged.tables.1 ∙ (rw (device, logged.tables.1) at stored.pages o k))

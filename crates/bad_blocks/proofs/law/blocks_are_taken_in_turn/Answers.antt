@@ -1,5 +1,0 @@
-use Rattle.bad_blocks.proofs.Passing.{passes_on}
-use Rattle.bad_blocks.proofs.law.blocks_are_taken_in_turn.Goals as goal
-
-pub returns : goal.returns
-returns c = passes_on

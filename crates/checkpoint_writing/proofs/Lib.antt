@@ -1,9 +1,0 @@
-pub mod KeyLists
-pub mod NextKeys
-pub mod Rows
-pub mod PageParts
-pub mod Keeping
-pub mod Listed
-pub mod Noting
-pub mod Written
-pub mod Shown

@@ -1,6 +1,0 @@
-pub mod Listing
-pub mod Source
-pub mod Due
-pub mod Keeping
-pub mod Writing
-pub mod Sealing

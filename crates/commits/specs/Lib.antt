@@ -1,5 +1,0 @@
-pub mod Buffered
-pub mod Carrying
-pub mod Keeping
-pub mod Committing
-pub mod Writing

@@ -1,0 +1,69 @@
+-- What holds where a block is allocated.
+use Rattle.std.proofs.Common.{◌≡◌, ◌≤◌, ℕ, true, Some, Result, Ok, Err, sym, ap, ◌∙◌, arith}
+use Rattle.nand_model.specs.Calls.{Device, Lasts}
+use Rattle.block_state.specs.Table.{Table}
+use Rattle.chunk_index.specs.Kept.{HoldsNone}
+use Rattle.chunk_index.specs.Maps.{kept_pages, kept_in}
+use Rattle.chunk_index.specs.declared.index.Index.{Index}
+use Rattle.transactions.specs.Checking.{log_of}
+use Rattle.transactions.specs.Handing.{HandsOut}
+use Rattle.transactions.specs.Ready.{IsReady}
+use Rattle.flash_log.specs.Copying.{KeepsCounts, KeepsDataAt}
+use Rattle.flash_log.specs.Passing.{Passes}
+use Rattle.flash_log.specs.Standing.{AreHeld, KeepsFree, Stands}
+use Rattle.flash_log.specs.Steps.{Step}
+use Rattle.flash_log.specs.Taking.{TakeEnds, Takes, TakesNone}
+use Rattle.flash_log.specs.declared.take.TakeFault.{TakeFault}
+use Rattle.flash_log.specs.laws.FreeBlocks.{free_still}
+use Rattle.flash_log.specs.laws.Keeping.{same_here, keeps_passes}
+use Rattle.flash_log.specs.laws.KeptPages.{kept_where, data_where}
+use Rattle.flash_log.specs.laws.Moves.{are_held, stands_still, stands_kept}
+use Rattle.flash_log.specs.laws.Steps.{step_kept}
+
+module _ (spare : ℕ) (d0 d1 : Device) (t u : Table) (x : Index) (law : (b : ℕ) → kept_in x b ≡ 0 → HoldsNone (kept_pages x) b)
+    (lasts : Lasts d0 d1) (ready : IsReady d1 u) (numbers : HandsOut d0 d1 t u) (passes : Passes d0 d1 t u) (stands : Stands spare d0 t x) where
+  keeps : KeepsCounts d0 d1 t u
+  keeps = keeps_passes d0 d1 t t u (same_here t) lasts ready numbers (λ is. is) passes
+
+  held : AreHeld t x
+  held = are_held t x law stands.tables.counts
+
+  stored : d0.honest ≡ true → KeepsDataAt t d0.flash d1.flash
+  stored honest = data_where d0.flash d1.flash t (passes.newest honest)
+
+  -- a block was taken
+  module _ (b : ℕ) (takes : Takes b d1 t u) where
+    none_kept : (u.entry b).kept ≡ 0
+    none_kept = passes.kept b ∙ takes.unkept
+
+    written : (o : ℕ) → u.open_block ≡ Some o → (u.entry o).kept ≤ (u.entry o).next
+    written o is =
+        let both : Some b ≡ Some o = sym takes.open_block ∙ is in
+        let same : b ≡ o = cc in
+        let none : (u.entry o).kept ≡ (u.entry b).kept = ap (λ k. (u.entry k).kept) (sym same) in
+        let zero_there = none_kept in
+        omega (arith, none, zero_there)
+
+    stands_taken : Stands spare d1 u x
+    stands_taken = stands_still spare d0 d1 t u x held keeps stands written (λ honest power. kept_where d0.flash d1.flash t (passes.newest honest))
+
+    free_where_taken : KeepsFree spare d0 d1 x x
+    free_where_taken = free_still spare d0 d1 t u x held keeps stands stands_taken.tables (λ honest. kept_where d0.flash d1.flash t (passes.newest honest))
+
+    pub step_taken : Step spare (log_of d0 t) (log_of d1 u) x x
+    step_taken = step_kept spare d0 d1 t u x held keeps stands stands_taken stored free_where_taken
+
+  -- none was
+  stands_none : TakesNone t u → Stands spare d1 u x
+  stands_none none = stands_kept spare d0 d1 t u x held keeps stands none.open_block (λ honest power. kept_where d0.flash d1.flash t (passes.newest honest))
+
+  free_where_none : TakesNone t u → KeepsFree spare d0 d1 x x
+  free_where_none none = free_still spare d0 d1 t u x held keeps stands (stands_none none).tables (λ honest. kept_where d0.flash d1.flash t (passes.newest honest))
+
+  pub step_untaken : TakesNone t u → Step spare (log_of d0 t) (log_of d1 u) x x
+  step_untaken none = step_kept spare d0 d1 t u x held keeps stands (stands_none none) stored (free_where_none none)
+
+  -- whether one was or not
+  pub step_tried : (result : Result ℕ TakeFault) → TakeEnds spare d1 t u result → Step spare (log_of d0 t) (log_of d1 u) x x
+  step_tried (Ok b) ends = step_taken b ends.0
+  step_tried (Err fault) ends = step_untaken ends.0

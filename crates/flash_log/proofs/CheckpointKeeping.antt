@@ -1,0 +1,251 @@
+-- What the steps of the writing of a checkpoint keep.
+use Rattle.std.proofs.Common.{◌≡◌, ◌⊎◌, ◌<◌, ◌≤◌, ℕ, ◌+◌, ◌-◌, true, false, Some, None, Result, Ok, Err, refl, sym, ap, subst, ◌∙◌, arith, inl, inr}
+use Rattle.std.proofs.lemmas.Bool.{cases_Bool, cases_eq}
+use Rattle.nand_model.specs.Calls.{Device, Lasts, Marks, MarkEnds}
+use Rattle.nand_model.specs.laws.Calls.{lasts_on, lasts_here}
+use Rattle.nand_model.specs.declared.geometry.Geometry.{Geometry}
+use Rattle.nand_model.specs.declared.nand.Gone.{Gone}
+use Rattle.flash_tree.specs.Keeping.{KeepsElsewhere, StaysNewest}
+use Rattle.flash_tree.specs.Numbering.{AreBelow}
+use Rattle.flash_tree.specs.laws.Newest.{stays_on}
+use Rattle.flash_tree.specs.laws.Place.{had_power}
+use Rattle.flash_tree.specs.FreeBlocks.{LeavesFree}
+use Rattle.block_state.specs.declared.blocks.BlockEntry.{BlockEntry}
+use Rattle.block_state.specs.Kept.{bad_count, unkept_count, SameCounts}
+use Rattle.block_state.specs.laws.Kept.{mark_bad, mark_unkept, same_bad_count, same_unkept_count}
+use Rattle.block_state.specs.Table.{Table, Sets}
+use Rattle.chunk_index.specs.declared.form.KeptPage.{KeptPage}
+use Rattle.chunk_index.specs.declared.index.Index.{Index}
+use Rattle.chunk_index.specs.Maps.{kept_pages}
+use Rattle.transactions.specs.Checking.{LogState, log_of}
+use Rattle.transactions.specs.Handing.{HandsNumbers, HandsOut}
+use Rattle.transactions.specs.laws.Handing.{below_greater, hands_nothing}
+use Rattle.transactions.specs.Marking.{NotesMark}
+use Rattle.transactions.specs.Opening.{MayLose}
+use Rattle.transactions.specs.Ready.{IsReady}
+use Rattle.flash_log.specs.Passing.{Passes}
+use Rattle.flash_log.specs.Standing.{AreHeld, AreKept, HasVersion, IsKept, KeepsFree, SameData, Stands, TablesAgree}
+use Rattle.flash_log.specs.Taking.{LiesApart}
+use Rattle.flash_log.specs.laws.FreeBlocks.{leaves_unkept}
+use Rattle.flash_log.specs.laws.KeptPages.{kept_stays, data_stays, spot_of}
+use Rattle.flash_log.specs.laws.Moves.{may_lie_later}
+use Rattle.flash_log.specs.CheckpointKeeping.{IsExact, KeepsPages, Seals, ShowsExactly, StaysChecked}
+use Rattle.flash_log.specs.CheckpointWriting.{Leaves}
+use Rattle.posix_profile.specs.State.{Objects}
+
+-- ---- two steps in turn
+
+-- what one hands out and then another
+numbers_on : (a b c : Device) (t u v : Table) → Lasts a b → Lasts b c → HandsNumbers a b t u → HandsNumbers b c u v → HandsNumbers a c t v
+numbers_on a b c t u v before after first then = record {
+  groups_rise = omega (arith, first.groups_rise, then.groups_rise);
+  seqs_rise = omega (arith, first.seqs_rise, then.seqs_rise);
+  seqs = omega (arith, first.seqs, then.seqs);
+  groups = λ honest power. omega (arith, first.groups honest (had_power b c after power), then.groups (before.honest ∙ honest) power);
+  below = λ honest is. then.below (before.honest ∙ honest) (first.below honest is);
+  written = written;
+} where
+  written : a.honest ≡ true → AreBelow a.flash t.next_group t.next_seq → (more : ℕ) → c.changes ≡ a.changes + more → AreBelow c.flash (t.next_group + more) (t.next_seq + more)
+  written honest is more counted = elim (cases_Bool b.gone) [
+    | inl gone ↦ rw (after.gone gone) (first.written honest is more (ap (λ (d : Device). d.changes) (sym (after.gone gone)) ∙ counted))
+    | inr power ↦
+        let still : b.honest ≡ true = before.honest ∙ honest in
+        let rest : c.changes ≡ b.changes + (c.changes - b.changes) = omega (arith, after.changes) in
+        below_greater c.flash (u.next_group + (c.changes - b.changes)) (u.next_seq + (c.changes - b.changes)) _ _
+        (omega (arith, first.groups honest power, counted, after.changes)) (omega (arith, first.seqs, counted, after.changes))
+        (then.written still (first.below honest is) (c.changes - b.changes) rest)
+  ]
+
+pub keeps_on : (a b c : LogState) → KeepsPages a b → KeepsPages b c → KeepsPages a c
+keeps_on a b c first then = record {
+  lasts = lasts_on a.device b.device c.device first.lasts then.lasts;
+  ready = then.ready;
+  numbers = numbers_on a.device b.device c.device a.table b.table c.table first.lasts then.lasts first.numbers then.numbers;
+  geometry = then.geometry ∙ first.geometry;
+  kept = λ k. then.kept k ∙ first.kept k;
+  unkept = then.unkept ∙ first.unkept;
+  limits = λ is. then.limits (first.limits is);
+  newest = λ honest o k s other newest some.
+      let stays = first.newest honest o k s other newest some in
+      stays_on a.device.flash b.device.flash c.device.flash o k s stays
+      (then.newest (first.lasts.honest ∙ honest) o k s other stays.newest (let same = first.kept s.block in omega (arith, same, some)));
+}
+
+pub leaves_on : (right : Type 0) (block : ℕ) (a b c : LogState) → Leaves right block a b → Leaves (Unit {0}) block b c → Leaves right block a c
+leaves_on right block a b c first then = record {
+  keeps = keeps_on a b c first.keeps then.keeps;
+  checked = λ is honest was. then.checked tt (first.keeps.lasts.honest ∙ honest) (first.checked is honest was);
+  reads = let one = first.reads in let two = then.reads in omega (arith, one, two);
+  open_block = then.open_block;
+  checkpoint = then.checkpoint;
+}
+
+-- a block is taken
+pub keeps_taken : (d e : Device) (t u : Table) → Lasts d e → IsReady e u → HandsNumbers d e t u → Passes d e t u → KeepsPages (log_of d t) (log_of e u)
+keeps_taken d e t u lasts ready numbers passes = record {
+  lasts = lasts;
+  ready = ready;
+  numbers = numbers;
+  geometry = passes.geometry;
+  kept = passes.kept;
+  unkept = passes.unkept;
+  limits = λ (groups, seqs). (let same = passes.next_group in omega (arith, same, groups), passes.limit seqs);
+  newest = λ honest o k s other newest some. passes.newest honest o k s newest some;
+}
+
+-- nothing is done
+pub keeps_here : (d : Device) (t : Table) → IsReady d t → HandsNumbers d d t t → KeepsPages (log_of d t) (log_of d t)
+keeps_here d t ready numbers = record {
+  lasts = lasts_here d;
+  ready = ready;
+  numbers = numbers;
+  geometry = refl;
+  kept = λ b. refl;
+  unkept = refl;
+  limits = λ is. is;
+  newest = λ honest o k s other newest some. record { newest = newest; page = refl };
+}
+
+-- ---- a mark
+
+module _ (v : ℕ) (d e : Device) (t u : Table) (result : Result (Unit {0}) Gone) (within : v < t.geometry.blocks) (good : (t.entry v).bad ≡ false) (none : (t.entry v).kept ≡ 0)
+    (marks : Marks v d e result) (notes : NotesMark v e.flash t u) where
+  marked_kept : (b : ℕ) → (u.entry b).kept ≡ (t.entry b).kept
+  marked_kept b = elim (cases_eq b v) [
+    | inl is ↦ ap (λ k. (u.entry k).kept) is ∙ ap (λ (x : BlockEntry). x.kept) notes.sets.here ∙ ap (λ k. (t.entry k).kept) (sym is)
+    | inr ne ↦ ap (λ (x : BlockEntry). x.kept) (notes.sets.others b ne)
+  ]
+
+  set_bad : e.flash.bad v ≡ true → Sets v (record (t.entry v) { bad = true }) t u
+  set_bad is = record {
+    here = notes.sets.here ∙ ap (λ x. record (t.entry v) { bad = x }) is;
+    others = notes.sets.others;
+    geometry = notes.sets.geometry;
+    next_group = notes.sets.next_group;
+  }
+
+  same_marks : e.flash.bad v ≡ false → SameCounts t u
+  same_marks is = record {
+    bad = λ b. elim (cases_eq b v) [
+      | inl at ↦ ap (λ k. (u.entry k).bad) at ∙ ap (λ (x : BlockEntry). x.bad) notes.sets.here ∙ is ∙ sym good ∙ ap (λ k. (t.entry k).bad) (sym at)
+      | inr ne ↦ ap (λ (x : BlockEntry). x.bad) (notes.sets.others b ne)
+    ];
+    kept = marked_kept;
+    geometry = notes.sets.geometry;
+  }
+
+  -- where it is set one more is bad
+  pub one_more : e.flash.bad v ≡ true → bad_count u ≡ bad_count t + 1
+  one_more is = mark_bad t u v (set_bad is) within good
+
+  -- and at most one more in any case
+  pub most_one : bad_count u ≤ bad_count t + 1
+  most_one = elim (cases_Bool (e.flash.bad v)) [
+    | inl is ↦ let more = one_more is in omega (arith, more)
+    | inr is ↦ let same : bad_count u ≡ bad_count t = same_bad_count t u (same_marks is) in omega (arith, same)
+  ]
+
+  marked_unkept : unkept_count u + bad_count u ≡ unkept_count t + bad_count t
+  marked_unkept = elim (cases_Bool (e.flash.bad v)) [
+    | inl is ↦
+        let more : bad_count u ≡ bad_count t + 1 = one_more is in
+        let less : unkept_count t ≡ unkept_count u + 1 = mark_unkept t u v (set_bad is) within good none in
+        omega (arith, more, less)
+    | inr is ↦
+        let bad : bad_count u ≡ bad_count t = same_bad_count t u (same_marks is) in
+        let unkept : unkept_count u ≡ unkept_count t = same_unkept_count t u (same_marks is) in
+        omega (arith, bad, unkept)
+  ]
+
+  pub keeps_marked : IsReady e u → HandsNumbers d e t u → (d.honest ≡ true → KeepsElsewhere v d.flash e.flash) → KeepsPages (log_of d t) (log_of e u)
+  keeps_marked ready numbers elsewhere = record {
+    lasts = marks.lasts;
+    ready = ready;
+    numbers = numbers;
+    geometry = notes.sets.geometry;
+    kept = marked_kept;
+    unkept = marked_unkept;
+    limits = λ (groups, seqs). (let same = notes.sets.next_group in omega (arith, same, groups), let same = notes.next_seq in omega (arith, same, seqs));
+    newest = λ honest o k s other newest some. elsewhere honest o k s newest (λ is. let zero_there : (t.entry s.block).kept ≡ 0 = ap (λ b. (t.entry b).kept) is ∙ none in omega (arith, zero_there, some));
+  }
+
+  same_failures : (r : Result (Unit {0}) Gone) → MarkEnds d e r → e.failures ≡ d.failures
+  same_failures (Ok done) ends = ends.failures
+  same_failures (Err gone) ends = ends.failures
+
+  -- what a mark leaves of a block that was closed
+  pub leaves_marked : IsReady e u → HandsOut d e t u → (d.honest ≡ true → KeepsElsewhere v d.flash e.flash) → t.open_block ≡ None → MayLose v t → Leaves (Unit {0}) v (log_of d t) (log_of e u)
+  leaves_marked ready hands elsewhere closed first = record {
+    keeps = keeps_marked ready hands.numbers elsewhere;
+    checked = λ _. hands.truth.checked;
+    reads = let same = same_failures result marks.ends in let reads = marks.reads in omega (arith, same, reads);
+    open_block = notes.open_block ∙ closed;
+    checkpoint = λ c is. go c (hands.truth.noted c is) first;
+  } where
+    go : (c : ℕ) → t.checkpoint ≡ Some c → (t.checkpoint ≡ None) ⊎ (t.checkpoint ≡ Some v) → c ≡ v
+    go c was (inl none_there) = let two : None ≡ Some c = sym none_there ∙ was in absurd cc
+    go c was (inr here) = let both : Some v ≡ Some c = sym here ∙ was in cc
+
+-- ---- so what stands of a log stands
+
+module _ (spare : ℕ) (x : Index) (d e : Device) (t u : Table) (held : AreHeld t x) (stands : Stands spare d t x) (keeps : KeepsPages (log_of d t) (log_of e u))
+    (closed : u.open_block ≡ None) (apart : LiesApart u) where
+  tables : TablesAgree spare u x
+  tables = record {
+    counts = record {
+      counts = λ b. keeps.kept b ∙ stands.tables.counts.counts b;
+      within = λ b le. stands.tables.counts.within b (subst (λ (g : Geometry). g.blocks ≤ b) keeps.geometry le);
+    };
+    within = λ o c p is. may_lie_later t u o c p keeps.geometry keeps.numbers.groups_rise (stands.tables.within o c p is);
+    fits = λ b. let same = keeps.kept b in let was = stands.tables.fits b in
+        subst (λ (g : Geometry). (u.entry b).kept ≤ g.pages) (sym keeps.geometry) (omega (arith, same, was));
+    written = λ o is. let two : None ≡ Some o = sym closed ∙ is in absurd cc;
+    unkept = let same = keeps.unkept in let was = stands.tables.unkept in omega (arith, same, was);
+    apart = apart;
+  }
+
+  -- the newest page of a kept key stays in its place
+  page_stays : (honest : d.honest ≡ true) (power : d.gone ≡ false) (o c : ℕ) (p : KeptPage) (is : kept_pages x o c ≡ Some p) → StaysNewest d.flash e.flash o c (spot_of p (stands.newest honest power o c p is).tag)
+  page_stays honest power o c p is = keeps.newest honest o c (spot_of p (stands.newest honest power o c p is).tag) (stands.ordinary honest o c p is) (stands.newest honest power o c p is).newest (held o c p is)
+
+  are_kept : d.honest ≡ true → d.gone ≡ false → AreKept e.flash (kept_pages x)
+  are_kept honest power o c p is = kept_stays d.flash e.flash o c p (stands.newest honest power o c p is) (page_stays honest power o c p is)
+
+  stands_after : Stands spare e u x
+  stands_after = record {
+    tables = tables;
+    newest = λ honest power. are_kept (sym keeps.lasts.honest ∙ honest) (had_power d e keeps.lasts power);
+    ordinary = λ honest. stands.ordinary (sym keeps.lasts.honest ∙ honest);
+    limits = keeps.limits stands.limits;
+  }
+
+  same_data : d.honest ≡ true → SameData (kept_pages x) d.flash e.flash
+  same_data honest o c p bytes is has = elim (cases_Bool d.gone) [
+    | inl gone ↦ subst (λ (f : Device). HasVersion f.flash o c p.version bytes) (sym (keeps.lasts.gone gone)) has
+    | inr power ↦ data_stays d.flash e.flash o c p bytes (stands.newest honest power o c p is) has (page_stays honest power o c p is)
+  ]
+
+  held_after : AreHeld u x
+  held_after o c p is = let some = held o c p is in let same = keeps.kept p.block in omega (arith, some, same)
+
+  free : KeepsFree spare d e x x
+  free honest leaves = elim (cases_Bool d.gone) [
+    | inl gone ↦ subst (λ (f : Device). LeavesFree f.geometry f.flash spare (IsKept (kept_pages x))) (sym (keeps.lasts.gone gone)) leaves
+    | inr power ↦ leaves_unkept spare e u x keeps.ready tables held_after (are_kept honest power)
+  ]
+
+  pub seals_from : (IsExact d x → StaysChecked (log_of d t) (log_of e u))
+      → (d.honest ≡ true → (s : ℕ) (objects : Objects) → ShowsExactly d.geometry d.flash (kept_pages x) s objects → ShowsExactly e.geometry e.flash (kept_pages x) s objects)
+      → Seals spare x (log_of d t) (log_of e u)
+  seals_from checked shows = record { keeps = keeps; stands = stands_after; checked = checked; shows = shows; same_data = same_data; free = free }
+
+-- nothing is done
+pub seals_here : (spare : ℕ) (x : Index) (d : Device) (t : Table) → IsReady d t → Stands spare d t x → Seals spare x (log_of d t) (log_of d t)
+seals_here spare x d t ready stands = record {
+  keeps = keeps_here d t ready (hands_nothing d t).numbers;
+  stands = stands;
+  checked = λ _ honest is. is;
+  shows = λ honest s objects is. is;
+  same_data = λ honest o c p bytes is has. has;
+  free = λ honest leaves. leaves;
+}

@@ -1,0 +1,317 @@
+-- What stands after a move.
+use Rattle.std.proofs.Common.{◌≡◌, ◌≢◌, ◌<◌, ◌≤◌, ℕ, ◌+◌, Bool, true, false, List, length, Some, None, Ok, slice_get, if◌then◌else◌, ◌==◌, refl, sym, ap, subst, ◌∙◌, arith, inl, inr}
+use Rattle.std.proofs.lemmas.Bool.{cases_Bool, cases_eq}
+use Rattle.std.proofs.lemmas.Bool.Decides.{nat_tests}
+use Rattle.std.proofs.lemmas.Option.{slice_get_within}
+use Rattle.volume_terms.specs.laws.List.{slice_get_there}
+use Rattle.nand_model.specs.Calls.{Device}
+use Rattle.nand_model.specs.declared.geometry.Geometry.{Geometry}
+use Rattle.block_state.specs.Counting.{how_many, sum_below}
+use Rattle.block_state.specs.Kept.{bad_count, unkept_count, kept_count, is_unkept}
+use Rattle.block_state.specs.Table.{Table, is_bad}
+use Rattle.block_state.specs.laws.Counting.{sum_below-changed, sum_below-zero, sum_below-balanced, counts_same, counts_swap}
+use Rattle.block_state.specs.laws.Kept.{unkept_if, kept_if, unkept_same}
+use Rattle.chunk_index.specs.declared.index.Index.{Index}
+use Rattle.chunk_index.specs.Maps.{kept_pages, CountsAgree}
+use Rattle.flash_tree.specs.Numbering.{AreBelow}
+use Rattle.transactions.specs.Ready.{IsReady}
+use Rattle.transactions.specs.laws.Handing.{hands_same}
+use Rattle.transactions.specs.Sources.{IsPageName}
+use Rattle.transactions.specs.declared.source.PageName.{PageName}
+use Rattle.flash_tree.specs.Slots.{check_object}
+use Rattle.transactions.specs.declared.copies.CopyOf.{CopyOf}
+use Rattle.flash_log.specs.Copying.{KeepsCounts, KeepsDataAt, MayBeCopied, AreCopied, IsCopyOf, IsTarget, OpenAfter, copy_in}
+use Rattle.flash_log.specs.Lists.{IsListed, kept_by}
+use Rattle.flash_log.specs.Bills.{Pays, PaysTarget, bill_of}
+use Rattle.flash_log.specs.declared.fault.MoveFault.{MoveFault}
+use Rattle.flash_log.specs.declared.moving.Moved.{Moved}
+use Rattle.flash_log.specs.Moving.{MovesOut, IsKeptIn, LiesIn, LiesOpen, IsLeft}
+use Rattle.flash_log.specs.Standing.{IsKeptAt, MayLie, AreHeld, Stands, KeepsFree}
+use Rattle.flash_log.specs.Steps.{Step}
+use Rattle.flash_log.specs.Telling.{Tells}
+use Rattle.flash_log.specs.laws.Steps.{moves_kept_out}
+use Rattle.transactions.specs.Checking.{log_of}
+use Rattle.flash_log.specs.declared.copying.Target.{Target}
+use Rattle.flash_log.proofs.KeptPages.{listed_or_not, name_is}
+use Rattle.flash_log.specs.laws.FreeBlocks.{free_where_stands}
+use Rattle.flash_tree.specs.laws.Place.{had_power}
+use Rattle.flash_log.specs.laws.Moves.{same_kept_sum, may_lie_later, same_data}
+
+-- ---- counts
+
+-- the sum of one number at one place
+sum_at : (b n k : ℕ) → b < n → sum_below (λ i. if i == b then k else 0) n ≡ k
+sum_at b n k lt =
+    let none : sum_below (λ i. 0) n ≡ 0 = sum_below-zero (λ i. 0) n (λ i less. refl) in
+    let changed : sum_below (λ i. if i == b then k else 0) n + 0 ≡ sum_below (λ i. 0) n + (if b == b then k else 0) =
+    sum_below-changed (λ i. 0) (λ i. if i == b then k else 0) b n lt (λ i ne. grind (arith, nat_tests, ne)) in
+    let here : (if b == b then k else 0) ≡ k = grind (arith, nat_tests) in
+    omega (arith, none, changed, here)
+
+-- ---- what may be copied
+
+name_eta : (t : Table) (x : CopyOf) (n : ℕ) → MayLie t x.name.key.object x.name.key.chunk (kept_by x) → IsPageName t.next_group x.name
+name_eta t x n may = record { object = may.name.object; chunk = may.name.chunk; version = may.name.version }
+
+pub may_be_copied : (spare v : ℕ) (d : Device) (t : Table) (x : Index) (copies : List CopyOf) → IsReady d t → Stands spare d t x → IsListed v t x copies → MayBeCopied d t copies
+may_be_copied spare v d t x copies ready stands listed =
+    let fits = stands.tables.fits v in
+    let count = listed.count in
+    let some = listed.some in
+    let most : t.geometry.pages ≤ 256 = t.geometry.most_pages in
+    let each : (i : ℕ) (y : CopyOf) → slice_get copies i ≡ Some y → MayLie t y.name.key.object y.name.key.chunk (kept_by y) = λ i y at. stands.tables.within y.name.key.object y.name.key.chunk (kept_by y) (listed.lists.kept i y at) in
+    record {
+      can = record {
+        some = omega (arith, count, some);
+        few = omega (arith, count, fits, most);
+        within = λ i y at. let may = each i y at in (
+          subst (λ (g : Geometry). y.block < g.blocks) ready.geometry may.block,
+          subst (λ (g : Geometry). y.page < g.pages) ready.geometry may.page,
+        );
+        named = λ i lt.
+            let there = slice_get_there copies i lt in
+            subst (IsPageName t.next_group) (sym (name_is copies i there.0 there.1)) (name_eta t there.0 i (each i there.0 there.1));
+      };
+      few = subst (λ (g : Geometry). length copies ≤ g.pages) ready.geometry (omega (arith, count, fits));
+      held = λ i y at. let here : (t.entry y.block).kept ≡ (t.entry v).kept = ap (λ b. (t.entry b).kept) (listed.lists.here i y at) in omega (arith, here, some);
+      once = listed.lists.once;
+      newest = λ honest power i y at. stands.newest honest power y.name.key.object y.name.key.chunk (kept_by y) (listed.lists.kept i y at);
+      ordinary = λ honest i lt.
+          let there = slice_get_there copies i lt in
+          let y : CopyOf = there.0 in
+          subst (λ (n : PageName). n.key.object ≢ check_object) (sym (name_is copies i y there.1))
+          (stands.ordinary honest y.name.key.object y.name.key.chunk (kept_by y) (listed.lists.kept i y there.1));
+    }
+
+-- ---- where the copies are told
+
+module _ (spare v : ℕ) (target : Target) (d0 d1 : Device) (t0 t1 t2 : Table) (x y : Index) (copies : List CopyOf) (listed : IsListed v t0 x copies) (held : AreHeld t0 x)
+    (keeps : KeepsCounts d0 d1 t0 t1) (stands : Stands spare d0 t0 x) (is : IsTarget (length copies) target t0 t1)
+    (tells : Tells v target.block (length copies) copies x y t1 t2) (agree : CountsAgree t2 y)
+    (newest : d0.honest ≡ true → d1.gone ≡ false → AreCopied target.block copies t0 d0.flash d1.flash) where
+  pub apart : v ≢ target.block
+  apart e = let same : (t0.entry v).kept ≡ (t0.entry target.block).kept = ap (λ b. (t0.entry b).kept) e in omega (arith, same, listed.some, is.unkept)
+
+  now_none : (t2.entry v).kept ≡ 0
+  now_none = omega (arith, tells.counts.here, keeps.kept v, listed.count)
+
+  now_kept : (t2.entry target.block).kept ≡ (t0.entry v).kept
+  now_kept = let before = keeps.kept target.block in omega (arith, tells.counts.there, before, is.unkept, listed.count)
+
+  kept_elsewhere : (b : ℕ) → b ≢ v → b ≢ target.block → (t2.entry b).kept ≡ (t0.entry b).kept
+  kept_elsewhere b nv nw = tells.counts.elsewhere b nv nw ∙ keeps.kept b
+
+  still_good : (t1.entry v).bad ≡ false
+  still_good = elim (cases_Bool (t1.entry v).bad) [
+    | inr good ↦ good
+    | inl bad ↦ elim (keeps.marked v bad) [
+      | inl was ↦ let two : true ≡ false = sym was ∙ listed.good in absurd cc
+      | inr none ↦ absurd (omega (arith, none, listed.some))
+    ]
+  ]
+
+  -- a key that is told of a copy is its
+  told : (o c i : ℕ) (z : CopyOf) → slice_get copies i ≡ Some z → IsCopyOf z o c → kept_pages y o c ≡ Some (copy_in target.block i z)
+  told o c i z at of = sym (ap (λ q. kept_pages y q c) of.0) ∙ ap (kept_pages y z.name.key.object) (sym of.1) ∙ tells.index.kept_here i z (slice_get_within copies i z at) at
+
+  pub same_bads : bad_count t2 ≡ bad_count t1
+  same_bads = ap (λ (g : Geometry). how_many (is_bad t2) g.blocks) tells.counts.geometry ∙ counts_same (is_bad t2) (is_bad t1) t1.geometry.blocks (λ b lt. tells.counts.bad b)
+
+  same_unkepts : unkept_count t2 ≡ unkept_count t1
+  same_unkepts = ap (λ (g : Geometry). how_many (is_unkept t2) g.blocks) tells.counts.geometry
+      ∙ sym (counts_swap (is_unkept t1) (is_unkept t2) v target.block t1.geometry.blocks
+      (subst (λ (g : Geometry). v < g.blocks) (sym keeps.geometry) listed.within) (subst (λ (g : Geometry). target.block < g.blocks) (sym keeps.geometry) is.within)
+      (unkept_if t1 target.block is.good (keeps.kept target.block ∙ is.unkept))
+      (kept_if t2 target.block (let now = now_kept in omega (arith, now, listed.some)))
+      (kept_if t1 v (let same = keeps.kept v in omega (arith, same, listed.some)))
+      (unkept_if t2 v (tells.counts.bad v ∙ still_good) now_none)
+      (λ b nv nw. unkept_same t1 t2 b (tells.counts.bad b) (tells.counts.elsewhere b nv nw)))
+
+  balance : (b : ℕ) → (t2.entry b).kept + (if b == v then length copies else 0) ≡ (t1.entry b).kept + (if b == target.block then length copies else 0)
+  balance b = elim (cases_eq b v) [
+    | inl e ↦
+        let here : (if b == v then length copies else 0) ≡ length copies = grind (arith, nat_tests, e) in
+        let there : (if b == target.block then length copies else 0) ≡ 0 = go (λ f. apart (sym e ∙ f)) in
+        let old : (t1.entry b).kept ≡ (t1.entry v).kept = ap (λ k. (t1.entry k).kept) e in
+        let new : (t2.entry b).kept ≡ (t2.entry v).kept = ap (λ k. (t2.entry k).kept) e in
+        omega (arith, here, there, old, new, tells.counts.here)
+    | inr nv ↦ elim (cases_eq b target.block) [
+      | inl e ↦
+          let here : (if b == v then length copies else 0) ≡ 0 = grind (arith, nat_tests, nv) in
+          let there : (if b == target.block then length copies else 0) ≡ length copies = grind (arith, nat_tests, e) in
+          let old : (t1.entry b).kept ≡ (t1.entry target.block).kept = ap (λ k. (t1.entry k).kept) e in
+          let new : (t2.entry b).kept ≡ (t2.entry target.block).kept = ap (λ k. (t2.entry k).kept) e in
+          omega (arith, here, there, old, new, tells.counts.there)
+      | inr nw ↦
+          let here : (if b == v then length copies else 0) ≡ 0 = grind (arith, nat_tests, nv) in
+          let there : (if b == target.block then length copies else 0) ≡ 0 = grind (arith, nat_tests, nw) in
+          let same = tells.counts.elsewhere b nv nw in
+          omega (arith, here, there, same)
+    ]
+  ] where
+    go : (b ≡ target.block → ⊥) → (if b == target.block then length copies else 0) ≡ 0
+    go ne = grind (arith, nat_tests, ne)
+
+  same_keeps : kept_count t2 ≡ kept_count t0
+  same_keeps =
+      let n : ℕ = t1.geometry.blocks in
+      let size : kept_count t2 ≡ sum_below (λ b. (t2.entry b).kept) n = ap (λ (g : Geometry). sum_below (λ b. (t2.entry b).kept) g.blocks) tells.counts.geometry in
+      let both = sum_below-balanced (λ b. (t2.entry b).kept) (λ b. if b == v then length copies else 0) (λ b. (t1.entry b).kept) (λ b. if b == target.block then length copies else 0) n (λ b lt. balance b) in
+      let one = sum_at v n (length copies) (subst (λ (g : Geometry). v < g.blocks) (sym keeps.geometry) listed.within) in
+      let two = sum_at target.block n (length copies) (subst (λ (g : Geometry). target.block < g.blocks) (sym keeps.geometry) is.within) in
+      let before = same_kept_sum t0 t1 keeps.geometry keeps.kept in
+      omega (arith, size, both, one, two, before)
+
+  open_is : (o : ℕ) → t2.open_block ≡ Some o → (t2.entry o).kept ≤ (t2.entry o).next
+  open_is o opened = go target.suspect is.open_block where
+    go : (s : Bool) → OpenAfter target.block (length copies) s t1 → (t2.entry o).kept ≤ (t2.entry o).next
+    go true closed = let two : None ≡ Some o = sym closed ∙ sym tells.counts.open_block ∙ opened in absurd cc
+    go false (at, next) =
+        let both : Some target.block ≡ Some o = sym at ∙ sym tells.counts.open_block ∙ opened in
+        let same : target.block ≡ o = cc in
+        let here : (t2.entry target.block).next ≡ length copies = tells.counts.next target.block ∙ next in
+        let now = now_kept in
+        subst (λ b. (t2.entry b).kept ≤ (t2.entry b).next) same (omega (arith, now, here, listed.count))
+
+  -- once pages were copied no block may have a checkpoint
+  pub none_noted : t2.checkpoint ≡ None
+  none_noted = tells.counts.checkpoint ∙ is.checkpoint
+
+  stands_moved : IsReady d1 t1 → Stands spare d1 t2 y
+  stands_moved ready = record {
+    tables = record {
+      counts = agree;
+      within = λ o c p at. elim (listed_or_not copies o c) [
+        | inl (i, z, there, of) ↦
+            let both : Some p ≡ Some (copy_in target.block i z) = sym at ∙ told o c i z there of in
+            let same : p ≡ copy_in target.block i z = cc in
+            let lt : i < length copies = slice_get_within copies i z there in
+            let fits = stands.tables.fits v in
+            let was = stands.tables.within z.name.key.object z.name.key.chunk (kept_by z) (listed.lists.kept i z there) in
+            let page : i < t0.geometry.pages = omega (arith, lt, fits, listed.count) in
+            let may : MayLie t0 z.name.key.object z.name.key.chunk (copy_in target.block i z) = record { block = is.within; page = page; name = was.name } in
+            subst (MayLie t2 o c) (sym same) (subst (λ q. MayLie t2 q c (copy_in target.block i z)) of.0 (subst (λ l. MayLie t2 z.name.key.object l (copy_in target.block i z)) of.1
+            (may_lie_later t0 t2 _ _ _ (tells.counts.geometry ∙ keeps.geometry) (let group = tells.counts.next_group in omega (arith, group, keeps.numbers.numbers.groups_rise)) may)))
+        | inr none ↦ may_lie_later t0 t2 o c p (tells.counts.geometry ∙ keeps.geometry) (let group = tells.counts.next_group in omega (arith, group, keeps.numbers.numbers.groups_rise))
+            (stands.tables.within o c p (sym (tells.index.kept_elsewhere o c (λ j z lt there of. none j z there of)) ∙ at))
+      ];
+      fits = λ b. subst (λ (g : Geometry). (t2.entry b).kept ≤ g.pages) (sym (tells.counts.geometry ∙ keeps.geometry)) (fits_then b);
+      written = open_is;
+      unkept = let unkept = same_unkepts in let bad = same_bads in omega (arith, unkept, bad, keeps.unkept, stands.tables.unkept);
+      apart = λ k noted. let two : None ≡ Some k = sym none_noted ∙ noted in absurd cc;
+    };
+    newest = λ honest power o c p at.
+        let was : d0.honest ≡ true = sym keeps.lasts.honest ∙ honest in
+        let all = newest was power in
+        elim (listed_or_not copies o c) [
+          | inl (i, z, there, of) ↦
+              let both : Some p ≡ Some (copy_in target.block i z) = sym at ∙ told o c i z there of in
+              let same : p ≡ copy_in target.block i z = cc in
+              subst (IsKeptAt d1.flash o c) (sym same) (subst (λ q. IsKeptAt d1.flash q c (copy_in target.block i z)) of.0
+              (subst (λ l. IsKeptAt d1.flash z.name.key.object l (copy_in target.block i z)) of.1 (all.copied i z there)))
+          | inr none ↦
+              let before : kept_pages x o c ≡ Some p = sym (tells.index.kept_elsewhere o c (λ j z lt there of. none j z there of)) ∙ at in
+              all.others o c p (held o c p before) none (stands.newest was (had_power d0 d1 keeps.lasts power) o c p before)
+        ];
+    ordinary = λ honest o c p at.
+        let was = stands.ordinary (sym keeps.lasts.honest ∙ honest) in
+        elim (listed_or_not copies o c) [
+          | inl (i, z, there, of) ↦ subst (λ q. q ≢ check_object) of.0 (was z.name.key.object z.name.key.chunk (kept_by z) (listed.lists.kept i z there))
+          | inr none ↦ was o c p (sym (tells.index.kept_elsewhere o c (λ j z lt there of. none j z there of)) ∙ at)
+        ];
+    limits = let now = keeps.limits stands.limits in (
+      let group = tells.counts.next_group in omega (arith, group, now.0),
+      let seq = tells.counts.next_seq in omega (arith, seq, now.1),
+    );
+  } where
+    fits_then : (b : ℕ) → (t2.entry b).kept ≤ t0.geometry.pages
+    fits_then b = elim (cases_eq b v) [
+      | inl e ↦ let here : (t2.entry b).kept ≡ (t2.entry v).kept = ap (λ k. (t2.entry k).kept) e in let none = now_none in omega (arith, here, none)
+      | inr nv ↦ elim (cases_eq b target.block) [
+        | inl e ↦ let here : (t2.entry b).kept ≡ (t2.entry target.block).kept = ap (λ k. (t2.entry k).kept) e in let now = now_kept in let fits = stands.tables.fits v in omega (arith, here, now, fits)
+        | inr nw ↦ let same = kept_elsewhere b nv nw in let fits = stands.tables.fits b in omega (arith, same, fits)
+      ]
+    ]
+
+  pub moves_out : MovesOut v x y
+  moves_out = record {
+    moved = λ o c p at here.
+        let z : CopyOf = record { block = p.block; page = p.page; name = record { key = record { object = o; chunk = c }; version = p.version } } in
+        let there = listed.lists.all o c p at here in
+        let lt : there.0 < length copies = slice_get_within copies there.0 z there.1 in
+        record { at = copy_in target.block there.0 z; is = tells.index.kept_here there.0 z lt there.1; version = refl; present = tells.index.present_here there.0 z lt there.1 };
+    kept = λ o c none. tells.index.kept_elsewhere o c (λ j z lt there of. none (in_v o c j z there of));
+    present = λ o c none. tells.index.present_elsewhere o c (λ j z lt there of. none (in_v o c j z there of));
+    prepared = tells.index.prepared;
+    ready = tells.index.ready;
+  } where
+    in_v : (o c j : ℕ) (z : CopyOf) → slice_get copies j ≡ Some z → IsCopyOf z o c → IsKeptIn v x o c
+    in_v o c j z there of = (
+      kept_by z,
+      sym (ap (λ q. kept_pages x q c) of.0) ∙ ap (kept_pages x z.name.key.object) (sym of.1) ∙ listed.lists.kept j z there,
+      listed.lists.here j z there,
+    )
+
+  -- the table is ready still, since only counts changed
+  ready_told : IsReady d1 t1 → IsReady d1 t2
+  ready_told ready = record {
+    geometry = tells.counts.geometry ∙ ready.geometry;
+    marks = λ b. tells.counts.bad b ∙ ready.marks b;
+    open_block = λ o opened.
+        let was = ready.open_block o (sym tells.counts.open_block ∙ opened) in
+        let next = tells.counts.next o in
+        let seq = tells.counts.seq o in
+        let next_seq = tells.counts.next_seq in
+        record {
+          within = was.within;
+          good = was.good;
+          next = was.next ∙ ap Some (sym next);
+          pages = let pages = was.pages in omega (arith, next, pages);
+          seq = (let one = was.seq.0 in omega (arith, seq, one), let below = was.seq.1 in omega (arith, seq, next_seq, below));
+        };
+    waits = λ k noted. let two : None ≡ Some k = sym none_noted ∙ noted in absurd cc;
+    numbers = (let group = tells.counts.next_group in let one = ready.numbers.0 in omega (arith, group, one), let seq = tells.counts.next_seq in let one = ready.numbers.1 in omega (arith, seq, one));
+    below = λ honest. subst (λ n. AreBelow d1.flash n t2.next_seq) (sym tells.counts.next_group) (subst (λ n. AreBelow d1.flash t1.next_group n) (sym tells.counts.next_seq) (ready.below honest));
+  }
+
+  -- the device has power, so blocks are free by the table
+  free_moved : AreHeld t2 y → d1.gone ≡ false → KeepsFree spare d0 d1 x y
+  free_moved there power honest free = free_where_stands spare d1 t2 y (ready_told keeps.ready) there (stands_moved keeps.ready) (keeps.lasts.honest ∙ honest) power
+
+  pub step_moved : AreHeld t2 y → d1.gone ≡ false → (d0.honest ≡ true → KeepsDataAt t0 d0.flash d1.flash) → Step spare (log_of d0 t0) (log_of d1 t2) x y
+  step_moved there power stays = record {
+    lasts = keeps.lasts;
+    ready = ready_told keeps.ready;
+    stands = stands_moved keeps.ready;
+    numbers = hands_same d0 d1 t0 t1 t2 tells.counts.next_group tells.counts.next_seq tells.counts.checkpoint keeps.numbers;
+    geometry = tells.counts.geometry ∙ keeps.geometry;
+    marks = λ b bad. tells.counts.bad b ∙ keeps.marks b bad;
+    kept_count = same_keeps;
+    index = moves_kept_out v x y moves_out;
+    same_data = same_data spare d0 d1 t0 t1 x held keeps stands stays;
+    free = free_moved there power;
+  }
+
+  -- what the copies cost, where so many failures are left unanswered
+  pub pays_moved : (n : ℕ) (moved : Moved) → (if target.suspect then 1 else 0) ≡ n → PaysTarget (length copies) (log_of d0 t0) (log_of d1 t1) (Ok target)
+      → Pays {E = MoveFault} (bill_of (log_of d0 t0) (length copies + 1) 0 n) (log_of d0 t0) (log_of d1 t2) (Ok moved)
+  pays_moved n moved is pays =
+      let same = same_bads in
+      let marks = pays.marks in
+      let answers = pays.answers in
+      subst (λ k. Pays {E = MoveFault} (bill_of (log_of d0 t0) (length copies + 1) 0 k) (log_of d0 t0) (log_of d1 t2) (Ok moved)) is
+      (record { costs = pays.costs; marks = omega (arith, same, marks); answers = omega (arith, same, answers); reads = pays.reads })
+
+  pub is_left : IsLeft v t2
+  is_left = record { unkept = now_none; good = tells.counts.bad v ∙ still_good }
+
+  pub lies_in : LiesIn v target.block t0 t2
+  lies_in = record { within = is.within; good = tells.counts.bad target.block ∙ is.good; was = is.unkept; there = now_kept; elsewhere = kept_elsewhere }
+
+  pub lies_open : target.suspect ≡ false → LiesOpen v target.block t0 t2
+  lies_open trusted =
+      let after : OpenAfter target.block (length copies) false t1 = subst (λ s. OpenAfter target.block (length copies) s t1) trusted is.open_block in
+      record { lies = lies_in; open_block = tells.counts.open_block ∙ after.0; next = tells.counts.next target.block ∙ after.1 ∙ listed.count }
+
+  pub is_closed : target.suspect ≡ true → t2.open_block ≡ None
+  is_closed suspect = tells.counts.open_block ∙ subst (λ s. OpenAfter target.block (length copies) s t1) suspect is.open_block

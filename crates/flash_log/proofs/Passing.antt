@@ -1,0 +1,191 @@
+-- What holds of blocks that are passed over.
+use Rattle.std.specs.Prelude.{◌≡◌, ◌≢◌, ◌⊎◌, ◌<◌, ◌≤◌, ◌^◌, ℕ, ◌+◌, true, false, None, Result}
+use Rattle.std.proofs.Common.{refl, sym, ◌∙◌, ap, subst, inl, inr, arith}
+use Rattle.std.proofs.lemmas.Bool.{cases_Bool, cases_eq}
+use Rattle.nand_model.specs.Flash.{Flash}
+use Rattle.nand_model.specs.Calls.{Device, Lasts, Marks}
+use Rattle.nand_model.specs.declared.geometry.Geometry.{Geometry}
+use Rattle.nand_model.specs.declared.nand.Gone.{Gone}
+use Rattle.flash_tree.specs.Keeping.{KeepsElsewhere}
+use Rattle.flash_tree.specs.laws.Newest.{stays_on}
+use Rattle.block_state.specs.declared.blocks.BlockEntry.{BlockEntry}
+use Rattle.block_state.specs.Kept.{bad_count, unkept_count, SameCounts}
+use Rattle.block_state.specs.laws.Kept.{mark_bad, mark_unkept, same_bad_count, same_unkept_count}
+use Rattle.block_state.specs.Table.{Table, Sets}
+use Rattle.transactions.specs.Marking.{NotesMark}
+use Rattle.transactions.specs.Opening.{Opens}
+use Rattle.flash_tree.specs.Numbering.{AreBelow}
+use Rattle.flash_log.specs.Passing.{KeepsKept, Passes}
+use Rattle.flash_log.specs.Taking.{Takes, TakesNone}
+
+-- a block without a kept page has none that is kept
+keeps_kept : (b : ℕ) (t : Table) (old new : Flash) → (t.entry b).kept ≡ 0 → KeepsElsewhere b old new → KeepsKept t old new
+keeps_kept b t old new none keeps o c s newest some =
+    keeps o c s newest (λ is. let here : (t.entry s.block).kept ≡ 0 = ap (λ n. (t.entry n).kept) is ∙ none in absurd (omega (arith, here, some)))
+
+-- one change and then another
+pub passes_on : (a b c : Device) (t u v : Table) → Lasts a b → Passes a b t u → Passes b c u v → Passes a c t v
+passes_on a b c t u v lasts first then = record {
+  geometry = then.geometry ∙ first.geometry;
+  next_group = then.next_group ∙ first.next_group;
+  limit = λ le. then.limit (first.limit le);
+  kept = λ k. then.kept k ∙ first.kept k;
+  marks_stay = λ k is. then.marks_stay k (first.marks_stay k is);
+  marked = λ k is. elim (then.marked k is) [ inl was ↦ first.marked k was | inr none ↦ inr (sym (first.kept k) ∙ none) ];
+  failures = omega (arith, first.failures, then.failures);
+  unkept = then.unkept ∙ first.unkept;
+  newest = λ honest o c' s newest some.
+      let stays = first.newest honest o c' s newest some in
+      stays_on a.flash b.flash c.flash o c' s stays
+      (then.newest (lasts.honest ∙ honest) o c' s stays.newest (subst (λ n. 1 ≤ n) (sym (first.kept s.block)) some));
+}
+
+-- where marks and counts are the same
+pub passes_same : (old new : Device) (t t' : Table) → SameCounts t t' → t'.next_group ≡ t.next_group → (t.next_seq ≤ 2 ^ 62 → t'.next_seq ≤ 2 ^ 62)
+    → old.failures ≤ new.failures → (old.honest ≡ true → KeepsKept t old.flash new.flash) → Passes old new t t'
+passes_same old new t t' same group limit failures newest =
+    let bad : bad_count t' ≡ bad_count t = same_bad_count t t' same in
+    let unkept : unkept_count t' ≡ unkept_count t = same_unkept_count t t' same in
+    record {
+      geometry = same.geometry;
+      next_group = group;
+      limit = limit;
+      kept = same.kept;
+      marks_stay = λ b is. same.bad b ∙ is;
+      marked = λ b is. inl (sym (same.bad b) ∙ is);
+      failures = omega (arith, bad, failures);
+      unkept = omega (arith, bad, unkept);
+      newest = newest;
+    }
+
+-- no block is open any longer
+pub passes_closed : (d : Device) (t t' : Table) → t' ≡ record t { open_block = None } → Passes d d t t'
+passes_closed d t t' is =
+    passes_same d d t t'
+    (record { bad = λ b. ap (λ (x : Table). (x.entry b).bad) is; kept = λ b. ap (λ (x : Table). (x.entry b).kept) is; geometry = ap (λ (x : Table). x.geometry) is })
+    (ap (λ (x : Table). x.next_group) is)
+    (λ le. let seq = ap (λ (x : Table). x.next_seq) is in omega (arith, seq, le))
+    (omega arith)
+    (λ _ o c s newest some. record { newest = newest; page = refl })
+
+-- an erase of a block without a kept page
+pub passes_erased : (b : ℕ) (old new : Device) (t t' : Table) → t' ≡ t → (t.entry b).kept ≡ 0 → Lasts old new → (old.honest ≡ true → KeepsElsewhere b old.flash new.flash) → Passes old new t t'
+passes_erased b old new t t' is none lasts keeps =
+    passes_same old new t t'
+    (record { bad = λ k. ap (λ (x : Table). (x.entry k).bad) is; kept = λ k. ap (λ (x : Table). (x.entry k).kept) is; geometry = ap (λ (x : Table). x.geometry) is })
+    (ap (λ (x : Table). x.next_group) is)
+    (λ le. let seq = ap (λ (x : Table). x.next_seq) is in omega (arith, seq, le))
+    lasts.failures
+    (λ honest. keeps_kept b t old.flash new.flash none (keeps honest))
+
+-- its opening changes no count
+pub same_opened : (b : ℕ) (t t' : Table) → Opens b t t' → SameCounts t t'
+same_opened b t t' opens = record {
+  bad = λ k. elim (cases_eq k b) [
+    | inl e ↦ ap (λ n. (t'.entry n).bad) e ∙ ap (λ (x : BlockEntry). x.bad) opens.sets.here ∙ ap (λ n. (t.entry n).bad) (sym e)
+    | inr ne ↦ ap (λ (x : BlockEntry). x.bad) (opens.sets.others k ne)
+  ];
+  kept = λ k. elim (cases_eq k b) [
+    | inl e ↦ ap (λ n. (t'.entry n).kept) e ∙ ap (λ (x : BlockEntry). x.kept) opens.sets.here ∙ ap (λ n. (t.entry n).kept) (sym e)
+    | inr ne ↦ ap (λ (x : BlockEntry). x.kept) (opens.sets.others k ne)
+  ];
+  geometry = opens.sets.geometry;
+}
+
+-- and nothing that is kept
+pub passes_opened : (b : ℕ) (d : Device) (t t' : Table) → t.next_seq < 2 ^ 62 → Opens b t t' → Passes d d t t'
+passes_opened b d t t' less opens =
+    passes_same d d t t'
+    (same_opened b t t' opens)
+    opens.sets.next_group
+    (λ _. let seq = opens.next_seq in omega (arith, seq, less))
+    (omega arith)
+    (λ _ o c s newest some. record { newest = newest; page = refl })
+
+-- a mark of a block without a kept page, after a failure of it
+pub passes_marked : (b : ℕ) (old mid new : Device) (t t' : Table) (result : Result (Unit {0}) Gone) → b < t.geometry.blocks → (t.entry b).bad ≡ false → (t.entry b).kept ≡ 0
+    → Lasts old mid → old.failures + 1 ≤ mid.failures → (old.honest ≡ true → KeepsElsewhere b old.flash mid.flash)
+    → Marks b mid new result → (mid.honest ≡ true → KeepsElsewhere b mid.flash new.flash) → NotesMark b new.flash t t' → Passes old new t t'
+passes_marked b old mid new t t' result within good none lasts failed erased marks marked notes = go (cases_Bool (new.flash.bad b)) where
+  newest : old.honest ≡ true → KeepsKept t old.flash new.flash
+  newest honest o c s is some =
+      let stays = keeps_kept b t old.flash mid.flash none (erased honest) o c s is some in
+      stays_on old.flash mid.flash new.flash o c s stays (keeps_kept b t mid.flash new.flash none (marked (lasts.honest ∙ honest)) o c s stays.newest some)
+
+  kept : (k : ℕ) → (t'.entry k).kept ≡ (t.entry k).kept
+  kept k = elim (cases_eq k b) [
+    | inl e ↦ ap (λ n. (t'.entry n).kept) e ∙ ap (λ (x : BlockEntry). x.kept) notes.sets.here ∙ ap (λ n. (t.entry n).kept) (sym e)
+    | inr ne ↦ ap (λ (x : BlockEntry). x.kept) (notes.sets.others k ne)
+  ]
+
+  here : (t'.entry b).bad ≡ new.flash.bad b
+  here = ap (λ (x : BlockEntry). x.bad) notes.sets.here
+
+  elsewhere : (k : ℕ) → k ≢ b → (t'.entry k).bad ≡ (t.entry k).bad
+  elsewhere k ne = ap (λ (x : BlockEntry). x.bad) (notes.sets.others k ne)
+
+  -- it is marked
+  set : new.flash.bad b ≡ true → Passes old new t t'
+  set is =
+      let sets : Sets b (record (t.entry b) { bad = true }) t t' = record {
+        here = notes.sets.here ∙ ap (λ x. record (t.entry b) { bad = x }) is;
+        others = notes.sets.others;
+        geometry = notes.sets.geometry;
+        next_group = notes.sets.next_group;
+      } in
+      let more : bad_count t' ≡ bad_count t + 1 = mark_bad t t' b sets within good in
+      let less : unkept_count t ≡ unkept_count t' + 1 = mark_unkept t t' b sets within good none in
+      record {
+        geometry = notes.sets.geometry;
+        next_group = notes.sets.next_group;
+        limit = λ le. let seq = notes.next_seq in omega (arith, seq, le);
+        kept = kept;
+        marks_stay = λ k was. elim (cases_eq k b) [
+          | inl e ↦ ap (λ n. (t'.entry n).bad) e ∙ here ∙ is
+          | inr ne ↦ elsewhere k ne ∙ was
+        ];
+        marked = λ k now. elim (cases_eq k b) [
+          | inl e ↦ inr (ap (λ n. (t.entry n).kept) e ∙ none)
+          | inr ne ↦ inl (sym (elsewhere k ne) ∙ now)
+        ];
+        failures = omega (arith, more, failed, marks.lasts.failures);
+        unkept = omega (arith, more, less);
+        newest = newest;
+      }
+
+  -- the power went before it was
+  not_set : new.flash.bad b ≡ false → Passes old new t t'
+  not_set is =
+      passes_same old new t t'
+      (record {
+        bad = λ k. elim (cases_eq k b) [
+          | inl e ↦ ap (λ n. (t'.entry n).bad) e ∙ here ∙ is ∙ sym good ∙ ap (λ n. (t.entry n).bad) (sym e)
+          | inr ne ↦ elsewhere k ne
+        ];
+        kept = kept;
+        geometry = notes.sets.geometry;
+      })
+      notes.sets.next_group
+      (λ le. let seq = notes.next_seq in omega (arith, seq, le))
+      (omega (arith, failed, marks.lasts.failures))
+      newest
+
+  go : (new.flash.bad b ≡ true) ⊎ (new.flash.bad b ≡ false) → Passes old new t t'
+  go (inl is) = set is
+  go (inr is) = not_set is
+
+-- a block that was taken after others were passed over
+pub takes_from : (b : ℕ) (old mid new : Device) (t u v : Table) → Passes old mid t u → TakesNone t u → Takes b new u v → Takes b new t v
+takes_from b old mid new t u v passes none takes = record {
+  within = subst (λ (g : Geometry). b < g.blocks) passes.geometry takes.within;
+  good = elim (cases_Bool (t.entry b).bad) [
+    | inr good ↦ good
+    | inl bad ↦ let two : true ≡ false = sym (passes.marks_stay b bad) ∙ takes.good in absurd cc
+  ];
+  unkept = sym (passes.kept b) ∙ takes.unkept;
+  open_block = takes.open_block;
+  next = takes.next;
+  seq = takes.seq ∙ none.next_seq;
+  next_seq = takes.next_seq ∙ ap (λ n. n + 1) none.next_seq;
+  below = λ honest. subst (λ n. AreBelow new.flash n t.next_seq) passes.next_group (subst (λ n. AreBelow new.flash u.next_group n) none.next_seq (takes.below honest));
+}

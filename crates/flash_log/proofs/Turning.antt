@@ -1,0 +1,120 @@
+-- Whose turn it is.
+use Rattle.std.proofs.Common.{◌≡◌, ◌≢◌, ◌<◌, ◌∙◌, if◌then◌else◌, ℕ, true, false, not, ◌&&◌, nat_eq, Option, Some, None, refl, sym, ap, subst, inl, inr, arith}
+use Rattle.std.proofs.lemmas.Bool.{cases_eq}
+use Rattle.nand_model.specs.Flash.{Flash}
+use Rattle.nand_model.specs.Calls.{Device}
+use Rattle.nand_model.specs.declared.geometry.Geometry.{Geometry}
+use Rattle.block_state.specs.declared.blocks.BlockEntry.{BlockEntry}
+use Rattle.block_state.specs.Table.{Table, IsNextFree, IsNextTaken, is_free, is_open, other_than}
+use Rattle.block_state.specs.laws.Checkpoint.{other_is_other}
+use Rattle.transactions.specs.Marking.{NotesMark}
+use Rattle.transactions.specs.Opening.{MayLose, Opens}
+use Rattle.transactions.specs.Ready.{IsReady}
+use Rattle.flash_log.specs.Passing.{Passes}
+use Rattle.flash_log.specs.Taking.{CouldBeTaken, IsItsTurn, LiesApart, NoneGoesFirst, SameTurns}
+
+-- where none is open a good block without a kept page is free
+free_if : (t : Table) (b : ℕ) → t.open_block ≡ None → (t.entry b).bad ≡ false → (t.entry b).kept ≡ 0 → is_free t b ≡ true
+free_if t b closed good none =
+    ap (λ x. not x && (nat_eq (t.entry b).kept 0 && not (is_open t.open_block b))) good
+    ∙ ap (λ x. nat_eq x 0 && not (is_open t.open_block b)) none
+    ∙ ap (λ x. not (is_open x b)) closed
+
+-- the block that may have a checkpoint is free while no block is open
+first_is_free : (d : Device) (t : Table) (c : ℕ) → IsReady d t → LiesApart t → t.checkpoint ≡ Some c → is_free t c ≡ true
+first_is_free d t c ready apart is =
+    let waits = ready.waits c is in
+    free_if t c waits.closed (ready.marks c ∙ waits.good) (apart c is)
+
+-- so it is the one that is allocated, if there is one
+pub first_taken : (d : Device) (t : Table) (n b : ℕ) → IsReady d t → LiesApart t → IsNextTaken t n b → MayLose b t
+first_taken d t n b ready apart next = go t.checkpoint refl where
+  go : (x : Option ℕ) → t.checkpoint ≡ x → MayLose b t
+  go None is = inl is
+  go (Some c) is = inr (is ∙ ap Some (sym (next.first c is (first_is_free d t c ready apart is))))
+
+-- the block that is opened was at its turn
+pub opened_in_turn : (b : ℕ) (d : Device) (t u : Table) → IsReady d t → LiesApart t → t.open_block ≡ None → IsNextTaken t t.geometry.blocks b → Opens b t u → IsItsTurn b t u
+opened_in_turn b d t u ready apart closed next opens = record {
+  first = λ c is good. next.first c is (first_is_free d t c ready apart is);
+  oldest = λ none k could. elim (cases_eq k b) [
+    | inl is ↦ let same : (t.entry k).seq ≡ (t.entry b).seq = ap (λ n. (t.entry n).seq) is in omega (arith, same)
+    | inr ne ↦ (turn none).oldest k could.within (free k could ne)
+  ];
+  lowest = λ none k could as_long. elim (cases_eq k b) [
+    | inl is ↦ omega (arith, is)
+    | inr ne ↦ (turn none).lowest k could.within (free k could ne) as_long
+  ];
+}
+  where
+    free : (k : ℕ) → CouldBeTaken t u k → k ≢ b → is_free t k ≡ true
+    free k could ne = free_if t k closed (sym (ap (λ (e : BlockEntry). e.bad) (opens.sets.others k ne)) ∙ could.good) could.unkept
+
+    -- a block that may have a checkpoint is good when it is opened, so there was none
+    good : (c : ℕ) → t.checkpoint ≡ Some c → (u.entry c).bad ≡ false
+    good c is =
+        let same : b ≡ c = next.first c is (first_is_free d t c ready apart is) in
+        ap (λ n. (u.entry n).bad) (sym same) ∙ ap (λ (e : BlockEntry). e.bad) opens.sets.here ∙ ap (λ n. (t.entry n).bad) same ∙ ready.marks c ∙ (ready.waits c is).good
+
+    turn : NoneGoesFirst t u → IsNextFree t t.geometry.blocks b
+    turn none = next.turn (λ c is. let two : true ≡ false = sym (none c is) ∙ good c is in absurd cc)
+
+-- a block that is at its turn after others were marked was at its turn before
+pub turn_from : (b : ℕ) (old mid end : Device) (t u v : Table) → Passes old mid t u → Passes mid end u v → SameTurns t u → IsItsTurn b u v → IsItsTurn b t v
+turn_from b old mid end t u v passes later same turn = record {
+  first = λ c is good. elim (same.noted c is) [
+    | inl still ↦ turn.first c still good
+    | inr bad ↦ let two : true ≡ false = sym (later.marks_stay c bad) ∙ good in absurd cc
+  ];
+  oldest = λ none k could.
+      let here : (u.entry b).seq ≡ (t.entry b).seq = same.seqs b in
+      let there : (u.entry k).seq ≡ (t.entry k).seq = same.seqs k in
+      omega (arith, turn.oldest (λ c is. none c (same.from c is)) k (after k could), here, there);
+  lowest = λ none k could as_long. turn.lowest (λ c is. none c (same.from c is)) k (after k could) (same.seqs k ∙ as_long ∙ sym (same.seqs b));
+}
+  where
+    after : (k : ℕ) → CouldBeTaken t v k → CouldBeTaken u v k
+    after k could = record {
+      within = subst (λ (g : Geometry). k < g.blocks) (sym passes.geometry) could.within;
+      unkept = passes.kept k ∙ could.unkept;
+      good = could.good;
+    }
+
+-- turns in turn
+pub same_turns_on : (t u v : Table) → ((b : ℕ) → (u.entry b).bad ≡ true → (v.entry b).bad ≡ true) → SameTurns t u → SameTurns u v → SameTurns t v
+same_turns_on t u v marks same next = record {
+  seqs = λ b. next.seqs b ∙ same.seqs b;
+  noted = λ c is. elim (same.noted c is) [ inl still ↦ next.noted c still | inr bad ↦ inr (marks c bad) ];
+  from = λ c is. same.from c (next.from c is);
+}
+
+-- no block is open any longer
+pub same_turns_closed : (t u : Table) → u ≡ record t { open_block = None } → SameTurns t u
+same_turns_closed t u is = record {
+  seqs = λ b. ap (λ (x : Table). (x.entry b).seq) is;
+  noted = λ c was. inl (ap (λ (x : Table). x.checkpoint) is ∙ was);
+  from = λ c now. sym (ap (λ (x : Table). x.checkpoint) is) ∙ now;
+}
+
+-- the mark of a block leaves the numbers of blocks
+seqs_marked : (b : ℕ) (flash : Flash) (t u : Table) → NotesMark b flash t u → (k : ℕ) → (u.entry k).seq ≡ (t.entry k).seq
+seqs_marked b flash t u notes k = elim (cases_eq k b) [
+  | inl is ↦ ap (λ n. (u.entry n).seq) is ∙ ap (λ (e : BlockEntry). e.seq) notes.sets.here ∙ sym (ap (λ n. (t.entry n).seq) is)
+  | inr ne ↦ ap (λ (e : BlockEntry). e.seq) (notes.sets.others k ne)
+]
+
+-- the mark of a block that may have the checkpoint leaves the turns
+pub turns_marked : (b : ℕ) (flash : Flash) (t u : Table) → NotesMark b flash t u → flash.bad b ≡ true → SameTurns t u
+turns_marked b flash t u notes bad = record {
+  seqs = seqs_marked b flash t u notes;
+  noted = λ c is. elim (cases_eq c b) [
+    | inl at ↦ inr (ap (λ n. (u.entry n).bad) at ∙ ap (λ (e : BlockEntry). e.bad) notes.sets.here ∙ bad)
+    | inr ne ↦ inl (now ∙ ap (other_than b) is ∙ left c ne)
+  ];
+  from = λ c is. (other_is_other b c t.checkpoint (sym now ∙ is)).0;
+} where
+  now : u.checkpoint ≡ other_than b t.checkpoint
+  now = notes.checkpoint ∙ ap (λ x. if x then other_than b t.checkpoint else t.checkpoint) bad
+
+  left : (k : ℕ) → k ≢ b → other_than b (Some k) ≡ Some k
+  left k ne = grind (arith, ne)

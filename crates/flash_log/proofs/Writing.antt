@@ -1,0 +1,270 @@
+-- What the writing of copies does, and what it costs.
+use Rattle.std.proofs.Common.{◌≡◌, ◌<◌, ◌≤◌, ℕ, ◌+◌, ◌-◌, ◌*◌, Bool, true, false, if◌then◌else◌, List, length, Result, Ok, Err, refl, sym, ap, subst, ◌∙◌, arith, inl, inr}
+use Rattle.std.proofs.Math.Nat.{mul-le-mul_left}
+use Rattle.std.proofs.lemmas.Result.{on_ok_weaker}
+use Rattle.volume_terms.specs.Sizes.{number_end}
+use Rattle.nand_model.specs.Calls.{Device, Lasts, Marks}
+use Rattle.nand_model.specs.Changes.{Grows}
+use Rattle.nand_model.specs.Counts.{Costs, ReadsFew}
+use Rattle.nand_model.specs.declared.geometry.Geometry.{Geometry}
+use Rattle.nand_model.specs.declared.nand.Gone.{Gone}
+use Rattle.nand_model.specs.laws.Calls.{lasts_on}
+use Rattle.flash_tree.specs.Keeping.{KeepsElsewhere, KeepsNewest}
+use Rattle.block_state.specs.Kept.{bad_count}
+use Rattle.block_state.specs.Table.{Table}
+use Rattle.transactions.specs.Checking.{LogState, log_of}
+use Rattle.transactions.specs.Copying.{copy_name, copy_bytes}
+use Rattle.transactions.specs.Groups.{GroupsAfter, TableEnds, next_group, closed}
+use Rattle.transactions.specs.Handing.{HandsOut}
+use Rattle.transactions.specs.Marking.{NotesMark}
+use Rattle.transactions.specs.Newest.{NewestAfter, ShowsGroup}
+use Rattle.flash_tree.specs.Numbering.{AreBelow}
+use Rattle.transactions.specs.Ready.{IsReady}
+use Rattle.transactions.specs.laws.Handing.{hands_on}
+use Rattle.transactions.specs.laws.Newest.{copies_come_last, newest_after}
+use Rattle.transactions.specs.declared.copies.CopyOf.{CopyOf}
+use Rattle.transactions.specs.declared.group.Placed.{Placed}
+use Rattle.transactions.specs.declared.group.GroupFault.{GroupFault}
+use Rattle.transactions.specs.declared.group.GroupFault.TheVariants as groups
+use Rattle.flash_log.specs.Bills.{PaysOneBlock, PaysWriting}
+use Rattle.flash_log.specs.Copying.{IsFresh, MayBeCopied, KeepsKeptAt, KeepsDataAt, AreCopied, StayOrLieApart, NewestAfterCopies, CopiesPages, CopiesEnd, left_open, most_changes, most_written}
+use Rattle.flash_log.specs.Passing.{Passes}
+use Rattle.flash_log.specs.Taking.{Takes, CostsATake}
+use Rattle.flash_log.specs.declared.copying.Copied.{Copied}
+use Rattle.flash_log.specs.declared.copying.Copied.TheVariants as ends
+use Rattle.flash_log.specs.declared.copying.Target.{Target}
+use Rattle.flash_log.specs.declared.fault.MoveFault.{MoveFault}
+use Rattle.flash_log.specs.laws.Costs.{costs_taken, each_more}
+use Rattle.flash_log.specs.laws.Keeping.{keeps_passes, keeps_same, limits_ends, same_closed, same_ends}
+use Rattle.flash_log.proofs.Passing.{passes_marked}
+use Rattle.flash_log.specs.laws.KeptPages.{kept_where, data_where}
+use Rattle.flash_log.proofs.KeptPages.{is_of_copies, are_copied, data_copied}
+
+module _ (copies : List CopyOf) (w : ℕ) (d0 d1 : Device) (t : Table) (fresh : IsFresh w d0 t) (may : MayBeCopied d0 t copies) (honest : d0.honest ≡ true) (grows : Grows d0.flash d1.flash) where
+  after : (r : Result Placed GroupFault) → GroupsAfter (next_group t (length copies) w) (copy_name copies) (copy_bytes copies d0.flash) d0.flash d1.flash r
+      → NewestAfter (next_group t (length copies) w) (copy_name copies) (copy_bytes copies d0.flash) d0.flash d1.flash r
+  after r groups = newest_after (next_group t (length copies) w) (copy_name copies) (copy_bytes copies d0.flash) d0.flash d1.flash grows
+      (copies_come_last (next_group t (length copies) w) (copy_name copies) d0.flash
+      (is_of_copies copies may.once (next_group t (length copies) w) refl d0.flash (may.newest honest fresh.power) fresh.number (fresh.below honest))) r groups
+
+  shown : ShowsGroup (next_group t (length copies) w) (copy_name copies) (copy_bytes copies d0.flash) d0.flash d1.flash → KeepsDataAt t d0.flash d1.flash
+  shown shows = data_copied copies may.once (next_group t (length copies) w) refl d0.flash (may.newest honest fresh.power) d1.flash t w refl fresh.next shows
+
+  same : KeepsNewest d0.flash d1.flash → KeepsDataAt t d0.flash d1.flash
+  same keeps = data_where d0.flash d1.flash t (λ o c s newest some. keeps o c s newest)
+
+  data_by : (r : Result Placed GroupFault) → NewestAfter (next_group t (length copies) w) (copy_name copies) (copy_bytes copies d0.flash) d0.flash d1.flash r → KeepsDataAt t d0.flash d1.flash
+  data_by (Ok placed) shows = shown shows
+  data_by (Err groups.NoRoom) keeps = same keeps
+  data_by (Err groups.Failed) keeps = same keeps
+  data_by (Err groups.Lost) keeps = same keeps
+  data_by (Err groups.Gone) (inl keeps) = same keeps
+  data_by (Err groups.Gone) (inr shows) = shown shows
+
+  -- however the writing of copies ends, what is kept keeps its data
+  pub data_written : (r : Result Placed GroupFault) → GroupsAfter (next_group t (length copies) w) (copy_name copies) (copy_bytes copies d0.flash) d0.flash d1.flash r → KeepsDataAt t d0.flash d1.flash
+  data_written r groups = data_by r (after r groups)
+
+  -- and where it is done they are copied
+  pub copies_written : (placed : Placed) → GroupsAfter (next_group t (length copies) w) (copy_name copies) (copy_bytes copies d0.flash) d0.flash d1.flash (Ok placed) → AreCopied w copies t d0.flash d1.flash
+  copies_written placed groups = are_copied copies may.once (next_group t (length copies) w) refl d0.flash (may.newest honest fresh.power) d1.flash t w refl fresh.next (after (Ok placed) groups)
+
+  apart_by : IsReady d0 t → d1.flash.bad ≡ d0.flash.bad → (r : Result Placed GroupFault)
+      → NewestAfter (next_group t (length copies) w) (copy_name copies) (copy_bytes copies d0.flash) d0.flash d1.flash r → StayOrLieApart copies t d0.flash d1
+  apart_by ready bad = by where
+    stay : KeepsNewest d0.flash d1.flash → StayOrLieApart copies t d0.flash d1
+    stay keeps = inl (kept_where d0.flash d1.flash t (λ o c s newest some. keeps o c s newest))
+
+    lie : ShowsGroup (next_group t (length copies) w) (copy_name copies) (copy_bytes copies d0.flash) d0.flash d1.flash → StayOrLieApart copies t d0.flash d1
+    lie shows = inr (record {
+      block = w;
+      within = fresh.within;
+      unkept = fresh.unkept;
+      good = ap (λ (f : ℕ → Bool). f w) bad ∙ sym (ready.marks w) ∙ fresh.good;
+      copied = are_copied copies may.once (next_group t (length copies) w) refl d0.flash (may.newest honest fresh.power) d1.flash t w refl fresh.next shows;
+    })
+
+    by : (r : Result Placed GroupFault) → NewestAfter (next_group t (length copies) w) (copy_name copies) (copy_bytes copies d0.flash) d0.flash d1.flash r → StayOrLieApart copies t d0.flash d1
+    by (Ok placed) shows = lie shows
+    by (Err groups.NoRoom) keeps = stay keeps
+    by (Err groups.Failed) keeps = stay keeps
+    by (Err groups.Lost) keeps = stay keeps
+    by (Err groups.Gone) (inl keeps) = stay keeps
+    by (Err groups.Gone) (inr shows) = lie shows
+
+  -- however it ends, what is kept stays where it is, or the copies lie in the block that was fresh
+  pub apart_written : IsReady d0 t → d1.flash.bad ≡ d0.flash.bad → (r : Result Placed GroupFault)
+      → GroupsAfter (next_group t (length copies) w) (copy_name copies) (copy_bytes copies d0.flash) d0.flash d1.flash r → StayOrLieApart copies t d0.flash d1
+  apart_written ready bad r groups = apart_by ready bad r (after r groups)
+
+  pub keeps_failed : GroupsAfter (next_group t (length copies) w) (copy_name copies) (copy_bytes copies d0.flash) d0.flash d1.flash (Err groups.Failed) → KeepsNewest d0.flash d1.flash
+  keeps_failed counted = after (Err groups.Failed) counted
+
+-- the block of copies that failed is passed over
+pub passes_failed : (copies : List CopyOf) (w : ℕ) (d0 d1 d2 : Device) (t t1 t2 : Table) (result : Result (Unit {0}) Gone) → IsFresh w d0 t → MayBeCopied d0 t copies
+    → Lasts d0 d1 → d1.failures ≡ d0.failures + 1 → (d0.honest ≡ true → Grows d0.flash d1.flash)
+    → (d0.honest ≡ true → GroupsAfter (next_group t (length copies) w) (copy_name copies) (copy_bytes copies d0.flash) d0.flash d1.flash (Err groups.Failed))
+    → t1 ≡ closed t → Marks w d1 d2 result → (d1.honest ≡ true → KeepsElsewhere w d1.flash d2.flash) → NotesMark w d2.flash t1 t2 → Passes d0 d2 (closed t) t2
+passes_failed copies w d0 d1 d2 t t1 t2 result fresh may lasts failed grows groups is marks marked notes =
+    passes_marked w d0 d1 d2 (closed t) t2 result fresh.within fresh.good fresh.unkept lasts (omega (arith, failed))
+    (λ honest o c s newest apart. keeps_failed copies w d0 d1 t fresh may honest (grows honest) (groups honest) o c s newest)
+    marks marked (subst (λ (x : Table). NotesMark w d2.flash x t2) is notes)
+
+-- a block that was taken is fresh
+pub fresh_taken : (w : ℕ) (d0 d1 : Device) (t u : Table) → Passes d0 d1 t u → IsReady d1 u → Takes w d1 t u → d1.gone ≡ false → IsFresh w d1 u
+fresh_taken w d0 d1 t u passes ready takes power = record {
+  within = subst (λ (g : Geometry). w < g.blocks) (sym passes.geometry) takes.within;
+  open_block = takes.open_block;
+  good = ready.marks w ∙ (ready.open_block w takes.open_block).good;
+  unkept = passes.kept w ∙ takes.unkept;
+  next = takes.next;
+  number = t.next_group;
+  below = λ honest. subst (λ n. AreBelow d1.flash t.next_group n) (sym takes.seq) (takes.below honest);
+  power = power;
+}
+
+-- ---- one attempt
+
+module _ (copies : List CopyOf) (w : ℕ) (d0 d1 : Device) (t t1 : Table) (fresh : IsFresh w d0 t) (may : MayBeCopied d0 t copies) (less : t.next_group < number_end)
+    (lasts : Lasts d0 d1) (numbers : HandsOut d0 d1 t t1) where
+  -- where no block was marked
+  pub pages_written : (r : Result Placed GroupFault) (result : Result Copied MoveFault) → IsReady d0 t → IsReady d1 t1 → TableEnds (length copies) t t1 r → d1.flash.bad ≡ d0.flash.bad
+      → (d0.honest ≡ true → Grows d0.flash d1.flash)
+      → (d0.honest ≡ true → GroupsAfter (next_group t (length copies) w) (copy_name copies) (copy_bytes copies d0.flash) d0.flash d1.flash r)
+      → (d0.honest ≡ true → d1.gone ≡ false → NewestAfterCopies copies t d0.flash d1.flash result) → CopiesPages copies (log_of d0 t) (log_of d1 t1) result
+  pages_written r result before ready ends bad grows groups newest = record {
+    keeps = keeps_same d0 d1 t t1 (same_ends (length copies) t t1 r ends) lasts ready numbers (limits_ends (length copies) t t1 r ends less);
+    stored = λ honest. data_written copies w d0 d1 t fresh may honest (grows honest) r (groups honest);
+    newest = newest;
+    apart = λ honest. apart_written copies w d0 d1 t fresh may honest (grows honest) before bad r (groups honest);
+  }
+
+  -- and where the block was marked, or was to be
+  pub pages_failed : (d2 : Device) (t2 : Table) (result : Result Copied MoveFault) → Passes d0 d2 (closed t) t2 → Lasts d1 d2 → HandsOut d1 d2 t1 t2 → IsReady d2 t2
+      → (KeepsKeptAt t d0.flash d2.flash → NewestAfterCopies copies t d0.flash d2.flash result) → CopiesPages copies (log_of d0 t) (log_of d2 t2) result
+  pages_failed d2 t2 result passes marks after ready newest = record {
+    keeps = keeps_passes d0 d2 t (closed t) t2 (same_closed t (closed t) refl) (lasts_on d0 d1 d2 lasts marks) ready (hands_on d0 d1 d2 t t1 t2 lasts marks numbers after)
+        (limits_ends (length copies) t (closed t) (Err groups.Failed) refl less) passes;
+    stored = λ honest. data_where d0.flash d2.flash (closed t) (passes.newest honest);
+    newest = λ honest power. newest (kept_where d0.flash d2.flash (closed t) (passes.newest honest));
+    apart = λ honest. inl (kept_where d0.flash d2.flash (closed t) (passes.newest honest));
+  }
+
+-- copies that were made cost their programs, and a last page that was said to fail is a failure
+pub pays_written : (count s : ℕ) (a b : LogState) (target : Target) → (if target.suspect then 1 else 0) ≡ s → bad_count b.table ≡ bad_count a.table → b.device.failures ≡ a.device.failures + s
+    → b.device.changes ≡ a.device.changes + count → ReadsFew 0 a.device b.device → PaysWriting count a b (Ok (ends.Into target))
+pays_written count s a b target is bad failed changes reads =
+    let e : ℕ = a.device.geometry.pages + 1 in
+    let all : e * b.device.failures ≡ e * (a.device.failures + (if target.suspect then 1 else 0)) = ap (λ n. e * n) (failed ∙ ap (λ n. a.device.failures + n) (sym is)) in
+    record {
+      costs = omega (arith, all, changes);
+      marks = omega (arith, bad, failed, is);
+      answers = omega (arith, bad, failed, is);
+      reads = reads;
+    }
+
+-- where no block was marked a fault left at most as many
+pub pays_ended : (count : ℕ) (a b : LogState) (fault : MoveFault) → bad_count b.table ≡ bad_count a.table → Lasts a.device b.device → b.device.changes ≤ a.device.changes + count
+    → ReadsFew 1 a.device b.device → PaysWriting count a b (Err fault)
+pays_ended count a b fault bad lasts changes reads =
+    let e : ℕ = a.device.geometry.pages + 1 in
+    let more : e * a.device.failures ≤ e * b.device.failures = mul-le-mul_left e lasts.failures in
+    let none : e * (a.device.failures + 0) ≡ e * a.device.failures = omega arith in
+    let failures = lasts.failures in
+    record {
+      costs = omega (arith, more, none, changes);
+      marks = omega (arith, bad, failures);
+      answers = tt;
+      reads = reads;
+    }
+
+-- a mark is one change, and no read
+pub reads_marked : (n : ℕ) (d0 d1 d2 : Device) → ReadsFew 0 d0 d1 → d2.reads ≡ d1.reads → d1.changes ≤ d2.changes → d2.failures ≡ d1.failures → ReadsFew n d0 d2
+reads_marked n d0 d1 d2 reads same changes failures = omega (arith, reads, same, changes, failures)
+
+pub changes_marked : (count : ℕ) (d0 d1 d2 : Device) → d2.changes ≤ d1.changes + 1 → d1.changes ≤ d0.changes + count → d2.changes ≤ d0.changes + count + 1
+changes_marked count d0 d1 d2 one changes = omega (arith, one, changes)
+
+module _ (count : ℕ) (a c : LogState) (few : count ≤ a.device.geometry.pages) (failed : c.device.failures ≡ a.device.failures + 1) (changes : c.device.changes ≤ a.device.changes + count + 1) where
+  -- a failure pays for the programs and the mark
+  costs_failed : (n : ℕ) → Costs n (a.device.geometry.pages + 1) 0 a.device c.device
+  costs_failed n =
+      let all : (a.device.geometry.pages + 1) * c.device.failures ≡ (a.device.geometry.pages + 1) * a.device.failures + (a.device.geometry.pages + 1)
+      = ap (λ k. (a.device.geometry.pages + 1) * k) failed ∙ omega arith in
+      let none : (a.device.geometry.pages + 1) * (a.device.failures + 0) ≡ (a.device.geometry.pages + 1) * a.device.failures = omega arith in
+      omega (arith, all, none, changes, few)
+
+  pub pays_marked : bad_count c.table ≡ bad_count a.table + 1 → ReadsFew 0 a.device c.device → PaysWriting count a c (Ok ends.Marked)
+  pays_marked bad reads = record { costs = costs_failed 0; marks = omega (arith, bad, failed); answers = omega (arith, bad, failed); reads = reads }
+
+  pub pays_cut : (fault : MoveFault) → bad_count c.table + a.device.failures ≤ bad_count a.table + c.device.failures → ReadsFew 1 a.device c.device → PaysWriting count a c (Err fault)
+  pays_cut fault bad reads = record { costs = costs_failed count; marks = omega (arith, bad); answers = tt; reads = reads }
+
+-- ---- a block that is taken before
+
+module _ (pages m n u : ℕ) (a b c : Device) (lasts : Lasts a b) (take : CostsATake a b) (rises : b.failures + u ≤ c.failures) (few : m + 1 + b.failures + u ≤ n + c.failures) where
+  -- what is written costs the erase more, or its failure pays for that
+  costs_once : Costs m (pages + 1) u b c → Costs n (pages + 2) u a c
+  costs_once costs =
+      let x : ℕ = c.failures - (b.failures + u) in
+      let is : c.failures ≡ b.failures + u + x = omega (arith, rises) in
+      let one : (pages + 1) * c.failures ≡ (pages + 1) * (b.failures + u) + (pages + 1) * x = ap (λ k. (pages + 1) * k) is ∙ omega arith in
+      let two : (pages + 2) * c.failures ≡ (pages + 2) * b.failures + (pages + 2) * u + (pages + 1) * x + x = ap (λ k. (pages + 2) * k) is ∙ omega arith in
+      let three : (pages + 2) * (a.failures + u) ≡ (pages + 2) * a.failures + (pages + 2) * u = omega arith in
+      let more = each_more (pages + 2) a.failures b.failures (omega arith) lasts.failures in
+      omega (arith, costs, take, more, one, two, three, is, few)
+
+-- the failures that were counted are no fewer than those that are unanswered, and a block that was marked had one
+counts_enough : (count spare : ℕ) (b c : LogState) (r : Result Copied MoveFault) → PaysWriting count b c r → CopiesEnd count spare c.device b.table c.table r → b.device.failures + left_open r ≤ c.device.failures
+    → most_written count r + 1 + b.device.failures + left_open r ≤ most_changes count r + c.device.failures
+counts_enough count spare b c (Ok (ends.Into target)) pays ends rises = omega (arith, rises)
+counts_enough count spare b c (Ok ends.Marked) pays ends rises = let marks = pays.marks in omega (arith, marks, ends.1)
+counts_enough count spare b c (Err fault) pays ends rises = omega (arith, rises)
+
+-- the taking of a block and the writing of copies into it
+pub pays_once : (count spare : ℕ) (a b c : LogState) (r : Result Copied MoveFault) → Lasts a.device b.device → CostsATake a.device b.device → b.device.reads ≡ a.device.reads
+    → bad_count b.table + a.device.failures ≤ bad_count a.table + b.device.failures → bad_count a.table + b.device.failures ≤ bad_count b.table + a.device.failures
+    → bad_count b.table ≤ bad_count c.table → CopiesEnd count spare c.device b.table c.table r → PaysWriting count b c r → PaysOneBlock count a c r
+pays_once count spare a b c r lasts take same marked answered rises ends pays =
+    let marks = pays.marks in
+    let counted : b.device.failures + left_open r ≤ c.device.failures = omega (arith, marks, rises) in
+    let costs = subst (λ (g : Geometry). Costs (most_written count r) (g.pages + 1) (left_open r) b.device c.device) lasts.geometry pays.costs in
+    let reads = pays.reads in
+    let changes = lasts.changes in
+    let failures = lasts.failures in
+    record {
+      costs = costs_once a.device.geometry.pages (most_written count r) (most_changes count r) (left_open r) a.device b.device c.device lasts take counted (counts_enough count spare b c r pays ends counted) costs;
+      marks = omega (arith, marked, marks);
+      answers = on_ok_weaker r (λ others. omega (arith, answered, others)) pays.answers;
+      reads = omega (arith, same, reads, changes, failures);
+    }
+
+-- the same where none was taken
+pub pays_untaken : (count : ℕ) (a b : LogState) (fault : MoveFault) → Lasts a.device b.device → CostsATake a.device b.device → b.device.reads ≡ a.device.reads
+    → bad_count b.table + a.device.failures ≤ bad_count a.table + b.device.failures → PaysOneBlock count a b (Err fault)
+pays_untaken count a b fault lasts take same marked =
+    let changes = lasts.changes in
+    let failures = lasts.failures in
+    record {
+      costs = costs_taken a.device.geometry.pages count a.device b.device lasts take;
+      marks = omega (arith, marked);
+      answers = tt;
+      reads = omega (arith, same, changes, failures);
+    }
+
+-- ---- ends
+
+pub ends_on : (count spare : ℕ) (d : Device) (t u v : Table) (r : Result Copied MoveFault) → u.geometry ≡ t.geometry → ((b : ℕ) → (u.entry b).kept ≡ (t.entry b).kept) → bad_count t ≤ bad_count u
+    → CopiesEnd count spare d u v r → CopiesEnd count spare d t v r
+ends_on count spare d t u v (Ok (ends.Into target)) geometry kept rises (is, power) = (
+  record {
+    within = subst (λ (g : Geometry). target.block < g.blocks) geometry is.within;
+    good = is.good;
+    unkept = sym (kept target.block) ∙ is.unkept;
+    open_block = is.open_block;
+    checkpoint = is.checkpoint;
+  },
+  power,
+)
+ends_on count spare d t u v (Ok ends.Marked) geometry kept rises (closed, more, power) = (closed, omega (arith, rises, more), power)
+ends_on count spare d t u v (Err fault) geometry kept rises why = why

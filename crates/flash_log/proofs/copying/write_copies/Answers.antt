@@ -1,0 +1,158 @@
+use Rattle.std.proofs.Common.{◌≡◌, ◌+◌, ◌∙◌, Ok, Err, refl, sym, subst, length, arith, inl, rules}
+use Rattle.std.proofs.lemmas.Bool.{false≢true}
+use Rattle.nand_model.specs.Calls.{Device}
+use Rattle.block_state.specs.Kept.{bad_count}
+use Rattle.block_state.specs.laws.Kept.{same_bad_count}
+use Rattle.block_state.specs.Table.{Table}
+use Rattle.block_state.specs.TableOf.{table}
+use Rattle.transactions.specs.Checking.{log_of}
+use Rattle.transactions.specs.Groups.{closed}
+use Rattle.transactions.specs.Marking.{NotesMark}
+use Rattle.transactions.specs.laws.Ready.{none_waits}
+use Rattle.flash_tree.specs.laws.Truth.{none_after}
+use Rattle.transactions.specs.declared.group.GroupFault.TheVariants as groups
+use Rattle.flash_log.proofs.Free.{one_more, mark_costs, mark_fails_not}
+use Rattle.flash_log.specs.laws.Keeping.{same_ends}
+use Rattle.flash_log.proofs.KeptPages.{has_copies}
+use Rattle.flash_log.proofs.Writing.{copies_written, passes_failed, pages_failed, pages_written, changes_marked, pays_cut, pays_ended, pays_marked, pays_written, reads_marked}
+use Rattle.flash_log.proofs.copying.write_copies.Goals as goal
+
+pub write_group-requires-clause-has : goal.write_group-requires-clause-has
+write_group-requires-clause-has g c = λ honest i lt. has_copies c.args.copies.now _ (c.requires.copies.newest honest c.requires.fresh.power) i
+
+pub write_group-requires-clause-ordinary : goal.write_group-requires-clause-ordinary
+write_group-requires-clause-ordinary g c = c.requires.copies.ordinary
+
+pub mark_block-requires-clause-first : goal.mark_block-requires-clause-first
+mark_block-requires-clause-first g c =
+    let none = none_waits (g.N.Nand.state c.args.device.now) (table c.args.blocks.now) c.args.block c.requires.ready c.requires.fresh.open_block in
+    inl (none_after _ _ _ _ c.write_group.ensures.numbers.truth none)
+
+pub returns-in-Ok-clause-ends : goal.returns-in-Ok-clause-ends
+returns-in-Ok-clause-ends g c = λ spare. (
+  record {
+    within = search rules;
+    good = search rules;
+    unkept = search rules;
+    open_block = search rules;
+    checkpoint = none_after _ _ (table c.args.blocks.now).checkpoint _ c.write_group.ensures.numbers.truth (none_waits _ (table c.args.blocks.now) c.args.block c.requires.ready c.requires.fresh.open_block);
+  },
+  search rules,
+)
+
+pub returns-in-Ok-clause-few : goal.returns-in-Ok-clause-few
+returns-in-Ok-clause-few g c = λ spare few.
+    let wrote = c.in-Ok.ensures in
+    let same : bad_count (table c.write_group.new.blocks) ≡ bad_count (table c.args.blocks.now) = same_bad_count _ _ (same_ends (length c.args.copies.now) _ _ (Ok c.in-Ok.placed) wrote.table) in
+    omega (arith, same, few)
+
+pub returns-in-Ok-mark_block-clause-ends : goal.returns-in-Ok-mark_block-clause-ends
+returns-in-Ok-mark_block-clause-ends g c = λ spare.
+    let t : Table = table c.args.blocks.now in
+    let wrote = rw c.in-Err-Failed.field-0-is at c.in-Err-Failed.ensures in
+    let marked = c.mark_block.ensures in
+    let notes = subst (λ (x : Table). NotesMark c.args.block (g.N.Nand.state c.mark_block.new.device).flash x (table c.mark_block.new.blocks)) wrote.table marked.notes in
+    let marks = c.in-Ok-mark_block.ensures.marks in
+    let more : bad_count (table c.mark_block.new.blocks) ≡ bad_count t + 1 = one_more c.args.block _ (closed t) _ c.requires.fresh.within c.requires.fresh.good marks.bad notes in
+    (notes.open_block, omega (arith, more), marks.ends.is)
+
+pub returns-in-Ok-clause-pages : goal.returns-in-Ok-clause-pages
+returns-in-Ok-clause-pages g c =
+    let d0 : Device = g.N.Nand.state c.args.device.now in
+    let d1 : Device = g.N.Nand.state c.write_group.new.device in
+    let t : Table = table c.args.blocks.now in
+    let wrote = c.in-Ok.ensures in
+    let told = wrote.placed c.args.block c.requires.fresh.open_block in
+    pages_written c.args.copies.now c.args.block d0 d1 t (table c.write_group.new.blocks) c.requires.fresh c.requires.copies c.requires.group wrote.lasts wrote.numbers (Ok c.in-Ok.placed) _
+    c.requires.ready wrote.ready wrote.table wrote.stays.bad wrote.grows (λ honest. wrote.groups honest c.args.block c.requires.fresh.open_block)
+    (λ honest power. rw told.block (copies_written c.args.copies.now c.args.block d0 d1 t c.requires.fresh c.requires.copies honest (wrote.grows honest) c.in-Ok.placed (wrote.groups honest c.args.block c.requires.fresh.open_block)))
+
+pub returns-in-Ok-clause-pays : goal.returns-in-Ok-clause-pays
+returns-in-Ok-clause-pays g c =
+    let wrote = c.in-Ok.ensures in
+    let same : bad_count (table c.write_group.new.blocks) ≡ bad_count (table c.args.blocks.now) = same_bad_count _ _ (same_ends (length c.args.copies.now) _ _ (Ok c.in-Ok.placed) wrote.table) in
+    pays_written (length c.args.copies.now) _ (log_of (g.N.Nand.state c.args.device.now) (table c.args.blocks.now)) (log_of (g.N.Nand.state c.write_group.new.device) (table c.write_group.new.blocks)) _
+    refl same wrote.ends.0 wrote.ends.2 wrote.reads
+
+pub returns-in-Err-Lost-clause-pages : goal.returns-in-Err-Lost-clause-pages
+returns-in-Err-Lost-clause-pages g c =
+    let wrote = rw c.in-Err-Lost.field-0-is at c.in-Err-Lost.ensures in
+    pages_written c.args.copies.now c.args.block (g.N.Nand.state c.args.device.now) (g.N.Nand.state c.write_group.new.device) (table c.args.blocks.now) (table c.write_group.new.blocks)
+    c.requires.fresh c.requires.copies c.requires.group wrote.lasts wrote.numbers (Err groups.Lost) _
+    c.requires.ready wrote.ready wrote.table wrote.stays.bad wrote.grows (λ honest. wrote.groups honest c.args.block c.requires.fresh.open_block)
+    (λ honest power. absurd (false≢true (sym wrote.ends.0 ∙ honest)))
+
+pub returns-in-Err-Lost-clause-pays : goal.returns-in-Err-Lost-clause-pays
+returns-in-Err-Lost-clause-pays g c =
+    let wrote = rw c.in-Err-Lost.field-0-is at c.in-Err-Lost.ensures in
+    pays_ended (length c.args.copies.now) (log_of (g.N.Nand.state c.args.device.now) (table c.args.blocks.now)) (log_of (g.N.Nand.state c.write_group.new.device) (table c.write_group.new.blocks)) _
+    (same_bad_count (table c.args.blocks.now) (table c.write_group.new.blocks) (same_ends (length c.args.copies.now) (table c.args.blocks.now) (table c.write_group.new.blocks) (Err groups.Lost) wrote.table)) wrote.lasts wrote.ends.1 wrote.reads
+
+pub returns-in-Err-Gone-clause-pages : goal.returns-in-Err-Gone-clause-pages
+returns-in-Err-Gone-clause-pages g c =
+    let wrote = rw c.in-Err-Gone.field-0-is at c.in-Err-Gone.ensures in
+    pages_written c.args.copies.now c.args.block (g.N.Nand.state c.args.device.now) (g.N.Nand.state c.write_group.new.device) (table c.args.blocks.now) (table c.write_group.new.blocks)
+    c.requires.fresh c.requires.copies c.requires.group wrote.lasts wrote.numbers (Err groups.Gone) _
+    c.requires.ready wrote.ready wrote.table wrote.stays.bad wrote.grows (λ honest. wrote.groups honest c.args.block c.requires.fresh.open_block)
+    (λ honest power. absurd (false≢true (sym power ∙ wrote.ends.0)))
+
+pub returns-in-Err-Gone-clause-pays : goal.returns-in-Err-Gone-clause-pays
+returns-in-Err-Gone-clause-pays g c =
+    let wrote = rw c.in-Err-Gone.field-0-is at c.in-Err-Gone.ensures in
+    pays_ended (length c.args.copies.now) (log_of (g.N.Nand.state c.args.device.now) (table c.args.blocks.now)) (log_of (g.N.Nand.state c.write_group.new.device) (table c.write_group.new.blocks)) _
+    (same_bad_count (table c.args.blocks.now) (table c.write_group.new.blocks) (same_ends (length c.args.copies.now) (table c.args.blocks.now) (table c.write_group.new.blocks) (Err groups.Gone) wrote.table)) wrote.lasts wrote.ends.1 wrote.reads
+
+pub returns-in-Err-clause-pages : goal.returns-in-Err-clause-pages
+returns-in-Err-clause-pages g c =
+    let d0 : Device = g.N.Nand.state c.args.device.now in
+    let d1 : Device = g.N.Nand.state c.write_group.new.device in
+    let d2 : Device = g.N.Nand.state c.mark_block.new.device in
+    let t : Table = table c.args.blocks.now in
+    let wrote = rw c.in-Err-Failed.field-0-is at c.in-Err-Failed.ensures in
+    let marked = c.mark_block.ensures in
+    let passes = passes_failed c.args.copies.now c.args.block d0 d1 d2 t (table c.write_group.new.blocks) (table c.mark_block.new.blocks) _ c.requires.fresh c.requires.copies
+    wrote.lasts wrote.ends.0 wrote.grows (λ honest. wrote.groups honest c.args.block c.requires.fresh.open_block) wrote.table marked.marks marked.newest marked.notes in
+    pages_failed c.args.copies.now c.args.block d0 d1 t (table c.write_group.new.blocks) c.requires.fresh c.requires.copies c.requires.group wrote.lasts wrote.numbers
+    d2 (table c.mark_block.new.blocks) _ passes marked.marks.lasts marked.numbers marked.ready (λ kept. kept)
+
+pub returns-in-Err-clause-pays : goal.returns-in-Err-clause-pays
+returns-in-Err-clause-pays g c =
+    let d0 : Device = g.N.Nand.state c.args.device.now in
+    let d1 : Device = g.N.Nand.state c.write_group.new.device in
+    let d2 : Device = g.N.Nand.state c.mark_block.new.device in
+    let t : Table = table c.args.blocks.now in
+    let wrote = rw c.in-Err-Failed.field-0-is at c.in-Err-Failed.ensures in
+    let marked = c.mark_block.ensures in
+    let passes = passes_failed c.args.copies.now c.args.block d0 d1 d2 t (table c.write_group.new.blocks) (table c.mark_block.new.blocks) _ c.requires.fresh c.requires.copies
+    wrote.lasts wrote.ends.0 wrote.grows (λ honest. wrote.groups honest c.args.block c.requires.fresh.open_block) wrote.table marked.marks marked.newest marked.notes in
+    let same = mark_fails_not c.args.block d1 d2 _ marked.marks in
+    pays_cut (length c.args.copies.now) (log_of d0 t) (log_of d2 (table c.mark_block.new.blocks)) c.requires.copies.few (same ∙ wrote.ends.0)
+    (changes_marked (length c.args.copies.now) d0 d1 d2 (mark_costs c.args.block d1 d2 _ marked.marks) wrote.ends.3) _ passes.failures
+    (reads_marked 1 d0 d1 d2 wrote.reads marked.marks.reads marked.marks.lasts.changes same)
+
+pub returns-in-Ok-mark_block-clause-pages : goal.returns-in-Ok-mark_block-clause-pages
+returns-in-Ok-mark_block-clause-pages g c =
+    let d0 : Device = g.N.Nand.state c.args.device.now in
+    let d1 : Device = g.N.Nand.state c.write_group.new.device in
+    let d2 : Device = g.N.Nand.state c.mark_block.new.device in
+    let t : Table = table c.args.blocks.now in
+    let wrote = rw c.in-Err-Failed.field-0-is at c.in-Err-Failed.ensures in
+    let marked = c.mark_block.ensures in
+    let passes = passes_failed c.args.copies.now c.args.block d0 d1 d2 t (table c.write_group.new.blocks) (table c.mark_block.new.blocks) _ c.requires.fresh c.requires.copies
+    wrote.lasts wrote.ends.0 wrote.grows (λ honest. wrote.groups honest c.args.block c.requires.fresh.open_block) wrote.table marked.marks marked.newest marked.notes in
+    pages_failed c.args.copies.now c.args.block d0 d1 t (table c.write_group.new.blocks) c.requires.fresh c.requires.copies c.requires.group wrote.lasts wrote.numbers
+    d2 (table c.mark_block.new.blocks) _ passes marked.marks.lasts marked.numbers marked.ready (λ kept. kept)
+
+pub returns-in-Ok-mark_block-clause-pays : goal.returns-in-Ok-mark_block-clause-pays
+returns-in-Ok-mark_block-clause-pays g c =
+    let d0 : Device = g.N.Nand.state c.args.device.now in
+    let d1 : Device = g.N.Nand.state c.write_group.new.device in
+    let d2 : Device = g.N.Nand.state c.mark_block.new.device in
+    let t : Table = table c.args.blocks.now in
+    let wrote = rw c.in-Err-Failed.field-0-is at c.in-Err-Failed.ensures in
+    let marks = c.in-Ok-mark_block.ensures.marks in
+    let notes = subst (λ (x : Table). NotesMark c.args.block d2.flash x (table c.mark_block.new.blocks)) wrote.table c.mark_block.ensures.notes in
+    let more : bad_count (table c.mark_block.new.blocks) ≡ bad_count t + 1 = one_more c.args.block _ (closed t) _ c.requires.fresh.within c.requires.fresh.good marks.bad notes in
+    pays_marked (length c.args.copies.now) (log_of d0 t) (log_of d2 (table c.mark_block.new.blocks)) c.requires.copies.few (marks.ends.failures ∙ wrote.ends.0)
+    (changes_marked (length c.args.copies.now) d0 d1 d2 (mark_costs c.args.block d1 d2 _ marks) wrote.ends.3) more
+    (reads_marked 0 d0 d1 d2 wrote.reads marks.reads marks.lasts.changes marks.ends.failures)

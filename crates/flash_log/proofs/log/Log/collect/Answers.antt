@@ -1,0 +1,52 @@
+use Rattle.std.proofs.Common.{arith}
+use Rattle.std.proofs.lemmas.Result.{err_from_is_err_and}
+use Rattle.block_state.specs.TableOf.{table}
+use Rattle.transactions.specs.Checking.{log_of}
+use Rattle.flash_log.specs.laws.Steps.{step_on}
+use Rattle.flash_log.proofs.Collected.{collected_open, out_retired, pays_retired}
+use Rattle.flash_log.proofs.log.Log.collect.Goals as goal
+
+pub returns-in_err-move_kept-clause-pays : goal.returns-in_err-move_kept-clause-pays
+returns-in_err-move_kept-clause-pays g c =
+    let pays = c.in_err-move_kept.ensures.pays in
+    let p = err_from_is_err_and c.from_residual.result c.from_residual.ensures.1 in
+    rw p.1 (record { costs = pays.costs; marks = pays.marks; answers = tt; reads = pays.reads })
+
+pub returns-in-Trusted-clause-pays : goal.returns-in-Trusted-clause-pays
+returns-in-Trusted-clause-pays g c =
+    let pays = (rw c.in-Trusted.is at c.in_ok-move_kept.ensures).pays in
+    record { costs = pays.costs; marks = pays.marks; answers = pays.answers; reads = pays.reads }
+
+pub returns-in-Trusted-clause-ends : goal.returns-in-Trusted-clause-ends
+returns-in-Trusted-clause-ends g c =
+    let moved = rw c.in-Trusted.is at c.in_ok-move_kept.ensures in
+    let reserve = moved.few in
+    let same = c.move_kept.ensures.spare in (
+      collected_open c.args.block moved.ends.1.0 c.args.self.now.spare (g.N.Nand.state c.move_kept.new.self.device) (table c.args.self.now.blocks) (table c.move_kept.new.self.blocks) c.move_kept.new.self.index c.requires.some
+          moved.ends.1.1 (omega (arith, reserve, same)) moved.step.stands,
+      moved.ends.2,
+    )
+
+pub retire-requires-clause-few : goal.retire-requires-clause-few
+retire-requires-clause-few g c = (rw c.in-Suspect.is at c.in_ok-move_kept.ensures).few
+
+pub retire-requires-clause-none : goal.retire-requires-clause-none
+retire-requires-clause-none g c = (rw c.in-Suspect.is at c.in_ok-move_kept.ensures).ends.3
+
+pub returns-in-Suspect-clause-step : goal.returns-in-Suspect-clause-step
+returns-in-Suspect-clause-step g c =
+    step_on c.args.self.now.spare (log_of (g.N.Nand.state c.args.self.now.device) (table c.args.self.now.blocks)) (log_of (g.N.Nand.state c.move_kept.new.self.device) (table c.move_kept.new.self.blocks))
+    (log_of (g.N.Nand.state c.retire.new.self.device) (table c.retire.new.self.blocks)) c.args.self.now.index c.move_kept.new.self.index c.retire.new.self.index c.in_ok-move_kept.ensures.step (rw c.move_kept.ensures.spare at c.retire.ensures).step
+
+pub returns-in-Suspect-clause-out : goal.returns-in-Suspect-clause-out
+returns-in-Suspect-clause-out g c =
+    let moved = rw c.in-Suspect.is at c.in_ok-move_kept.ensures in
+    out_retired c.args.block c.in-Suspect.copies c.args.self.now.spare (g.N.Nand.state c.args.self.now.device) (table c.args.self.now.blocks) (table c.move_kept.new.self.blocks)
+    c.args.self.now.index c.move_kept.new.self.index c.retire.new.self.index (c.the_counts_are_of_the_keys.ensures.none c.args.self.now.index)
+    c.args.self.now.stands moved.ends.1.0 moved.out (rw c.move_kept.ensures.spare at c.retire.ensures).out
+
+pub returns-in-Suspect-clause-pays : goal.returns-in-Suspect-clause-pays
+returns-in-Suspect-clause-pays g c =
+    let moved = rw c.in-Suspect.is at c.in_ok-move_kept.ensures in
+    pays_retired c.args.block c.in-Suspect.copies (g.N.Nand.state c.args.self.now.device) (g.N.Nand.state c.move_kept.new.self.device) (g.N.Nand.state c.retire.new.self.device)
+    (table c.args.self.now.blocks) (table c.move_kept.new.self.blocks) (table c.retire.new.self.blocks) c.retire.result moved.step.lasts.geometry moved.pays (rw c.move_kept.ensures.spare at c.retire.ensures).pays

@@ -1,0 +1,153 @@
+use Rattle.std.proofs.Common.{ℕ, refl, sym, ◌∙◌, ap, subst, arith}
+use Rattle.std.proofs.lemmas.Result.{err_from_is_err_and}
+use Rattle.block_state.specs.laws.Kept.{free_where_closed, none_free, same_bad_count}
+use Rattle.block_state.specs.Table.{Table}
+use Rattle.block_state.specs.TableOf.{table}
+use Rattle.transactions.specs.Marking.{NotesMark}
+use Rattle.transactions.specs.Opening.{MayLose}
+use Rattle.transactions.specs.laws.Handing.{hands_on}
+use Rattle.flash_log.proofs.Passing.{passes_on, passes_erased, passes_opened, passes_marked, same_opened}
+use Rattle.flash_log.proofs.Free.{was_unkept, one_more, erase_costs, erase_fails, mark_costs}
+use Rattle.flash_log.proofs.Turning.{first_taken, opened_in_turn, turns_marked}
+use Rattle.flash_log.proofs.take.try_block.Goals as goal
+
+pub unreachable-requires : goal.unreachable-requires
+unreachable-requires g c =
+    let t : Table = table c.args.blocks.now in
+    let free = free_where_closed t c.requires.closed in
+    let none = none_free t (rw c.in_default.is at c.next_taken.ensures).none in
+    let some = c.requires.some.1 in
+    omega (arith, free, none, some.bad, some.unkept)
+
+pub returns-in-Ok-clause-passes : goal.returns-in-Ok-clause-passes
+returns-in-Ok-clause-passes g c =
+    let t : Table = table c.args.blocks.now in
+    let free = was_unkept t c.in-Some.block c.in-Some.ensures.found.free in
+    let does = c.erase_and_open.ensures in
+    passes_on _ _ _ t t _ does.erases.lasts (passes_erased c.in-Some.block _ _ t t refl free.1 does.erases.lasts does.newest) (passes_opened c.in-Some.block _ t _ c.requires.seq c.in-Ok.ensures.opens)
+
+pub returns-in-Ok-clause-ends : goal.returns-in-Ok-clause-ends
+returns-in-Ok-clause-ends g c =
+    let t : Table = table c.args.blocks.now in
+    let free = was_unkept t c.in-Some.block c.in-Some.ensures.found.free in
+    let does = c.in-Ok.ensures in (
+      record {
+        within = c.in-Some.ensures.found.within;
+        good = free.0;
+        unkept = free.1;
+        open_block = does.opens.open_block;
+        next = ap (λ e. e.next) does.opens.sets.here;
+        seq = ap (λ e. e.seq) does.opens.sets.here;
+        next_seq = does.opens.next_seq;
+        below = λ honest. does.below (sym does.erases.lasts.honest ∙ honest);
+      },
+      does.erases.ends.is,
+    )
+
+pub returns-in-Ok-clause-few : goal.returns-in-Ok-clause-few
+returns-in-Ok-clause-few g c = same_bad_count (table c.args.blocks.now) _ (same_opened c.in-Some.block _ _ c.in-Ok.ensures.opens)
+
+pub returns-in_ok-mark_block-in-Err-Failed-clause-passes : goal.returns-in_ok-mark_block-in-Err-Failed-clause-passes
+returns-in_ok-mark_block-in-Err-Failed-clause-passes g c =
+    let t : Table = table c.args.blocks.now in
+    let block : ℕ = c.in-Some.block in
+    let free = was_unkept t block c.in-Some.ensures.found.free in
+    let erased = rw c.in-Err-Failed.field-0-is at c.in-Err-Failed.ensures in
+    let marked = c.mark_block.ensures in
+    let notes = subst (λ (x : Table). NotesMark block (g.N.Nand.state c.mark_block.new.device).flash x (table c.mark_block.new.blocks)) erased.unchanged marked.notes in
+    passes_marked block _ _ _ t _ _ c.in-Some.ensures.found.within free.0 free.1 erased.erases.lasts (erase_fails block _ _ erased.erases) erased.newest marked.marks marked.newest notes
+
+pub returns-in_err-mark_block-in-Err-Failed-clause-passes : goal.returns-in_err-mark_block-in-Err-Failed-clause-passes
+returns-in_err-mark_block-in-Err-Failed-clause-passes g c =
+    let t : Table = table c.args.blocks.now in
+    let block : ℕ = c.in-Some.block in
+    let free = was_unkept t block c.in-Some.ensures.found.free in
+    let erased = rw c.in-Err-Failed.field-0-is at c.in-Err-Failed.ensures in
+    let marked = c.mark_block.ensures in
+    let notes = subst (λ (x : Table). NotesMark block (g.N.Nand.state c.mark_block.new.device).flash x (table c.mark_block.new.blocks)) erased.unchanged marked.notes in
+    passes_marked block _ _ _ t _ _ c.in-Some.ensures.found.within free.0 free.1 erased.erases.lasts (erase_fails block _ _ erased.erases) erased.newest marked.marks marked.newest notes
+
+pub returns-in_ok-mark_block-in-Err-Failed-clause-ends : goal.returns-in_ok-mark_block-in-Err-Failed-clause-ends
+returns-in_ok-mark_block-in-Err-Failed-clause-ends g c =
+    let t : Table = table c.args.blocks.now in
+    let block : ℕ = c.in-Some.block in
+    let free = was_unkept t block c.in-Some.ensures.found.free in
+    let erased = rw c.in-Err-Failed.field-0-is at c.in-Err-Failed.ensures in
+    let marked = c.mark_block.ensures in
+    let notes = subst (λ (x : Table). NotesMark block (g.N.Nand.state c.mark_block.new.device).flash x (table c.mark_block.new.blocks)) erased.unchanged marked.notes in
+    let done = c.in_ok-mark_block-in-Err-Failed.ensures in (
+      record { open_block = notes.open_block ∙ c.requires.closed; next_seq = notes.next_seq },
+      one_more block _ t _ c.in-Some.ensures.found.within free.0 done.marks.bad notes,
+      done.marks.ends.is,
+    )
+
+pub returns-in-Err-Gone-clause-passes : goal.returns-in-Err-Gone-clause-passes
+returns-in-Err-Gone-clause-passes g c =
+    let t : Table = table c.args.blocks.now in
+    let free = was_unkept t c.in-Some.block c.in-Some.ensures.found.free in
+    let erased = rw c.in-Err-Gone.field-0-is at c.in-Err-Gone.ensures in
+    passes_erased c.in-Some.block _ _ t _ erased.unchanged free.1 erased.erases.lasts erased.newest
+
+pub returns-in-Ok-clause-costs : goal.returns-in-Ok-clause-costs
+returns-in-Ok-clause-costs g c = let erase = erase_costs _ _ _ _ c.erase_and_open.ensures.erases in omega (arith, erase, c.erase_and_open.ensures.erases.lasts.failures)
+
+pub returns-in-Err-Gone-clause-costs : goal.returns-in-Err-Gone-clause-costs
+returns-in-Err-Gone-clause-costs g c = let erase = erase_costs _ _ _ _ c.erase_and_open.ensures.erases in omega (arith, erase, c.erase_and_open.ensures.erases.lasts.failures)
+
+pub returns-in_ok-mark_block-in-Err-Failed-clause-costs : goal.returns-in_ok-mark_block-in-Err-Failed-clause-costs
+returns-in_ok-mark_block-in-Err-Failed-clause-costs g c =
+    let erased = rw c.in-Err-Failed.field-0-is at c.in-Err-Failed.ensures in
+    omega (arith, erase_costs _ _ _ _ c.erase_and_open.ensures.erases, mark_costs _ _ _ _ c.mark_block.ensures.marks, erased.erases.ends.failures, c.mark_block.ensures.marks.lasts.failures)
+
+pub returns-in_err-mark_block-in-Err-Failed-clause-costs : goal.returns-in_err-mark_block-in-Err-Failed-clause-costs
+returns-in_err-mark_block-in-Err-Failed-clause-costs g c =
+    let erased = rw c.in-Err-Failed.field-0-is at c.in-Err-Failed.ensures in
+    let p = err_from_is_err_and c.from_residual.result c.from_residual.ensures.1 in
+    rw p.1 (omega (arith, erase_costs _ _ _ _ c.erase_and_open.ensures.erases, mark_costs _ _ _ _ c.mark_block.ensures.marks, erased.erases.ends.failures, c.mark_block.ensures.marks.lasts.failures))
+
+pub returns-in_err-mark_block-in-Err-Failed-clause-numbers : goal.returns-in_err-mark_block-in-Err-Failed-clause-numbers
+returns-in_err-mark_block-in-Err-Failed-clause-numbers g c =
+    let erased = c.erase_and_open.ensures in
+    let marked = c.mark_block.ensures in
+    hands_on _ _ _ (table c.args.blocks.now) (table c.erase_and_open.new.blocks) _ erased.erases.lasts marked.marks.lasts erased.numbers marked.numbers
+
+pub returns-in_ok-mark_block-in-Err-Failed-clause-numbers : goal.returns-in_ok-mark_block-in-Err-Failed-clause-numbers
+returns-in_ok-mark_block-in-Err-Failed-clause-numbers g c =
+    let erased = c.erase_and_open.ensures in
+    let marked = c.mark_block.ensures in
+    hands_on _ _ _ (table c.args.blocks.now) (table c.erase_and_open.new.blocks) _ erased.erases.lasts marked.marks.lasts erased.numbers marked.numbers
+
+pub returns-in-Ok-clause-turn : goal.returns-in-Ok-clause-turn
+returns-in-Ok-clause-turn g c = opened_in_turn c.in-Some.block _ (table c.args.blocks.now) _ c.requires.ready c.requires.some.1.apart c.requires.closed c.in-Some.ensures.found c.in-Ok.ensures.opens
+
+pub returns-in_ok-mark_block-in-Err-Failed-clause-turn : goal.returns-in_ok-mark_block-in-Err-Failed-clause-turn
+returns-in_ok-mark_block-in-Err-Failed-clause-turn g c =
+    let t : Table = table c.args.blocks.now in
+    let block : ℕ = c.in-Some.block in
+    let erased = rw c.in-Err-Failed.field-0-is at c.in-Err-Failed.ensures in
+    let notes = subst (λ (x : Table). NotesMark block (g.N.Nand.state c.mark_block.new.device).flash x (table c.mark_block.new.blocks)) erased.unchanged c.mark_block.ensures.notes in
+    turns_marked block _ t _ notes c.in_ok-mark_block-in-Err-Failed.ensures.marks.bad
+
+pub returns-in-Ok-clause-answers : goal.returns-in-Ok-clause-answers
+returns-in-Ok-clause-answers g c =
+    let same = same_bad_count (table c.args.blocks.now) _ (same_opened c.in-Some.block _ _ c.in-Ok.ensures.opens) in
+    omega (arith, same, c.in-Ok.ensures.erases.ends.failures)
+
+pub returns-in_ok-mark_block-in-Err-Failed-clause-answers : goal.returns-in_ok-mark_block-in-Err-Failed-clause-answers
+returns-in_ok-mark_block-in-Err-Failed-clause-answers g c =
+    let t : Table = table c.args.blocks.now in
+    let block : ℕ = c.in-Some.block in
+    let free = was_unkept t block c.in-Some.ensures.found.free in
+    let erased = rw c.in-Err-Failed.field-0-is at c.in-Err-Failed.ensures in
+    let notes = subst (λ (x : Table). NotesMark block (g.N.Nand.state c.mark_block.new.device).flash x (table c.mark_block.new.blocks)) erased.unchanged c.mark_block.ensures.notes in
+    let done = c.in_ok-mark_block-in-Err-Failed.ensures in
+    let more = one_more block _ t _ c.in-Some.ensures.found.within free.0 done.marks.bad notes in
+    omega (arith, more, erased.erases.ends.failures, done.marks.ends.failures)
+
+pub erase_and_open-requires-clause-first : goal.erase_and_open-requires-clause-first
+erase_and_open-requires-clause-first g c = first_taken _ (table c.args.blocks.now) _ c.in-Some.block c.requires.ready c.requires.some.1.apart c.in-Some.ensures.found
+
+pub mark_block-requires-clause-first : goal.mark_block-requires-clause-first
+mark_block-requires-clause-first g c =
+    let erased = rw c.in-Err-Failed.field-0-is at c.in-Err-Failed.ensures in
+    subst (MayLose c.in-Some.block) (sym erased.unchanged) (first_taken _ (table c.args.blocks.now) _ c.in-Some.block c.requires.ready c.requires.some.1.apart c.in-Some.ensures.found)

@@ -1,0 +1,160 @@
+-- The copying of listed pages into a block that is taken.
+-- From: this project.
+use Rattle.std.specs.Prelude.{◌≡◌, ◌⊎◌, ◌<◌, ◌≤◌, ℕ, ◌+◌, Bool, true, false, List, length, Some, None, Result, Ok, Err, slice_get, if◌then◌else◌}
+use Rattle.nand_model.specs.Flash.{Flash}
+use Rattle.nand_model.specs.Calls.{Device, Lasts}
+use Rattle.block_state.specs.Kept.{bad_count, unkept_count}
+use Rattle.block_state.specs.Table.{Table}
+use Rattle.chunk_index.specs.declared.form.KeptPage.{KeptPage}
+use Rattle.transactions.specs.Checking.{LogState}
+use Rattle.transactions.specs.Copying.{CanCopy, copy_name}
+use Rattle.transactions.specs.Naming.{AreOrdinary}
+use Rattle.transactions.specs.Handing.{HandsOut}
+use Rattle.flash_tree.specs.Numbering.{AreBelow}
+use Rattle.transactions.specs.Ready.{IsReady}
+use Rattle.transactions.specs.declared.copies.CopyOf.{CopyOf}
+use Rattle.flash_log.specs.Lists.{kept_by}
+use Rattle.flash_log.specs.Moving.{WhyNotMoved}
+use Rattle.flash_log.specs.Standing.{IsKeptAt, HasVersion, IsWithinLimits}
+use Rattle.flash_log.specs.declared.copying.Copied.{Copied}
+use Rattle.flash_log.specs.declared.copying.Copied.TheVariants as ends
+use Rattle.flash_log.specs.declared.copying.Target.{Target}
+use Rattle.flash_log.specs.declared.fault.MoveFault.{MoveFault}
+
+-- What a step keeps that leaves the index: no block's kept count changes, no block with a kept page is marked, and no number
+-- of 2^62 is handed out.
+pub record KeepsCounts (old new : Device) (t t' : Table) : Type 0 where
+  pub lasts : Lasts old new
+  pub ready : IsReady new t'
+  pub numbers : HandsOut old new t t'
+  pub geometry : t'.geometry ≡ t.geometry
+  pub kept : (b : ℕ) → (t'.entry b).kept ≡ (t.entry b).kept
+  pub marks : (b : ℕ) → (t.entry b).bad ≡ true → (t'.entry b).bad ≡ true
+  pub marked : (b : ℕ) → (t'.entry b).bad ≡ true → ((t.entry b).bad ≡ true) ⊎ ((t.entry b).kept ≡ 0)
+  pub unkept : unkept_count t' + bad_count t' ≡ unkept_count t + bad_count t
+  pub rises : bad_count t ≤ bad_count t'
+  pub limits : IsWithinLimits t → IsWithinLimits t'
+
+-- the copy is of the key of object o and chunk c
+abbrev pub IsCopyOf : CopyOf → ℕ → ℕ → Type 0
+IsCopyOf x o c = (x.name.key.object ≡ o) × (x.name.key.chunk ≡ c)
+
+-- a newest page in a block with kept pages stays so, in its version
+abbrev pub KeepsKeptAt : Table → Flash → Flash → Type 0
+KeepsKeptAt t old new = (o c : ℕ) (p : KeptPage) → 1 ≤ (t.entry p.block).kept → IsKeptAt old o c p → IsKeptAt new o c p
+
+-- and whatever is newest afterwards has its data
+abbrev pub KeepsDataAt : Table → Flash → Flash → Type 0
+KeepsDataAt t old new = (o c : ℕ) (p : KeptPage) (bytes : List ℕ) → 1 ≤ (t.entry p.block).kept → IsKeptAt old o c p
+    → HasVersion old o c p.version bytes → HasVersion new o c p.version bytes
+
+-- each page that is copied is the newest of its key
+abbrev pub AreKeptAt : Flash → List CopyOf → Type 0
+AreKeptAt flash copies = (i : ℕ) (x : CopyOf) → slice_get copies i ≡ Some x → IsKeptAt flash x.name.key.object x.name.key.chunk (kept_by x)
+
+-- Pages of a block that may be copied: no more than a block has pages, each in a block with kept pages, none of one key
+-- with another, and of an honest device none of the object of checkpoints and, where it has power, each the newest of its key.
+pub record MayBeCopied (device : Device) (t : Table) (copies : List CopyOf) : Type 0 where
+  pub can : CanCopy copies device.geometry t.next_group
+  pub few : length copies ≤ device.geometry.pages
+  pub held : (i : ℕ) (x : CopyOf) → slice_get copies i ≡ Some x → 1 ≤ (t.entry x.block).kept
+  pub once : (i j : ℕ) (x y : CopyOf) → slice_get copies i ≡ Some x → slice_get copies j ≡ Some y → x.name.key ≡ y.name.key → i ≡ j
+  pub newest : device.honest ≡ true → device.gone ≡ false → AreKeptAt device.flash copies
+  pub ordinary : device.honest ≡ true → AreOrdinary (length copies) (copy_name copies)
+
+-- copy i is page i of the block, in its version
+abbrev pub copy_in : ℕ → ℕ → CopyOf → KeptPage
+copy_in w i x = record { block = w; page = i; version = x.name.version }
+
+-- The copies are the newest pages of their keys, and of all other keys newest pages in blocks with kept pages stay so.
+pub record AreCopied (w : ℕ) (copies : List CopyOf) (t : Table) (old new : Flash) : Type 0 where
+  pub copied : (i : ℕ) (x : CopyOf) → slice_get copies i ≡ Some x → IsKeptAt new x.name.key.object x.name.key.chunk (copy_in w i x)
+  pub others : (o c : ℕ) (p : KeptPage) → 1 ≤ (t.entry p.block).kept → ((i : ℕ) (x : CopyOf) → slice_get copies i ≡ Some x → IsCopyOf x o c → ⊥)
+      → IsKeptAt old o c p → IsKeptAt new o c p
+
+-- what is newest on an honest device that has power, after the copies were made or not
+abbrev pub NewestAfterCopies : List CopyOf → Table → Flash → Flash → Result Copied MoveFault → Type 0
+NewestAfterCopies copies t old new (Ok (ends.Into target)) = AreCopied target.block copies t old new
+NewestAfterCopies copies t old new (Ok ends.Marked) = KeepsKeptAt t old new
+NewestAfterCopies copies t old new (Err fault) = KeepsKeptAt t old new
+
+-- The copies lie in a block that is good and without a kept page.
+pub record LieApart (copies : List CopyOf) (t : Table) (old : Flash) (new : Device) : Type 0 where
+  pub block : ℕ
+  pub within : block < t.geometry.blocks
+  pub unkept : (t.entry block).kept ≡ 0
+  pub good : new.flash.bad block ≡ false
+  pub copied : AreCopied block copies t old new.flash
+
+-- What is newest wherever the copying ends, also where the power went in it: in blocks with kept pages all stays, or the
+-- copies are the newest of their keys. No third way.
+abbrev pub StayOrLieApart : List CopyOf → Table → Flash → Device → Type 0
+StayOrLieApart copies t old new = KeepsKeptAt t old new.flash ⊎ LieApart copies t old new
+
+-- What becomes of the log and of committed pages while listed ones are copied, wherever that ends: no count of a block changes but by
+-- marks; and on an honest device what is newest keeps its data, and stays where it is, or the copies are the newest of their keys.
+pub record CopiesPages (copies : List CopyOf) (old new : LogState) (result : Result Copied MoveFault) : Type 0 where
+  pub keeps : KeepsCounts old.device new.device old.table new.table
+  pub stored : old.device.honest ≡ true → KeepsDataAt old.table old.device.flash new.device.flash
+  pub newest : old.device.honest ≡ true → new.device.gone ≡ false → NewestAfterCopies copies old.table old.device.flash new.device.flash result
+  pub apart : old.device.honest ≡ true → StayOrLieApart copies old.table old.device.flash new.device
+
+-- the block is the open one, with so many pages written, and where its last page is suspect none is open
+abbrev pub OpenAfter : ℕ → ℕ → Bool → Table → Type 0
+OpenAfter w count true t = t.open_block ≡ None
+OpenAfter w count false t = (t.open_block ≡ Some w) × ((t.entry w).next ≡ count)
+
+-- the block of the copies was good and without a kept page, and no block may have a checkpoint any more
+pub record IsTarget (count : ℕ) (target : Target) (old new : Table) : Type 0 where
+  pub within : target.block < old.geometry.blocks
+  pub good : (new.entry target.block).bad ≡ false
+  pub unkept : (old.entry target.block).kept ≡ 0
+  pub open_block : OpenAfter target.block count target.suspect new
+  pub checkpoint : new.checkpoint ≡ None
+
+-- how the copying ends: the copies are made; or their block was marked; or not
+abbrev pub CopiesEnd : (count spare : ℕ) → Device → Table → Table → Result Copied MoveFault → Type 0
+CopiesEnd count spare device old new (Ok (ends.Into target)) = IsTarget count target old new × (device.gone ≡ false)
+CopiesEnd count spare device old new (Ok ends.Marked) = (new.open_block ≡ None) × (bad_count old < bad_count new) × (device.gone ≡ false)
+CopiesEnd count spare device old new (Err fault) = (new.open_block ≡ None) × WhyNotMoved spare device new fault
+
+-- where copies are made, no more blocks are bad than there are to spare
+abbrev pub FewBad : (spare : ℕ) → Table → Result Copied MoveFault → Type 0
+FewBad spare new (Ok (ends.Into target)) = bad_count new ≤ spare
+FewBad spare new (Ok ends.Marked) = Unit {0}
+FewBad spare new (Err fault) = Unit {0}
+
+-- a suspect copy is a failure that no mark has answered yet
+abbrev pub left_open : Result Copied MoveFault → ℕ
+left_open (Ok (ends.Into target)) = if target.suspect then 1 else 0
+left_open (Ok ends.Marked) = 0
+left_open (Err fault) = 0
+
+-- Copies that were made are an erase and their programs; and each failure an erase, programs and a mark.
+abbrev pub most_changes : ℕ → Result Copied MoveFault → ℕ
+most_changes count (Ok (ends.Into target)) = count + 1
+most_changes count (Ok ends.Marked) = 0
+most_changes count (Err fault) = count + 1
+
+-- Copies that were made are their programs; and each failure programs and a mark.
+abbrev pub most_written : ℕ → Result Copied MoveFault → ℕ
+most_written count (Ok (ends.Into target)) = count
+most_written count (Ok ends.Marked) = 0
+most_written count (Err fault) = count
+
+-- the block is the open one of a device that has power, nothing is written to it or kept in it, and its number is above
+-- those of all tags
+pub record IsFresh (w : ℕ) (device : Device) (t : Table) : Type 0 where
+  pub within : w < t.geometry.blocks
+  pub open_block : t.open_block ≡ Some w
+  pub good : (t.entry w).bad ≡ false
+  pub unkept : (t.entry w).kept ≡ 0
+  pub next : (t.entry w).next ≡ 0
+  pub number : ℕ
+  pub below : device.honest ≡ true → AreBelow device.flash number (t.entry w).seq
+  pub power : device.gone ≡ false
+
+-- the same, where copies were made until they stood
+abbrev pub as_copied : Result Target MoveFault → Result Copied MoveFault
+as_copied (Ok target) = Ok (ends.Into target)
+as_copied (Err fault) = Err fault

@@ -1,0 +1,10 @@
+pub mod Keeping
+pub mod KeptPages
+pub mod Moves
+pub mod Turns
+pub mod FreeBlocks
+pub mod Costs
+pub mod Steps
+pub mod OneProof
+pub mod Room
+pub mod Bills

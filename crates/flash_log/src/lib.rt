@@ -1,0 +1,33 @@
+//! The log: a device, the table of its blocks and the index of its pages. Blocks are allocated, past those that went bad,
+//! emptied, collected as garbage and retired; and a checkpoint is written, which lists where the newest page of each key lies.
+#![tactic(auto)]
+
+mod allocation;
+mod checkpoint_due;
+mod checkpoint_parts;
+mod checkpoint_source;
+mod checkpoint_writing;
+mod choice;
+mod collection;
+mod copying;
+mod fault;
+mod law;
+mod log;
+mod moving;
+mod retirement;
+mod room;
+mod room_fault;
+mod room_making;
+mod seal_fault;
+mod sealing;
+mod take;
+mod telling;
+
+pub use fault::MoveFault;
+pub use law::blocks_are_taken_in_turn;
+pub use log::Log;
+pub use moving::Moved;
+pub use room::MoveRoom;
+pub use room_fault::RoomFault;
+pub use seal_fault::SealFault;
+pub use take::{TakeFault, take_block};

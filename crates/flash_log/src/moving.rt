@@ -1,0 +1,85 @@
+// The move of the kept pages of a block.
+ghost use Rattle.std.specs.Prelude.{◌≡◌, ◌<◌, ◌≤◌, ◌+◌, ℕ, length, false, OnOk};
+ghost use Rattle.block_state.specs.Kept.{bad_count};
+ghost use Rattle.block_state.specs.TableOf.{table};
+ghost use Rattle.transactions.specs.Checking.{log_of};
+ghost use Rattle.flash_log.specs.Bills.{PaysCopies, PaysMove};
+ghost use Rattle.flash_log.specs.Lists.{IsListed};
+ghost use Rattle.flash_log.specs.Moving.{MoveEnds, MovesOut};
+ghost use Rattle.flash_log.specs.Steps.{CanWrite, Step};
+
+use crate::copying::copy_listed;
+use crate::fault::MoveFault;
+use crate::log::Log;
+use crate::telling::tell_copies;
+use block_state::Blocks;
+use chunk_index::{Index, the_counts_are_of_the_keys};
+use nand_model::Nand;
+use transactions::CopyOf;
+
+/// Where the kept pages of a block were moved.
+#[derive(Clone, Copy, Debug, PartialEq, Eq)]
+pub enum Moved {
+    /// Into the block that is open now.
+    Trusted,
+    /// Into this block, where the device said that the last page failed, and it reads whole.
+    Suspect(u32),
+}
+
+/// Moves the pages that are kept in a good block, which are listed, as one group.
+fn move_listed<N: Nand>(
+    device: &mut N,
+    blocks: &mut Blocks,
+    index: &mut Index,
+    copies: &[CopyOf],
+    scratch: &mut [u8],
+    spare: u32,
+) -> Result<Moved, MoveFault>
+    requires can { CanWrite spare (log_of (N.state device.old) (table blocks.old)) index.old }
+    requires size { length scratch.old ≡ (N.state device.old).geometry.bytes }
+    requires listed { (v : ℕ) × IsListed v (table blocks.old) index.old copies.now }
+    ensures step { Step spare (log_of (N.state device.old) (table blocks.old)) (log_of (N.state device.new) (table blocks.new)) index.old index.new }
+    ensures out { (v : ℕ) → IsListed v (table blocks.old) index.old copies.now → MovesOut v index.old index.new }
+    ensures pays { PaysCopies (length copies.now) (log_of (N.state device.old) (table blocks.old)) (log_of (N.state device.new) (table blocks.new)) result }
+    ensures few { OnOk result (bad_count (table blocks.new) ≤ spare) }
+    ensures ends { (v : ℕ) → IsListed v (table blocks.old) index.old copies.now
+        → MoveEnds v spare (N.state device.new) (table blocks.old) (table blocks.new) result }
+{
+    the_counts_are_of_the_keys();
+    let target = copy_listed(device, blocks, copies, scratch, spare)?;
+    tell_copies(index, blocks, copies, target.block);
+    let suspect = target.suspect;
+    if suspect {
+        return Ok(Moved::Suspect(target.block));
+    }
+    Ok(Moved::Trusted)
+}
+
+impl<N: Nand> Log<N> {
+    ghost use Rattle.flash_log.specs.LogOf.{HasReserve, Moves, log_state};
+
+    /// Moves all pages that are committed in a good block into a freshly erased free block, as one group. A block in which
+    /// that fails is marked, and they are written again into the next, while there are blocks to spare.
+    pub fn move_kept(&mut self, block: u32) -> Result<Moved, MoveFault>
+        requires few { HasReserve self.old }
+        requires block { block < (N.state self.old.device).geometry.blocks }
+        requires good { ((table self.old.blocks).entry block).bad ≡ false }
+        requires some { 1 ≤ ((table self.old.blocks).entry block).kept }
+        ensures spare { self.new.spare ≡ self.old.spare }
+        ensures step { Moves self.old self.new }
+        ensures out { MovesOut block self.old.index self.new.index }
+        ensures pays { PaysMove block (log_state self.old) (log_state self.new) result }
+        ensures few { OnOk result (HasReserve self.new) }
+        ensures ends { MoveEnds block self.old.spare (N.state self.new.device) (table self.old.blocks) (table self.new.blocks) result }
+    {
+        self.room.list(&self.index, block);
+        move_listed(
+            &mut self.device,
+            &mut self.blocks,
+            &mut self.index,
+            &self.room.copies,
+            &mut self.room.scratch,
+            self.spare,
+        )
+    }
+}

@@ -1,0 +1,70 @@
+// Room for the move of a block's kept pages.
+ghost use Rattle.std.specs.Prelude.{◌≡◌, ◌≤◌, ℕ, [], length, map, vec_capacity, IfOk};
+ghost use Rattle.nand_model.specs.declared.geometry.Geometry.{Geometry};
+ghost use Rattle.chunk_index.specs.Maps.{kept_in, kept_pages};
+ghost use Rattle.flash_log.specs.Lists.{ListsKept, copy_of};
+
+use chunk_index::{Index, KeptKey, the_list_of_a_block_is_whole};
+use nand_model::Geometry;
+use std::alloc::{AllocError, Global};
+use transactions::{CopyOf, PageName};
+
+/// Room for the move of a block's kept pages: for the list of them, and for one page. It is made once, so that no move
+/// takes memory.
+#[derive(Drop)]
+pub struct MoveRoom {
+    keys: Vec<KeptKey>,
+    pub(crate) copies: Vec<CopyOf>,
+    /// One page, by way of which groups are written.
+    pub scratch: Vec<u8>,
+}
+
+impl MoveRoom {
+    ghost use Rattle.flash_log.specs.Room.{IsRoomFor, SameRoom};
+
+    /// Room for the blocks of a device of these sizes.
+    pub fn new(alloc: Global, geometry: Geometry) -> Result<MoveRoom, AllocError>
+        ensures { IfOk result (IsRoomFor geometry) }
+    {
+        let pages = geometry.pages() as usize;
+        Ok(MoveRoom {
+            keys: Vec::with_capacity(alloc, pages)?,
+            copies: Vec::with_capacity(alloc, pages)?,
+            scratch: vec![in alloc; 0; geometry.bytes() as usize]?,
+        })
+    }
+
+    /// Lists the pages that are kept in a block, for their copy.
+    pub(crate) fn list(&mut self, index: &Index, block: u32)
+        requires keys { kept_in index.now block ≤ vec_capacity self.old.keys }
+        requires copies { kept_in index.now block ≤ vec_capacity self.old.copies }
+        ensures lists { ListsKept block (kept_pages index.now) self.new.copies.items }
+        ensures count { length self.new.copies.items ≡ kept_in index.now block }
+        ensures same { SameRoom self.old self.new }
+    {
+        the_list_of_a_block_is_whole();
+        self.keys.clear();
+        index.kept_in_block(block, &mut self.keys);
+        copy_all(&self.keys, &mut self.copies);
+    }
+}
+
+/// Lists copies of kept pages, under the names of their keys.
+fn copy_all(keys: &[KeptKey], copies: &mut Vec<CopyOf>)
+    requires { length keys.now ≤ vec_capacity copies.old }
+    ensures copies { copies.new.items ≡ map copy_of keys.now }
+    ensures capacity { vec_capacity copies.old ≤ vec_capacity copies.new }
+{
+    copies.clear();
+    for kept in keys {
+        let name = PageName {
+            key: kept.key,
+            version: kept.at.version,
+        };
+        let _ = copies.push(CopyOf {
+            block: kept.at.block,
+            page: kept.at.page,
+            name,
+        });
+    }
+}

@@ -1,8 +1,0 @@
-pub mod ReadOnly
-pub mod Shown
-pub mod Kept
-pub mod Carried
-pub mod Steps
-pub mod Changed
-pub mod Told
-pub mod Sealed

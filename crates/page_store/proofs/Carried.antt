@@ -1,0 +1,84 @@
+-- What a store's device carries: its kept pages, with blocks enough that hold none of them.
+use Rattle.std.specs.Prelude.{◌≡◌, ◌⊎◌, ◌≤◌, ℕ, Bool, true, false, List, [], ◌∷◌, length, Option, Some, None}
+use Rattle.std.specs.Option.{option_and_then}
+use Rattle.std.proofs.Common.{refl, sym, ◌∙◌, ap, subst, inl, inr, arith}
+use Rattle.nand_model.specs.Flash.{Flash}
+use Rattle.nand_model.specs.Calls.{Device}
+use Rattle.flash_tree.specs.declared.place.FreshPage.{FreshPage}
+use Rattle.block_state.specs.Table.{Table}
+use Rattle.chunk_index.specs.declared.form.KeptPage.{KeptPage}
+use Rattle.chunk_index.specs.declared.index.Index.{Index}
+use Rattle.chunk_index.specs.Kept.{HoldsNone}
+use Rattle.chunk_index.specs.Maps.{kept_pages, kept_in, SameKept}
+use Rattle.transactions.specs.Ready.{IsReady}
+use Rattle.flash_log.specs.Standing.{IsKept, IsKeptAt, AreKept, TablesAgree}
+use Rattle.flash_log.specs.laws.FreeBlocks.{leaves_fewer, leaves_unkept}
+use Rattle.flash_log.specs.laws.Moves.{are_held}
+use Rattle.page_buffer.specs.Shown.{data_of, data_at, kept_data}
+use Rattle.pages.specs.Maps.{PageMap, known_pages}
+use Rattle.pages.specs.Stores.{HasPage, IsCarried, SamePages}
+use Rattle.page_store.specs.StoreOf.{kept_map}
+use Rattle.page_store.proofs.Kept.{kept_carried}
+
+-- fewer pages are carried too
+pub carried_fewer : (d : Device) (spare : ℕ) (m n : PageMap) → ((o c : ℕ) (xs : List ℕ) → n o c ≡ Some xs → m o c ≡ Some xs) → IsCarried d spare m → IsCarried d spare n
+carried_fewer d spare m n fewer is = record {
+  newest = λ o c xs has. is.newest o c xs (fewer o c xs has);
+  free = λ left. leaves_fewer d.geometry d.flash spare (HasPage m) (HasPage n) (λ o c has. (has.0, fewer o c has.0 has.1)) (is.free left);
+}
+
+pub carried_same : (d : Device) (spare : ℕ) (m n : PageMap) → SamePages n m → IsCarried d spare m → IsCarried d spare n
+carried_same d spare m n same = carried_fewer d spare m n (λ o c xs is. sym (same o c) ∙ is)
+
+-- what is known is there
+pub known_there : (h : Bool) (m : PageMap) (o c : ℕ) (xs : List ℕ) → known_pages h m o c ≡ Some xs → m o c ≡ Some xs
+known_there true m o c xs is = is
+known_there false m o c xs is = absurd (let two : None ≡ Some xs = is in cc)
+
+pub carried_known : (h : Bool) (d : Device) (spare : ℕ) (m : PageMap) → IsCarried d spare m → IsCarried d spare (known_pages h m)
+carried_known h d spare m = carried_fewer d spare m (known_pages h m) (known_there h m)
+
+pub either_known : (h : Bool) (d : Device) (spare : ℕ) (m n : PageMap) → IsCarried d spare m ⊎ IsCarried d spare n → IsCarried d spare (known_pages h m) ⊎ IsCarried d spare (known_pages h n)
+either_known h d spare m n is = elim is [
+  | inl kept ↦ inl (carried_known h d spare m kept)
+  | inr present ↦ inr (carried_known h d spare n present)
+]
+
+pub either_same : (d : Device) (spare : ℕ) (m n m' n' : PageMap) → SamePages m' m → SamePages n' n → IsCarried d spare m ⊎ IsCarried d spare n → IsCarried d spare m' ⊎ IsCarried d spare n'
+either_same d spare m n m' n' first then is = elim is [
+  | inl kept ↦ inl (carried_same d spare m m' first kept)
+  | inr present ↦ inr (carried_same d spare n n' then present)
+]
+
+-- a kept key is one that has a page
+pub kept_of_data : (f : Flash) (m : Option KeptPage) (xs : List ℕ) → option_and_then (data_at f) m ≡ Some xs → (p : KeptPage) × (m ≡ Some p)
+kept_of_data f None xs is = absurd (let two : None ≡ Some xs = is in cc)
+kept_of_data f (Some p) xs is = (p, refl)
+
+-- the device carries the kept pages, where they are the newest of their keys
+module _ (spare : ℕ) (d : Device) (t : Table) (x : Index) (none : (y : Index) (b : ℕ) → kept_in y b ≡ 0 → HoldsNone (kept_pages y) b) (ready : IsReady d t) (tables : TablesAgree spare t x) (kept : AreKept d.flash (kept_pages x)) where
+  pub kept_is_carried : IsCarried d spare (kept_data x d.flash)
+  kept_is_carried = record {
+    newest = kept_carried d.flash x kept;
+    free = λ _. leaves_fewer d.geometry d.flash spare (IsKept (kept_pages x)) (HasPage (kept_data x d.flash)) (λ o c has. kept_of_data d.flash (kept_pages x o c) has.0 has.1)
+        (leaves_unkept spare d t x ready tables (are_held t x (none x) tables.counts) kept);
+  }
+
+  pub store_carries : IsCarried d spare (kept_map d x)
+  store_carries = carried_known d.honest d spare (kept_data x d.flash) kept_is_carried
+
+-- kept pages are the newest of their keys still, where none of them moves
+pub newest_kept : (f : Flash) (x y : Index) → SameKept x y → AreKept f (kept_pages x) → AreKept f (kept_pages y)
+newest_kept f x y same kept o c p is = kept o c p (sym (same.kept o c) ∙ is)
+
+-- and after a commit: with nothing buffered there was no call of the device and no page moved, and else the device has power
+pub newest_committed : (pages : List FreshPage) (d e : Device) (x y : Index) → (pages ≡ [] → e ≡ d) → (pages ≡ [] → (o c : ℕ) (p : KeptPage) → kept_pages y o c ≡ Some p → kept_pages x o c ≡ Some p)
+    → AreKept d.flash (kept_pages x) → (1 ≤ length pages → e.gone ≡ false) → (e.gone ≡ false → AreKept e.flash (kept_pages y)) → AreKept e.flash (kept_pages y)
+newest_committed [] d e x y still same kept power stands = λ o c p is. subst (λ (k : Device). IsKeptAt k.flash o c p) (sym (still refl)) (kept o c p (same refl o c p is))
+newest_committed (q ∷ qs) d e x y still same kept power stands = stands (power (omega arith))
+
+-- a kept key has a page
+pub has_page : (d : Device) (x : Index) (o c : ℕ) (k : KeptPage) → d.honest ≡ true → AreKept d.flash (kept_pages x) → kept_pages x o c ≡ Some k → HasPage (kept_map d x) o c
+has_page d x o c k honest kept is =
+    let has = (kept o c k is).newest.holds.has in
+    (has.bytes, ap (λ h. known_pages h (kept_data x d.flash) o c) honest ∙ ap (option_and_then (data_at d.flash)) is ∙ ap data_of has.page)

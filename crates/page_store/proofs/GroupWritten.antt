@@ -1,0 +1,136 @@
+-- What the writing of the buffered pages leaves, however it ends.
+use Rattle.std.proofs.Common.{refl, ◌≡◌, ◌⊎◌, ◌<◌, ◌≤◌, ◌^◌, ℕ, true, false, List, [], length, Some, Ok, Err, sym, ap, subst, ◌∙◌, inl, inr}
+use Rattle.std.proofs.lemmas.Bool.{cases_Bool}
+use Rattle.nand_model.specs.Calls.{Device, Lasts}
+use Rattle.nand_model.specs.Changes.{Grows}
+use Rattle.nand_model.specs.declared.geometry.Geometry.{Geometry}
+use Rattle.flash_tree.specs.FreeBlocks.{LeavesFree}
+use Rattle.flash_tree.specs.Keeping.{KeepsNewest}
+use Rattle.flash_tree.specs.declared.place.FreshPage.{FreshPage}
+use Rattle.block_state.specs.Counting.{how_many}
+use Rattle.block_state.specs.laws.Counting.{counts_same}
+use Rattle.block_state.specs.laws.Kept.{same_bad_count}
+use Rattle.block_state.specs.Kept.{bad_count, SameCounts}
+use Rattle.block_state.specs.Table.{Table, is_bad, room}
+use Rattle.chunk_index.specs.declared.form.WrittenGroup.{WrittenGroup}
+use Rattle.chunk_index.specs.declared.index.Index.{Index}
+use Rattle.chunk_index.specs.Counts.{Recounts}
+use Rattle.chunk_index.specs.Maps.{kept_in, kept_pages, CountsAgree, Settles}
+use Rattle.page_buffer.specs.Buffering.{Buffers}
+use Rattle.transactions.specs.Committing.{fresh_name, fresh_bytes}
+use Rattle.transactions.specs.Groups.{AddsPages, GroupsAfter, OkTable, TellsGroup, closed, next_group}
+use Rattle.transactions.specs.Handing.{HandsOut}
+use Rattle.transactions.specs.Newest.{NewestAfter, ShowsGroup}
+use Rattle.transactions.specs.Ready.{IsReady}
+use Rattle.transactions.specs.declared.group.GroupFault.TheVariants as group_faults
+use Rattle.transactions.specs.declared.group.Placed.{Placed}
+use Rattle.flash_log.specs.Standing.{AreHeld, HasFreeBlocks, HasVersion, IsKept, Stands, TablesAgree}
+use Rattle.flash_log.specs.laws.Keeping.{same_ends, same_closed, limits_ends}
+use Rattle.page_store.specs.Carrying.{AreWritable, HaveRanges, StaysOrShows}
+use Rattle.transactions.specs.Checking.{log_of}
+use Rattle.flash_log.specs.Steps.{Step}
+use Rattle.page_store.specs.CommitKeeping.{Leaves}
+use Rattle.page_store.specs.GroupWriting.{IsWhole, WasOpen}
+use Rattle.page_store.proofs.GroupCounts.{ListsAreWhole, held_lists}
+use Rattle.flash_log.specs.laws.Steps.{moves_kept_none}
+use Rattle.page_store.proofs.Grouping.{carries_present, free_group, free_present, keeps_group, newest_written, same_kept_pages, tables_closed}
+use Rattle.page_store.proofs.Settling.{commits_whole, free_whole, open_after}
+
+-- the counts agree still, where no count changes
+pub agree_still : (t u : Table) (x : Index) → SameCounts t u → CountsAgree t x → CountsAgree u x
+agree_still t u x same agree = record {
+  counts = λ b. same.kept b ∙ agree.counts b;
+  within = λ b le. agree.within b (subst (λ (g : Geometry). g.blocks ≤ b) same.geometry le);
+}
+
+-- and as many blocks are bad, also once they are recounted
+pub bad_recounted : (t u v : Table) (before after : ℕ → ℕ) → SameCounts t u → Recounts before after u v → bad_count v ≡ bad_count t
+bad_recounted t u v before after same counts =
+    ap (λ (g : Geometry). how_many (is_bad v) g.blocks) counts.geometry ∙ counts_same (is_bad v) (is_bad u) u.geometry.blocks (λ b lt. counts.bad b) ∙ same_bad_count t u same
+
+pub bad_closed : (t u : Table) → u ≡ closed t → bad_count u ≡ bad_count t
+bad_closed t u is = same_bad_count t u (same_closed t u is)
+
+-- the open block is good, and on the device
+pub was_open : (o : ℕ) (d e : Device) (t v : Table) → IsReady d t → t.open_block ≡ Some o → Lasts d e → (v.entry o).bad ≡ (t.entry o).bad → WasOpen o (log_of d t) (log_of e v)
+was_open o d e t v ready is lasts same = record {
+  within = subst (λ (g : Geometry). o < g.blocks) (sym lasts.geometry) (ready.open_block o is).within;
+  good = same ∙ ready.marks o ∙ (ready.open_block o is).good;
+  was = is;
+}
+
+-- the group is not valid
+pub keeps_written : (spare : ℕ) (d e : Device) (t u : Table) (x : Index) (xs : List FreshPage) (o : ℕ) → ListsAreWhole → Stands spare d t x → t.next_group < 2 ^ 62 → u ≡ closed t → Lasts d e → IsReady e u
+    → HandsOut d e t u → (d.honest ≡ true → KeepsNewest d.flash e.flash) → Step spare (log_of d t) (log_of e u) x x
+keeps_written spare d e t u x xs o lists stands less is lasts then numbers newest = keeps_group spare d e t u x stands (held_lists lists t x stands.tables.counts) less is lasts then numbers newest
+
+-- the device lost its power, and the group is valid or not
+pub leaves_gone : (spare : ℕ) (d e : Device) (t u : Table) (x : Index) (pages : List FreshPage) (o : ℕ) → ListsAreWhole → Stands spare d t x → HasFreeBlocks t spare → t.next_group < 2 ^ 62 → t.open_block ≡ Some o → Buffers x pages → IsReady d t
+    → u ≡ closed t → Lasts d e → IsReady e u → HandsOut d e t u → e.gone ≡ true → (d.honest ≡ true → Grows d.flash e.flash)
+    → (d.honest ≡ true → GroupsAfter (next_group t (length pages) o) (fresh_name pages t.next_group) (fresh_bytes pages) d.flash e.flash (Err group_faults.Gone)) → (last : List FreshPage)
+    → Leaves spare (record { log = log_of d t; index = x; pages = pages; last = last }) (record { log = log_of e u; index = x; pages = pages; last = last })
+leaves_gone spare d e t u x pages o lists stands free less opened buffers ready is lasts then numbers gone grows groups last = record {
+  log = record {
+    lasts = lasts;
+    ready = then;
+    stands = record {
+      tables = subst (λ (s : Table). TablesAgree spare s x) (sym is) (tables_closed spare t x stands.tables);
+      newest = λ honest power. let two : true ≡ false = sym gone ∙ power in absurd cc;
+      ordinary = λ honest. stands.ordinary (sym lasts.honest ∙ honest);
+      limits = limits_ends (length pages) t u (Err group_faults.Gone) is less stands.limits;
+    };
+    numbers = numbers;
+  };
+  buffers = buffers;
+  waits = inl (refl, moves_kept_none x);
+  keys = λ o k is. is;
+  newest = λ honest. newest honest (cases_Bool d.gone);
+} where
+  held : AreHeld t x
+  held = held_lists lists t x stands.tables.counts
+
+  same : SameCounts t u
+  same = same_closed t u is
+
+  after : (honest : d.honest ≡ true) → d.gone ≡ false → NewestAfter (next_group t (length pages) o) (fresh_name pages t.next_group) (fresh_bytes pages) d.flash e.flash (Err group_faults.Gone) → StaysOrShows spare (record { log = log_of d t; index = x; pages = pages; last = last }) e
+  after honest power (inl keeps) = inl (record { same_data = same_kept_pages x d.flash e.flash keeps; free = free_group spare d e t u x stands held is lasts then (λ _. keeps) honest })
+  after honest power (inr shows) = inr (record {
+    newest = carries_present t x pages o buffers d.flash e.flash shows (stands.newest honest power);
+    free = free_present t x pages o buffers d.flash e.flash shows (stands.newest honest power) spare e.geometry (sym then.geometry ∙ same.geometry) (λ b. sym (then.marks b) ∙ same.bad b) opened held free;
+  })
+
+  newest : d.honest ≡ true → (d.gone ≡ true) ⊎ (d.gone ≡ false) → StaysOrShows spare (record { log = log_of d t; index = x; pages = pages; last = last }) e
+  newest honest (inl was) = inl (record {
+    same_data = λ o c p xs at v. subst (λ (z : Device). HasVersion z.flash o c p.version xs) (sym (lasts.gone was)) v;
+    free = λ before. subst (λ (z : Device). LeavesFree z.geometry z.flash spare (IsKept (kept_pages x))) (sym (lasts.gone was)) before;
+  })
+  newest honest (inr power) = after honest power (newest_written d e t pages o ready honest (grows honest) (Err group_faults.Gone) (groups honest))
+
+-- the group is valid
+module _ (spare : ℕ) (lists : ListsAreWhole) (d e : Device) (t u v : Table) (x y : Index) (pages : List FreshPage) (o : ℕ) (placed : Placed)
+    (buffers : Buffers x pages) (is : t.open_block ≡ Some o) (ready : IsReady d t) (stands : Stands spare d t x) (free : HasFreeBlocks t spare)
+    (writable : AreWritable d pages) (ranges : HaveRanges pages) (fit : length pages ≤ room t) (less : t.next_group < 2 ^ 62)
+    (lasts : Lasts d e) (then : IsReady e u) (numbers : HandsOut d e t u) (grows : d.honest ≡ true → Grows d.flash e.flash) (table : OkTable placed.suspect (length pages) t u) (power : e.gone ≡ false)
+    (tells : TellsGroup (next_group t (length pages) o) placed)
+    (groups : d.honest ≡ true → AddsPages (next_group t (length pages) o) (fresh_name pages t.next_group) (fresh_bytes pages) d.flash e.flash)
+    (settles : Settles (record { block = placed.block; first = placed.first; number = placed.group }) x y) (agree : CountsAgree v y) (counts : Recounts (kept_in x) (kept_in y) u v) where
+  same_group : record { block = placed.block; first = placed.first; number = placed.group } ≡ (let w : WrittenGroup = record { block = o; first = (t.entry o).next; number = t.next_group } in w)
+  same_group = λ i. record { block = tells.block i; first = tells.first i; number = tells.group i }
+
+  settles_there : Settles (record { block = o; first = (t.entry o).next; number = t.next_group }) x y
+  settles_there = subst (λ (w : WrittenGroup). Settles w x y) same_group settles
+
+  shows : d.honest ≡ true → ShowsGroup (next_group t (length pages) o) (fresh_name pages t.next_group) (fresh_bytes pages) d.flash e.flash
+  shows honest = newest_written d e t pages o ready honest (grows honest) (Ok placed) (groups honest)
+
+  pub whole_written : (last rest written : List FreshPage) → rest ≡ [] → written ≡ pages
+      → IsWhole spare (record { log = log_of d t; index = x; pages = pages; last = last }) (record { log = log_of e v; index = y; pages = rest; last = written })
+  whole_written last rest written empty same = record {
+    commits = commits_whole spare lists d e t u v x y pages o buffers is ready stands free writable ranges fit lasts then numbers (same_ends (length pages) t u (Ok placed) table)
+        (open_after placed.suspect (length pages) o t u is table) (limits_ends (length pages) t u (Ok placed) table less) power shows settles_there agree counts last rest written;
+    empty = empty;
+    last = same;
+    free = free_whole spare lists d e t u v x y pages o buffers is ready stands free writable ranges fit lasts then numbers (same_ends (length pages) t u (Ok placed) table)
+        (open_after placed.suspect (length pages) o t u is table) (limits_ends (length pages) t u (Ok placed) table less) power shows settles_there agree counts;
+    power = power;
+  }

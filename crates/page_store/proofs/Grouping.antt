@@ -1,0 +1,232 @@
+-- The newest pages after a group of the buffered pages.
+use Rattle.std.proofs.Common.{◌≡◌, ◌≢◌, ◌<◌, ◌^◌, ℕ, ◌+◌, true, false, List, [], length, Result, Err, Some, None, refl, sym, ap, subst, ◌∙◌, arith, inl, inr}
+use Rattle.std.specs.Option.{option_map, option_map_or}
+use Rattle.std.proofs.lemmas.Bool.{cases_Bool, eq-eqb}
+use Rattle.volume_terms.specs.laws.List.{slice_get_there}
+use Rattle.nand_model.specs.Flash.{Flash}
+use Rattle.nand_model.specs.Calls.{Device, Lasts}
+use Rattle.nand_model.specs.Changes.{Grows}
+use Rattle.nand_model.specs.declared.geometry.Geometry.{Geometry}
+use Rattle.flash_tree.specs.FreeBlocks.{LeavesFree}
+use Rattle.flash_tree.specs.Keeping.{KeepsNewest}
+use Rattle.flash_tree.specs.Mount.{bad_blocks}
+use Rattle.flash_tree.specs.Newest.{Spot, IsNewest, HasNewest}
+use Rattle.flash_tree.specs.declared.place.FreshPage.{FreshPage}
+use Rattle.flash_tree.specs.declared.place.Key.{Key}
+use Rattle.block_state.specs.Counting.{how_many}
+use Rattle.block_state.specs.Kept.{bad_count, free_count, kept_count}
+use Rattle.block_state.specs.Table.{Table, is_bad, is_free, is_open}
+use Rattle.block_state.specs.laws.Counting.{counts_same}
+use Rattle.chunk_index.specs.declared.form.KeptPage.{KeptPage}
+use Rattle.chunk_index.specs.declared.form.Present.{Present}
+use Rattle.chunk_index.specs.declared.form.Present.TheVariants as presents
+use Rattle.chunk_index.specs.declared.index.Index.{Index}
+use Rattle.chunk_index.specs.Maps.{kept_pages, present}
+use Rattle.page_buffer.specs.Buffering.{Buffers, key_at}
+use Rattle.page_buffer.specs.laws.Buffering.{place_within}
+use Rattle.page_buffer.specs.Shown.{data_of, data_at, data_by, data_in, present_data}
+use Rattle.transactions.specs.Committing.{fresh_name, fresh_bytes, no_key}
+use Rattle.transactions.specs.Groups.{GroupsAfter, closed, next_group}
+use Rattle.transactions.specs.Handing.{HandsOut}
+use Rattle.transactions.specs.Naming.{IsNamed, NamesOnce}
+use Rattle.transactions.specs.Newest.{NewestAfter, ShowsGroup}
+use Rattle.transactions.specs.Ready.{IsReady}
+use Rattle.transactions.specs.Written.{tag_in}
+use Rattle.transactions.specs.declared.group.GroupFault.{GroupFault}
+use Rattle.transactions.specs.declared.group.Placed.{Placed}
+use Rattle.transactions.specs.laws.Newest.{commit_comes_last, newest_after}
+use Rattle.transactions.specs.declared.group.GroupFault.TheVariants as group_faults
+use Rattle.flash_log.specs.Standing.{AreHeld, AreKept, HasFreeBlocks, IsKept, IsKeptAt, KeepsFree, SameData, Stands, TablesAgree}
+use Rattle.flash_log.specs.laws.FreeBlocks.{leaves_unkept, newest_where_kept}
+use Rattle.flash_tree.specs.laws.Place.{had_power}
+use Rattle.flash_log.specs.laws.Keeping.{limits_ends}
+use Rattle.flash_log.specs.laws.Moves.{may_lie_later}
+use Rattle.pages.specs.Stores.{Carries, HasPage}
+use Rattle.transactions.specs.Checking.{log_of}
+use Rattle.flash_log.specs.Steps.{Step}
+use Rattle.flash_log.specs.laws.Steps.{moves_kept_none}
+use Rattle.page_store.proofs.Following.{on_flash_kept, kept_reads}
+use Rattle.page_store.proofs.Freeing.{free_is}
+
+-- ---- a group that does not count
+
+-- the tables agree, where the group's number is used and no block is open
+pub tables_closed : (spare : ℕ) (t : Table) (x : Index) → TablesAgree spare t x → TablesAgree spare (closed t) x
+tables_closed spare t x a = record {
+  counts = record { counts = a.counts.counts; within = a.counts.within };
+  within = λ o c p is. may_lie_later t (closed t) o c p refl (omega arith) (a.within o c p is);
+  fits = a.fits;
+  written = λ o is. let two : None ≡ Some o = is in absurd cc;
+  unkept = a.unkept;
+  apart = a.apart;
+}
+
+pub same_kept_pages : (x : Index) (f g : Flash) → KeepsNewest f g → SameData (kept_pages x) f g
+same_kept_pages x f g keeps o c p xs is v =
+    let s = keeps o c v.spot v.newest in
+    record { spot = v.spot; newest = s.newest; version_is = v.version_is; stored = s.page ∙ v.stored }
+
+pub kept_group : (x : Index) (f g : Flash) → KeepsNewest f g → AreKept f (kept_pages x) → AreKept g (kept_pages x)
+kept_group x f g keeps kept o c p at =
+    let k = kept o c p at in
+    let spot : Spot = record { block = p.block; page = p.page; tag = k.tag } in
+    record { tag = k.tag; newest = (keeps o c spot k.newest).newest; version = k.version }
+
+-- blocks that were free of kept pages are it still
+pub free_group : (spare : ℕ) (d e : Device) (t u : Table) (x : Index) → Stands spare d t x → AreHeld t x → u ≡ closed t → Lasts d e → IsReady e u → (d.honest ≡ true → KeepsNewest d.flash e.flash) → KeepsFree spare d e x x
+free_group spare d e t u x stands held is lasts ready newest honest free = elim (cases_Bool d.gone) [
+  | inl gone ↦ subst (λ (z : Device). LeavesFree z.geometry z.flash spare (IsKept (kept_pages x))) (sym (lasts.gone gone)) free
+  | inr power ↦ leaves_unkept spare e u x ready (subst (λ (s : Table). TablesAgree spare s x) (sym is) (tables_closed spare t x stands.tables))
+      (subst (λ (s : Table). AreHeld s x) (sym is) held) (kept_group x d.flash e.flash (newest honest) (stands.newest honest power))
+]
+
+pub keeps_group : (spare : ℕ) (d e : Device) (t u : Table) (x : Index) → Stands spare d t x → AreHeld t x → t.next_group < 2 ^ 62 → u ≡ closed t → Lasts d e → IsReady e u → HandsOut d e t u
+    → (d.honest ≡ true → KeepsNewest d.flash e.flash) → Step spare (log_of d t) (log_of e u) x x
+keeps_group spare d e t u x stands held less is lasts ready numbers newest = record {
+  lasts = lasts;
+  ready = ready;
+  stands = record {
+    tables = subst (λ (s : Table). TablesAgree spare s x) (sym is) (tables_closed spare t x stands.tables);
+    newest = λ honest power.
+        let was : d.honest ≡ true = sym lasts.honest ∙ honest in
+        kept_group x d.flash e.flash (newest was) (stands.newest was (had_power d e lasts power));
+    ordinary = λ honest. stands.ordinary (sym lasts.honest ∙ honest);
+    limits = limits_ends 0 t u (Err group_faults.Failed) is less stands.limits;
+  };
+  numbers = numbers;
+  geometry = ap (λ (s : Table). s.geometry) is;
+  marks = λ b bad. ap (λ (s : Table). (s.entry b).bad) is ∙ bad;
+  kept_count = ap kept_count is;
+  index = moves_kept_none x;
+  same_data = λ honest. same_kept_pages x d.flash e.flash (newest honest);
+  free = free_group spare d e t u x stands held is lasts ready newest;
+}
+
+-- ---- its names
+
+module _ (pages : List FreshPage) (number : ℕ) where
+  -- page i of the group is of the key that page i of the buffer is of
+  named_key : (o c i : ℕ) → i < length pages → IsNamed (fresh_name pages number) o c i → key_at pages i ≡ Some (record { object = o; chunk = c })
+  named_key o c i lt named =
+      let there = slice_get_there pages i lt in
+      let key : (fresh_name pages number i).key ≡ there.0.key = ap (λ m. option_map_or (λ (p : FreshPage). p.key) m no_key) there.1 in
+      let object : there.0.key.object ≡ o = sym (ap (λ (k : Key). k.object) key) ∙ named.object in
+      let chunk : there.0.key.chunk ≡ c = sym (ap (λ (k : Key). k.chunk) key) ∙ named.chunk in
+      let same : there.0.key ≡ record { object = o; chunk = c } = λ j. record { object = object j; chunk = chunk j } in
+      ap (option_map (λ (p : FreshPage). p.key)) there.1 ∙ ap Some same
+
+  key_named : (o c i : ℕ) → i < length pages → key_at pages i ≡ Some (record { object = o; chunk = c }) → IsNamed (fresh_name pages number) o c i
+  key_named o c i lt is =
+      let there = slice_get_there pages i lt in
+      let key : (fresh_name pages number i).key ≡ there.0.key = ap (λ m. option_map_or (λ (p : FreshPage). p.key) m no_key) there.1 in
+      let k : Key = record { object = o; chunk = c } in
+      let both : Some there.0.key ≡ Some k = sym (ap (option_map (λ (p : FreshPage). p.key)) there.1) ∙ is in
+      let same : there.0.key ≡ k = cc in
+      record { object = ap (λ (z : Key). z.object) key ∙ ap (λ (z : Key). z.object) same; chunk = ap (λ (z : Key). z.chunk) key ∙ ap (λ (z : Key). z.chunk) same }
+
+-- its data
+bytes_is : (pages : List FreshPage) (i : ℕ) → i < length pages → data_in pages i ≡ Some (fresh_bytes pages i)
+bytes_is pages i lt =
+    let there = slice_get_there pages i lt in
+    ap (option_map (λ (p : FreshPage). p.bytes.items)) there.1 ∙ sym (ap (λ m. Some (option_map_or (λ (p : FreshPage). p.bytes.items) m [])) there.1)
+
+-- the newest pages, however the writing of the group ends
+pub newest_written : (d e : Device) (t : Table) (pages : List FreshPage) (o : ℕ) → IsReady d t → d.honest ≡ true → Grows d.flash e.flash → (result : Result Placed GroupFault)
+    → GroupsAfter (next_group t (length pages) o) (fresh_name pages t.next_group) (fresh_bytes pages) d.flash e.flash result
+    → NewestAfter (next_group t (length pages) o) (fresh_name pages t.next_group) (fresh_bytes pages) d.flash e.flash result
+newest_written d e t pages o ready honest grows result groups =
+    newest_after (next_group t (length pages) o) (fresh_name pages t.next_group) (fresh_bytes pages) d.flash e.flash grows
+    (commit_comes_last (next_group t (length pages) o) (fresh_name pages t.next_group) d.flash (record { versions = λ i lt. refl; seq = t.next_seq; below = ready.below honest }))
+    result groups
+
+-- ---- a group that counts
+
+module _ (t : Table) (x : Index) (pages : List FreshPage) (o : ℕ) (buffers : Buffers x pages) (f g : Flash)
+    (shows : ShowsGroup (next_group t (length pages) o) (fresh_name pages t.next_group) (fresh_bytes pages) f g) where
+  unnamed : (q c : ℕ) (k : KeptPage) → present x q c ≡ presents.OnFlash k → (i : ℕ) → i < length pages → IsNamed (fresh_name pages t.next_group) q c i → ⊥
+  unnamed q c k is i lt named = let two : presents.OnFlash k ≡ presents.InBuffer i = sym is ∙ buffers.told q c i (named_key pages t.next_group q c i lt named) in cc
+
+  names_once : (q c i : ℕ) → present x q c ≡ presents.InBuffer i → NamesOnce (next_group t (length pages) o) (fresh_name pages t.next_group) q c i
+  names_once q c i is =
+      let key = buffers.there q c i is in
+      let lt : i < length pages = place_within pages i (record { object = q; chunk = c }) key in
+      record {
+        within = lt;
+        named = key_named pages t.next_group q c i lt key;
+        once = λ k l named. let two : presents.InBuffer k ≡ presents.InBuffer i = sym (buffers.told q c k (named_key pages t.next_group q c k l named)) ∙ is in cc;
+      }
+
+  -- a page of the buffer is the newest of its key
+  pub kept_buffered : (q c i : ℕ) → present x q c ≡ presents.InBuffer i → IsKeptAt g q c (record { block = o; page = (t.entry o).next + i; version = t.next_group })
+  kept_buffered q c i is =
+      let there = shows.named q c i (names_once q c i is) in
+      record { tag = tag_in (next_group t (length pages) o) (fresh_name pages t.next_group) i; newest = there.newest; version = refl }
+
+  -- and reads
+  pub reads_buffered : (i : ℕ) → i < length pages → data_at g (record { block = o; page = (t.entry o).next + i; version = t.next_group }) ≡ data_in pages i
+  reads_buffered i lt =
+      let there = slice_get_there pages i lt in
+      let key : key_at pages i ≡ Some there.0.key = ap (option_map (λ (p : FreshPage). p.key)) there.1 in
+      let is = buffers.told there.0.key.object there.0.key.chunk i key in
+      let with = shows.named there.0.key.object there.0.key.chunk i (names_once there.0.key.object there.0.key.chunk i is) in
+      ap data_of with.stored ∙ sym (bytes_is pages i lt)
+
+  module _ (kept : AreKept f (kept_pages x)) where
+    -- a kept page that is present stays the newest, and its data stay
+    pub kept_on_flash : (q c : ℕ) (k : KeptPage) → present x q c ≡ presents.OnFlash k → IsKeptAt g q c k
+    kept_on_flash q c k is =
+        let a = kept q c k (on_flash_kept x q c k is) in
+        let s = shows.others q c (record { block = k.block; page = k.page; tag = a.tag }) (unnamed q c k is) a.newest in
+        record { tag = a.tag; newest = s.newest; version = a.version }
+
+    pub reads_on_flash : (q c : ℕ) (k : KeptPage) → present x q c ≡ presents.OnFlash k → data_at g k ≡ data_at f k
+    reads_on_flash q c k is =
+        let a = kept q c k (on_flash_kept x q c k is) in
+        let s = shows.others q c (record { block = k.block; page = k.page; tag = a.tag }) (unnamed q c k is) a.newest in
+        ap data_of s.page
+
+    -- the present pages are the newest of their keys
+    pub carries_present : Carries g (present_data x pages f)
+    carries_present q c xs is = go (present x q c) refl where
+      carried : (k : KeptPage) → IsKeptAt g q c k → data_at g k ≡ Some xs → HasNewest g q c xs
+      carried k at has =
+          let reads = kept_reads g q c k at in
+          let both : Some reads.0 ≡ Some xs = sym reads.1 ∙ has in
+          let e : reads.0 ≡ xs = cc in
+          subst (HasNewest g q c) e (record { spot = reads.2.spot; newest = reads.2.newest; stored = reads.2.stored })
+
+      go : (r : Present) → present x q c ≡ r → HasNewest g q c xs
+      go presents.Absent at = let two : None ≡ Some xs = sym (ap (data_by f pages) at) ∙ is in absurd cc
+      go (presents.OnFlash k) at = carried k (kept_on_flash q c k at) (reads_on_flash q c k at ∙ sym (ap (data_by f pages) at) ∙ is)
+      go (presents.InBuffer i) at =
+          let key = buffers.there q c i at in
+          let lt : i < length pages = place_within pages i (record { object = q; chunk = c }) key in
+          carried (record { block = o; page = (t.entry o).next + i; version = t.next_group }) (kept_buffered q c i at) (reads_buffered i lt ∙ sym (ap (data_by f pages) at) ∙ is)
+
+    -- and none of them lies in a free block of the table that was
+    pub free_present : (spare : ℕ) (z : Geometry) → z ≡ t.geometry → ((b : ℕ) → g.bad b ≡ (t.entry b).bad) → t.open_block ≡ Some o → AreHeld t x → HasFreeBlocks t spare → LeavesFree z g spare (HasPage (present_data x pages f))
+    free_present spare z size bad opened held free = record {
+      free = is_free t;
+      enough =
+          let bads : bad_blocks z g ≡ bad_count t = ap (λ (y : Geometry). how_many g.bad y.blocks) size ∙ counts_same g.bad (is_bad t) t.geometry.blocks (λ b lt. bad b) in
+          let many : how_many (is_free t) z.blocks ≡ free_count t = ap (λ (y : Geometry). how_many (is_free t) y.blocks) size in
+          omega (arith, bads, many, free);
+      each = λ b lt is. record { good = bad b ∙ (free_is t b is).0; apart = λ q c s (xs, has) newest. apart b is q c s xs has newest (present x q c) refl };
+    } where
+      not_open : (b : ℕ) → is_free t b ≡ true → o ≢ b
+      not_open b is e =
+          let shut : is_open t.open_block b ≡ false = (free_is t b is).2 in
+          let two : true ≡ false = sym (ap (λ z. is_open z b) opened ∙ eq-eqb o b e) ∙ shut in
+          absurd cc
+
+      apart : (b : ℕ) → is_free t b ≡ true → (q c : ℕ) (s : Spot) (xs : List ℕ) → present_data x pages f q c ≡ Some xs → IsNewest g q c s → (r : Present) → present x q c ≡ r → s.block ≢ b
+      apart b is q c s xs has newest presents.Absent at = let two : None ≡ Some xs = sym (ap (data_by f pages) at) ∙ has in absurd cc
+      apart b is q c s xs has newest (presents.OnFlash k) at = λ here.
+          let there : s.block ≡ k.block = newest_where_kept g q c k s (kept_on_flash q c k at) newest in
+          let some = held q c k (on_flash_kept x q c k at) in
+          let none = (free_is t b is).1 in
+          let same : (t.entry k.block).kept ≡ (t.entry b).kept = ap (λ n. (t.entry n).kept) (sym there ∙ here) in
+          omega (arith, some, none, same)
+      apart b is q c s xs has newest (presents.InBuffer i) at = λ here.
+          let there : s.block ≡ o = newest_where_kept g q c (record { block = o; page = (t.entry o).next + i; version = t.next_group }) s (kept_buffered q c i at) newest in
+          not_open b is (sym there ∙ here)

@@ -1,0 +1,17 @@
+pub mod ReadOnly
+pub mod Shown
+pub mod Kept
+pub mod Carried
+pub mod Steps
+pub mod Changed
+pub mod Told
+pub mod Sealed
+pub mod Following
+pub mod GroupCounts
+pub mod Freeing
+pub mod Grouping
+pub mod Settling
+pub mod Turning
+pub mod GroupWritten
+pub mod Costing
+pub mod Staying

@@ -1,0 +1,306 @@
+-- What holds after one call and then another.
+use Rattle.std.proofs.Common.{◌≡◌, ◌⊎◌, ◌≤◌, ℕ, ◌+◌, ◌-◌, ◌*◌, true, false, List, [], length, Option, Some, None, Result, Ok, Err, refl, sym, ap, subst, ◌∙◌, inl, inr, arith}
+use Rattle.std.specs.Option.{option_and_then}
+use Rattle.std.proofs.lemmas.Bool.{cases_Bool}
+use Rattle.nand_model.specs.Flash.{Flash}
+use Rattle.nand_model.specs.Calls.{Device}
+use Rattle.nand_model.specs.declared.geometry.Geometry.{Geometry}
+use Rattle.nand_model.specs.laws.Calls.{lasts_on}
+use Rattle.flash_tree.specs.FreeBlocks.{LeavesFree}
+use Rattle.flash_tree.specs.declared.place.FreshPage.{FreshPage}
+use Rattle.flash_tree.specs.laws.Place.{had_power}
+use Rattle.block_state.specs.Kept.{bad_count, kept_count}
+use Rattle.block_state.specs.Table.{Table}
+use Rattle.chunk_index.specs.declared.form.KeptPage.{KeptPage}
+use Rattle.chunk_index.specs.declared.form.Present.TheVariants as presents
+use Rattle.chunk_index.specs.declared.index.Index.{Index}
+use Rattle.chunk_index.specs.Entries.{as_kept}
+use Rattle.chunk_index.specs.Maps.{kept_pages}
+use Rattle.page_buffer.specs.Buffering.{Buffers, IsUnbuffered}
+use Rattle.page_buffer.specs.Shown.{data_at, data_by, kept_data, present_data}
+use Rattle.page_buffer.specs.laws.Buffering.{buffers_empty}
+use Rattle.pages.specs.Maps.{PageMap}
+use Rattle.pages.specs.Stores.{HasNumbersLeft, HasPage, IsCarried}
+use Rattle.transactions.specs.Ready.{IsReady}
+use Rattle.transactions.specs.laws.Handing.{hands_on}
+use Rattle.flash_log.specs.Standing.{AreKept, HasFreeBlocks, IsKept, IsWithinLimits, SameData, Stands}
+use Rattle.flash_log.specs.laws.FreeBlocks.{leaves_fewer}
+use Rattle.flash_log.specs.Steps.{MovesKept, Step}
+use Rattle.flash_log.specs.laws.Keeping.{bad_rises}
+use Rattle.flash_log.specs.laws.Steps.{moves_kept_on, same_data_on, step_none, step_on}
+use Rattle.flash_log.specs.RoomMaking.{LeavesRoom, WhyNoRoom}
+use Rattle.flash_log.specs.declared.room_fault.RoomFault.{RoomFault}
+use Rattle.flash_log.specs.declared.room_fault.RoomFault.TheVariants as faults
+use Rattle.page_store.specs.Buffered.{BufferedLog, committed, current}
+use Rattle.page_store.specs.Carrying.{CarriesEither, CarriesFree, KeepsOrShows, StaysOrShows}
+use Rattle.page_store.specs.Committing.{CommitEnds}
+use Rattle.page_store.specs.CommitKeeping.{Commits, IsAnswered, IsSettled, KeepsLog, Leaves}
+use Rattle.page_store.specs.GroupWriting.{AttemptEnds, IsWhole, IsWaiting, TurnEnds, WholeEnds}
+use Rattle.page_store.specs.declared.turn.Turn.{Turn}
+use Rattle.page_store.specs.declared.turn.Turn.TheVariants as turns
+use Rattle.page_store.proofs.Following.{buffers_moved, presents_moved, carries_kept, kept_reads, same_kept, same_present}
+
+-- ---- keys
+
+-- kept keys that were moved are kept
+kept_moved : (x y : Index) → MovesKept x y → (o c : ℕ) → IsKept (kept_pages x) o c → IsKept (kept_pages y) o c
+kept_moved x y moves o c (p, is) = let m = moves.moved o c p is in (m.at, m.is)
+
+leaves_as_kept : (spare : ℕ) (d : Device) (x y : Index) → MovesKept x y → LeavesFree d.geometry d.flash spare (IsKept (kept_pages y)) → LeavesFree d.geometry d.flash spare (IsKept (kept_pages x))
+leaves_as_kept spare d x y moves leaves = leaves_fewer d.geometry d.flash spare (IsKept (kept_pages y)) (IsKept (kept_pages x)) (kept_moved x y moves) leaves
+
+-- a key with the data of a kept page is kept
+data_kept : (x : Index) (f : Flash) (o c : ℕ) → HasPage (kept_data x f) o c → IsKept (kept_pages x) o c
+data_kept x f o c (xs, has) = go (kept_pages x o c) refl where
+  go : (m : Option KeptPage) → kept_pages x o c ≡ m → IsKept (kept_pages x) o c
+  go None none = let two : None ≡ Some xs = sym (ap (option_and_then (data_at f)) none) ∙ has in absurd cc
+  go (Some p) some = (p, some)
+
+-- and a kept key has data, where its page is the newest
+kept_has : (x : Index) (f : Flash) → AreKept f (kept_pages x) → (o c : ℕ) → IsKept (kept_pages x) o c → HasPage (kept_data x f) o c
+kept_has x f kept o c (p, is) = let reads = kept_reads f o c p (kept o c p is) in (reads.0, ap (option_and_then (data_at f)) is ∙ reads.1)
+
+-- the same map is carried as well
+carries_same : (d : Device) (spare : ℕ) (m n : PageMap) → ((o c : ℕ) → m o c ≡ n o c) → CarriesFree d spare m → CarriesFree d spare n
+carries_same d spare m n same carries = record {
+  newest = λ o c xs is. carries.newest o c xs (same o c ∙ is);
+  free = leaves_fewer d.geometry d.flash spare (HasPage m) (HasPage n) (λ o c (xs, is). (xs, same o c ∙ is)) carries.free;
+}
+
+-- numbers are left
+numbers_left : (d : Device) (t : Table) → IsReady d t → IsWithinLimits t → d.honest ≡ true → HasNumbersLeft d.flash
+numbers_left d t ready (groups, seqs) honest b p tag good has =
+    let below = ready.below honest b p tag good has in
+    let version = below.0 in
+    let group = below.1 in
+    let seq = below.2 in
+    (omega (arith, version, groups), omega (arith, group, groups), omega (arith, seq, seqs))
+
+-- ---- calls
+
+-- the log after a step
+log_kept : (spare : ℕ) (a b : BufferedLog) → Step spare a.log b.log a.index b.index → KeepsLog spare a b
+log_kept spare a b step = record { lasts = step.lasts; ready = step.ready; stands = step.stands; numbers = step.numbers }
+
+-- and after a step behind another call
+log_on : (spare : ℕ) (a b c : BufferedLog) → KeepsLog spare a b → KeepsLog spare b c → KeepsLog spare a c
+log_on spare a b c first then = record {
+  lasts = lasts_on a.log.device b.log.device c.log.device first.lasts then.lasts;
+  ready = then.ready;
+  stands = then.stands;
+  numbers = hands_on a.log.device b.log.device c.log.device a.log.table b.log.table c.log.table first.lasts then.lasts first.numbers then.numbers;
+}
+
+-- no buffered page is valid
+pub leaves_kept : (spare : ℕ) (a b : BufferedLog) → Step spare a.log b.log a.index b.index → b.pages ≡ a.pages → Buffers b.index b.pages → Leaves spare a b
+leaves_kept spare a b step same buffers = record {
+  log = log_kept spare a b step;
+  buffers = buffers;
+  waits = inl (same, step.index);
+  keys = step.index.ready;
+  newest = λ honest. inl (record { same_data = step.same_data honest; free = λ free. leaves_as_kept spare b.log.device a.index b.index step.index (step.free honest free) });
+}
+
+pub leaves_moved : (spare : ℕ) (a b : BufferedLog) → Step spare a.log b.log a.index b.index → b.pages ≡ a.pages → Buffers a.index a.pages → Leaves spare a b
+leaves_moved spare a b step same buffers = leaves_kept spare a b step same (subst (Buffers b.index) (sym same) (buffers_moved a.index b.index step.index a.pages buffers))
+
+-- what is kept is not in the buffer
+pub unbuffered : (y : Index) → IsSettled y → IsUnbuffered y
+unbuffered y same o c i is = go (kept_pages y o c) (sym (same o c) ∙ is) where
+  go : (m : Option KeptPage) → as_kept m ≡ presents.InBuffer i → ⊥
+  go None at = cc
+  go (Some p) at = cc
+
+-- the buffered pages are valid
+pub leaves_committed : (spare : ℕ) (a b : BufferedLog) → Commits spare a b → b.pages ≡ [] → Leaves spare a b
+leaves_committed spare a b commits empty = record {
+  log = commits.log;
+  buffers = buffers_empty b.index b.pages (unbuffered b.index commits.settled) empty;
+  waits = inr (empty, commits.settled);
+  keys = commits.keys;
+  newest = λ honest. inr (commits.newest honest);
+}
+
+-- what was answered later was so from the beginning on
+pub answered_after : (spare : ℕ) (a b c : BufferedLog) → Step spare a.log b.log a.index b.index → IsAnswered spare b c → IsAnswered spare a c
+answered_after spare a b c first then = record { log = then.log; index = then.index; before = step_on spare a.log b.log then.log a.index b.index then.index first then.before; answered = then.answered }
+
+-- what was answered since the call began
+pub answered_here : (spare : ℕ) (a b : BufferedLog) → IsReady a.log.device a.log.table → Stands spare a.log.device a.log.table a.index
+    → (b.log.device.failures ≡ a.log.device.failures) ⊎ ((o : ℕ) × (a.log.table.open_block ≡ Some o) × ((b.log.table.entry o).bad ≡ true)) → IsAnswered spare a b
+answered_here spare a b ready stands answered = record { log = a.log; index = a.index; before = step_none spare a.log.device a.log.table a.index ready stands; answered = answered }
+
+-- A call after a step in which no buffered page was written.
+module _ (spare : ℕ) (a b c : BufferedLog) (stands : Stands spare a.log.device a.log.table a.index) (first : Step spare a.log b.log a.index b.index) (same : b.pages ≡ a.pages) where
+  was_kept : a.log.device.honest ≡ true → b.log.device.gone ≡ false → AreKept a.log.device.flash (kept_pages a.index)
+  was_kept honest power = stands.newest honest (had_power a.log.device b.log.device first.lasts power)
+
+  now_kept : a.log.device.honest ≡ true → b.log.device.gone ≡ false → AreKept b.log.device.flash (kept_pages b.index)
+  now_kept honest power = first.stands.newest (first.lasts.honest ∙ honest) power
+
+  same_current : a.log.device.honest ≡ true → b.log.device.gone ≡ false → (o k : ℕ) → current b o k ≡ current a o k
+  same_current honest power o k =
+      ap (λ (ps : List FreshPage). present_data b.index ps b.log.device.flash o k) same
+      ∙ same_present a.index b.index a.log.device.flash b.log.device.flash first.index (was_kept honest power) (now_kept honest power) (first.same_data honest) a.pages o k
+
+  pub leaves_on : Leaves spare b c → Leaves spare a c
+  leaves_on then = record {
+    log = log_on spare a b c (log_kept spare a b first) then.log;
+    buffers = then.buffers;
+    waits = elim then.waits [ inl (still, moves) ↦ inl (still ∙ same, moves_kept_on a.index b.index c.index first.index moves) | inr settled ↦ inr settled ];
+    keys = λ o k is. then.keys o k (first.index.ready o k is);
+    newest = λ honest. newest honest (cases_Bool b.log.device.gone);
+  } where
+    powered : a.log.device.honest ≡ true → b.log.device.gone ≡ false → StaysOrShows spare b c.log.device → StaysOrShows spare a c.log.device
+    powered honest power (inl stays) = inl (record {
+      same_data = same_data_on a.index b.index a.log.device.flash b.log.device.flash c.log.device.flash first.index (first.same_data honest) stays.same_data;
+      free = λ free. leaves_as_kept spare c.log.device a.index b.index first.index (stays.free (first.free honest free));
+    })
+    powered honest power (inr shows) = inr (carries_same c.log.device spare (current b) (current a) (same_current honest power) shows)
+
+    newest : a.log.device.honest ≡ true → (b.log.device.gone ≡ true) ⊎ (b.log.device.gone ≡ false) → StaysOrShows spare a c.log.device
+    newest honest (inl gone) = inl (record {
+      same_data = subst (λ (d : Device). SameData (kept_pages a.index) a.log.device.flash d.flash) (sym (then.log.lasts.gone gone)) (first.same_data honest);
+      free = λ free. subst (λ (d : Device). LeavesFree d.geometry d.flash spare (IsKept (kept_pages a.index))) (sym (then.log.lasts.gone gone)) (leaves_as_kept spare b.log.device a.index b.index first.index (first.free honest free));
+    })
+    newest honest (inr power) = powered honest power (then.newest (first.lasts.honest ∙ honest))
+
+  pub commits_after : c.log.device.gone ≡ false → Commits spare b c → Commits spare a c
+  commits_after on then =
+      let power : b.log.device.gone ≡ false = had_power b.log.device c.log.device then.log.lasts on in
+      record {
+        log = log_on spare a b c (log_kept spare a b first) then.log;
+        settled = then.settled;
+        keys = λ o k is. then.keys o k (first.index.ready o k is);
+        kept = λ honest still o k. then.kept (first.lasts.honest ∙ honest) still o k ∙ same_current honest power o k;
+        newest = λ honest. carries_same c.log.device spare (current b) (current a) (same_current honest power) (then.newest (first.lasts.honest ∙ honest));
+      }
+
+  pub whole_after : IsWhole spare b c → IsWhole spare a c
+  whole_after then = record { commits = commits_after then.power then.commits; empty = then.empty; last = then.last ∙ same; free = then.free; power = then.power }
+
+  pub waiting_after : IsWaiting spare b c → IsWaiting spare a c
+  waiting_after then = record { step = step_on spare a.log b.log c.log a.index b.index c.index first then.step; pages = then.pages ∙ same; power = then.power }
+
+-- committed pages are moved once the buffered pages are valid
+pub commits_then : (spare : ℕ) (a b c : BufferedLog) → Commits spare a b → Step spare b.log c.log b.index c.index → Commits spare a c
+commits_then spare a b c first then = record {
+  log = log_on spare a b c first.log (log_kept spare b c then);
+  settled = presents_moved b.index c.index then.index first.settled;
+  keys = λ o k is. then.index.ready o k (first.keys o k is);
+  kept = λ honest on o k.
+      let mid : b.log.device.honest ≡ true = first.log.lasts.honest ∙ honest in
+      let power : b.log.device.gone ≡ false = had_power b.log.device c.log.device then.lasts on in
+      same_kept b.index c.index b.log.device.flash c.log.device.flash then.index (first.log.stands.newest mid power) (then.stands.newest (then.lasts.honest ∙ mid) on) (then.same_data mid) o k ∙ first.kept honest power o k;
+  newest = λ honest. newest honest (cases_Bool b.log.device.gone);
+} where
+  newest : a.log.device.honest ≡ true → (b.log.device.gone ≡ true) ⊎ (b.log.device.gone ≡ false) → CarriesFree c.log.device spare (current a)
+  newest honest (inl gone) = subst (λ (d : Device). CarriesFree d spare (current a)) (sym (then.lasts.gone gone)) (first.newest honest)
+  newest honest (inr power) =
+      let mid : b.log.device.honest ≡ true = first.log.lasts.honest ∙ honest in
+      let kept : AreKept b.log.device.flash (kept_pages b.index) = first.log.stands.newest mid power in
+      let same : (o k : ℕ) → committed b o k ≡ current a o k = first.kept honest power in
+      let before = leaves_fewer b.log.device.geometry b.log.device.flash spare (HasPage (current a)) (IsKept (kept_pages b.index))
+      (λ o k is. let has = kept_has b.index b.log.device.flash kept o k is in (has.0, sym (same o k) ∙ has.1)) (first.newest honest).free in
+      record {
+        newest = λ o k xs is. carries_kept b.index b.log.device.flash c.log.device.flash kept (then.same_data mid) o k xs (same o k ∙ is);
+        free = leaves_fewer c.log.device.geometry c.log.device.flash spare (IsKept (kept_pages c.index)) (HasPage (current a))
+            (λ o k (xs, is). kept_moved b.index c.index then.index o k (data_kept b.index b.log.device.flash o k (xs, same o k ∙ is))) (then.free mid before);
+      }
+
+pub whole_then : (spare : ℕ) (a b c : BufferedLog) → IsWhole spare a b → Step spare b.log c.log b.index c.index → c.pages ≡ b.pages → c.last ≡ b.last → HasFreeBlocks c.log.table spare → c.log.device.gone ≡ false → IsWhole spare a c
+whole_then spare a b c first then same written free power = record { commits = commits_then spare a b c first.commits then; empty = same ∙ first.empty; last = written ∙ first.last; free = free; power = power }
+
+pub waiting_then : (spare : ℕ) (a b c : BufferedLog) → IsWaiting spare a b → Step spare b.log c.log b.index c.index → c.pages ≡ b.pages → c.log.device.gone ≡ false → IsWaiting spare a c
+waiting_then spare a b c first then same power = record { step = step_on spare a.log b.log c.log a.index b.index c.index first.step then; pages = same ∙ first.pages; power = power }
+
+-- ---- room
+
+-- what leaves room does so still, where as much is kept and no more blocks are bad than there are to spare
+pub leaves_room : (t u : Table) (spare count : ℕ) → u.geometry ≡ t.geometry → kept_count u ≡ kept_count t → bad_count u ≤ spare → LeavesRoom t spare count → LeavesRoom u spare count
+leaves_room t u spare count geometry kept few (most, fits, has) = (
+  most,
+  subst (λ (g : Geometry). most + count ≤ g.pages) (sym geometry) fits,
+  record {
+    blocks = subst (λ (g : Geometry). spare + 2 ≤ g.blocks) (sym geometry) has.blocks;
+    bad = few;
+    kept = subst (λ (g : Geometry). kept_count u ≤ (g.blocks - spare - 1) * most) (sym geometry) (subst (λ n. n ≤ (t.geometry.blocks - spare - 1) * most) (sym kept) has.kept);
+  },
+)
+
+-- and so no room is made for the reason that none is made now
+pub why_before : (count spare : ℕ) (d : Device) (t u v : Table) (fault : RoomFault) → u.geometry ≡ t.geometry → kept_count u ≡ kept_count t → bad_count u ≤ spare
+    → WhyNoRoom count spare d u v fault → WhyNoRoom count spare d t v fault
+why_before count spare d t u v faults.Full geometry kept few why = λ leaves. why (leaves_room t u spare count geometry kept few leaves)
+why_before count spare d t u v faults.Worn geometry kept few why = why
+why_before count spare d t u v faults.Lost geometry kept few why = why
+why_before count spare d t u v faults.Gone geometry kept few why = why
+
+-- how a turn ends after a step that made room for it
+pub turn_after : (spare : ℕ) (a b c : BufferedLog) (result : Result Turn RoomFault) → Stands spare a.log.device a.log.table a.index → (first : Step spare a.log b.log a.index b.index) → b.pages ≡ a.pages
+    → bad_count b.log.table ≤ spare → TurnEnds spare b c result → TurnEnds spare a c result
+turn_after spare a b c (Ok turns.Written) stands first same few (whole, fits, answered) = (whole_after spare a b c stands first same whole, fits, answered_after spare a b c first answered)
+turn_after spare a b c (Ok turns.Again) stands first same few (waits, free, more, fits, long) =
+    let rises : bad_count a.log.table ≤ bad_count b.log.table = bad_rises a.log.table b.log.table first.geometry first.marks in
+    (waiting_after spare a b c stands first same waits, free, omega (arith, rises, more), fits, subst (λ (ps : List FreshPage). length ps ≤ c.log.device.geometry.pages) same long)
+turn_after spare a b c (Err fault) stands first same few why =
+    why_before (length a.pages) spare c.log.device a.log.table b.log.table c.log.table fault first.geometry first.kept_count few
+    (subst (λ (ps : List FreshPage). WhyNoRoom (length ps) spare c.log.device b.log.table c.log.table fault) same why)
+
+-- how the writing of the group ends short
+pub attempt_err : (count spare : ℕ) (a b : BufferedLog) (fault : RoomFault) → AttemptEnds spare a b (Err fault) → WhyNoRoom count spare b.log.device a.log.table b.log.table fault
+attempt_err count spare a b faults.Full ends = absurd ends
+attempt_err count spare a b faults.Worn ends = absurd ends
+attempt_err count spare a b faults.Lost ends = ends
+attempt_err count spare a b faults.Gone ends = ends
+
+-- ---- what is carried
+
+carried : (d : Device) (spare : ℕ) (m : PageMap) → CarriesFree d spare m → IsCarried d spare m
+carried d spare m carries = record { newest = carries.newest; free = λ _. carries.free }
+
+-- the data of what was committed, or of what was current
+pub keeps_or_shows : (spare : ℕ) (a : BufferedLog) (e : Device) → StaysOrShows spare a e → KeepsOrShows a e.flash
+keeps_or_shows spare a e (inl stays) = inl stays.same_data
+keeps_or_shows spare a e (inr shows) = inr shows.newest
+
+-- the committed pages are carried still, or the current ones are
+pub carries_either : (spare : ℕ) (a b : BufferedLog) → IsReady a.log.device a.log.table → Stands spare a.log.device a.log.table a.index → KeepsLog spare a b → a.log.device.honest ≡ true → StaysOrShows spare a b.log.device
+    → CarriesEither spare a b.log.device
+carries_either spare a b ready stands log honest (inr shows) was = inr (carried b.log.device spare (current a) shows)
+carries_either spare a b ready stands log honest (inl stays) was = elim (cases_Bool a.log.device.gone) [
+  | inl gone ↦ inl (subst (λ (z : Device). IsCarried z spare (committed a)) (sym (log.lasts.gone gone)) was)
+  | inr power ↦
+      let d : Device = a.log.device in
+      let e : Device = b.log.device in
+      let kept : AreKept d.flash (kept_pages a.index) = stands.newest honest power in
+      let before = leaves_fewer d.geometry d.flash spare (HasPage (committed a)) (IsKept (kept_pages a.index)) (kept_has a.index d.flash kept) (was.free (numbers_left d a.log.table ready stands.limits honest)) in
+      inl (record {
+        newest = carries_kept a.index d.flash e.flash kept stays.same_data;
+        free = λ _. leaves_fewer e.geometry e.flash spare (IsKept (kept_pages a.index)) (HasPage (committed a)) (data_kept a.index d.flash) (stays.free before);
+      })
+]
+
+as_kept_shown : (f : Flash) (m : Option KeptPage) (pages : List FreshPage) → data_by f pages (as_kept m) ≡ option_and_then (data_at f) m
+as_kept_shown f None pages = refl
+as_kept_shown f (Some p) pages = refl
+
+-- what is current is what is committed, and has its data
+pub shown_kept : (y : Index) (f : Flash) (rest : List FreshPage) → IsSettled y → (o c : ℕ) → present_data y rest f o c ≡ kept_data y f o c
+shown_kept y f rest same o c = ap (data_by f rest) (same o c) ∙ as_kept_shown f (kept_pages y o c) rest
+
+-- the buffered pages were written, and nothing else is to be done
+pub whole_committed : (spare : ℕ) (a b : BufferedLog) (result : Result (Unit {0}) RoomFault) → WholeEnds spare a b result → CommitEnds spare a b result
+whole_committed spare a b (Err fault) why = why
+whole_committed spare a b (Ok done) (whole, few, answered) = record {
+  unbuffered = unbuffered b.index whole.commits.settled;
+  empty = whole.empty;
+  last = whole.last;
+  kept = λ honest. whole.commits.kept honest whole.power;
+  present = λ honest o c. shown_kept b.index b.log.device.flash b.pages whole.commits.settled o c ∙ whole.commits.kept honest whole.power o c;
+  newest = λ honest _. carried b.log.device spare (current a) (whole.commits.newest honest);
+  few = few;
+  free = whole.free;
+  power = λ _. whole.power;
+  answered = λ _. answered;
+}

@@ -1,0 +1,49 @@
+use Rattle.std.proofs.Common.{◌∙◌}
+use Rattle.page_buffer.specs.BufferOf.{buffered}
+use Rattle.page_buffer.specs.laws.Buffering.{buffers_same}
+use Rattle.page_store.proofs.Carried.{newest_kept}
+use Rattle.page_store.proofs.Steps.{stands_kept, shown_same}
+use Rattle.page_store.proofs.store.Store.prepare.Goals as goal
+
+pub invariant_of-self : goal.invariant_of-self
+invariant_of-self g c =
+    let log = c.args.self.now.log in
+    (log.ready, (stands_kept log.index c.prepare_all.new.index c.prepare_all.ensures.kept _ _ _ log.stands, (log.room_size, tt)))
+
+pub invariant_of-self-in-Ok : goal.invariant_of-self-in-Ok
+invariant_of-self-in-Ok g c =
+    let self = c.args.self.now in
+    let e = c.prepare_all.ensures in
+    let y = c.prepare_all.new.index in
+    record {
+      buffers = buffers_same self.log.index y (buffered self.buffer) e.present self.buffers;
+      objects = self.objects;
+      most = self.most;
+      size = self.size;
+      buffer_size = self.buffer_size;
+      cache_size = e.sizes.page_bytes ∙ self.cache_size;
+      place = self.place;
+      few = self.few;
+      free = self.free;
+      newest = λ whole honest. newest_kept (g.N.Nand.state self.log.device).flash self.log.index y e.kept (self.newest whole honest);
+      shown = λ whole honest. shown_same self.log.index y (buffered self.buffer) (g.N.Nand.state self.log.device).flash self.cache c.prepare_all.new.cache e.present e.fewer (self.shown whole honest);
+    }
+
+pub invariant_of-self-in-Err : goal.invariant_of-self-in-Err
+invariant_of-self-in-Err g c =
+    let self = c.args.self.now in
+    let e = c.prepare_all.ensures in
+    let y = c.prepare_all.new.index in
+    record {
+      buffers = buffers_same self.log.index y (buffered self.buffer) e.present self.buffers;
+      objects = self.objects;
+      most = self.most;
+      size = self.size;
+      buffer_size = self.buffer_size;
+      cache_size = e.sizes.page_bytes ∙ self.cache_size;
+      place = self.place;
+      few = self.few;
+      free = self.free;
+      newest = λ whole honest. newest_kept (g.N.Nand.state self.log.device).flash self.log.index y e.kept (self.newest whole honest);
+      shown = λ whole honest. shown_same self.log.index y (buffered self.buffer) (g.N.Nand.state self.log.device).flash self.cache c.prepare_all.new.cache e.present e.fewer (self.shown whole honest);
+    }

@@ -1,0 +1,117 @@
+use Rattle.std.specs.Prelude.{◌≡◌, ◌⊎◌, ◌≤◌, ◌/◌, List, length}
+use Rattle.std.proofs.Common.{refl, ◌∙◌, sym, ap, subst, inl, inr, arith}
+use Rattle.flash_tree.specs.declared.place.FreshPage.{FreshPage}
+use Rattle.nand_model.specs.declared.geometry.Geometry.{Geometry}
+use Rattle.page_buffer.specs.BufferOf.{buffered, most_pages}
+use Rattle.pages.specs.Stores.{IsCarried, SamePages}
+use Rattle.page_store.specs.StoreState.{committed_in, current_in, seen_of, StoreState}
+use Rattle.page_store.specs.StateOf.{lent_by, state_of}
+use Rattle.page_store.proofs.Carried.{has_page, store_carries}
+use Rattle.page_store.specs.laws.Sound.{sound_whole}
+use Rattle.page_store.proofs.ReadOnly.{sound_honest}
+use Rattle.page_store.proofs.Told.{both_whole, commit_told, none_buffered, committed, failed_stays, hands_told, keeps_either, limits_told, marks_told, sound_on, sound_stays, stays_broken, stopped, stops_either, stops_told, stops_written, takes_none, ways, when_written}
+use Rattle.page_store.proofs.store_trait.StorePageStore.commit.Goals as goal
+
+pub returns-clause-goes_on : goal.returns-clause-goes_on
+returns-clause-goes_on g c =
+    let new = c.write_out.new.self in
+    let a : StoreState = state_of c.args.self.now in
+    let b : StoreState = state_of new in
+    let e = c.write_out.ensures in
+    let lasts = e.keeps.lasts in
+    record {
+      page_bytes = ap (λ (k : Geometry). k.bytes) lasts.device.geometry;
+      most = new.most ∙ ap (λ (k : Geometry). k.pages / 4) lasts.device.geometry ∙ sym c.args.self.now.most;
+      spare = lasts.spare;
+      worn = refl;
+      refused = lasts.counts.refused;
+      commits = lasts.counts.commits;
+      failed = failed_stays a.log.device b.log.device a.broken b.broken lasts.device (stays_broken c.write_out.result a b e.ends);
+      device = lasts.device;
+      numbers = hands_told a.log.device b.log.device a.log.table b.log.table lasts.numbers;
+      marks = marks_told a.log.device b.log.device a.log.table b.log.table c.args.self.now.log.ready new.log.ready e.pays.marks;
+      limits = λ honest _. limits_told b.log.device b.log.table new.log.ready new.log.stands.limits (lasts.device.honest ∙ honest);
+      truth = lasts.numbers.truth;
+    }
+
+pub returns-clause-sound : goal.returns-clause-sound
+returns-clause-sound g c =
+    let a : StoreState = state_of c.args.self.now in
+    let b : StoreState = state_of c.write_out.new.self in
+    let e = c.write_out.ensures in
+    sound_stays c.write_out.result a.log.device b.log.device a.broken b.broken e.keeps.lasts.device (when_written c.write_out.result a b e.ends (λ is. both_whole a b is.whole))
+
+pub returns-clause-present : goal.returns-clause-present
+returns-clause-present g c = λ _. when_written c.write_out.result (state_of c.args.self.now) (state_of c.write_out.new.self) c.write_out.ensures.ends (λ is. is.current)
+
+pub returns-clause-power : goal.returns-clause-power
+returns-clause-power g c = when_written c.write_out.result (state_of c.args.self.now) (state_of c.write_out.new.self) c.write_out.ensures.ends (λ is. is.whole.power)
+
+pub returns-clause-kept : goal.returns-clause-kept
+returns-clause-kept g c = λ sound.
+    let new = c.write_out.new.self in
+    let a : StoreState = state_of c.args.self.now in
+    let b : StoreState = state_of new in
+    let r = c.write_out.result in
+    let e = c.write_out.ensures in
+    let honest = sound_honest a.log.device.honest a.broken sound in
+    let whole = sound_whole a.log.device.honest a.broken sound in
+    let q = seen_of b (lent_by new) in
+    let m = committed_in a in
+    let n = current_in a in
+    keeps_either q m n
+    (ways r q m n (sound_on r a.log.device b.log.device a.broken b.broken e.keeps.lasts.device (when_written r a b e.ends (λ is. both_whole a b is.whole)) honest)
+    (when_written {A = SamePages q.kept m ⊎ SamePages q.kept n} r a b e.ends (λ is. inr is.committed))
+    (stops_told r b.log.device.honest b.broken (stops_either r b.broken (stops_written r a b e.ends))) (λ none. absurd (takes_none r a b e.ends none)))
+    (λ is. store_carries b.spare b.log.device b.log.table b.index c.the_counts_are_of_the_keys.ensures.none new.log.ready new.log.stands.tables (new.newest (sound_whole b.log.device.honest b.broken is) (sound_honest b.log.device.honest b.broken is)))
+    (subst (λ k. IsCarried b.log.device k m ⊎ IsCarried b.log.device k n) (sym e.keeps.lasts.spare) (e.carried whole honest))
+
+pub returns-clause-committed : goal.returns-clause-committed
+returns-clause-committed g c = λ sound.
+    let new = c.write_out.new.self in
+    let a : StoreState = state_of c.args.self.now in
+    let b : StoreState = state_of new in
+    let r = c.write_out.result in
+    let e = c.write_out.ensures in
+    let honest = sound_honest a.log.device.honest a.broken sound in
+    committed r (seen_of b (lent_by new)) (current_in a)
+    (sound_on r a.log.device b.log.device a.broken b.broken e.keeps.lasts.device (when_written r a b e.ends (λ is. both_whole a b is.whole)) honest) (when_written r a b e.ends (λ is. is.committed))
+    (λ is. store_carries b.spare b.log.device b.log.table b.index c.the_counts_are_of_the_keys.ensures.none new.log.ready new.log.stands.tables (new.newest (sound_whole b.log.device.honest b.broken is) (sound_honest b.log.device.honest b.broken is)))
+
+pub returns-clause-stops : goal.returns-clause-stops
+returns-clause-stops g c =
+    let b : StoreState = state_of c.write_out.new.self in
+    stopped c.write_out.result b.log.device.honest b.broken (stops_written c.write_out.result (state_of c.args.self.now) b c.write_out.ensures.ends)
+
+pub returns-clause-fault : goal.returns-clause-fault
+returns-clause-fault g c = λ sound.
+    let self = c.args.self.now in
+    let new = c.write_out.new.self in
+    let a : StoreState = state_of self in
+    let b : StoreState = state_of new in
+    let e = c.write_out.ensures in
+    let honest = sound_honest a.log.device.honest a.broken sound in
+    let whole = sound_whole a.log.device.honest a.broken sound in
+    let few : length (buffered self.buffer) ≤ most_pages self.buffer = self.buffer.few in
+    let most : most_pages self.buffer ≡ a.log.device.geometry.pages / 4 = self.most in
+    commit_told a b (lent_by self) (lent_by new) self.log.ready.geometry e.keeps.lasts.device.geometry e.keeps.lasts.spare new.log.ready (omega (arith, most)) few (self.few whole)
+    (c.the_counts_add_up_to_the_kept_keys.ensures.all a.log.table a.index self.log.stands.tables.counts) (λ o k at is. has_page a.log.device a.index o k at honest (self.newest whole honest) is)
+    c.write_out.result whole e.ends
+
+pub returns-clause-memory : goal.returns-clause-memory
+returns-clause-memory g c = λ none. takes_none c.write_out.result (state_of c.args.self.now) (state_of c.write_out.new.self) c.write_out.ensures.ends none
+
+pub returns-clause-nothing : goal.returns-clause-nothing
+returns-clause-nothing g c = λ none. record {
+  device = c.write_out.ensures.nothing (none_buffered (buffered c.args.self.now.buffer) none);
+  commits = c.write_out.ensures.keeps.counts.none none;
+}
+
+pub returns-clause-idle : goal.returns-clause-idle
+returns-clause-idle g c = λ sound none.
+    let self = c.args.self.now in
+    c.write_out.ensures.unhindered (sound_whole (g.N.Nand.state self.log.device).honest self.broken sound) (inl (none_buffered (buffered self.buffer) none))
+
+pub returns-clause-buffered : goal.returns-clause-buffered
+returns-clause-buffered g c =
+    when_written c.write_out.result (state_of c.args.self.now) (state_of c.write_out.new.self) c.write_out.ensures.ends (λ is. ap (λ (xs : List FreshPage). length xs) is.empty)

@@ -1,0 +1,31 @@
+use Rattle.std.proofs.Common.{◌≡◌, ◌≤◌, ◌-◌, ◌+◌, ◌*◌}
+use Rattle.block_state.specs.Kept.{bad_count}
+use Rattle.block_state.specs.TableOf.{table}
+use Rattle.page_buffer.specs.BufferOf.{buffered}
+use Rattle.page_buffer.specs.Buffering.{Buffers}
+use Rattle.nand_model.specs.Counts.{Costs, ReadsFew}
+use Rattle.flash_log.specs.LogOf.{log_state}
+use Rattle.flash_log.specs.Moving.{AnswersFailures, MarksFailures}
+use Rattle.flash_log.specs.Standing.{HasFreeBlocks}
+use Rattle.flash_log.specs.Steps.{Step}
+use Rattle.page_store.specs.CommitKeeping.{SameSizes}
+use Rattle.page_store.proofs.turn.write_whole.Given as goal
+
+abbrev pub invariant-loop : goal.invariant-loop
+invariant-loop g l = record {
+  spare : l.log.spare ≡ l.fn.log.spare;
+  step : Step l.fn.log.spare (log_state l.fn.log) (log_state l.log) l.fn.log.index l.log.index;
+  buffers : Buffers l.log.index (buffered l.buffer);
+  same : buffered l.buffer ≡ buffered l.fn.buffer;
+  marks : MarksFailures 0 0 (g.N.Nand.state l.fn.log.device) (g.N.Nand.state l.log.device) (table l.fn.log.blocks) (table l.log.blocks);
+  answers : AnswersFailures 0 0 (g.N.Nand.state l.fn.log.device) (g.N.Nand.state l.log.device) (table l.fn.log.blocks) (table l.log.blocks);
+  costs : Costs 0 (3 * (g.N.Nand.state l.fn.log.device).geometry.pages + 3) 0 (g.N.Nand.state l.fn.log.device) (g.N.Nand.state l.log.device);
+  reads : ReadsFew 0 (g.N.Nand.state l.fn.log.device) (g.N.Nand.state l.log.device);
+  first : (g.N.Nand.state l.log.device).failures ≡ (g.N.Nand.state l.fn.log.device).failures → log_state l.log ≡ log_state l.fn.log;
+  few : bad_count (table l.log.blocks) ≤ l.fn.log.spare;
+  free : HasFreeBlocks (table l.log.blocks) l.fn.log.spare;
+  sizes : SameSizes l.fn.buffer l.buffer;
+}
+
+abbrev pub decreases-loop : goal.decreases-loop
+decreases-loop g l = l.fn.log.spare - bad_count (table l.log.blocks)

@@ -1,0 +1,55 @@
+-- What a flash carries, and pages that can be written to it.
+use Rattle.std.specs.Prelude.{◌≡◌, ◌≢◌, ◌⊎◌, ◌<◌, ◌≤◌, ◌^◌, ℕ, true, List, length, Some, slice_get}
+use Rattle.nand_model.specs.Calls.{Device}
+use Rattle.nand_model.specs.Flash.{Flash}
+use Rattle.flash_tree.specs.FreeBlocks.{LeavesFree}
+use Rattle.flash_tree.specs.Slots.{check_object}
+use Rattle.flash_tree.specs.declared.place.FreshPage.{FreshPage}
+use Rattle.flash_tree.specs.declared.place.Key.{Key}
+use Rattle.pages.specs.Maps.{PageMap}
+use Rattle.pages.specs.Stores.{Carries, HasPage, IsCarried}
+use Rattle.chunk_index.specs.Maps.{kept_pages}
+use Rattle.flash_log.specs.Standing.{IsKept, SameData}
+use Rattle.page_store.specs.Buffered.{BufferedLog, committed, current}
+
+-- A device that carries the committed pages carries them still, or it carries the current ones: all of the one or all of the
+-- other, with blocks enough that hold none of them.
+abbrev pub CarriesEither : (spare : ℕ) → BufferedLog → Device → Type 0
+CarriesEither spare old new = IsCarried old.log.device spare (committed old) → IsCarried new spare (committed old) ⊎ IsCarried new spare (current old)
+
+-- the newest page of each committed key has its version and its data still, or the current pages are the newest of their keys
+abbrev pub KeepsOrShows : BufferedLog → Flash → Type 0
+KeepsOrShows old new = SameData (kept_pages old.index) old.log.device.flash new ⊎ Carries new (current old)
+
+-- the device has the pages of the map, and blocks enough that hold none of them, whatever numbers are left
+pub record CarriesFree (device : Device) (spare : ℕ) (m : PageMap) : Type 0 where
+  pub newest : Carries device.flash m
+  pub free : LeavesFree device.geometry device.flash spare (HasPage m)
+
+-- the newest page of each committed key has its version and its data still, and blocks enough hold none of these, if they did so
+pub record StaysCarried (spare : ℕ) (old : BufferedLog) (new : Device) : Type 0 where
+  pub same_data : SameData (kept_pages old.index) old.log.device.flash new.flash
+  pub free : LeavesFree old.log.device.geometry old.log.device.flash spare (IsKept (kept_pages old.index)) → LeavesFree new.geometry new.flash spare (IsKept (kept_pages old.index))
+
+-- so it is with the committed pages, or the device carries the current ones
+abbrev pub StaysOrShows : (spare : ℕ) → BufferedLog → Device → Type 0
+StaysOrShows spare old new = StaysCarried spare old new ⊎ CarriesFree new spare (current old)
+
+-- each page is of an object from 1 on, and on an honest device not of that of checkpoints
+abbrev pub AreNumbered : Device → List FreshPage → Type 0
+AreNumbered device pages = (i : ℕ) (p : FreshPage) → slice_get pages i ≡ Some p → (1 ≤ p.key.object) × (device.honest ≡ true → p.key.object ≢ check_object)
+
+-- fewer than 2^32 pages, each of the size of the device's pages and of a number that an object may have
+pub record AreWritable (device : Device) (pages : List FreshPage) : Type 0 where
+  pub few : length pages < 2 ^ 32
+  pub numbered : AreNumbered device pages
+  pub size : (i : ℕ) (p : FreshPage) → slice_get pages i ≡ Some p → length p.bytes.items ≡ device.geometry.bytes
+
+-- the numbers of a key are of 64 bits
+pub record HasRanges (k : Key) : Type 0 where
+  pub object : k.object < 2 ^ 64
+  pub chunk : k.chunk < 2 ^ 64
+
+-- and of the key of each page
+abbrev pub HaveRanges : List FreshPage → Type 0
+HaveRanges pages = (i : ℕ) (p : FreshPage) → slice_get pages i ≡ Some p → HasRanges p.key

@@ -1,0 +1,15 @@
+pub mod Found
+pub mod Reading
+pub mod StoreOf
+pub mod StoreState
+pub mod StateOf
+pub mod Caching
+pub mod Changing
+pub mod Counts
+pub mod Sealing
+pub mod Buffered
+pub mod Carrying
+pub mod CommitKeeping
+pub mod Committing
+pub mod GroupWriting
+pub mod laws

@@ -13,7 +13,7 @@ use Rattle.name_index.specs.declared.index.NameIndex.{NameIndex}
 use Rattle.page_buffer.specs.Shown.{kept_data}
 use Rattle.pages.specs.Maps.{PageMap, known_pages}
 use Rattle.posix_profile.specs.State.{Objects}
-use Rattle.tree_table.specs.Covering.{CoversObjects}
+use Rattle.tree_walk.specs.Covering.{CoversObjects}
 use Rattle.tree_walk.specs.Hashes.{CoversTree}
 use Rattle.tree_walk.specs.declared.tree.Tree.{Tree}
 use Rattle.volume_terms.specs.Sizes.{Sizes}

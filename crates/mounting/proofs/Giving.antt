@@ -28,7 +28,7 @@ use Rattle.flash_pages.specs.ReadOnly.{IsWorn}
 use Rattle.name_index.specs.declared.index.NameIndex.{NameIndex}
 use Rattle.flash_log.specs.Standing.{AreKept}
 use Rattle.chunk_index.specs.Maps.{kept_pages}
-use Rattle.tree_table.specs.Covering.{CoversObjects}
+use Rattle.tree_walk.specs.Covering.{CoversObjects}
 use Rattle.tree_walk.specs.Hashes.{CoversTree}
 use Rattle.tree_walk.specs.Trees.{IsTreeThrough}
 use Rattle.tree_walk.specs.declared.tree.Tree.{Tree}

@@ -16,7 +16,7 @@ use Rattle.checkpoint_reading.specs.Found.{IsWholeOn, ReadsFew}
 use Rattle.flash_tree.specs.Checkpoints.{Checkpoint}
 use Rattle.mount_scan.specs.Scanned.{good_pages}
 use Rattle.pages.specs.Maps.{PageMap, has}
-use Rattle.tree_table.specs.Looked.{looked_pages}
+use Rattle.tree_walk.specs.Looked.{looked_pages}
 use Rattle.tree_walk.specs.Trees.{IsTreeThrough, tree_pages}
 use Rattle.tree_walk.specs.declared.fault.RootFault.{RootFault}
 use Rattle.tree_walk.specs.declared.tree.Tree.{Tree}

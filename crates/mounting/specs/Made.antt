@@ -19,7 +19,7 @@ use Rattle.pages.specs.Stores.{bad_on, SamePages, KeptAs}
 use Rattle.paged_objects.specs.Standing.{volume_of, StandsFor, Shown}
 use Rattle.posix_profile.specs.State.{Objects}
 use Rattle.newest_pages.specs.Opened.{AreLeft}
-use Rattle.tree_table.specs.Covering.{CoversObjects}
+use Rattle.tree_walk.specs.Covering.{CoversObjects}
 
 -- groups can be written: there are numbers left, and no more blocks are bad than there are to spare
 abbrev pub CanBeWritten : Device → Numbers → (spare : ℕ) → Type 0

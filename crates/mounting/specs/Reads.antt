@@ -11,7 +11,7 @@ use Rattle.mount_scan.specs.Scanned.{good_pages}
 use Rattle.newest_pages.specs.Checked.{HasTrueFlash}
 use Rattle.page_buffer.specs.Shown.{kept_data}
 use Rattle.pages.specs.Maps.{has}
-use Rattle.tree_table.specs.Looked.{looked_pages}
+use Rattle.tree_walk.specs.Looked.{looked_pages}
 use Rattle.tree_walk.specs.Trees.{tree_pages}
 use Rattle.tree_walk.specs.declared.fault.RootFault.{RootFault}
 use Rattle.tree_walk.specs.declared.fault.RootFault.TheVariants as roots

@@ -27,8 +27,9 @@ use mount_answers::{a_volume_has_sizes, the_tree_looks_up_its_footprint};
 use nand_model::Nand;
 use pages::has_power;
 use std::alloc::Global;
-use tree_table::the_pages_of_a_tree_are_those_of_its_objects;
-use tree_walk::{RootFault, the_headers_tell_the_keys};
+use tree_walk::{
+    RootFault, the_headers_tell_the_keys, the_pages_of_a_tree_are_those_of_its_objects,
+};
 use trusted_nand::TrustedNand;
 
 /// Notes the block that may have a checkpoint, unless it is bad or holds a kept page.

@@ -21,8 +21,7 @@ use mount_answers::{
     the_tree_looks_up_its_footprint, what_the_tree_looks_up_is_kept,
 };
 use nand_model::{Geometry, Nand};
-use tree_table::charge;
-use tree_walk::the_headers_tell_the_keys;
+use tree_walk::{charge, the_headers_tell_the_keys};
 use volume_terms::VolumeSizes;
 
 /// The sizes of a volume with so many spare blocks on a device of these sizes, if there may be one.

@@ -17,7 +17,7 @@ use object_table::ObjectTable;
 use pages::Pages;
 use std::alloc::Global;
 use std::num::NonZeroUsize;
-use tree_table::{table, the_names_of_a_tree_are_those_of_its_objects};
+use tree_walk::{table, the_names_of_a_tree_are_those_of_its_objects};
 
 /// What a mount gives: the pages of the volume, the table of its objects, the hashes of their names, and whether it can
 /// only be read.

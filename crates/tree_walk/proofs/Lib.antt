@@ -11,3 +11,12 @@ pub mod Going
 pub mod Twice
 pub mod Rooting
 pub mod Looking
+pub mod Elements
+pub mod Whole
+pub mod HeadLaws
+pub mod Summed
+pub mod Told
+pub mod Parts
+pub mod Bare
+pub mod Slots
+pub mod Naming

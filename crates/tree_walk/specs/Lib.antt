@@ -6,4 +6,8 @@ pub mod Visits
 pub mod Trees
 pub mod Hashes
 pub mod Walks
+pub mod Units
+pub mod Building
+pub mod Covering
+pub mod Looked
 pub mod laws

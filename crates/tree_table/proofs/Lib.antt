@@ -1,9 +1,0 @@
-pub mod Elements
-pub mod Whole
-pub mod HeadLaws
-pub mod Summed
-pub mod Told
-pub mod Parts
-pub mod Bare
-pub mod Slots
-pub mod Naming

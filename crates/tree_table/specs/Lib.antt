@@ -1,4 +1,0 @@
-pub mod Units
-pub mod Building
-pub mod Covering
-pub mod Looked

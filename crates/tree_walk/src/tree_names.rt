@@ -1,0 +1,37 @@
+// The names of a tree, one after the other.
+ghost use Rattle.std.specs.Prelude.{◌≡◌, ℕ, List, Some};
+ghost use Rattle.pages.specs.Maps.{PageMap};
+ghost use Rattle.posix_profile.specs.State.{Objects};
+ghost use Rattle.posix_profile.specs.Changes.{with_name};
+ghost use Rattle.object_table.specs.Built.{sizes_built, Builds};
+ghost use Rattle.object_table.specs.Counted.{GetsName};
+ghost use Rattle.tree_walk.specs.Trees.{head_at};
+ghost use Rattle.tree_walk.specs.declared.head.Head.{Head};
+ghost use Rattle.tree_walk.specs.Building.{IsShown, IsNameless};
+
+use crate::tree::{NamedObject, Tree};
+use object_table::TableBuilder;
+
+/// The objects of a tree, which came without names, get them.
+pub(crate) fn insert_names(tree: &Tree, builder: &mut TableBuilder)
+    ensures size { sizes_built builder.new ≡ sizes_built builder.old }
+    ensures builds { (m : PageMap) (objects part : Objects) → IsShown (sizes_built builder.old) m tree.now objects → IsNameless objects part → Builds builder.old part
+        → Builds builder.new objects }
+{
+    let names = tree.names();
+    for place in 0..names.len() {
+        insert_name(tree, names[place], builder);
+    }
+}
+
+/// A directory whose header is told names an object.
+fn insert_name(tree: &Tree, name: NamedObject, builder: &mut TableBuilder)
+    ensures size { sizes_built builder.new ≡ sizes_built builder.old }
+    ensures names { (head : Head) (objects : Objects) (bytes : List ℕ) → head_at tree.now name.directory ≡ Some head → Builds builder.old objects
+        → GetsName (sizes_built builder.old) objects head.moment name.directory bytes name.object
+        → Builds builder.new (with_name objects head.moment name.directory bytes name.object) }
+{
+    if let Some(head) = tree.head(name.directory) {
+        builder.name(name.directory, name.object, head.moment);
+    }
+}

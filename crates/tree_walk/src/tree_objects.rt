@@ -1,0 +1,65 @@
+// The objects of a tree, one after the other, without their names.
+ghost use Rattle.std.specs.Prelude.{◌≡◌, ℕ, Some, OnOk};
+ghost use Rattle.std.specs.FinMap as map;
+ghost use Rattle.pages.specs.Maps.{PageMap};
+ghost use Rattle.posix_profile.specs.State.{Object, Objects};
+ghost use Rattle.object_table.specs.Built.{sizes_built, Builds, IsBare, CanCome};
+ghost use Rattle.tree_walk.specs.Trees.{head_at};
+ghost use Rattle.tree_walk.specs.declared.head.Head.{Head};
+ghost use Rattle.tree_walk.specs.Building.{kind_as, IsShown, IsNameless};
+
+use crate::tree::Tree;
+use object_table::TableBuilder;
+use page_tags::ObjectKind;
+use posix_profile::Kind;
+use std::alloc::AllocError;
+
+/// The objects of a tree come, without their names.
+pub(crate) fn insert_objects(tree: &Tree, builder: &mut TableBuilder) -> Result<(), AllocError>
+    ensures size { sizes_built builder.new ≡ sizes_built builder.old }
+    ensures builds { (m : PageMap) (objects : Objects) → IsShown (sizes_built builder.old) m tree.now objects → Builds builder.old map.empty
+        → OnOk result ((part : Objects) × IsNameless objects part × Builds builder.new part) }
+{
+    make_room(tree, builder)?;
+    let objects = tree.objects();
+    for place in 0..objects.len() {
+        insert_object(tree, objects[place], builder)?;
+    }
+    Ok(())
+}
+
+/// Makes room for every other object of a tree. The table's map splits a full node in halves, which stay half full where
+/// the objects come in order; here those between fill them.
+fn make_room(tree: &Tree, builder: &mut TableBuilder) -> Result<(), AllocError>
+    ensures size { sizes_built builder.new ≡ sizes_built builder.old }
+    ensures same { (objects : Objects) → Builds builder.old objects → Builds builder.new objects }
+{
+    let objects = tree.objects();
+    for place in (0..objects.len()).step_by(2) {
+        builder.make_room(objects[place])?;
+    }
+    Ok(())
+}
+
+/// An object comes as its header says, without its names.
+fn insert_object(tree: &Tree, object: u64, builder: &mut TableBuilder) -> Result<(), AllocError>
+    ensures size { sizes_built builder.new ≡ sizes_built builder.old }
+    ensures inserts { (head : Head) (objects : Objects) (x : Object) → head_at tree.now object ≡ Some head → Builds builder.old objects
+        → IsBare (kind_as head.kind) head.moment head.length x → CanCome (sizes_built builder.old) objects object x
+        → OnOk result (Builds builder.new (map.insert objects object x)) }
+{
+    match tree.head(object) {
+        Some(head) => builder.insert(object, kind_of(head.kind), head.moment, head.length),
+        None => Ok(()),
+    }
+}
+
+/// The kind that a header says.
+fn kind_of(kind: ObjectKind) -> Kind
+    ensures { result ≡ kind_as kind }
+{
+    match kind {
+        ObjectKind::File => Kind::File,
+        ObjectKind::Directory => Kind::Directory,
+    }
+}

@@ -11,7 +11,6 @@ use mount_scan::scan_newest;
 use nand_model::Nand;
 use std::alloc::Global;
 use std::process::Abort;
-use std::test::Fail;
 
 /// The newest pages of any device, which need not be honest, with the index of them and the table of its blocks.
 #[derive(Drop)]
@@ -22,16 +21,16 @@ struct Mounted {
 }
 
 impl Mounted {
-    fn new<N: Nand>(alloc: Global, device: &mut N) -> Result<Mounted, Fail> {
-        let found = scan_newest(alloc, device)?.newest;
-        let newest = pages_of(alloc, &found)?;
-        let blocks = Blocks::new(alloc, device.geometry())?;
-        let (index, blocks) = Index::from_newest(alloc, found, blocks)?;
-        Ok(Mounted {
+    fn new<N: Nand>(rt: &impl Abort, alloc: Global, device: &mut N) -> Mounted {
+        let found = scan_newest(alloc, device).expect(rt, "a scan").newest;
+        let newest = pages_of(rt, alloc, &found);
+        let blocks = Blocks::new(alloc, device.geometry()).expect(rt, "memory");
+        let (index, blocks) = Index::from_newest(alloc, found, blocks).expect(rt, "memory");
+        Mounted {
             newest,
             index,
             blocks,
-        })
+        }
     }
 }
 
@@ -64,12 +63,11 @@ fn expect_newest(rt: &impl Abort, mounted: &Mounted, what: &str) {
 }
 
 #[test]
-fn the_newest_pages_of_a_scan_are_kept(rt: HostRuntime) -> Result<(), Fail> {
+fn the_newest_pages_of_a_scan_are_kept(rt: HostRuntime) {
     let alloc = rt.alloc();
-    for flash in flashes(alloc)? {
-        let mut nand = written(alloc, &flash)?;
-        let mounted = Mounted::new(alloc, &mut nand)?;
+    for flash in flashes(&rt, alloc) {
+        let mut nand = written(&rt, alloc, &flash);
+        let mounted = Mounted::new(&rt, alloc, &mut nand);
         expect_newest(&rt, &mounted, flash.what);
     }
-    Ok(())
 }

@@ -7,7 +7,6 @@ use flash_log::{MoveFault, Moved, RoomFault};
 use nand_model::{MemNand, Nand};
 use std::alloc::Global;
 use std::process::Abort;
-use std::test::Fail;
 use test_log::mount_log;
 
 /// The reads of a mount of eight blocks of 32 pages.
@@ -38,21 +37,21 @@ fn group_in(block: u32, first: u64, count: u64, fill: u8) -> Laid {
 
 /// Eight blocks of 32 pages of 512 bytes, to which these groups were written in turn, with the numbers from 1 up, after a
 /// power-up.
-fn written(rt: &impl Abort, alloc: Global, groups: &[Laid]) -> Result<MemNand, Fail> {
-    let mut volume = Volume::new(alloc)?;
+fn written(rt: &impl Abort, alloc: Global, groups: &[Laid]) -> MemNand {
+    let mut volume = Volume::new(rt, alloc);
     for group in groups {
         if volume.blocks.open_block() != Some(group.block) {
-            volume.take(rt, group.block)?;
+            volume.take(rt, group.block).expect(rt, "an erase");
         }
-        let pages = pages_from(alloc, group.first, group.count, group.fill)?;
+        let pages = pages_from(rt, alloc, group.first, group.count, group.fill);
         assert!(rt; volume.commit(rt, &pages).is_ok());
     }
     volume.power_up();
-    Ok(volume.into_nand())
+    volume.into_nand()
 }
 
 /// Block 2 keeps the pages of objects 1, 2 and 3, and an older one of object 2; block 5 those of objects 4 and 5.
-pub(crate) fn flash(rt: &impl Abort, alloc: Global) -> Result<MemNand, Fail> {
+pub(crate) fn flash(rt: &impl Abort, alloc: Global) -> MemNand {
     written(
         rt,
         alloc,
@@ -94,7 +93,7 @@ pub(crate) const KEPT: [Run; 4] = [
 
 /// Block 1 keeps the pages of objects 5, 6 and 7, and older ones of them; each of the blocks 0 and 2 to 4 keeps four
 /// pages; and 5, 6 and 7 are free.
-pub(crate) fn full_flash(rt: &impl Abort, alloc: Global) -> Result<MemNand, Fail> {
+pub(crate) fn full_flash(rt: &impl Abort, alloc: Global) -> MemNand {
     written(
         rt,
         alloc,
@@ -150,14 +149,14 @@ pub(crate) fn retired(
     nand: MemNand,
     block: u32,
     spare: u32,
-) -> Result<(Result<(), MoveFault>, MemNand, Blocks), Fail> {
-    let mut log = mount_log(alloc, nand, spare)?;
+) -> (Result<(), MoveFault>, MemNand, Blocks) {
+    let mut log = mount_log(alloc, nand, spare).expect(rt, "a log");
     assert!(rt; block < log.device.geometry().blocks());
     assert!(rt; block < log.blocks.geometry().blocks());
     assert!(rt; !log.blocks.entry(block).bad);
     assert!(rt; log.blocks.checkpoint().is_none());
     let result = log.retire(block);
-    Ok((result, log.device, log.blocks))
+    (result, log.device, log.blocks)
 }
 
 /// Mounts a device and moves away what is committed in a block. How that ends, with the device and the table afterwards.
@@ -167,24 +166,25 @@ pub(crate) fn moved(
     nand: MemNand,
     block: u32,
     spare: u32,
-) -> Result<(Result<Moved, MoveFault>, MemNand, Blocks), Fail> {
-    let mut log = mount_log(alloc, nand, spare)?;
+) -> (Result<Moved, MoveFault>, MemNand, Blocks) {
+    let mut log = mount_log(alloc, nand, spare).expect(rt, "a log");
     assert!(rt; block < log.device.geometry().blocks());
     assert!(rt; block < log.blocks.geometry().blocks());
     assert!(rt; !log.blocks.entry(block).bad);
     assert!(rt; log.blocks.entry(block).kept > 0);
     let result = log.move_kept(block);
-    Ok((result, log.device, log.blocks))
+    (result, log.device, log.blocks)
 }
 
 /// Mounts a device and makes room for so many pages. How that ends, with the device and the table afterwards.
 pub(crate) fn room_made(
+    rt: &impl Abort,
     alloc: Global,
     nand: MemNand,
     count: u32,
     spare: u32,
-) -> Result<(Result<(), RoomFault>, MemNand, Blocks), Fail> {
-    let mut log = mount_log(alloc, nand, spare)?;
+) -> (Result<(), RoomFault>, MemNand, Blocks) {
+    let mut log = mount_log(alloc, nand, spare).expect(rt, "a log");
     let result = log.make_room(count);
-    Ok((result, log.device, log.blocks))
+    (result, log.device, log.blocks)
 }

@@ -13,7 +13,6 @@ use flash_tree::{CHECK_OBJECT, FreshPage, Key, TagNumbers};
 use nand_model::{EraseFault, Geometry, MemNand, Nand};
 use std::alloc::Global;
 use std::process::Abort;
-use std::test::Fail;
 use transactions::{Fresh, GroupFault, Placed, erase_and_open, table_of, write_group};
 
 /// A device in memory with its table.
@@ -26,15 +25,16 @@ pub(crate) struct Volume {
 
 impl Volume {
     /// Eight blocks of 32 pages of 512 bytes, all erased.
-    pub(crate) fn new(alloc: Global) -> Result<Volume, Fail> {
-        let nand = MemNand::new(alloc, Geometry::new(512, 32, 8)?)?;
+    pub(crate) fn new(rt: &impl Abort, alloc: Global) -> Volume {
+        let geometry = Geometry::new(512, 32, 8).expect(rt, "a geometry");
+        let nand = MemNand::new(alloc, geometry).expect(rt, "memory");
         let none = TagNumbers {
             version: 0,
             group: 0,
             seq: 0,
         };
-        let blocks = table_of(alloc, &nand, none)?;
-        Ok(Volume { nand, blocks })
+        let blocks = table_of(alloc, &nand, none).expect(rt, "memory");
+        Volume { nand, blocks }
     }
 
     pub(crate) fn into_nand(self) -> MemNand {
@@ -96,23 +96,25 @@ fn may_commit(pages: &[FreshPage], bytes: u32) -> bool
 }
 
 /// A page of chunk 0 of an object, all bytes the same.
-pub(crate) fn page_of(alloc: Global, object: u64, fill: u8) -> Result<FreshPage, Fail> {
-    Ok(FreshPage {
+pub(crate) fn page_of(rt: &impl Abort, alloc: Global, object: u64, fill: u8) -> FreshPage {
+    FreshPage {
         key: Key { object, chunk: 0 },
-        bytes: vec![in alloc; fill; 512]?,
-    })
+        bytes: vec![in alloc; fill; 512].expect(rt, "memory"),
+    }
 }
 
 /// So many pages, of the objects from this one up.
 pub(crate) fn pages_from(
+    rt: &impl Abort,
     alloc: Global,
     first: u64,
     count: u64,
     fill: u8,
-) -> Result<Vec<FreshPage>, Fail> {
+) -> Vec<FreshPage> {
     let mut pages = Vec::new(alloc);
     for i in 0..count {
-        pages.push(page_of(alloc, first.saturating_add(i), fill)?)?;
+        let page = page_of(rt, alloc, first.saturating_add(i), fill);
+        pages.push(page).expect(rt, "memory");
     }
-    Ok(pages)
+    pages
 }

@@ -4,12 +4,13 @@ use flash_tree::TagNumbers;
 use nand_model::{Geometry, MemNand};
 use page_tags::Tag;
 use std::alloc::Global;
-use std::test::Fail;
+use std::process::Abort;
 use test_flash::TestFlash;
 
 /// Five blocks of 32 pages of 512 bytes.
-pub(crate) fn small(alloc: Global) -> Result<TestFlash, Fail> {
-    Ok(TestFlash::new(alloc, Geometry::new(512, 32, 5)?)?)
+pub(crate) fn small(rt: &impl Abort, alloc: Global) -> TestFlash {
+    let geometry = Geometry::new(512, 32, 5).expect(rt, "a geometry");
+    TestFlash::new(alloc, geometry).expect(rt, "memory")
 }
 
 /// The device, after a power-up.
@@ -51,92 +52,95 @@ fn numbers(version: u64, group: u64, seq: u64) -> TagNumbers {
     }
 }
 
-fn empty(alloc: Global) -> Result<WorkedFlash, Fail> {
-    Ok(WorkedFlash {
+fn empty(alloc: Global) -> WorkedFlash {
+    WorkedFlash {
         what: "an empty flash",
         blocks: Vec::new(alloc),
         bad: None,
         counted: Vec::new(alloc),
         newest: Vec::new(alloc),
         numbers: numbers(0, 0, 0),
-    })
+    }
 }
 
-fn cut_group(alloc: Global) -> Result<WorkedFlash, Fail> {
+fn cut_group(rt: &impl Abort, alloc: Global) -> WorkedFlash {
     let tags = vec![in alloc;
         tag((0, 1), (1, 0), (1, 1, 1)),
         tag((0, 3), (1, 0), (5, 5, 1)),
         tag((1, 3), (1, 1), (5, 5, 1)),
-    ]?;
-    Ok(WorkedFlash {
+    ]
+    .expect(rt, "memory");
+    WorkedFlash {
         what: "a newer group lacks its last page, and has the greatest numbers",
-        blocks: vec![in alloc; (2, tags)]?,
+        blocks: vec![in alloc; (2, tags)].expect(rt, "memory"),
         bad: None,
-        counted: vec![in alloc; (2, 0)]?,
-        newest: vec![in alloc; (2, 0)]?,
+        counted: vec![in alloc; (2, 0)].expect(rt, "memory"),
+        newest: vec![in alloc; (2, 0)].expect(rt, "memory"),
         numbers: numbers(5, 5, 1),
-    })
+    }
 }
 
-fn equal_versions(alloc: Global) -> Result<WorkedFlash, Fail> {
-    let first = vec![in alloc; tag((0, 1), (1, 0), (3, 3, 2))]?;
-    let copy = vec![in alloc; tag((0, 1), (1, 0), (3, 6, 5))]?;
-    Ok(WorkedFlash {
+fn equal_versions(rt: &impl Abort, alloc: Global) -> WorkedFlash {
+    let first = vec![in alloc; tag((0, 1), (1, 0), (3, 3, 2))].expect(rt, "memory");
+    let copy = vec![in alloc; tag((0, 1), (1, 0), (3, 6, 5))].expect(rt, "memory");
+    WorkedFlash {
         what: "a copy of a page, in a block of greater seq",
-        blocks: vec![in alloc; (4, first), (3, copy)]?,
+        blocks: vec![in alloc; (4, first), (3, copy)].expect(rt, "memory"),
         bad: None,
-        counted: vec![in alloc; (3, 0), (4, 0)]?,
-        newest: vec![in alloc; (3, 0)]?,
+        counted: vec![in alloc; (3, 0), (4, 0)].expect(rt, "memory"),
+        newest: vec![in alloc; (3, 0)].expect(rt, "memory"),
         numbers: numbers(3, 6, 5),
-    })
+    }
 }
 
-fn equal_seqs(alloc: Global) -> Result<WorkedFlash, Fail> {
+fn equal_seqs(rt: &impl Abort, alloc: Global) -> WorkedFlash {
     let first = vec![in alloc;
         tag((0, 1), (2, 0), (1, 1, 4)),
         tag((0, 1), (1, 0), (2, 2, 4)),
-    ]?;
+    ]
+    .expect(rt, "memory");
     let other = vec![in alloc;
         tag((0, 1), (1, 0), (2, 3, 4)),
         tag((0, 1), (2, 0), (1, 3, 3)),
-    ]?;
-    Ok(WorkedFlash {
+    ]
+    .expect(rt, "memory");
+    WorkedFlash {
         what: "for equal version and seq the later page",
-        blocks: vec![in alloc; (1, first), (3, other)]?,
+        blocks: vec![in alloc; (1, first), (3, other)].expect(rt, "memory"),
         bad: None,
-        counted: vec![in alloc; (1, 0), (1, 1), (3, 0), (3, 1)]?,
-        newest: vec![in alloc; (1, 0), (1, 1)]?,
+        counted: vec![in alloc; (1, 0), (1, 1), (3, 0), (3, 1)].expect(rt, "memory"),
+        newest: vec![in alloc; (1, 0), (1, 1)].expect(rt, "memory"),
         numbers: numbers(2, 3, 4),
-    })
+    }
 }
 
-fn equal_pages(alloc: Global) -> Result<WorkedFlash, Fail> {
-    let first = vec![in alloc; tag((0, 1), (1, 0), (2, 5, 4))]?;
-    let other = vec![in alloc; tag((0, 1), (1, 0), (2, 3, 4))]?;
-    Ok(WorkedFlash {
+fn equal_pages(rt: &impl Abort, alloc: Global) -> WorkedFlash {
+    let first = vec![in alloc; tag((0, 1), (1, 0), (2, 5, 4))].expect(rt, "memory");
+    let other = vec![in alloc; tag((0, 1), (1, 0), (2, 3, 4))].expect(rt, "memory");
+    WorkedFlash {
         what: "for equal version, seq and page the later block",
-        blocks: vec![in alloc; (1, first), (3, other)]?,
+        blocks: vec![in alloc; (1, first), (3, other)].expect(rt, "memory"),
         bad: None,
-        counted: vec![in alloc; (1, 0), (3, 0)]?,
-        newest: vec![in alloc; (3, 0)]?,
+        counted: vec![in alloc; (1, 0), (3, 0)].expect(rt, "memory"),
+        newest: vec![in alloc; (3, 0)].expect(rt, "memory"),
         numbers: numbers(2, 5, 4),
-    })
+    }
 }
 
-fn bad_block(alloc: Global) -> Result<WorkedFlash, Fail> {
-    let kept = vec![in alloc; tag((0, 1), (1, 0), (1, 1, 1))]?;
-    let lost = vec![in alloc; tag((0, 1), (1, 0), (9, 9, 9))]?;
-    Ok(WorkedFlash {
+fn bad_block(rt: &impl Abort, alloc: Global) -> WorkedFlash {
+    let kept = vec![in alloc; tag((0, 1), (1, 0), (1, 1, 1))].expect(rt, "memory");
+    let lost = vec![in alloc; tag((0, 1), (1, 0), (9, 9, 9))].expect(rt, "memory");
+    WorkedFlash {
         what: "the newer page stands in a bad block",
-        blocks: vec![in alloc; (2, kept), (0, lost)]?,
+        blocks: vec![in alloc; (2, kept), (0, lost)].expect(rt, "memory"),
         bad: Some(0),
-        counted: vec![in alloc; (2, 0)]?,
-        newest: vec![in alloc; (2, 0)]?,
+        counted: vec![in alloc; (2, 0)].expect(rt, "memory"),
+        newest: vec![in alloc; (2, 0)].expect(rt, "memory"),
         numbers: numbers(1, 1, 1),
-    })
+    }
 }
 
-pub(crate) fn broken_off(alloc: Global) -> Result<WorkedFlash, Fail> {
+pub(crate) fn broken_off(rt: &impl Abort, alloc: Global) -> WorkedFlash {
     let tags = vec![in alloc;
         tag((1, 2), (1, 0), (1, 1, 1)),
         tag((0, 3), (1, 1), (2, 2, 1)),
@@ -145,56 +149,59 @@ pub(crate) fn broken_off(alloc: Global) -> Result<WorkedFlash, Fail> {
         tag((2, 3), (1, 0), (2, 2, 1)),
         tag((0, 2), (1, 3), (4, 4, 1)),
         tag((1, 2), (1, 4), (5, 5, 1)),
-    ]?;
-    Ok(WorkedFlash {
+    ]
+    .expect(rt, "memory");
+    WorkedFlash {
         what: "a group amid another, one with no first page, and pages of different groups",
-        blocks: vec![in alloc; (0, tags)]?,
+        blocks: vec![in alloc; (0, tags)].expect(rt, "memory"),
         bad: None,
-        counted: vec![in alloc; (0, 2), (0, 3)]?,
-        newest: vec![in alloc; (0, 3), (0, 2)]?,
+        counted: vec![in alloc; (0, 2), (0, 3)].expect(rt, "memory"),
+        newest: vec![in alloc; (0, 3), (0, 2)].expect(rt, "memory"),
         numbers: numbers(5, 5, 1),
-    })
+    }
 }
 
-fn one_key_twice(alloc: Global) -> Result<WorkedFlash, Fail> {
+fn one_key_twice(rt: &impl Abort, alloc: Global) -> WorkedFlash {
     let tags = vec![in alloc;
         tag((0, 2), (7, 1), (1, 1, 1)),
         tag((1, 2), (7, 1), (1, 1, 1)),
         tag((0, 1), (6, 9), (2, 2, 1)),
-    ]?;
-    Ok(WorkedFlash {
+    ]
+    .expect(rt, "memory");
+    WorkedFlash {
         what: "a group that names a key twice",
-        blocks: vec![in alloc; (3, tags)]?,
+        blocks: vec![in alloc; (3, tags)].expect(rt, "memory"),
         bad: None,
-        counted: vec![in alloc; (3, 0), (3, 1), (3, 2)]?,
-        newest: vec![in alloc; (3, 2), (3, 1)]?,
+        counted: vec![in alloc; (3, 0), (3, 1), (3, 2)].expect(rt, "memory"),
+        newest: vec![in alloc; (3, 2), (3, 1)].expect(rt, "memory"),
         numbers: numbers(2, 2, 1),
-    })
+    }
 }
 
-pub(crate) fn flashes(alloc: Global) -> Result<Vec<WorkedFlash>, Fail> {
-    Ok(vec![in alloc;
-        empty(alloc)?,
-        cut_group(alloc)?,
-        equal_versions(alloc)?,
-        equal_seqs(alloc)?,
-        equal_pages(alloc)?,
-        bad_block(alloc)?,
-        broken_off(alloc)?,
-        one_key_twice(alloc)?,
-    ]?)
+pub(crate) fn flashes(rt: &impl Abort, alloc: Global) -> Vec<WorkedFlash> {
+    vec![in alloc;
+        empty(alloc),
+        cut_group(rt, alloc),
+        equal_versions(rt, alloc),
+        equal_seqs(rt, alloc),
+        equal_pages(rt, alloc),
+        bad_block(rt, alloc),
+        broken_off(rt, alloc),
+        one_key_twice(rt, alloc),
+    ]
+    .expect(rt, "memory")
 }
 
 /// A device with the pages of a worked flash, after a power-up.
-pub(crate) fn written(alloc: Global, worked: &WorkedFlash) -> Result<MemNand, Fail> {
-    let mut flash = small(alloc)?;
+pub(crate) fn written(rt: &impl Abort, alloc: Global, worked: &WorkedFlash) -> MemNand {
+    let mut flash = small(rt, alloc);
     for (block, tags) in &worked.blocks {
         for tag in tags {
-            flash.write(*block, tag, 7)?;
+            flash.write(*block, tag, 7).expect(rt, "a write");
         }
     }
     if let Some(block) = worked.bad {
-        flash.mark_bad(block)?;
+        flash.mark_bad(block).expect(rt, "a mark");
     }
-    Ok(powered_up(flash))
+    powered_up(flash)
 }

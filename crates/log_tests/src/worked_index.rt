@@ -11,7 +11,6 @@ use flash_tree::Key;
 use nand_model::Geometry;
 use std::alloc::{AllocError, Global};
 use std::process::Abort;
-use std::test::Fail;
 
 /// An index with the blocks that it counts in: eight of 32 pages, and at most eight pages in the buffer.
 #[derive(Drop)]
@@ -26,22 +25,22 @@ struct Store {
 
 impl Store {
     /// No key is kept or present.
-    fn new(alloc: Global) -> Result<Store, Fail> {
-        let blocks = Blocks::new(alloc, Geometry::new(512, 32, 8)?)?;
-        Ok(Store {
+    fn new(rt: &impl Abort, alloc: Global) -> Store {
+        let geometry = Geometry::new(512, 32, 8).expect(rt, "a geometry");
+        let blocks = Blocks::new(alloc, geometry).expect(rt, "memory");
+        Store {
             index: Index::new(alloc),
             blocks,
-        })
+        }
     }
 
     /// A page of the buffer is the present one of a key.
-    fn buffer(&mut self, key: Key, page: u32) -> Result<(), AllocError>
+    fn buffer(&mut self, rt: &impl Abort, key: Key, page: u32)
         requires low { key.chunk < 2 ^ 32 }
         requires page { page < 8 }
     {
-        self.index.prepare(key)?;
+        self.index.prepare(key).expect(rt, "memory");
         self.index.place(key, Form::Buffered(page));
-        Ok(())
     }
 
     /// The buffer was written from a page of a block on, under this number.
@@ -146,11 +145,11 @@ fn expect_kept(rt: &impl Abort, index: &Index, wanted: &[(Key, Option<KeptPage>)
 
 /// Keys of two objects, from the buffer to the flash and away.
 #[test]
-fn a_group_is_settled_copied_and_forgotten(rt: HostRuntime) -> Result<(), Fail> {
-    let mut store = Store::new(rt.alloc())?;
-    store.buffer(key(5, 0), 0)?;
-    store.buffer(key(5, 2), 1)?;
-    store.buffer(key(1, 0), 2)?;
+fn a_group_is_settled_copied_and_forgotten(rt: HostRuntime) {
+    let mut store = Store::new(&rt, rt.alloc());
+    store.buffer(&rt, key(5, 0), 0);
+    store.buffer(&rt, key(5, 2), 1);
+    store.buffer(&rt, key(1, 0), 2);
     expect_present(&rt, &store.index, &[(key(5, 2), Present::InBuffer(1))]);
     expect_kept(&rt, &store.index, &[(key(5, 2), None)]);
     store.settle(3, 10, 7);
@@ -164,7 +163,7 @@ fn a_group_is_settled_copied_and_forgotten(rt: HostRuntime) -> Result<(), Fail> 
     store.copy(key(1, 0), PagePlace { block: 4, page: 1 });
     expect_kept(&rt, &store.index, &[(key(1, 0), Some(at(4, 1, 7)))]);
     assert_same!(&rt; [store.count(3), store.count(4)], [2, 1]);
-    store.buffer(key(5, 1), 0)?;
+    store.buffer(&rt, key(5, 1), 0);
     store.cut(5, 2);
     let cut = [
         (key(5, 1), Present::InBuffer(0)),
@@ -181,7 +180,6 @@ fn a_group_is_settled_copied_and_forgotten(rt: HostRuntime) -> Result<(), Fail> 
     ];
     expect_kept(&rt, &store.index, &left);
     assert_same!(&rt; [store.count(3), store.count(4), store.count(6)], [1, 0, 1]);
-    Ok(())
 }
 
 /// A key with its kept page.
@@ -205,13 +203,13 @@ fn expect_last(rt: &impl Abort, index: &Index, wanted: &[(u32, Option<Key>)]) {
 
 /// The kept keys in their order, before and after all but one object's first chunks go.
 #[test]
-fn keys_come_in_order_and_some_stay(rt: HostRuntime) -> Result<(), Fail> {
-    let mut store = Store::new(rt.alloc())?;
-    store.buffer(key(5, 2), 0)?;
-    store.buffer(key(1, 9), 1)?;
-    store.buffer(key(5, 0), 2)?;
+fn keys_come_in_order_and_some_stay(rt: HostRuntime) {
+    let mut store = Store::new(&rt, rt.alloc());
+    store.buffer(&rt, key(5, 2), 0);
+    store.buffer(&rt, key(1, 9), 1);
+    store.buffer(&rt, key(5, 0), 2);
     store.settle(3, 10, 7);
-    store.buffer(key(2, 0), 0)?;
+    store.buffer(&rt, key(2, 0), 0);
     let second = kept(key(5, 0), at(3, 12, 7));
     let order = [
         (None, kept(key(1, 9), at(3, 11, 7))),
@@ -239,27 +237,25 @@ fn keys_come_in_order_and_some_stay(rt: HostRuntime) -> Result<(), Fail> {
     store.settle(4, 0, 8);
     let left = [(key(5, 0), Some(at(3, 12, 7))), (key(2, 0), None)];
     expect_kept(&rt, &store.index, &left);
-    Ok(())
 }
 
 /// Run it with each allocation of the preparation refused in turn.
 #[test]
-fn a_refused_preparation_changes_nothing(rt: HostRuntime) -> Result<(), Fail> {
-    let mut store = Store::new(rt.alloc())?;
-    store.buffer(key(5, 0), 0)?;
+fn a_refused_preparation_changes_nothing(rt: HostRuntime) {
+    let mut store = Store::new(&rt, rt.alloc());
+    store.buffer(&rt, key(5, 0), 0);
     store.settle(3, 10, 7);
     if store.prepare(key(6, 0)).is_err() {
         let left = [(key(5, 0), Some(at(3, 10, 7))), (key(6, 0), None)];
         expect_kept(&rt, &store.index, &left);
         expect_present(&rt, &store.index, &[(key(6, 0), Present::Absent)]);
-        store.prepare(key(6, 0))?;
+        store.prepare(key(6, 0)).expect(&rt, "memory");
     }
     expect_present(&rt, &store.index, &[(key(6, 0), Present::Absent)]);
-    store.buffer(key(6, 0), 1)?;
+    store.buffer(&rt, key(6, 0), 1);
     let present = [
         (key(6, 0), Present::InBuffer(1)),
         (key(5, 0), Present::OnFlash(at(3, 10, 7))),
     ];
     expect_present(&rt, &store.index, &present);
-    Ok(())
 }

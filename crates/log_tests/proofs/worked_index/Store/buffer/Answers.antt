@@ -2,12 +2,7 @@ use Rattle.chunk_index.specs.laws.Maps.{agree_same, below_same, below_placed}
 use Rattle.log_tests.proofs.worked_index.Store.buffer.Goals as goal
 
 pub invariant_of-self : goal.invariant_of-self
-invariant_of-self c =
-    let self = c.args.self.now in
-    record { agree = agree_same _ self.index c.prepare.new.self c.prepare.ensures.kept self.agree; few = below_same 8 self.index c.prepare.new.self c.prepare.ensures.present self.few; eight = self.eight; pages = self.pages }
-
-pub invariant_of-self-2 : goal.invariant_of-self-2
-invariant_of-self-2 c =
+invariant_of-self g c =
     let self = c.args.self.now in
     let few = below_same 8 self.index c.prepare.new.self c.prepare.ensures.present self.few in
     record {

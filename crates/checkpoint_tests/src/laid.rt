@@ -5,7 +5,6 @@ use nand_model::{Geometry, MemNand, Nand};
 use page_tags::{CheckEntry, Tag};
 use std::alloc::Global;
 use std::process::Abort;
-use std::test::Fail;
 
 /// `NLFC`, version 1, 20 entries, and zeros.
 const HEAD: [u8; 32] = [
@@ -80,27 +79,22 @@ pub(crate) fn checkpoint(seq: u64) -> Laid {
 }
 
 /// An erased flash of 8 blocks of 32 pages of 512 bytes.
-pub(crate) fn empty(alloc: Global) -> Result<MemNand, Fail> {
-    let nand = MemNand::new(alloc, Geometry::new(512, 32, 8)?)?;
-    Ok(nand)
+pub(crate) fn empty(rt: &impl Abort, alloc: Global) -> MemNand {
+    let geometry = Geometry::new(512, 32, 8).expect(rt, "a geometry");
+    MemNand::new(alloc, geometry).expect(rt, "memory")
 }
 
 /// Writes the pages to a block, both or the first alone.
-pub(crate) fn write(
-    rt: &impl Abort,
-    nand: &mut MemNand,
-    block: u32,
-    laid: &Laid,
-    both: bool,
-) -> Result<(), Fail> {
+pub(crate) fn write(rt: &impl Abort, nand: &mut MemNand, block: u32, laid: &Laid, both: bool) {
     let geometry = nand.geometry();
     assert!(rt; geometry.bytes() == 512 && block < geometry.blocks());
-    nand.erase(block)?;
+    nand.erase(block).expect(rt, "an erase");
     assert!(rt; !nand.is_bad(block));
-    nand.program(block, 0, &laid.first, &laid.first_tag.encode())?;
+    nand.program(block, 0, &laid.first, &laid.first_tag.encode())
+        .expect(rt, "a program");
     if both {
         assert!(rt; !nand.is_bad(block));
-        nand.program(block, 1, &laid.second, &laid.second_tag.encode())?;
+        nand.program(block, 1, &laid.second, &laid.second_tag.encode())
+            .expect(rt, "a program");
     }
-    Ok(())
 }

@@ -5,23 +5,17 @@ use checkpoint_reading::find_checkpoint;
 use nand_model::MemNand;
 use std::alloc::Global;
 use std::process::Abort;
-use std::test::Fail;
 
 /// The reads of all tags of eight blocks of 32 pages. The call after them is an erase.
 pub(crate) const READS: u64 = 256;
 
 /// After a power-up the checkpoint is whole as it was, or none is.
-pub(crate) fn assert_left(
-    rt: &impl Abort,
-    alloc: Global,
-    nand: &mut MemNand,
-    whole: bool,
-) -> Result<(), Fail> {
+pub(crate) fn assert_left(rt: &impl Abort, alloc: Global, nand: &mut MemNand, whole: bool) {
     nand.power_up();
-    let search = find_checkpoint(alloc, nand)?;
+    let search = find_checkpoint(alloc, nand).expect(rt, "a search");
     let Some(found) = &search.checkpoint else {
         assert!(rt; !whole);
-        return Ok(());
+        return;
     };
     assert!(rt; whole);
     assert_eq!(rt; (found.block, found.size), (3, 2));
@@ -33,5 +27,4 @@ pub(crate) fn assert_left(
             "entry {k}"
         );
     }
-    Ok(())
 }

@@ -10,7 +10,6 @@ use page_tags::Tag;
 use plain_search::newest;
 use std::alloc::Global;
 use std::process::Abort;
-use std::test::Fail;
 use test_log::{LogFault, mount_log_beside};
 
 /// The tag of page i of group 7, of three pages: it is of chunk 0 of object 2 + i.
@@ -45,20 +44,23 @@ fn fill(i: u32) -> u8 {
 }
 
 /// A flash with group 7 in block 4 and a whole checkpoint in block 3, after a power-up.
-fn flash(rt: &impl Abort, alloc: Global) -> Result<MemNand, Fail> {
-    let mut nand = empty(alloc)?;
+fn flash(rt: &impl Abort, alloc: Global) -> MemNand {
+    let mut nand = empty(rt, alloc);
     let geometry = nand.geometry();
     assert!(rt; geometry.bytes() == 512 && 4 < geometry.blocks());
-    nand.erase(4)?;
+    nand.erase(4).expect(rt, "an erase");
     assert!(rt; !nand.is_bad(4));
-    nand.program(4, 0, &[fill(0); 512], &tag(0).encode())?;
+    nand.program(4, 0, &[fill(0); 512], &tag(0).encode())
+        .expect(rt, "a program");
     assert!(rt; !nand.is_bad(4));
-    nand.program(4, 1, &[fill(1); 512], &tag(1).encode())?;
+    nand.program(4, 1, &[fill(1); 512], &tag(1).encode())
+        .expect(rt, "a program");
     assert!(rt; !nand.is_bad(4));
-    nand.program(4, 2, &[fill(2); 512], &tag(2).encode())?;
-    write(rt, &mut nand, 3, &checkpoint(5), true)?;
+    nand.program(4, 2, &[fill(2); 512], &tag(2).encode())
+        .expect(rt, "a program");
+    write(rt, &mut nand, 3, &checkpoint(5), true);
     nand.power_up();
-    Ok(nand)
+    nand
 }
 
 /// Moves away what is committed in block 4, with two blocks to spare, while the checkpoint in block 3 is noted. How that ends,
@@ -67,8 +69,8 @@ fn moved(
     rt: &impl Abort,
     alloc: Global,
     nand: MemNand,
-) -> Result<(Result<Moved, MoveFault>, MemNand, Blocks), Fail> {
-    let mut log = mount_log_beside(alloc, nand, 2, 3)?;
+) -> (Result<Moved, MoveFault>, MemNand, Blocks) {
+    let mut log = mount_log_beside(alloc, nand, 2, 3).expect(rt, "a log");
     assert_eq!(rt; log.blocks.checkpoint(), Some(3));
     assert_eq!(rt; log.blocks.open_block(), None);
     assert!(rt; 4 < log.device.geometry().blocks());
@@ -76,31 +78,26 @@ fn moved(
     assert!(rt; !log.blocks.entry(4).bad);
     assert!(rt; log.blocks.entry(4).kept == 3);
     let result = log.move_kept(4);
-    Ok((result, log.device, log.blocks))
+    (result, log.device, log.blocks)
 }
 
 /// Page i of a block reads with this tag, and its data are those of page i of the group.
-fn assert_page(
-    rt: &impl Abort,
-    nand: &mut MemNand,
-    block: u32,
-    i: u32,
-    tag: &Tag,
-) -> Result<(), Fail> {
+fn assert_page(rt: &impl Abort, nand: &mut MemNand, block: u32, i: u32, tag: &Tag) {
     let geometry = nand.geometry();
     assert!(rt; block < geometry.blocks() && i < geometry.pages());
     assert!(rt; geometry.bytes() == 512);
     let mut bytes = [0; 512];
     let mut spare = [0; 48];
-    let kind = nand.read_page(block, i, &mut bytes, &mut spare)?;
+    let kind = nand
+        .read_page(block, i, &mut bytes, &mut spare)
+        .expect(rt, "a read");
     assert_eq!(rt; kind, PageKind::Written);
     assert_eq!(rt; bytes, [fill(i); 512], "page {i}");
     assert_eq!(rt; spare, tag.encode(), "page {i}");
-    Ok(())
 }
 
 /// The newest page of each object is page i of the group in block 4, or its copy, which is page i of block 3.
-fn assert_newest(rt: &impl Abort, nand: &mut MemNand, copied: bool) -> Result<(), Fail> {
+fn assert_newest(rt: &impl Abort, nand: &mut MemNand, copied: bool) {
     for i in 0..3 {
         let (block, tag) = if copied {
             (3, copy_tag(i))
@@ -116,23 +113,22 @@ fn assert_newest(rt: &impl Abort, nand: &mut MemNand, copied: bool) -> Result<()
             page: i,
             tag,
         };
-        assert_eq!(rt; newest(nand, key)?, Some(found));
-        assert_page(rt, nand, block, i, &tag)?;
+        assert_eq!(rt; newest(nand, key).expect(rt, "a search"), Some(found));
+        assert_page(rt, nand, block, i, &tag);
     }
-    Ok(())
 }
 
 /// The block of the checkpoint is taken first, so that none is whole once a copy is written.
 #[test]
-fn pages_are_moved_into_the_block_of_the_checkpoint(rt: HostRuntime) -> Result<(), Fail> {
+fn pages_are_moved_into_the_block_of_the_checkpoint(rt: HostRuntime) {
     let alloc = rt.alloc();
-    let nand = flash(&rt, alloc)?;
-    let (result, mut nand, blocks) = moved(&rt, alloc, nand)?;
+    let nand = flash(&rt, alloc);
+    let (result, mut nand, blocks) = moved(&rt, alloc, nand);
     assert_eq!(rt; result, Ok(Moved::Trusted));
     assert_eq!(rt; nand.calls(), READS + 7);
     assert_eq!(rt; (blocks.open_block(), blocks.open_room()), (Some(3), 29));
     assert_eq!(rt; blocks.checkpoint(), None);
-    assert_left(&rt, alloc, &mut nand, false)?;
+    assert_left(&rt, alloc, &mut nand, false);
     assert_newest(&rt, &mut nand, true)
 }
 
@@ -148,27 +144,21 @@ enum Left {
 }
 
 /// Cuts this call of the move, with this fate of each page that it changes.
-fn assert_cut(
-    rt: &impl Abort,
-    alloc: Global,
-    call: u64,
-    fate: Fate,
-    left: Left,
-) -> Result<(), Fail> {
-    let fates = vec![in alloc; fate; 32]?;
-    let nand = flash(rt, alloc)?.with_fuse(READS.saturating_add(call), fates);
-    let (result, mut nand, blocks) = moved(rt, alloc, nand)?;
+fn assert_cut(rt: &impl Abort, alloc: Global, call: u64, fate: Fate, left: Left) {
+    let fates = vec![in alloc; fate; 32].expect(rt, "memory");
+    let nand = flash(rt, alloc).with_fuse(READS.saturating_add(call), fates);
+    let (result, mut nand, blocks) = moved(rt, alloc, nand);
     assert_eq!(rt; result, Err(MoveFault::Gone));
     let noted = if call == 1 { Some(3) } else { None };
     assert_eq!(rt; blocks.checkpoint(), noted);
-    assert_left(rt, alloc, &mut nand, left == Left::Checkpoint)?;
+    assert_left(rt, alloc, &mut nand, left == Left::Checkpoint);
     assert_newest(rt, &mut nand, left == Left::Copies)
 }
 
 /// The first call erases the block of the checkpoint, which is whole afterwards where each page was left. The calls after it
 /// read and program each page, and the copies count once the last one is written.
 #[test]
-fn a_checkpoint_is_whole_or_gone_wherever_a_move_is_cut(rt: HostRuntime) -> Result<(), Fail> {
+fn a_checkpoint_is_whole_or_gone_wherever_a_move_is_cut(rt: HostRuntime) {
     let pages = [Left::Pages; 4];
     for (call, [old, new, erased, uncorrectable]) in [
         (1, [Left::Checkpoint, Left::Pages, Left::Pages, Left::Pages]),
@@ -179,23 +169,22 @@ fn a_checkpoint_is_whole_or_gone_wherever_a_move_is_cut(rt: HostRuntime) -> Resu
         (6, pages),
         (7, [Left::Pages, Left::Copies, Left::Pages, Left::Pages]),
     ] {
-        assert_cut(&rt, rt.alloc(), call, Fate::Old, old)?;
-        assert_cut(&rt, rt.alloc(), call, Fate::New, new)?;
-        assert_cut(&rt, rt.alloc(), call, Fate::Erased, erased)?;
-        assert_cut(&rt, rt.alloc(), call, Fate::Uncorrectable, uncorrectable)?;
+        assert_cut(&rt, rt.alloc(), call, Fate::Old, old);
+        assert_cut(&rt, rt.alloc(), call, Fate::New, new);
+        assert_cut(&rt, rt.alloc(), call, Fate::Erased, erased);
+        assert_cut(&rt, rt.alloc(), call, Fate::Uncorrectable, uncorrectable);
     }
-    Ok(())
 }
 
 /// No block is noted that keeps a page, that is not on the device, or that is bad.
 #[test]
-fn a_block_that_is_not_free_is_not_noted(rt: HostRuntime) -> Result<(), Fail> {
-    let mut nand = flash(&rt, rt.alloc())?;
+fn a_block_that_is_not_free_is_not_noted(rt: HostRuntime) {
+    let mut nand = flash(&rt, rt.alloc());
     assert!(rt; 5 < nand.geometry().blocks());
-    nand.mark_bad(5)?;
+    nand.mark_bad(5).expect(&rt, "a mark");
     for block in [4, 8, 5] {
-        let fault = mount_log_beside(rt.alloc(), nand.copy()?, 2, block).err();
+        let copy = nand.copy().expect(&rt, "memory");
+        let fault = mount_log_beside(rt.alloc(), copy, 2, block).err();
         assert_eq!(rt; fault, Some(LogFault::NotFree), "block {block}");
     }
-    Ok(())
 }

@@ -5,24 +5,24 @@ use checkpoint_reading::find_checkpoint;
 use mount_scan::ScanFault;
 use nand_model::{MemNand, Nand};
 use std::alloc::Global;
-use std::test::Fail;
+use std::process::Abort;
 
 /// The block of the checkpoint that is found, if one is.
-fn found_in(alloc: Global, nand: &mut MemNand) -> Result<Option<u32>, Fail> {
-    let search = find_checkpoint(alloc, nand)?;
+fn found_in(rt: &impl Abort, alloc: Global, nand: &mut MemNand) -> Option<u32> {
+    let search = find_checkpoint(alloc, nand).expect(rt, "a search");
     if let Some(found) = &search.checkpoint {
-        return Ok(Some(found.block));
+        return Some(found.block);
     }
-    Ok(None)
+    None
 }
 
 /// All of it is returned, in a read of each block and one of each of its pages.
 #[test]
-fn a_whole_checkpoint_is_found(rt: HostRuntime) -> Result<(), Fail> {
-    let mut nand = empty(rt.alloc())?;
-    write(&rt, &mut nand, 3, &checkpoint(5), true)?;
+fn a_whole_checkpoint_is_found(rt: HostRuntime) {
+    let mut nand = empty(&rt, rt.alloc());
+    write(&rt, &mut nand, 3, &checkpoint(5), true);
     nand.power_up();
-    let search = find_checkpoint(rt.alloc(), &mut nand)?;
+    let search = find_checkpoint(rt.alloc(), &mut nand).expect(&rt, "a search");
     assert_eq!(rt; nand.calls(), 10);
     assert!(rt; search.seqs.as_slice() == &[0, 0, 0, 5, 0, 0, 0, 0][..]);
     let found = search.checkpoint.expect(&rt, "a checkpoint");
@@ -37,7 +37,6 @@ fn a_whole_checkpoint_is_found(rt: HostRuntime) -> Result<(), Fail> {
             "entry {k}"
         );
     }
-    Ok(())
 }
 
 /// One alteration of each rule.
@@ -61,46 +60,48 @@ fn altered(rule: u32) -> Laid {
 
 /// Neither is one of which a rule does not hold, nor one without its last page, nor one in a bad block.
 #[test]
-fn what_is_altered_is_not_found(rt: HostRuntime) -> Result<(), Fail> {
+fn what_is_altered_is_not_found(rt: HostRuntime) {
     for rule in 0..11 {
-        let mut nand = empty(rt.alloc())?;
-        write(&rt, &mut nand, 3, &altered(rule), true)?;
-        assert_eq!(rt; found_in(rt.alloc(), &mut nand)?, None, "rule {rule}");
+        let mut nand = empty(&rt, rt.alloc());
+        write(&rt, &mut nand, 3, &altered(rule), true);
+        assert_eq!(rt; found_in(&rt, rt.alloc(), &mut nand), None, "rule {rule}");
     }
-    let mut nand = empty(rt.alloc())?;
-    write(&rt, &mut nand, 3, &checkpoint(5), false)?;
-    assert_eq!(rt; found_in(rt.alloc(), &mut nand)?, None);
-    let mut nand = empty(rt.alloc())?;
-    write(&rt, &mut nand, 3, &checkpoint(5), true)?;
+    let mut nand = empty(&rt, rt.alloc());
+    write(&rt, &mut nand, 3, &checkpoint(5), false);
+    assert_eq!(rt; found_in(&rt, rt.alloc(), &mut nand), None);
+    let mut nand = empty(&rt, rt.alloc());
+    write(&rt, &mut nand, 3, &checkpoint(5), true);
     assert!(rt; nand.geometry().blocks() == 8);
-    nand.mark_bad(3)?;
-    assert_eq!(rt; found_in(rt.alloc(), &mut nand)?, None);
-    Ok(())
+    nand.mark_bad(3).expect(&rt, "a mark");
+    assert_eq!(rt; found_in(&rt, rt.alloc(), &mut nand), None);
 }
 
 /// The candidate with the greatest seq is read, among equals that of the lowest block; where it is not whole no other is.
 #[test]
-fn the_greatest_seq_is_read(rt: HostRuntime) -> Result<(), Fail> {
+fn the_greatest_seq_is_read(rt: HostRuntime) {
     for (low, high, whole, block) in [
         (5, 6, true, Some(4)),
         (6, 5, true, Some(2)),
         (5, 5, true, Some(2)),
         (5, 6, false, None),
     ] {
-        let mut nand = empty(rt.alloc())?;
-        write(&rt, &mut nand, 2, &checkpoint(low), true)?;
-        write(&rt, &mut nand, 4, &checkpoint(high), whole)?;
-        assert_eq!(rt; found_in(rt.alloc(), &mut nand)?, block, "{low} and {high}");
+        let mut nand = empty(&rt, rt.alloc());
+        write(&rt, &mut nand, 2, &checkpoint(low), true);
+        write(&rt, &mut nand, 4, &checkpoint(high), whole);
+        assert_eq!(rt;
+            found_in(&rt, rt.alloc(), &mut nand),
+            block,
+            "{low} and {high}"
+        );
     }
-    Ok(())
 }
 
 /// A cut at each read ends the search.
 #[test]
-fn a_cut_search_says_gone(rt: HostRuntime) -> Result<(), Fail> {
+fn a_cut_search_says_gone(rt: HostRuntime) {
     for op in 1..=11 {
-        let mut nand = empty(rt.alloc())?;
-        write(&rt, &mut nand, 3, &checkpoint(5), true)?;
+        let mut nand = empty(&rt, rt.alloc());
+        write(&rt, &mut nand, 3, &checkpoint(5), true);
         nand.power_up();
         let mut nand = nand.with_fuse(op, Vec::new(rt.alloc()));
         match find_checkpoint(rt.alloc(), &mut nand) {
@@ -108,5 +109,4 @@ fn a_cut_search_says_gone(rt: HostRuntime) -> Result<(), Fail> {
             Err(fault) => assert!(rt; op < 11 && fault == ScanFault::Gone),
         }
     }
-    Ok(())
 }

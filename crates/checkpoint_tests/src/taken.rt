@@ -6,15 +6,14 @@ use flash_log::{Log, TakeFault, take_block};
 use nand_model::{Fate, MemNand};
 use std::alloc::Global;
 use std::process::Abort;
-use std::test::Fail;
 use test_log::mount_log_beside;
 
 /// A flash with a whole checkpoint in block 3, after a power-up.
-fn flash(rt: &impl Abort, alloc: Global) -> Result<MemNand, Fail> {
-    let mut nand = empty(alloc)?;
-    write(rt, &mut nand, 3, &checkpoint(5), true)?;
+fn flash(rt: &impl Abort, alloc: Global) -> MemNand {
+    let mut nand = empty(rt, alloc);
+    write(rt, &mut nand, 3, &checkpoint(5), true);
     nand.power_up();
-    Ok(nand)
+    nand
 }
 
 /// A device that is planned so, and what an allocation of a block leaves on it.
@@ -33,14 +32,16 @@ struct Case {
 }
 
 /// Allocates a block, with two to spare, on a device that is planned so.
-fn assert_case(rt: &impl Abort, alloc: Global, case: &Case) -> Result<(), Fail> {
+fn assert_case(rt: &impl Abort, alloc: Global, case: &Case) {
     let mut failures = Vec::new(alloc);
     if case.fails {
-        failures.push((READS + 1, Vec::new(alloc)))?;
+        failures
+            .push((READS + 1, Vec::new(alloc)))
+            .expect(rt, "memory");
     }
-    let fates = vec![in alloc; case.fates[0], case.fates[1]]?;
-    let nand = flash(rt, alloc)?.with_failures(failures);
-    let log = mount_log_beside(alloc, nand.with_fuse(case.cut, fates), 2, 3)?;
+    let fates = vec![in alloc; case.fates[0], case.fates[1]].expect(rt, "memory");
+    let nand = flash(rt, alloc).with_failures(failures);
+    let log = mount_log_beside(alloc, nand.with_fuse(case.cut, fates), 2, 3).expect(rt, "a log");
     let Log {
         device: mut nand,
         mut blocks,
@@ -56,7 +57,7 @@ fn assert_case(rt: &impl Abort, alloc: Global, case: &Case) -> Result<(), Fail> 
 /// The block of the checkpoint is taken first. Where its erase is cut, the checkpoint is whole if both pages are there
 /// still; where it fails, the block is marked and the next one taken; where the mark is cut, it is whole unless that is set.
 #[test]
-fn a_checkpoint_is_whole_and_noted_or_gone(rt: HostRuntime) -> Result<(), Fail> {
+fn a_checkpoint_is_whole_and_noted_or_gone(rt: HostRuntime) {
     let old = [Fate::Old, Fate::Old];
     let gone = Err(TakeFault::Gone);
     for (fails, cut, fates, result, noted, whole) in [
@@ -106,7 +107,6 @@ fn a_checkpoint_is_whole_and_noted_or_gone(rt: HostRuntime) -> Result<(), Fail> 
             noted,
             whole,
         };
-        assert_case(&rt, rt.alloc(), &case)?;
+        assert_case(&rt, rt.alloc(), &case);
     }
-    Ok(())
 }

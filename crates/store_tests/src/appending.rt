@@ -7,7 +7,6 @@ use pages::{PageStore, Pages, Presence};
 use std::alloc::Global;
 use std::num::NonZeroUsize;
 use std::process::Abort;
-use std::test::Fail;
 use test_store::{Apart, fits, open_each};
 
 /// The bytes of a page, and of an append.
@@ -21,20 +20,20 @@ fn chunk_at(place: usize) -> usize {
 }
 
 /// The page of a chunk of a file with these bytes: the header has the length, the last page zeros after its bytes.
-fn page_of(alloc: Global, text: &[u8], chunk: usize) -> Result<Vec<u8>, Fail> {
-    let mut page = vec![in alloc; 0u8; PAGE]?;
+fn page_of(rt: &impl Abort, alloc: Global, text: &[u8], chunk: usize) -> Vec<u8> {
+    let mut page = vec![in alloc; 0u8; PAGE].expect(rt, "memory");
     if chunk == 0 {
         for (place, byte) in page.iter_mut().zip((text.len() as u64).to_le_bytes()) {
             *place = byte;
         }
-        return Ok(page);
+        return page;
     }
     if let Some(bytes) = text.chunks(PAGE).nth(chunk - 1) {
         for (place, byte) in page.iter_mut().zip(bytes) {
             *place = *byte;
         }
     }
-    Ok(page)
+    page
 }
 
 fn key_of(chunk: usize) -> Key {
@@ -51,15 +50,14 @@ fn assert_page(
     store: &mut Store<MemNand>,
     text: &[u8],
     chunk: usize,
-) -> Result<(), Fail> {
+) {
     assert_eq!(rt;
         store.find(key_of(chunk)),
         Ok(Presence::Present),
         "chunk {chunk}"
     );
-    let page = page_of(alloc, text, chunk)?;
+    let page = page_of(rt, alloc, text, chunk);
     assert!(rt; store.page() == page.as_slice(), "chunk {chunk}");
-    Ok(())
 }
 
 /// Looks the header and the last page up, and appends bytes of this value.
@@ -69,59 +67,54 @@ fn append(
     store: &mut Store<MemNand>,
     text: &mut Vec<u8>,
     byte: u8,
-) -> Result<(), Fail> {
+) {
     let length = text.len();
     if length > 0 {
-        assert_page(rt, alloc, store, text, 0)?;
+        assert_page(rt, alloc, store, text, 0);
     }
     if length % PAGE > 0 {
-        assert_page(rt, alloc, store, text, chunk_at(length))?;
+        assert_page(rt, alloc, store, text, chunk_at(length));
     }
-    text.extend_from_slice(&[byte; APPEND])?;
-    let mut apart = Apart::new(alloc, None)?;
+    text.extend_from_slice(&[byte; APPEND]).expect(rt, "memory");
+    let mut apart = Apart::new(alloc, None).expect(rt, "memory");
     for chunk in [0, chunk_at(length), chunk_at(text.len().saturating_sub(1))] {
-        let bytes = page_of(alloc, text, chunk)?;
+        let bytes = page_of(rt, alloc, text, chunk);
         let key = key_of(chunk);
-        apart = apart.with(alloc, FreshPage { key, bytes })?;
+        apart = apart
+            .with(alloc, FreshPage { key, bytes })
+            .expect(rt, "memory");
     }
     let Apart { change } = apart;
     assert!(rt; fits(store, &change));
     assert_eq!(rt; store.apply(change), Ok(()));
     assert_eq!(rt; store.commit(), Ok(()));
-    Ok(())
 }
 
 /// How many pages are read for so many appends to a file that was closed after one. Blocks enough are free, so none is
 /// collected.
-fn reads_for(rt: &impl Abort, alloc: Global, appends: u32) -> Result<u64, Fail> {
-    let four = NonZeroUsize::new(4).ok_or("four")?;
-    let nand = MemNand::new(alloc, Geometry::new(PAGE as u32, 256, 20)?)?;
+fn reads_for(rt: &impl Abort, alloc: Global, appends: u32) -> u64 {
+    let four = NonZeroUsize::new(4).expect(rt, "four");
+    let geometry = Geometry::new(PAGE as u32, 256, 20).expect(rt, "a geometry");
+    let nand = MemNand::new(alloc, geometry).expect(rt, "memory");
     let mut text = Vec::new(alloc);
-    let mut store = open_each(alloc, nand, 1, four)?;
-    append(rt, alloc, &mut store, &mut text, 255)?;
+    let mut store = open_each(alloc, nand, 1, four).expect(rt, "a store");
+    append(rt, alloc, &mut store, &mut text, 255);
     let mut nand = store.into_device();
     nand.power_up();
-    let mut store = open_each(alloc, nand, 1, four)?;
+    let mut store = open_each(alloc, nand, 1, four).expect(rt, "a store");
     for number in 0..appends {
-        append(rt, alloc, &mut store, &mut text, (number % 251) as u8)?;
+        append(rt, alloc, &mut store, &mut text, (number % 251) as u8);
     }
     let nand = store.into_device();
     // Each page of a good block is read at the opening.
-    Ok(
-        nand.calls()
-            .saturating_sub(nand.changes())
-            .saturating_sub(256 * 20),
-    )
+    nand.calls()
+        .saturating_sub(nand.changes())
+        .saturating_sub(256 * 20)
 }
 
 #[test]
-fn nothing_is_read_after_the_first_append(rt: HostRuntime) -> Result<(), Fail> {
+fn nothing_is_read_after_the_first_append(rt: HostRuntime) {
     let alloc = rt.alloc();
-    assert_eq!(rt;
-        reads_for(&rt, alloc, 1)?,
-        2,
-        "the header and the last page"
-    );
-    assert_eq!(rt; reads_for(&rt, alloc, 2_000)?, 2);
-    Ok(())
+    assert_eq!(rt; reads_for(&rt, alloc, 1), 2, "the header and the last page");
+    assert_eq!(rt; reads_for(&rt, alloc, 2_000), 2);
 }

@@ -8,7 +8,6 @@ use page_store::Store;
 use pages::PageStore;
 use std::alloc::Global;
 use std::process::Abort;
-use std::test::Fail;
 
 /// A change of so many pages, and its commit.
 fn change_and_commit(
@@ -17,18 +16,17 @@ fn change_and_commit(
     store: &mut Store<MemNand>,
     plain: &mut Plain,
     edit: Edit,
-) -> Result<(), Fail> {
+) {
     for next in [Step::Change(edit), Step::Commit] {
-        let taken = take_step(rt, alloc, store, plain, next)?;
+        let taken = take_step(rt, alloc, store, plain, next);
         assert_eq!(rt; taken, Ok(()), "{next:?}");
     }
-    Ok(())
 }
 
 #[test]
-fn a_commit_after_each_change_collects_and_loses_nothing(rt: HostRuntime) -> Result<(), Fail> {
+fn a_commit_after_each_change_collects_and_loses_nothing(rt: HostRuntime) {
     let alloc = rt.alloc();
-    let mut store = open_store(alloc, erased(alloc, 5)?, 1, 2)?;
+    let mut store = open_store(&rt, alloc, erased(&rt, alloc, 5), 1, 2);
     let mut plain = Plain::new([0; KEYS]);
     for number in 0..40u32 {
         let edit = Edit {
@@ -37,59 +35,58 @@ fn a_commit_after_each_change_collects_and_loses_nothing(rt: HostRuntime) -> Res
             count: 8,
             stamp: 1 + number * 8,
         };
-        change_and_commit(&rt, alloc, &mut store, &mut plain, edit)?;
-        assert_eq!(rt; read_all(&mut store)?, plain.present, "{number}");
+        change_and_commit(&rt, alloc, &mut store, &mut plain, edit);
+        assert_eq!(rt; read_all(&rt, &mut store), plain.present, "{number}");
     }
     let mut nand = store.into_device();
     // Of 320 pages that are written and none that is copied, there are no more than the erases of ten blocks.
     assert!(rt; nand.changes() > 330, "{}", nand.changes());
     nand.power_up();
-    let mut store = open_store(alloc, nand, 1, 2)?;
-    assert_eq!(rt; read_all(&mut store)?, plain.present);
-    Ok(())
+    let mut store = open_store(&rt, alloc, nand, 1, 2);
+    assert_eq!(rt; read_all(&rt, &mut store), plain.present);
 }
 
 /// What the device counted as changes, and what a scan finds of the keys, after so many changes, each of a directory, of one of
 /// its pages that is new, and of an object that is new, with no commit at the end.
-fn left_after(rt: &impl Abort, alloc: Global, count: usize) -> Result<(u64, Stamps), Fail> {
-    let mut store = open_store(alloc, erased(alloc, 8)?, 2, 4)?;
+fn left_after(rt: &impl Abort, alloc: Global, count: usize) -> (u64, Stamps) {
+    let mut store = open_store(rt, alloc, erased(rt, alloc, 8), 2, 4);
     for (place, object) in [1, 2, 3, 5].iter().enumerate().take(count) {
         let change = change_of(
+            rt,
             alloc,
             &[0, 4 + place % 4 * 4, *object],
             10 + place as u32 % 4,
-        )?;
+        );
         assert_eq!(rt; apply(rt, &mut store, change), Ok(()), "{place}");
     }
     let mut nand = store.into_device();
     let changes = nand.changes();
     nand.power_up();
-    Ok((changes, read_all(&mut scanned(alloc, nand)?)?))
+    (changes, read_all(rt, &mut scanned(rt, alloc, nand)))
 }
 
 #[test]
-fn what_was_not_committed_was_not_written(rt: HostRuntime) -> Result<(), Fail> {
+fn what_was_not_committed_was_not_written(rt: HostRuntime) {
     let alloc = rt.alloc();
-    assert_eq!(rt; left_after(&rt, alloc, 1)?, (0, [0; KEYS]));
-    assert_eq!(rt; left_after(&rt, alloc, 3)?, (0, [0; KEYS]));
+    assert_eq!(rt; left_after(&rt, alloc, 1), (0, [0; KEYS]));
+    assert_eq!(rt; left_after(&rt, alloc, 3), (0, [0; KEYS]));
     // There is no room for the fourth beside the seven pages of the first three, which are written first: an erase, and they.
     let mut wanted = [0; KEYS];
     wanted[0] = 12;
     for (number, stamp) in [(4, 10), (1, 10), (8, 11), (2, 11), (12, 12), (3, 12)] {
         wanted[number] = stamp;
     }
-    assert_eq!(rt; left_after(&rt, alloc, 4)?, (8, wanted));
-    Ok(())
+    assert_eq!(rt; left_after(&rt, alloc, 4), (8, wanted));
 }
 
 // An erase and three programs. The pages that were written are in the cache.
 #[test]
-fn a_commit_writes_its_pages_and_reads_none_of_them_again(rt: HostRuntime) -> Result<(), Fail> {
+fn a_commit_writes_its_pages_and_reads_none_of_them_again(rt: HostRuntime) {
     let alloc = rt.alloc();
-    let nand = erased(alloc, 8)?;
-    let opened = calls_when_opened(alloc, &nand)?;
-    let mut store = open_store(alloc, nand, 1, 4)?;
-    let change = change_of(alloc, &[0, 4, 1], 10)?;
+    let nand = erased(&rt, alloc, 8);
+    let opened = calls_when_opened(&rt, alloc, &nand);
+    let mut store = open_store(&rt, alloc, nand, 1, 4);
+    let change = change_of(&rt, alloc, &[0, 4, 1], 10);
     assert_eq!(rt; apply(&rt, &mut store, change), Ok(()));
     assert_eq!(rt; store.commit(), Ok(()));
     for number in [0, 4, 1] {
@@ -98,5 +95,4 @@ fn a_commit_writes_its_pages_and_reads_none_of_them_again(rt: HostRuntime) -> Re
     let nand = store.into_device();
     assert_eq!(rt; nand.changes(), 4);
     assert_eq!(rt; nand.calls().saturating_sub(opened), 4);
-    Ok(())
 }

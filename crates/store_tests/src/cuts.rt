@@ -11,7 +11,6 @@ use pages::PageStore;
 use rand_pcg::Pcg32;
 use std::alloc::Global;
 use std::process::Abort;
-use std::test::Fail;
 use volume_terms::StoreFault;
 
 /// The blocks to spare.
@@ -65,53 +64,47 @@ struct Calls {
 }
 
 impl Kept {
-    fn copy(&self) -> Result<Kept, Fail> {
-        Ok(Kept {
-            nand: self.nand.copy()?,
+    fn copy(&self, rt: &impl Abort) -> Kept {
+        Kept {
+            nand: self.nand.copy().expect(rt, "memory"),
             map: self.map,
-        })
+        }
     }
 
     /// Takes steps, up to the first that the store does not take.
-    fn take(
-        self,
-        rt: &impl Abort,
-        alloc: Global,
-        steps: Steps,
-        trouble: Trouble,
-    ) -> Result<Ended, Fail> {
-        let nand = troubled(alloc, self.nand, trouble)?;
-        let mut store = open_stamped(alloc, nand, &self.map, SPARE, 2)?;
+    fn take(self, rt: &impl Abort, alloc: Global, steps: Steps, trouble: Trouble) -> Ended {
+        let nand = troubled(rt, alloc, self.nand, trouble);
+        let mut store = open_stamped(rt, alloc, nand, &self.map, SPARE, 2);
         let mut plain = Plain::new(self.map);
         let mut random = Pcg32::new(u64::from(steps.part), 54);
         let mut fault = None;
         for number in 0..steps.count {
             let stamp = 1_000 + (steps.part % 1_000 * STEPS + number % STEPS) * 8;
             let next = random_step(&mut random, stamp);
-            if let Err(refused) = take_step(rt, alloc, &mut store, &mut plain, next)? {
+            if let Err(refused) = take_step(rt, alloc, &mut store, &mut plain, next) {
                 fault = Some(refused);
                 break;
             }
         }
-        Ok(Ended {
+        Ended {
             nand: store.into_device(),
             plain,
             fault,
-        })
+        }
     }
 }
 
 impl Ended {
     /// What a scan finds after a power-up: what was kept, or all that was present where the store stopped.
-    fn found(self, rt: &impl Abort, alloc: Global, trouble: Trouble) -> Result<Kept, Fail> {
+    fn found(self, rt: &impl Abort, alloc: Global, trouble: Trouble) -> Kept {
         let Ended {
             mut nand,
             plain,
             fault,
         } = self;
         nand.power_up();
-        let mut pages = scanned(alloc, nand)?;
-        let newest = read_all(&mut pages)?;
+        let mut pages = scanned(rt, alloc, nand);
+        let newest = read_all(rt, &mut pages);
         let map = if fault.is_some() && are_found(&plain.present, &newest) {
             plain.present
         } else {
@@ -120,7 +113,7 @@ impl Ended {
         assert!(rt; are_found(&map, &newest), "{trouble:?}");
         let (mut nand, _index) = pages.into_parts();
         nand.power_up();
-        Ok(Kept { nand, map })
+        Kept { nand, map }
     }
 }
 
@@ -132,19 +125,19 @@ fn go_wrong(
     before: &Kept,
     steps: Steps,
     trouble: Trouble,
-) -> Result<(Option<StoreFault>, u64), Fail> {
-    let ended = before.copy()?.take(rt, alloc, steps, trouble)?;
+) -> (Option<StoreFault>, u64) {
+    let ended = before.copy(rt).take(rt, alloc, steps, trouble);
     let fault = ended.fault;
-    let found = ended.found(rt, alloc, trouble)?;
+    let found = ended.found(rt, alloc, trouble);
     let bad = count_bad(&found.nand);
     let further = Steps {
         part: steps.part.saturating_add(1),
         count: FURTHER,
     };
-    let ended = found.take(rt, alloc, further, Trouble::Nothing)?;
+    let ended = found.take(rt, alloc, further, Trouble::Nothing);
     assert_eq!(rt; ended.fault, None, "after {trouble:?}");
-    let _kept = ended.found(rt, alloc, trouble)?;
-    Ok((fault, bad))
+    let _kept = ended.found(rt, alloc, trouble);
+    (fault, bad)
 }
 
 /// How many blocks of a device are bad.
@@ -167,7 +160,7 @@ fn try_each(
     calls: Calls,
     way: Way,
     fate: Fate,
-) -> Result<(), Fail> {
+) {
     let mut retired = 0u64;
     for call in calls.first..calls.last {
         let number = call.saturating_add(1);
@@ -175,7 +168,7 @@ fn try_each(
             Way::Cut => (Trouble::Cut(number, fate), Some(StoreFault::Device)),
             Way::Failure => (Trouble::Failure(number, fate), None),
         };
-        let (fault, bad) = go_wrong(rt, alloc, before, steps, trouble)?;
+        let (fault, bad) = go_wrong(rt, alloc, before, steps, trouble);
         assert_eq!(rt; fault, wanted, "{trouble:?}");
         retired = retired.saturating_add(bad);
     }
@@ -185,12 +178,11 @@ fn try_each(
         Way::Failure => calls.changes,
     };
     assert_eq!(rt; retired, wanted, "{steps:?}, {fate:?}");
-    Ok(())
 }
 
 /// A device whose blocks were all written, without a cut, so that blocks are collected soon.
-fn written(rt: &impl Abort, alloc: Global) -> Result<Kept, Fail> {
-    let mut store = open_store(alloc, erased(alloc, 5)?, SPARE, 2)?;
+fn written(rt: &impl Abort, alloc: Global) -> Kept {
+    let mut store = open_store(rt, alloc, erased(rt, alloc, 5), SPARE, 2);
     let mut plain = Plain::new([0; KEYS]);
     for number in 0..20u32 {
         let edit = Edit {
@@ -199,7 +191,7 @@ fn written(rt: &impl Abort, alloc: Global) -> Result<Kept, Fail> {
             count: 8,
             stamp: 1 + number * 8,
         };
-        let taken = take_step(rt, alloc, &mut store, &mut plain, Step::Change(edit))?;
+        let taken = take_step(rt, alloc, &mut store, &mut plain, Step::Change(edit));
         assert_eq!(rt; taken, Ok(()), "{number}");
     }
     assert_eq!(rt; store.commit(), Ok(()));
@@ -213,12 +205,12 @@ fn written(rt: &impl Abort, alloc: Global) -> Result<Kept, Fail> {
 }
 
 /// A run in parts, each of which is taken again with each of its calls cut, or failing, with each fate.
-fn run(rt: &impl Abort, alloc: Global, way: Way) -> Result<(), Fail> {
-    let mut kept = written(rt, alloc)?;
+fn run(rt: &impl Abort, alloc: Global, way: Way) {
+    let mut kept = written(rt, alloc);
     for part in 0..PARTS {
         let steps = Steps { part, count: STEPS };
-        let first = calls_when_opened(alloc, &kept.nand)?;
-        let ended = kept.copy()?.take(rt, alloc, steps, Trouble::Nothing)?;
+        let first = calls_when_opened(rt, alloc, &kept.nand);
+        let ended = kept.copy(rt).take(rt, alloc, steps, Trouble::Nothing);
         assert_eq!(rt; ended.fault, None, "{steps:?}");
         let calls = Calls {
             first,
@@ -226,19 +218,18 @@ fn run(rt: &impl Abort, alloc: Global, way: Way) -> Result<(), Fail> {
             changes: ended.nand.changes(),
         };
         for fate in FATES {
-            try_each(rt, alloc, &kept, steps, calls, way, fate)?;
+            try_each(rt, alloc, &kept, steps, calls, way, fate);
         }
-        kept = ended.found(rt, alloc, Trouble::Nothing)?;
+        kept = ended.found(rt, alloc, Trouble::Nothing);
     }
-    Ok(())
 }
 
 #[test]
-fn wherever_a_call_is_cut_all_is_kept(rt: HostRuntime) -> Result<(), Fail> {
+fn wherever_a_call_is_cut_all_is_kept(rt: HostRuntime) {
     run(&rt, rt.alloc(), Way::Cut)
 }
 
 #[test]
-fn whichever_call_fails_all_is_kept(rt: HostRuntime) -> Result<(), Fail> {
+fn whichever_call_fails_all_is_kept(rt: HostRuntime) {
     run(&rt, rt.alloc(), Way::Failure)
 }

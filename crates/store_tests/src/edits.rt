@@ -4,7 +4,7 @@ use flash_tree::{FreshPage, Key};
 use nand_model::MemNand;
 use page_store::Store;
 use pages::{Cut, PageStore};
-use std::alloc::{AllocError, Global};
+use std::alloc::Global;
 use std::process::Abort;
 use test_store::{Apart, fits};
 use volume_terms::StoreFault;
@@ -23,12 +23,12 @@ pub(crate) fn key_of(number: usize) -> Key {
 }
 
 /// A page of a key. The stamp tells it from all others.
-fn page_of(alloc: Global, key: Key, stamp: u32) -> Result<FreshPage, AllocError> {
-    let mut bytes = vec![in alloc; (stamp % 256) as u8; 512]?;
+fn page_of(rt: &impl Abort, alloc: Global, key: Key, stamp: u32) -> FreshPage {
+    let mut bytes = vec![in alloc; (stamp % 256) as u8; 512].expect(rt, "memory");
     for (place, byte) in bytes.iter_mut().zip(stamp.to_le_bytes()) {
         *place = byte;
     }
-    Ok(FreshPage { key, bytes })
+    FreshPage { key, bytes }
 }
 
 /// The stamp of a page, or the greatest where it is none that was made.
@@ -65,23 +65,25 @@ impl Edit {
     }
 
     /// The change.
-    pub fn change(self, alloc: Global) -> Result<Apart, AllocError> {
-        let mut apart = Apart::new(alloc, self.cut)?;
+    pub fn change(self, rt: &impl Abort, alloc: Global) -> Apart {
+        let mut apart = Apart::new(alloc, self.cut).expect(rt, "memory");
         for place in 0..self.count {
             let (number, stamp) = self.page(place);
-            apart = apart.with(alloc, page_of(alloc, key_of(number), stamp)?)?;
+            let page = page_of(rt, alloc, key_of(number), stamp);
+            apart = apart.with(alloc, page).expect(rt, "memory");
         }
-        Ok(apart)
+        apart
     }
 }
 
 /// The change of the pages of the keys of these numbers, all with one stamp.
-pub(crate) fn change_of(alloc: Global, numbers: &[usize], stamp: u32) -> Result<Apart, AllocError> {
-    let mut apart = Apart::new(alloc, None)?;
+pub(crate) fn change_of(rt: &impl Abort, alloc: Global, numbers: &[usize], stamp: u32) -> Apart {
+    let mut apart = Apart::new(alloc, None).expect(rt, "memory");
     for number in numbers {
-        apart = apart.with(alloc, page_of(alloc, key_of(*number), stamp)?)?;
+        let page = page_of(rt, alloc, key_of(*number), stamp);
+        apart = apart.with(alloc, page).expect(rt, "memory");
     }
-    Ok(apart)
+    apart
 }
 
 /// Makes a change.

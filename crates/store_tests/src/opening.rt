@@ -10,7 +10,7 @@ use newest_pages::{NewestPages, open, the_opened_pages_are_the_newest};
 use page_store::Store;
 use std::alloc::Global;
 use std::num::NonZeroUsize;
-use std::test::Fail;
+use std::process::Abort;
 use test_store::{open_each, open_kept};
 
 /// What is to go wrong with a device.
@@ -24,22 +24,24 @@ pub(crate) enum Trouble {
 }
 
 /// The device, of which this is to go wrong.
-pub(crate) fn troubled(alloc: Global, nand: MemNand, trouble: Trouble) -> Result<MemNand, Fail> {
-    Ok(match trouble {
+pub(crate) fn troubled(rt: &impl Abort, alloc: Global, nand: MemNand, trouble: Trouble) -> MemNand {
+    match trouble {
         Trouble::Nothing => nand,
-        Trouble::Cut(call, fate) => nand.with_fuse(call, vec![in alloc; fate; 32]?),
-        Trouble::Failure(call, fate) => {
-            let fates = vec![in alloc; fate; 32]?;
-            nand.with_failures(vec![in alloc; (call, fates)]?)
+        Trouble::Cut(call, fate) => {
+            nand.with_fuse(call, vec![in alloc; fate; 32].expect(rt, "memory"))
         }
-    })
+        Trouble::Failure(call, fate) => {
+            let fates = vec![in alloc; fate; 32].expect(rt, "memory");
+            nand.with_failures(vec![in alloc; (call, fates)].expect(rt, "memory"))
+        }
+    }
 }
 
 /// How many calls a device has counted once a store on it is opened.
-pub(crate) fn calls_when_opened(alloc: Global, nand: &MemNand) -> Result<u64, Fail> {
-    let mut copy = nand.copy()?;
-    let _opened = open(alloc, &mut copy)?;
-    Ok(copy.calls())
+pub(crate) fn calls_when_opened(rt: &impl Abort, alloc: Global, nand: &MemNand) -> u64 {
+    let mut copy = nand.copy().expect(rt, "memory");
+    let _opened = open(alloc, &mut copy).expect(rt, "an opening");
+    copy.calls()
 }
 
 /// The stamp of a key.
@@ -72,39 +74,42 @@ impl KeyFilter for Stamped<'_> {
 }
 
 /// An erased device of so many blocks of 32 pages of 512 bytes.
-pub(crate) fn erased(alloc: Global, blocks: u32) -> Result<MemNand, Fail> {
-    Ok(MemNand::new(alloc, Geometry::new(512, 32, blocks)?)?)
+pub(crate) fn erased(rt: &impl Abort, alloc: Global, blocks: u32) -> MemNand {
+    let geometry = Geometry::new(512, 32, blocks).expect(rt, "a geometry");
+    MemNand::new(alloc, geometry).expect(rt, "memory")
 }
 
 /// A store of the newest pages of a device, with so many blocks to spare and so many pages in the cache.
 pub(crate) fn open_store(
+    rt: &impl Abort,
     alloc: Global,
     nand: MemNand,
     spare: u32,
     capacity: usize,
-) -> Result<Store<MemNand>, Fail> {
-    let capacity = NonZeroUsize::new(capacity).ok_or("no cache")?;
-    Ok(open_each(alloc, nand, spare, capacity)?)
+) -> Store<MemNand> {
+    let capacity = NonZeroUsize::new(capacity).expect(rt, "no cache");
+    open_each(alloc, nand, spare, capacity).expect(rt, "a store")
 }
 
 /// The same of the keys alone that have a page in a map.
 pub(crate) fn open_stamped(
+    rt: &impl Abort,
     alloc: Global,
     nand: MemNand,
     map: &Stamps,
     spare: u32,
     capacity: usize,
-) -> Result<Store<MemNand>, Fail> {
-    let capacity = NonZeroUsize::new(capacity).ok_or("no cache")?;
-    Ok(open_kept(alloc, nand, &Stamped { stamps: map }, spare, capacity)?)
+) -> Store<MemNand> {
+    let capacity = NonZeroUsize::new(capacity).expect(rt, "no cache");
+    open_kept(alloc, nand, &Stamped { stamps: map }, spare, capacity).expect(rt, "a store")
 }
 
 /// The newest pages of a device, by a scan.
-pub(crate) fn scanned(alloc: Global, mut nand: MemNand) -> Result<NewestPages<MemNand>, Fail> {
+pub(crate) fn scanned(rt: &impl Abort, alloc: Global, mut nand: MemNand) -> NewestPages<MemNand> {
     the_opened_pages_are_the_newest();
-    let opened = open(alloc, &mut nand)?;
+    let opened = open(alloc, &mut nand).expect(rt, "an opening");
     match NewestPages::new(alloc, nand, opened.index) {
-        Ok(pages) => Ok(pages),
-        Err((_, refused)) => Err(refused.into()),
+        Ok(pages) => pages,
+        Err((_, refused)) => panic!(rt; "{refused:?}"),
     }
 }

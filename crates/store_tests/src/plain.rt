@@ -6,7 +6,6 @@ use page_store::Store;
 use pages::{Cut, PageStore, Pages, Presence};
 use std::alloc::Global;
 use std::process::Abort;
-use std::test::Fail;
 use volume_terms::StoreFault;
 
 /// How many pages are buffered at most.
@@ -105,12 +104,12 @@ pub(crate) fn read<P: Pages>(pages: &mut P, number: usize) -> Result<u32, StoreF
 }
 
 /// The stamps of all keys.
-pub(crate) fn read_all<P: Pages>(pages: &mut P) -> Result<Stamps, StoreFault> {
+pub(crate) fn read_all<P: Pages>(rt: &impl Abort, pages: &mut P) -> Stamps {
     let mut stamps = [0; KEYS];
     for number in 0..KEYS {
-        stamps[number] = read(pages, number)?;
+        stamps[number] = read(pages, number).expect(rt, "a read");
     }
-    Ok(stamps)
+    stamps
 }
 
 /// Takes a step with a store and, where the store took it, with the plain maps.
@@ -120,23 +119,23 @@ pub(crate) fn take_step(
     store: &mut Store<MemNand>,
     plain: &mut Plain,
     step: Step,
-) -> Result<Result<(), StoreFault>, Fail> {
+) -> Result<(), StoreFault> {
     match step {
         Step::Change(edit) => {
-            if let Err(fault) = apply(rt, store, edit.change(alloc)?) {
-                return Ok(Err(fault));
+            if let Err(fault) = apply(rt, store, edit.change(rt, alloc)) {
+                return Err(fault);
             }
             plain.change(edit);
         }
         Step::Cut(cut) => {
             if let Err(fault) = store.cut(cut) {
-                return Ok(Err(fault));
+                return Err(fault);
             }
             plain.cut(cut);
         }
         Step::Commit => {
             if let Err(fault) = store.commit() {
-                return Ok(Err(fault));
+                return Err(fault);
             }
             plain.commit();
         }
@@ -145,8 +144,8 @@ pub(crate) fn take_step(
                 let wanted = plain.present.get(number).copied();
                 assert_eq!(rt; Some(stamp), wanted, "the page of key {number}");
             }
-            Err(fault) => return Ok(Err(fault)),
+            Err(fault) => return Err(fault),
         },
     }
-    Ok(Ok(()))
+    Ok(())
 }

@@ -6,7 +6,6 @@ use crate::plain::{Plain, Step, are_found, read_all, take_step};
 use pages::Cut;
 use rand_core::utils::NextWord;
 use rand_pcg::Pcg32;
-use std::test::Fail;
 
 /// A cut of an object from a chunk on.
 fn random_cut(random: &mut Pcg32) -> Cut {
@@ -34,23 +33,22 @@ pub(crate) fn random_step(random: &mut Pcg32, stamp: u32) -> Step {
 }
 
 #[test]
-fn a_store_has_the_pages_of_plain_maps(rt: HostRuntime) -> Result<(), Fail> {
+fn a_store_has_the_pages_of_plain_maps(rt: HostRuntime) {
     let alloc = rt.alloc();
     for capacity in [1, 2, 16] {
         let mut random = Pcg32::new(42, 54);
-        let nand = erased(alloc, 8)?;
-        let mut store = open_store(alloc, nand, 2, capacity)?;
+        let nand = erased(&rt, alloc, 8);
+        let mut store = open_store(&rt, alloc, nand, 2, capacity);
         let mut plain = Plain::new([0; KEYS]);
         for number in 0..100_000u32 {
             let next = random_step(&mut random, 1 + number * 8);
-            let taken = take_step(&rt, alloc, &mut store, &mut plain, next)?;
+            let taken = take_step(&rt, alloc, &mut store, &mut plain, next);
             assert_eq!(rt; taken, Ok(()), "step {number}, {next:?}");
         }
-        assert_eq!(rt; read_all(&mut store)?, plain.present);
+        assert_eq!(rt; read_all(&rt, &mut store), plain.present);
         let mut nand = store.into_device();
         nand.power_up();
-        let newest = read_all(&mut scanned(alloc, nand)?)?;
+        let newest = read_all(&rt, &mut scanned(&rt, alloc, nand));
         assert!(rt; are_found(&plain.kept, &newest));
     }
-    Ok(())
 }

@@ -8,22 +8,21 @@ use page_store::Store;
 use pages::{Cut, PageStore};
 use std::alloc::Global;
 use std::process::Abort;
-use std::test::Fail;
 use volume_terms::StoreFault;
 
 /// The stamps of all keys. A read for which memory is refused is made again.
-fn read_again(rt: &impl Abort, store: &mut Store<MemNand>) -> Result<Stamps, Fail> {
+fn read_again(rt: &impl Abort, store: &mut Store<MemNand>) -> Stamps {
     let mut stamps = [0; KEYS];
     for number in 0..KEYS {
         stamps[number] = match read(store, number) {
             Ok(stamp) => stamp,
             Err(fault) => {
                 assert_eq!(rt; fault, StoreFault::NoMemory, "key {number}");
-                read(store, number)?
+                read(store, number).expect(rt, "a read")
             }
         };
     }
-    Ok(stamps)
+    stamps
 }
 
 /// Makes a change. One for which memory is refused changes nothing, and is made again.
@@ -33,23 +32,22 @@ fn change_again(
     store: &mut Store<MemNand>,
     plain: &mut Plain,
     edit: Edit,
-) -> Result<(), Fail> {
-    let (change, again) = (edit.change(alloc)?, edit.change(alloc)?);
+) {
+    let (change, again) = (edit.change(rt, alloc), edit.change(rt, alloc));
     if let Err(fault) = apply(rt, store, change) {
         assert_eq!(rt; fault, StoreFault::NoMemory, "{edit:?}");
-        assert_eq!(rt; read_again(rt, store)?, plain.present, "{edit:?}");
+        assert_eq!(rt; read_again(rt, store), plain.present, "{edit:?}");
         assert_eq!(rt; apply(rt, store, again), Ok(()), "{edit:?}");
     }
     plain.change(edit);
-    assert_eq!(rt; read_again(rt, store)?, plain.present, "{edit:?}");
-    Ok(())
+    assert_eq!(rt; read_again(rt, store), plain.present, "{edit:?}");
 }
 
 // Run it with each allocation refused in turn.
 #[test]
-fn a_refused_change_changes_nothing(rt: HostRuntime) -> Result<(), Fail> {
+fn a_refused_change_changes_nothing(rt: HostRuntime) {
     let alloc = rt.alloc();
-    let mut store = open_store(alloc, erased(alloc, 5)?, 1, 4)?;
+    let mut store = open_store(&rt, alloc, erased(&rt, alloc, 5), 1, 4);
     let mut plain = Plain::new([0; KEYS]);
     for number in 0..6u32 {
         let cut = Cut {
@@ -62,12 +60,11 @@ fn a_refused_change_changes_nothing(rt: HostRuntime) -> Result<(), Fail> {
             count: 5,
             stamp: 1 + number * 8,
         };
-        change_again(&rt, alloc, &mut store, &mut plain, edit)?;
+        change_again(&rt, alloc, &mut store, &mut plain, edit);
     }
     assert_eq!(rt; store.commit(), Ok(()));
     let mut nand = store.into_device();
     nand.power_up();
-    let newest = read_all(&mut scanned(alloc, nand)?)?;
+    let newest = read_all(&rt, &mut scanned(&rt, alloc, nand));
     assert!(rt; are_found(&plain.present, &newest));
-    Ok(())
 }

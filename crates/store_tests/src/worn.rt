@@ -7,7 +7,7 @@ use newest_pages::{NewestPages, open, the_opened_pages_are_the_newest};
 use page_tags::Tag;
 use pages::{Change, Cut, PageStore, Pages, Presence};
 use std::alloc::Global;
-use std::test::Fail;
+use std::process::Abort;
 use test_flash::TestFlash;
 use volume_terms::StoreFault;
 
@@ -38,25 +38,26 @@ const OTHER: Key = Key {
 };
 
 /// Five blocks of 32 pages of 512 bytes, with a page in block 2.
-fn worn(alloc: Global) -> Result<MemNand, Fail> {
-    let mut flash = TestFlash::new(alloc, Geometry::new(512, 32, 5)?)?;
+fn worn(rt: &impl Abort, alloc: Global) -> MemNand {
+    let geometry = Geometry::new(512, 32, 5).expect(rt, "a geometry");
+    let mut flash = TestFlash::new(alloc, geometry).expect(rt, "memory");
     match flash.write(2, &LAST, 9) {
-        Ok(()) => Ok(flash.into_nand()),
-        Err(_) => Err("the page is not written".into()),
+        Ok(()) => flash.into_nand(),
+        Err(_) => panic!(rt; "the page is not written"),
     }
 }
 
 /// The pages of a device with no number left, of whose blocks one is to spare.
-fn read_only(alloc: Global, mut nand: MemNand) -> Result<ReadOnlyPages<MemNand>, Fail> {
+fn read_only(rt: &impl Abort, alloc: Global, mut nand: MemNand) -> ReadOnlyPages<MemNand> {
     the_opened_pages_are_the_newest();
-    let opened = open(alloc, &mut nand)?;
+    let opened = open(alloc, &mut nand).expect(rt, "an opening");
     let numbers = opened.numbers;
     if numbers.group < LIMIT {
-        return Err("numbers are left".into());
+        panic!(rt; "numbers are left");
     }
     match NewestPages::new(alloc, nand, opened.index) {
-        Ok(pages) => Ok(ReadOnlyPages::new(pages, numbers, 1, 8, None)),
-        Err((_nand, refused)) => Err(refused.into()),
+        Ok(pages) => ReadOnlyPages::new(pages, numbers, 1, 8, None),
+        Err((_nand, refused)) => panic!(rt; "{refused:?}"),
     }
 }
 
@@ -80,31 +81,29 @@ fn commit<P: PageStore>(pages: &mut P) -> Result<(), StoreFault> {
 
 // The page that was written is found, another is not, and the device is left as it is.
 #[test]
-fn pages_of_a_worn_device_are_read(rt: HostRuntime) -> Result<(), Fail> {
+fn pages_of_a_worn_device_are_read(rt: HostRuntime) {
     let alloc = rt.alloc();
-    let mut pages = FlashPages::ReadOnly(read_only(alloc, worn(alloc)?)?);
+    let mut pages = FlashPages::ReadOnly(read_only(&rt, alloc, worn(&rt, alloc)));
     assert_eq!(rt; pages.page_bytes(), 512);
     assert_eq!(rt; fill(&mut pages, KEY), Ok(Some(9)));
     assert_eq!(rt; fill(&mut pages, OTHER), Ok(None));
     let nand = pages.into_device();
     assert_eq!(rt; nand.changes(), 2, "those of the making");
-    Ok(())
 }
 
 // A commit has nothing to do until a change or a cut was refused; what is kept is still read.
 #[test]
-fn a_change_of_a_worn_device_is_refused(rt: HostRuntime) -> Result<(), Fail> {
+fn a_change_of_a_worn_device_is_refused(rt: HostRuntime) {
     let alloc = rt.alloc();
-    let mut pages = read_only(alloc, worn(alloc)?)?;
+    let mut pages = read_only(&rt, alloc, worn(&rt, alloc));
     assert_eq!(rt; pages.most_pages(), 8);
     assert_eq!(rt; commit(&mut pages), Ok(()));
     assert_eq!(rt; change(alloc, &mut pages), Err(StoreFault::Worn));
     assert_eq!(rt; commit(&mut pages), Err(StoreFault::Worn));
     assert_eq!(rt; fill(&mut pages, KEY), Ok(Some(9)));
-    let mut again = read_only(alloc, pages.into_device())?;
+    let mut again = read_only(&rt, alloc, pages.into_device());
     let cut = Cut { object: 7, from: 0 };
     assert_eq!(rt; again.cut(cut), Err(StoreFault::Worn));
     assert_eq!(rt; commit(&mut again), Err(StoreFault::Worn));
     assert_eq!(rt; again.into_device().changes(), 2);
-    Ok(())
 }

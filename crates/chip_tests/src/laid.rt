@@ -5,7 +5,7 @@ use nand_model::{Fate, Geometry, MemNand};
 use page_tags::Tag;
 use std::alloc::Global;
 use std::process::Abort;
-use test_flash::{TestFault, TestFlash};
+use test_devices::{TestFault, TestFlash};
 
 /// The tag of a page of a group whose version, number and seq are these.
 pub(crate) fn tag(object: u64, chunk: u64, index: u32, count: u32, group: u64, seq: u64) -> Tag {

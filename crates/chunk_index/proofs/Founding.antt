@@ -4,9 +4,9 @@ use Rattle.std.specs.Prelude.{map}
 use Rattle.std.specs.List.{AllPairs}
 use Rattle.std.proofs.lemmas.Bool.{cases_eq, cases_lt}
 use Rattle.std.proofs.lemmas.Option.{get_or_from_slice_get, slice_get-get_or, slice_get_within}
-use Rattle.found_pages.specs.declared.copy.PageCopy.{PageCopy}
-use Rattle.found_pages.specs.Keys.{HaveOtherKeys}
-use Rattle.found_pages.specs.Listed.{IsPartAt}
+use Rattle.mount_scan.specs.declared.page_copy.PageCopy.{PageCopy}
+use Rattle.mount_scan.specs.Keys.{HaveOtherKeys}
+use Rattle.mount_scan.specs.Listed.{IsPartAt}
 use Rattle.chunk_index.specs.declared.form.KeptKey.{KeptKey}
 use Rattle.chunk_index.specs.Adding.{found_key, AreOfOtherKeys, AreInPages, AreLow, AreWithin, AreAbsent, AddsFirst}
 use Rattle.chunk_index.specs.Entries.{kept_at}

@@ -1,6 +1,6 @@
 -- Pages that become kept, one after another.
 use Rattle.std.specs.Prelude.{◌≡◌, ◌<◌, ◌^◌, ℕ, List, slice_get, Some, None}
-use Rattle.found_pages.specs.declared.copy.PageCopy.{PageCopy}
+use Rattle.mount_scan.specs.declared.page_copy.PageCopy.{PageCopy}
 use Rattle.page_tags.specs.declared.check.CheckEntry.{CheckEntry}
 use Rattle.chunk_index.specs.declared.form.KeptKey.{KeptKey}
 use Rattle.chunk_index.specs.Entries.{kept_at}

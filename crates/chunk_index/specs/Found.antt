@@ -1,6 +1,6 @@
 -- The entries of the pages that a scan found, one after another.
 use Rattle.std.specs.Prelude.{◌≡◌, ◌<◌, ℕ, List, get_or, Some, None}
-use Rattle.found_pages.specs.declared.copy.PageCopy.{PageCopy}
+use Rattle.mount_scan.specs.declared.page_copy.PageCopy.{PageCopy}
 use Rattle.chunk_index.specs.Entries.{kept_at}
 use Rattle.chunk_index.specs.Newest.{page_of, IsFoundOf}
 use Rattle.chunk_index.specs.Shelves.{ObjectMap, look}

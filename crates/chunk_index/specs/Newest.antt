@@ -1,6 +1,6 @@
 -- The newest pages of a scan, and the index of them.
 use Rattle.std.specs.Prelude.{◌≡◌, ◌<◌, ◌^◌, ℕ, List, length, get_or, Some, None}
-use Rattle.found_pages.specs.declared.copy.PageCopy.{PageCopy}
+use Rattle.mount_scan.specs.declared.page_copy.PageCopy.{PageCopy}
 use Rattle.chunk_index.specs.declared.form.KeptPage.{KeptPage}
 use Rattle.chunk_index.specs.declared.form.Present.TheVariants as presents
 use Rattle.chunk_index.specs.declared.index.Index.{Index}

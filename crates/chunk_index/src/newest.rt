@@ -2,8 +2,8 @@
 ghost use Rattle.std.specs.Prelude.{◌≡◌, ℕ, length, None, IfOk, OnOk};
 ghost use Rattle.std.specs.List.{AllPairs};
 ghost use Rattle.block_state.specs.TableOf.{table};
-ghost use Rattle.found_pages.specs.Keys.{HaveOtherKeys};
-ghost use Rattle.found_pages.specs.Listed.{listed};
+ghost use Rattle.mount_scan.specs.Keys.{HaveOtherKeys};
+ghost use Rattle.mount_scan.specs.Listed.{listed};
 ghost use Rattle.chunk_index.specs.Counts.{Recounts};
 ghost use Rattle.chunk_index.specs.Shelves.{look};
 ghost use Rattle.chunk_index.specs.Maps.{kept_in, CountsAgree};
@@ -12,7 +12,7 @@ ghost use Rattle.chunk_index.specs.Found.{HasPages};
 
 use crate::index::Index;
 use block_state::Blocks;
-use found_pages::{BUCKETS, FoundPages};
+use mount_scan::{BUCKETS, FoundPages};
 use std::alloc::{AllocError, Global};
 
 impl Index {

@@ -3,7 +3,7 @@ ghost use Rattle.std.specs.Prelude.{◌≡◌};
 
 use crate::form::{KeptKey, KeptPage};
 use flash_tree::Key;
-use found_pages::PageCopy;
+use mount_scan::PageCopy;
 use page_tags::CheckEntry;
 
 /// A page of a key, on the flash.

@@ -1,2 +1,4 @@
 pub mod Kept
 pub mod laws
+pub mod Fuses
+pub mod Refusals

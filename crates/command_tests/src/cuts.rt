@@ -1,7 +1,7 @@
 // Runs that are cut off at each of their calls: what was committed is a tree that a loss may leave.
 use crate::kept::KeptObjects;
 use crate::lines::{commands_of, reply_text};
-use fused_store::{FusedStore, LastCall};
+use crate::{FusedStore, LastCall};
 use object_commands::Volume;
 use plain_volume::PlainObjects;
 use posix_profile::{Access, Command, Errno, FilePath, OpenFlags, Reply, Stamped};

@@ -2,9 +2,16 @@
 //! cut off at each of their calls.
 #![tactic(auto)]
 
+mod fuse;
+mod kept;
+mod refusing;
+
+pub use fuse::{FusedStore, LastCall};
+pub use kept::KeptObjects;
+pub use refusing::RefusingStore;
+
 #[cfg(test)]
 mod cuts;
-mod kept;
 #[cfg(test)]
 mod lines;
 #[cfg(test)]
@@ -13,5 +20,3 @@ mod refused;
 mod shells;
 #[cfg(test)]
 mod trees;
-
-pub use kept::KeptObjects;

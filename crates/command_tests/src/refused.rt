@@ -1,7 +1,7 @@
 // Commands whose calls of the store are refused memory in turn.
+use crate::RefusingStore;
 use crate::cuts::no_objects;
 use crate::lines::{command_of, reply_text};
-use fused_store::RefusingStore;
 use object_commands::Volume;
 use object_store::ObjectStore;
 use plain_volume::PlainObjects;

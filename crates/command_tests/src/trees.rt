@@ -1,8 +1,7 @@
 // Trees that are read, made again and compared.
 use crate::lines::{command_of, commands_of, reply_text};
 use object_commands::Volume;
-use plain_tree::{PlainTree, TreeFault};
-use plain_volume::PlainObjects;
+use plain_volume::{PlainObjects, PlainTree, TreeFault};
 use posix_profile::{Errno, Stamped};
 use std::alloc::Global;
 use std::process::Abort;

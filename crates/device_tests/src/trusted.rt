@@ -1,7 +1,6 @@
 //! A device that is trusted: each of its calls is the device's.
 
-use nand_model::{Geometry, MemNand, Nand, PageKind};
-use trusted_nand::TrustedNand;
+use nand_model::{Geometry, MemNand, Nand, PageKind, TrustedNand};
 
 /// What is programmed through it is read through it, and stands on the device that is given back.
 #[test]

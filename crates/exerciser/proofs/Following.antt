@@ -9,10 +9,10 @@ use Rattle.posix_profile.specs.State.{Objects, State}
 use Rattle.posix_profile.specs.WellFormed.{IsTree}
 use Rattle.posix_profile.specs.declared.command.Stamped.{Stamped}
 use Rattle.posix_profile.specs.declared.reply.Reply.{Reply}
-use Rattle.plain_tree.specs.Items.{item_of}
-use Rattle.plain_tree.specs.Lists.{IsMadeOf, Lists, ListsShown, shown_of}
-use Rattle.plain_tree.specs.declared.list.TreeList.{TreeList}
-use Rattle.plain_tree.specs.laws.Sameness.{same_read, state_tree}
+use Rattle.plain_volume.specs.Items.{item_of}
+use Rattle.plain_volume.specs.Lists.{IsMadeOf, Lists, ListsShown, shown_of}
+use Rattle.plain_volume.specs.declared.list.TreeList.{TreeList}
+use Rattle.plain_volume.specs.laws.Sameness.{same_read, state_tree}
 use Rattle.posix_profile.specs.Names.{prune, settle}
 use Rattle.posix_profile.specs.laws.Prune.{prune_same}
 use Rattle.posix_profile.specs.laws.Sound.{IsSound}

@@ -7,13 +7,13 @@ use Rattle.flash_tree.specs.Mount.{Answers, IsTreeOf}
 use Rattle.lives.specs.Lives.{at_mount}
 use Rattle.mounting.specs.declared.fault.MountFault.{MountFault}
 use Rattle.flash_tree.specs.Checkpoints.{IsTrueFlash}
-use Rattle.newest_pages.specs.Checked.{HasTrueFlash}
+use Rattle.page_store.specs.Checked.{HasTrueFlash}
 use Rattle.pages.specs.State.{PagesState}
-use Rattle.page_volume.specs.Volumes.{pages_of, is_read_only}
-use Rattle.page_volume.specs.declared.volume.PageVolume.{PageVolume}
+use Rattle.posix_calls.specs.PageVolumes.{pages_of, is_read_only}
+use Rattle.posix_calls.specs.declared.page_volume.PageVolume.{PageVolume}
 use Rattle.paged_objects.specs.Standing.{volume_of}
-use Rattle.plain_tree.specs.Lists.{IsMadeOf, ListsShown, shown_of}
-use Rattle.plain_tree.specs.declared.list.TreeList.{TreeList}
+use Rattle.plain_volume.specs.Lists.{IsMadeOf, ListsShown, shown_of}
+use Rattle.plain_volume.specs.declared.list.TreeList.{TreeList}
 use Rattle.plain_volume.specs.Views.{PlainView}
 use Rattle.posix_profile.specs.declared.command.Stamped.{Stamped}
 use Rattle.posix_profile.specs.declared.reply.Reply.{Reply}

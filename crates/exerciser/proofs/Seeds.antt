@@ -3,7 +3,7 @@ use Rattle.std.proofs.Common.{◌≡◌, ℕ, ◌+◌, max, [], Some, Result, Ok
 use native.Mathlib.Numerals.{unary_clauses}
 use Rattle.std.specs.Prelude.{IfOk, true}
 use Rattle.nand_model.specs.Calls.{Device}
-use Rattle.planned_nand.specs.Planning.{calls_since}
+use Rattle.powercut.specs.Planning.{calls_since}
 use Rattle.powercut.specs.Living.{IsTrueOn}
 use Rattle.powercut.specs.Sessions.{IsEnded}
 use Rattle.powercut.specs.Starting.{fuse_of}

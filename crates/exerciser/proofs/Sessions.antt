@@ -19,8 +19,8 @@ use Rattle.exerciser.specs.declared.fault.CutFault.TheVariants as faults
 use Rattle.exerciser.specs.declared.finding.Finding.{Finding}
 use Rattle.exerciser.specs.declared.finding.Finding.TheVariants as findings
 use Rattle.exerciser.specs.declared.seen.Seen.{Seen}
-use Rattle.plain_tree.specs.declared.fault.TreeFault.{TreeFault}
-use Rattle.plain_tree.specs.declared.fault.TreeFault.TheVariants as trees
+use Rattle.plain_volume.specs.declared.fault.TreeFault.{TreeFault}
+use Rattle.plain_volume.specs.declared.fault.TreeFault.TheVariants as trees
 
 -- a tree that is not read is a fault of the reading
 pub of_tree_is_reading : (fault : TreeFault) → IsOfReading (of_tree fault)

@@ -4,8 +4,8 @@ use Rattle.nand_model.specs.Calls.{Device}
 use Rattle.nand_model.specs.Changes.{PowersUp, OnlyReads}
 use Rattle.flash_tree.specs.Mount.{Answers, IsTreeOf}
 use Rattle.lives.specs.Lives.{at_mount}
-use Rattle.newest_pages.specs.Checked.{HasTrueFlash}
-use Rattle.plain_tree.specs.Lists.{shown_of}
+use Rattle.page_store.specs.Checked.{HasTrueFlash}
+use Rattle.plain_volume.specs.Lists.{shown_of}
 use Rattle.plain_volume.specs.Views.{PlainView}
 use Rattle.posix_profile.specs.State.{Objects, State}
 use Rattle.volume_terms.specs.Sizes.{Sizes}

@@ -2,7 +2,7 @@
 use Rattle.std.specs.Prelude.{◌≡◌, ℕ, zero, suc, max, List, map, Ok}
 use Rattle.nand_model.specs.Calls.{Device}
 use Rattle.nand_model.specs.declared.fate.Fate.{Fate}
-use Rattle.planned_nand.specs.Planning.{calls_since}
+use Rattle.powercut.specs.Planning.{calls_since}
 use Rattle.powercut.specs.Sessions.{IsEnded}
 use Rattle.powercut.specs.declared.session.Session.{Session}
 use Rattle.powercut.specs.declared.session.SessionEnd.{SessionEnd}

@@ -1,8 +1,8 @@
 -- The faults of sessions.
 use Rattle.mounting.specs.declared.fault.MountFault.{MountFault}
 use Rattle.mounting.specs.declared.fault.MountFault.TheVariants as mounts
-use Rattle.plain_tree.specs.declared.fault.TreeFault.{TreeFault}
-use Rattle.plain_tree.specs.declared.fault.TreeFault.TheVariants as tree_faults
+use Rattle.plain_volume.specs.declared.fault.TreeFault.{TreeFault}
+use Rattle.plain_volume.specs.declared.fault.TreeFault.TheVariants as tree_faults
 use Rattle.exerciser.specs.declared.fault.CutFault.{CutFault}
 use Rattle.exerciser.specs.declared.fault.CutFault.TheVariants as faults
 

@@ -7,7 +7,7 @@ use Rattle.posix_profile.specs.Losses.{Covers}
 use Rattle.posix_profile.specs.Names.{settle}
 use Rattle.posix_profile.specs.Runs.{after_one}
 use Rattle.posix_profile.specs.State.{Objects, State}
-use Rattle.plain_tree.specs.Lists.{shown_of}
+use Rattle.plain_volume.specs.Lists.{shown_of}
 use Rattle.posix_profile.specs.declared.command.Stamped.{Stamped}
 use Rattle.posix_profile.specs.declared.reply.Errno.TheVariants as errors
 use Rattle.posix_profile.specs.declared.reply.Reply.{Reply}

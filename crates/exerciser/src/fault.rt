@@ -3,7 +3,7 @@ ghost use Rattle.std.specs.Prelude.{◌≡◌};
 ghost use Rattle.exerciser.specs.Faults.{of_tree, of_mount};
 ghost use Rattle.exerciser.specs.declared.fault.CutFault.TheVariants as faults;
 
-use plain_tree::TreeFault;
+use plain_volume::TreeFault;
 use posix_calls::MountFault;
 use std::alloc::AllocError;
 use thiserror::Error;

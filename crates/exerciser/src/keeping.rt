@@ -2,10 +2,10 @@
 ghost use Rattle.std.specs.Prelude.{◌≡◌, ◌≤◌, ℕ, length, take, IfOk, IfSome, OnOk, OnErr};
 ghost use Rattle.posix_profile.specs.Losses.{is_synced, Covers};
 ghost use Rattle.posix_profile.specs.WellFormed.{IsTree};
-ghost use Rattle.plain_tree.specs.Lists.{Lists};
+ghost use Rattle.plain_volume.specs.Lists.{Lists};
 ghost use Rattle.exerciser.specs.Keeping.{after_told, after_all_told, shown_after, IsLeast, IsKept};
 
-use plain_tree::{Answers, PlainTree, TreeFault, TreeList};
+use plain_volume::{Answers, PlainTree, TreeFault, TreeList};
 use posix_profile::{Command, Errno, Reply, Stamped};
 use powercut::SessionEnd;
 use std::alloc::{AllocError, Global};

@@ -3,7 +3,7 @@ ghost use Rattle.std.specs.Prelude.{◌≡◌};
 ghost use Rattle.exerciser.specs.Seen.{finding_of};
 
 use crate::finding::Finding;
-use plain_tree::PlainTree;
+use plain_volume::PlainTree;
 use posix_calls::MountFault;
 
 /// What a mount shows after a session from a tree on.

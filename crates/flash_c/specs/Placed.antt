@@ -30,11 +30,19 @@ pub record PlacedRead : Type 0 where
   pub number : ℤ
   pub after : List ℕ
 
+-- the same, from its parts
+abbrev pub placed_read : (fd : ℕ) → (offset : ℤ) → (before : List ℕ) → (number : ℤ) → (after : List ℕ) → PlacedRead
+placed_read fd offset before number after = record { place = record { fd = fd; offset = offset }; before = before; number = number; after = after }
+
 -- what a write at a place is asked for
 pub record PlacedWrite : Type 0 where
   pub moment : ℕ
   pub place : Place
   pub bytes : List ℕ
+
+-- the same, from its parts
+abbrev pub placed_write : (moment fd : ℕ) → (offset : ℤ) → (bytes : List ℕ) → PlacedWrite
+placed_write moment fd offset bytes = record { moment = moment; place = record { fd = fd; offset = offset }; bytes = bytes }
 
 -- a seek of a descriptor, and the number of its reply
 abbrev pub Seeks : {S : Type 0} → (S → Stamped → Reply → S → Type 0) → S → Place × Whence → ℤ → S → Type 0

@@ -22,6 +22,10 @@ pub record Listing : Type 0 where
   pub number : ℤ
   pub after : List ℕ
 
+-- the same, from its parts
+abbrev pub listing_of : (path before : List ℕ) → (number : ℤ) → (after : List ℕ) → Listing
+listing_of path before number after = record { path = path; before = before; number = number; after = after }
+
 -- a stat: the path, the struct before it, what it returned, and the struct after it
 pub record Stating : Type 0 where
   pub path : List ℕ

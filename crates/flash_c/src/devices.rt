@@ -1,18 +1,17 @@
 // Mount, format and end of a volume, over any device: what they return, and the device after them.
 ghost use Rattle.std.specs.Prelude.{◌≡◌, ◌<ℤ◌, ◌≤ℤ◌, pos, IfOk, IfErr};
 ghost use Rattle.flash_c.specs.Volumes.{NotMounted, IsFormatted, IsEnded};
-ghost use Rattle.page_volume.specs.Volumes.{pages_of};
+ghost use Rattle.posix_calls.specs.PageVolumes.{pages_of};
 ghost use Rattle.posix_calls.specs.Endings.{LiesOn};
 ghost use Rattle.posix_calls.specs.Mounts.{IsMounted};
 ghost use Rattle.posix_calls.specs.Volumes.{over_pages};
 
 use crate::numbers::{done_number, format_number, mount_number};
-use flash_pages::FlashPages;
-use nand_model::Nand;
+use nand_model::{Nand, TrustedNand};
+use page_store::FlashPages;
 use pages::Pages;
 use posix_calls::{Volume, format};
 use std::alloc::Global;
-use trusted_nand::TrustedNand;
 
 /// Mounts the volume of a device, with a cache of so many pages, of one at least. After a fault the device is given back with the
 /// fault's number.

@@ -1,6 +1,6 @@
 // Reads and writes at an offset of their own, over anything that serves commands: the descriptor's offset is set, and set back.
 ghost use Rattle.std.specs.Prelude.{◌≡◌, pos};
-ghost use Rattle.flash_c.specs.Placed.{Seeks, GoesTo, GoesBack, IsReadAt, IsWrittenAt, ReadsAtIn, WritesAtIn};
+ghost use Rattle.flash_c.specs.Placed.{Seeks, GoesTo, GoesBack, IsReadAt, IsWrittenAt, ReadsAtIn, WritesAtIn, placed_read, placed_write};
 
 use crate::numbers::error_number;
 use crate::serve::Serve;
@@ -42,7 +42,7 @@ fn go_back<S: Serve>(session: &mut S, fd: u32, was: i64, number: i64) -> i64
 
 /// Reads into the buffer at an offset. A read of no bytes goes before, so that the errors of a read come before those of a seek.
 pub(crate) fn read_at<S: Serve>(session: &mut S, fd: u32, buffer: &mut [u8], offset: i64) -> i64
-    ensures { IsReadAt S.serves session.old (record { place = record { fd = fd; offset = offset }; before = buffer.old; number = result; after = buffer.new }) session.new }
+    ensures { IsReadAt S.serves session.old (placed_read fd offset buffer.old result buffer.new) session.new }
 {
     let none = read(session, fd, &mut []);
     if none < 0 {
@@ -65,7 +65,7 @@ pub(crate) fn write_at<S: Serve>(
     bytes: &[u8],
     offset: i64,
 ) -> i64
-    ensures { IsWrittenAt S.serves session.old (record { moment = moment; place = record { fd = fd; offset = offset }; bytes = bytes.now }) result session.new }
+    ensures { IsWrittenAt S.serves session.old (placed_write moment fd offset bytes.now) result session.new }
 {
     let none = write(session, moment, fd, &[]);
     if none < 0 {
@@ -84,7 +84,7 @@ pub(crate) fn write_at<S: Serve>(
 #[unsafe(no_mangle)]
 pub extern "C" fn flash_pread(slot: &mut Slot, fd: u32, buffer: &mut [u8], offset: i64) -> i64
     ensures { ReadsAtIn ⟦<Session as Serve>⟧.serves slot.old
-        (record { place = record { fd = fd; offset = offset }; before = buffer.old; number = result; after = buffer.new }) slot.new }
+        (placed_read fd offset buffer.old result buffer.new) slot.new }
 {
     if !slot.is_full() {
         return i64::from(error_number(Errno::EINVAL));
@@ -102,7 +102,7 @@ pub extern "C" fn flash_pwrite(
     moment: u64,
 ) -> i64
     ensures { WritesAtIn ⟦<Session as Serve>⟧.serves slot.old
-        (record { moment = moment; place = record { fd = fd; offset = offset }; bytes = bytes.now }) result slot.new }
+        (placed_write moment fd offset bytes.now) result slot.new }
 {
     if !slot.is_full() {
         return i64::from(error_number(Errno::EINVAL));

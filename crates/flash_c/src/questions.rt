@@ -1,6 +1,6 @@
 // The commands that fill the caller's memory: read, stat, list and the room of the volume.
 ghost use Rattle.flash_c.specs.Describing.{DescribesIn};
-ghost use Rattle.flash_c.specs.Questions.{IsRead, IsStat, IsListed, IsRoom};
+ghost use Rattle.flash_c.specs.Questions.{IsRead, IsStat, IsListed, IsRoom, listing_of};
 ghost use Rattle.flash_c.specs.Slots.{Replied};
 
 use crate::filling::{FlashInfo, FlashSpace};
@@ -47,7 +47,7 @@ pub extern "C" fn flash_fstat(slot: &mut Slot, fd: u32, info: &mut FlashInfo) ->
 /// buffer has no room for them, and stays.
 #[unsafe(no_mangle)]
 pub extern "C" fn flash_list(slot: &mut Slot, path: &[u8], buffer: &mut [u8]) -> i64
-    ensures { IsListed (Replied ⟦<Session as Serve>⟧.serves) slot.old (record { path = path.now; before = buffer.old; number = result; after = buffer.new }) slot.new }
+    ensures { IsListed (Replied ⟦<Session as Serve>⟧.serves) slot.old (listing_of path.now buffer.old result buffer.new) slot.new }
 {
     if !slot.is_full() {
         return i64::from(error_number(Errno::EINVAL));

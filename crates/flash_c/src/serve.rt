@@ -7,14 +7,13 @@ ghost use Rattle.posix_profile.specs.declared.reply.Errno.{Errno};
 ghost use Rattle.posix_profile.specs.declared.reply.Info.{Info};
 ghost use Rattle.posix_profile.specs.declared.reply.Reply.{Reply};
 ghost use Rattle.posix_calls.specs.Volumes.{over_pages};
-ghost use Rattle.page_volume.specs.Calls.{IsCalled};
+ghost use Rattle.posix_calls.specs.Calls.{IsCalled};
 ghost use Rattle.posix_calls.specs.Describing.{IsDescribed};
 
-use flash_pages::FlashPages;
-use nand_model::Nand;
+use nand_model::{Nand, TrustedNand};
+use page_store::FlashPages;
 use pages::Pages;
 use posix_calls::{Asked, Errno, Info, Reply, Volume};
-use trusted_nand::TrustedNand;
 
 /// What serves commands.
 pub(crate) trait Serve {

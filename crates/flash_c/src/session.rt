@@ -4,17 +4,22 @@ ghost use Rattle.posix_profile.specs.Requests.{stamped_of};
 ghost use Rattle.posix_profile.specs.declared.reply.Reply.{Reply};
 ghost use Rattle.flash_c.specs.Numbers.{done_number, count_number};
 ghost use Rattle.flash_c.specs.Describing.{stat_reply, IsFstat};
-ghost use Rattle.flash_c.specs.Questions.{IsRead, IsStat, IsListed, IsRoom};
+ghost use Rattle.flash_c.specs.Questions.{IsRead, IsStat, IsListed, IsRoom, listing_of};
 
 use crate::filling::{FlashInfo, FlashSpace, put_info, put_space};
 use crate::names::put_names;
 use crate::numbers::{count_number, done_number, error_number, signed};
 use crate::serve::Serve;
+use nand_model::TrustedNand;
+use page_store::FlashPages;
 use port_nand::{FilePort, PortDevice};
 use posix_calls::{Asked, Errno, Info, Reply, Request, Volume};
 
 /// A device behind the port of a file.
 pub(crate) type FileNand = PortDevice<FilePort>;
+
+/// The pages of a volume on one.
+pub(crate) type FilePages = FlashPages<TrustedNand<FileNand>>;
 
 /// A mounted volume, whose device is behind a port.
 #[derive(Drop)]
@@ -91,7 +96,7 @@ pub(crate) fn fstat<S: Serve>(session: &S, fd: u32, info: &mut FlashInfo) -> i32
 
 /// Puts the names of a directory in the buffer.
 pub(crate) fn list<S: Serve>(session: &mut S, path: &[u8], buffer: &mut [u8]) -> i64
-    ensures { IsListed S.serves session.old (record { path = path.now; before = buffer.old; number = result; after = buffer.new }) session.new }
+    ensures { IsListed S.serves session.old (listing_of path.now buffer.old result buffer.new) session.new }
 {
     let request = Request::List { path };
     put_names(buffer, &session.serve(&Asked { moment: 0, request }))

@@ -1,6 +1,6 @@
 // Format, mount and unmount of a volume whose device is at the other end of a port.
 ghost use Rattle.std.specs.Prelude.{◌≡◌, ◌≤ℤ◌, ◌<ℤ◌, false, true, pos, IfErr};
-ghost use Rattle.page_volume.specs.Volumes.{is_read_only, is_stopped};
+ghost use Rattle.posix_calls.specs.PageVolumes.{is_read_only, is_stopped};
 ghost use Rattle.posix_calls.specs.Volumes.{over_pages};
 ghost use Rattle.posix_profile.specs.declared.reply.Errno.TheVariants as errors;
 ghost use Rattle.flash_c.specs.Numbers.{error_number};
@@ -10,16 +10,14 @@ ghost use Rattle.flash_c.specs.Volumes.{EndsAt, FormatsAt, MountsAt};
 use crate::devices::{abandon, end, format_device, mount_device};
 use crate::numbers::{error_number, open_number};
 use crate::port::Port;
-use crate::session::{FileNand, Session};
+use crate::session::{FileNand, FilePages, Session};
 use crate::slot::Slot;
-use flash_pages::FlashPages;
 use nand_model::Nand;
 use pages::Pages;
 use port_nand::{FilePort, open};
 use posix_calls::Errno;
 use std::alloc::Global;
 use std::fs::File;
-use trusted_nand::TrustedNand;
 
 /// The pages that the cache of `flash_mount` keeps.
 const CACHE_PAGES: u32 = 16;
@@ -51,7 +49,7 @@ pub extern "C" fn flash_format(alloc: Global, port: Port, spare: u32) -> i32
 /// Opens a device and mounts its volume in an empty slot.
 fn mount_in(alloc: Global, slot: &mut Slot, port: Port, cache_pages: u32) -> i32
     ensures fills { FillsSlot slot.old result slot.new }
-    ensures mounts { slot.old.full ≡ false → MountsAt ⟦<FileNand as Nand>⟧.state ⟦<FlashPages<TrustedNand<FileNand>> as Pages>⟧.state result (over_pages slot.new.session.volume) }
+    ensures mounts { slot.old.full ≡ false → MountsAt ⟦<FileNand as Nand>⟧.state ⟦<FilePages as Pages>⟧.state result (over_pages slot.new.session.volume) }
 {
     let file = port.into_file();
     if slot.is_full() {
@@ -74,7 +72,7 @@ fn mount_in(alloc: Global, slot: &mut Slot, port: Port, cache_pages: u32) -> i32
 #[unsafe(no_mangle)]
 pub extern "C" fn flash_mount(alloc: Global, slot: &mut Slot, port: Port) -> i32
     ensures fills { FillsSlot slot.old result slot.new }
-    ensures mounts { slot.old.full ≡ false → MountsAt ⟦<FileNand as Nand>⟧.state ⟦<FlashPages<TrustedNand<FileNand>> as Pages>⟧.state result (over_pages slot.new.session.volume) }
+    ensures mounts { slot.old.full ≡ false → MountsAt ⟦<FileNand as Nand>⟧.state ⟦<FilePages as Pages>⟧.state result (over_pages slot.new.session.volume) }
 {
     mount_in(alloc, slot, port, CACHE_PAGES)
 }
@@ -88,7 +86,7 @@ pub extern "C" fn flash_mount_with(
     cache_pages: u32,
 ) -> i32
     ensures fills { FillsSlot slot.old result slot.new }
-    ensures mounts { slot.old.full ≡ false → MountsAt ⟦<FileNand as Nand>⟧.state ⟦<FlashPages<TrustedNand<FileNand>> as Pages>⟧.state result (over_pages slot.new.session.volume) }
+    ensures mounts { slot.old.full ≡ false → MountsAt ⟦<FileNand as Nand>⟧.state ⟦<FilePages as Pages>⟧.state result (over_pages slot.new.session.volume) }
 {
     mount_in(alloc, slot, port, cache_pages)
 }
@@ -97,7 +95,7 @@ pub extern "C" fn flash_mount_with(
 #[unsafe(no_mangle)]
 pub extern "C" fn flash_unmount(slot: &mut Slot) -> i32
     ensures empties { slot.new.full ≡ false }
-    ensures ended { slot.old.full ≡ true → EndsAt ⟦<FileNand as Nand>⟧.state ⟦<FlashPages<TrustedNand<FileNand>> as Pages>⟧.state (over_pages slot.old.session.volume) result }
+    ensures ended { slot.old.full ≡ true → EndsAt ⟦<FileNand as Nand>⟧.state ⟦<FilePages as Pages>⟧.state (over_pages slot.old.session.volume) result }
     ensures empty { slot.old.full ≡ false → result ≡ error_number errors.EINVAL }
 {
     if !slot.is_full() {

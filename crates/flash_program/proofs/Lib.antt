@@ -4,3 +4,5 @@ pub mod Telling
 pub mod CutEndings
 pub mod Early
 pub mod Stopping
+mod Reading
+mod Adding

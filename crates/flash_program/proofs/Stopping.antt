@@ -18,14 +18,14 @@ use Rattle.nand_model.specs.Calls.{Device}
 use Rattle.nand_model.specs.Changes.{OnlyReads}
 use Rattle.nand_model.specs.Flash.{Flash}
 use Rattle.nand_model.specs.declared.geometry.Geometry.{Geometry}
-use Rattle.page_volume.specs.Volumes.{pages_of, is_stopped, IsVolumeOf}
-use Rattle.page_volume.specs.declared.volume.PageVolume.{PageVolume}
+use Rattle.posix_calls.specs.PageVolumes.{pages_of, is_stopped, IsVolumeOf}
+use Rattle.posix_calls.specs.declared.page_volume.PageVolume.{PageVolume}
 use Rattle.paged_objects.specs.Ending.{HasEndedAt}
 use Rattle.paged_objects.specs.Standing.{volume_of}
 use Rattle.paged_objects.specs.laws.Going.{ended_at, goes_here, goes_on}
 use Rattle.pages.specs.State.{PagesState, NextNumbers}
 use Rattle.pages.specs.Stores.{GoesOn}
-use Rattle.page_volume.specs.Calls.{IsCalled}
+use Rattle.posix_calls.specs.Calls.{IsCalled}
 use Rattle.posix_calls.specs.Endings.{IsUnmounted}
 use Rattle.posix_calls.specs.laws.Ending.{ends_after}
 use Rattle.posix_calls.specs.laws.Trusting.{read_since, left_as_seen}

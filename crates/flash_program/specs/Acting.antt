@@ -1,16 +1,16 @@
 -- What the program does of what was chosen.
 use Rattle.std.specs.Prelude.{◌≡◌, ℕ, List, Option, Result}
-use Rattle.flash_pages.specs.declared.mounted.FlashPages.{FlashPages}
+use Rattle.page_store.specs.declared.flash_pages.FlashPages.{FlashPages}
 use Rattle.nand_model.specs.declared.nand.Nand.{Ghosts}
-use Rattle.page_volume.specs.declared.volume.PageVolume.{PageVolume}
+use Rattle.posix_calls.specs.declared.page_volume.PageVolume.{PageVolume}
 use Rattle.pages.specs.State.{PagesState}
-use Rattle.page_volume.specs.Calls.{IsCalled}
+use Rattle.posix_calls.specs.Calls.{IsCalled}
 use Rattle.posix_calls.specs.Volumes.{over_pages}
 use Rattle.posix_profile.specs.declared.command.Stamped.{Stamped}
 use Rattle.posix_profile.specs.declared.reply.Reply.{Reply}
-use Rattle.trusted_nand.specs.declared.device.TrustedNand.{TrustedNand}
-use Rattle.program_words.specs.declared.chosen.Chosen.{Chosen}
-use Rattle.program_words.specs.declared.chosen.Chosen.TheVariants as choices
+use Rattle.nand_model.specs.declared.trusted_nand.TrustedNand.{TrustedNand}
+use Rattle.flash_program.specs.declared.chosen.Chosen.{Chosen}
+use Rattle.flash_program.specs.declared.chosen.Chosen.TheVariants as choices
 use Rattle.flash_program.specs.Images.{RunEnds, ImageCheckEnds, CutEnds, MakeEnds}
 use Rattle.flash_program.specs.Sessions.{ProgramEnds}
 use Rattle.flash_program.specs.declared.fault.ProgramFault.{ProgramFault}

@@ -17,7 +17,7 @@ use Rattle.nand_image.specs.declared.fault.ImageFault.TheVariants as images
 use Rattle.nand_model.specs.Calls.{Device}
 use Rattle.nand_model.specs.Changes.{CountsNothing, IsBlank, PowersUp}
 use Rattle.nand_model.specs.Size.{IsSize}
-use Rattle.page_volume.specs.declared.volume.PageVolume.{PageVolume}
+use Rattle.posix_calls.specs.declared.page_volume.PageVolume.{PageVolume}
 use Rattle.pages.specs.State.{PagesState}
 use Rattle.posix_profile.specs.declared.command.Stamped.{Stamped}
 use Rattle.posix_profile.specs.declared.reply.Reply.{Reply}

@@ -4,3 +4,5 @@ pub mod Spaces
 pub mod Images
 pub mod Acting
 pub mod Stopping
+pub mod Program
+pub mod Choices

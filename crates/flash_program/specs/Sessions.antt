@@ -7,7 +7,7 @@ use Rattle.mounting.specs.Faults.{WhyNotMounted}
 use Rattle.mounting.specs.declared.fault.MountFault.{MountFault}
 use Rattle.nand_model.specs.Calls.{Device}
 use Rattle.nand_model.specs.Changes.{OnlyReads}
-use Rattle.page_volume.specs.declared.volume.PageVolume.{PageVolume}
+use Rattle.posix_calls.specs.declared.page_volume.PageVolume.{PageVolume}
 use Rattle.pages.specs.State.{PagesState}
 use Rattle.posix_calls.specs.Endings.{IsUnmounted}
 use Rattle.posix_calls.specs.Mounts.{IsMounted}

@@ -8,8 +8,8 @@ use Rattle.line_shell.specs.Replies.{newline, reply_text}
 use Rattle.line_shell.specs.Written.{AppendsPart}
 use Rattle.nand_model.specs.Calls.{Device, Lasts}
 use Rattle.nand_model.specs.Changes.{OnlyReads}
-use Rattle.page_volume.specs.Volumes.{is_read_only}
-use Rattle.page_volume.specs.declared.volume.PageVolume.{PageVolume}
+use Rattle.posix_calls.specs.PageVolumes.{is_read_only}
+use Rattle.posix_calls.specs.declared.page_volume.PageVolume.{PageVolume}
 use Rattle.pages.specs.State.{PagesState}
 use Rattle.posix_calls.specs.Endings.{IsUnmounted}
 use Rattle.posix_profile.specs.declared.command.Command.TheVariants as commands

@@ -1,7 +1,7 @@
 -- What stops a session of the program.
 use Rattle.std.specs.Prelude.{◌≡◌, ℕ, true, false, List, Option, Result}
 use Rattle.nand_model.specs.Calls.{Device}
-use Rattle.page_volume.specs.Volumes.{is_stopped}
+use Rattle.posix_calls.specs.PageVolumes.{is_stopped}
 use Rattle.posix_profile.specs.State.{Objects}
 use Rattle.posix_profile.specs.declared.reply.Reply.TheVariants as replies
 use Rattle.powercut.specs.Limits.{StaysWithin}

@@ -4,6 +4,7 @@ ghost use Rattle.flash_program.specs.Acting.{ActsAs, over_device};
 ghost use Rattle.flash_program.specs.Statuses.{status_of, IsReported};
 ghost use Rattle.flash_program.specs.declared.fault.ProgramFault.{ProgramFault as Fault};
 
+use crate::Chosen;
 use crate::checking::check_image;
 use crate::creating::make_image;
 use crate::cutting::cut_image;
@@ -11,14 +12,12 @@ use crate::ending::report;
 use crate::fault::ProgramFault;
 use crate::memory::run_in_memory;
 use crate::running::run_image;
-use flash_pages::FlashPages;
 use nand_image::ImageNand;
-use nand_model::MemNand;
+use nand_model::{MemNand, TrustedNand};
+use page_store::FlashPages;
 use pages::Pages;
-use program_words::Chosen;
 use std::alloc::Global;
 use std::io::{BufRead, Read, Seek, Write};
-use trusted_nand::TrustedNand;
 
 /// Does what was chosen.
 fn perform<F: Read + Write + Seek + Drop, R: BufRead, W: Write>(

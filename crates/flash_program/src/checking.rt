@@ -6,13 +6,12 @@ use crate::fault::ProgramFault;
 use crate::opening::copy_of;
 use crate::serve::ServedVolume;
 use crate::space::check_device;
-use flash_pages::FlashPages;
 use line_shell::Serve;
-use nand_model::MemNand;
+use nand_model::{MemNand, TrustedNand};
+use page_store::FlashPages;
 use pages::Pages;
 use std::alloc::Global;
 use std::io::{Read, Write};
-use trusted_nand::TrustedNand;
 
 /// Tells the space of the volume in an image, and whether it can only be read. The image is not changed: its type has no
 /// means to be written.

@@ -6,15 +6,14 @@ ghost use Rattle.flash_program.specs.Spaces.{FormatEnds};
 use crate::fault::ProgramFault;
 use crate::serve::ServedVolume;
 use crate::space::show_device;
-use flash_pages::FlashPages;
 use line_shell::Serve;
 use nand_image::{ImageNand, create_image};
-use nand_model::{Geometry, Nand};
+use nand_model::{Geometry, Nand, TrustedNand};
+use page_store::FlashPages;
 use pages::Pages;
 use posix_calls::format;
 use std::alloc::Global;
 use std::io::{Read, Seek, Write};
-use trusted_nand::TrustedNand;
 
 /// Formats a device, and tells the space of its volume.
 fn format_device<N: Nand, W: Write>(

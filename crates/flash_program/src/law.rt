@@ -2,11 +2,10 @@
 ghost use Rattle.flash_program.specs.Acting.{over_device};
 ghost use Rattle.flash_program.specs.Stopping.{OnlyACutStops};
 
-use flash_pages::FlashPages;
 use flash_tree::a_flash_has_one_answer_at_most;
-use nand_model::Nand;
+use nand_model::{Nand, TrustedNand};
+use page_store::FlashPages;
 use pages::Pages;
-use trusted_nand::TrustedNand;
 
 /// In a session that the program makes of lines nothing but a loss of power is answered EIO, as long as the spare blocks and the
 /// numbers of an honest device suffice.

@@ -10,15 +10,14 @@ ghost use Rattle.flash_program.specs.declared.fault.ProgramFault.TheVariants as 
 
 use crate::fault::ProgramFault;
 use crate::serve::ServedVolume;
-use flash_pages::FlashPages;
 use line_shell::{Serve, ShellFault, shell};
-use nand_model::{Geometry, MemNand, Nand};
+use nand_model::{Geometry, MemNand, Nand, TrustedNand};
+use page_store::FlashPages;
 use pages::Pages;
 use posix_calls::{Volume, format};
 use posix_profile::Reply;
 use std::alloc::Global;
 use std::io::{BufRead, Write};
-use trusted_nand::TrustedNand;
 
 /// A flash in memory with a new volume on it: eight blocks of 32 pages of 512 bytes, one of them spare.
 #[tactic(auto, using(crate::proofs::Early::early))]

@@ -5,13 +5,13 @@ ghost use Rattle.flash_program.specs.Images.{RunEnds};
 use crate::fault::ProgramFault;
 use crate::memory::answer_lines;
 use crate::serve::ServedVolume;
-use flash_pages::FlashPages;
 use line_shell::Serve;
 use nand_image::{ImageNand, open_image};
+use nand_model::TrustedNand;
+use page_store::FlashPages;
 use pages::Pages;
 use std::alloc::Global;
 use std::io::{BufRead, Read, Seek, Write};
-use trusted_nand::TrustedNand;
 
 /// Answers the lines of the reader in the writer, over the volume in an image.
 pub(crate) fn run_image<F: Read + Write + Seek + Drop, R: BufRead, W: Write>(

@@ -1,14 +1,13 @@
 // A volume that serves the commands of a shell.
 ghost use Rattle.posix_calls.specs.Volumes.{over_pages};
-ghost use Rattle.page_volume.specs.Calls.{IsCalled};
+ghost use Rattle.posix_calls.specs.Calls.{IsCalled};
 
-use flash_pages::FlashPages;
 use line_shell::Serve;
-use nand_model::Nand;
+use nand_model::{Nand, TrustedNand};
+use page_store::FlashPages;
 use pages::Pages;
 use posix_calls::Volume;
 use posix_profile::{Reply, Stamped};
-use trusted_nand::TrustedNand;
 
 /// A mounted volume behind a shell.
 #[derive(Drop)]

@@ -7,15 +7,14 @@ ghost use Rattle.line_shell.specs.Written.{Writes};
 
 use crate::fault::ProgramFault;
 use crate::serve::ServedVolume;
-use flash_pages::FlashPages;
 use line_shell::{Serve, write_bytes, write_reply};
-use nand_model::{MemNand, Nand};
+use nand_model::{MemNand, Nand, TrustedNand};
+use page_store::FlashPages;
 use pages::Pages;
 use posix_calls::Volume;
 use posix_profile::{Command, Reply, Stamped};
 use std::alloc::Global;
 use std::io::{self, Write};
-use trusted_nand::TrustedNand;
 
 /// Asks a volume for its space.
 fn ask_space<V: Serve>(volume: &mut V) -> Reply

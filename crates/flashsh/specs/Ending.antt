@@ -5,9 +5,9 @@ use Rattle.flash_program.specs.Acting.{ActsAs, Means}
 use Rattle.flash_program.specs.Statuses.{status_of}
 use Rattle.flash_program.specs.declared.fault.ProgramFault.{ProgramFault}
 use Rattle.flash_program.specs.declared.fault.ProgramFault.TheVariants as faults
-use Rattle.program_words.specs.Choices.{AreTaken, AskForHelp, Chooses}
-use Rattle.program_words.specs.Program.{program}
-use Rattle.program_words.specs.declared.chosen.Chosen.{Chosen}
+use Rattle.flash_program.specs.Choices.{AreTaken, AskForHelp, Chooses}
+use Rattle.flash_program.specs.Program.{program}
+use Rattle.flash_program.specs.declared.chosen.Chosen.{Chosen}
 
 -- what was chosen was done over some image that was opened, or over none, and ended so
 abbrev pub IsDone : {F P V Q W : Type 0} → (F → Option (List ℕ)) → Means P V → Means Q W → Chosen

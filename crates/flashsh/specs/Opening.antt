@@ -3,8 +3,8 @@ use Rattle.std.specs.Prelude.{ℕ, true, List, Option, Some, None}
 use Rattle.std.specs.Fs.{new_options, with_read, with_write, with_create, with_truncate}
 use Rattle.std.specs.String.{string_bytes}
 use Rattle.std.specs.declared.fs.options.OpenOptions.{OpenOptions}
-use Rattle.program_words.specs.declared.chosen.Chosen.{Chosen}
-use Rattle.program_words.specs.declared.chosen.Chosen.TheVariants as choices
+use Rattle.flash_program.specs.declared.chosen.Chosen.{Chosen}
+use Rattle.flash_program.specs.declared.chosen.Chosen.TheVariants as choices
 
 -- a file is opened to be read, and for nothing else
 abbrev pub read_alone : OpenOptions

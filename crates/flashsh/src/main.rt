@@ -12,21 +12,19 @@ ghost use Rattle.flash_program.specs.Statuses.{status_of, IsReported};
 ghost use Rattle.flash_program.specs.declared.fault.ProgramFault.{ProgramFault as Fault};
 ghost use Rattle.flashsh.specs.Ending.{IsDone, IsDoneWith, EndsWith};
 ghost use Rattle.flashsh.specs.Opening.{options_of, path_of};
-ghost use Rattle.program_words.specs.Choices.{AskForHelp};
-ghost use Rattle.program_words.specs.declared.chosen.Chosen.TheVariants as choices;
+ghost use Rattle.flash_program.specs.Choices.{AskForHelp};
+ghost use Rattle.flash_program.specs.declared.chosen.Chosen.TheVariants as choices;
 
-use flash_pages::FlashPages;
-use flash_program::{ProgramFault, act, report};
+use flash_program::{Chosen, ProgramFault, act, choose, parse, report};
 use nand_image::ImageNand;
-use nand_model::MemNand;
+use nand_model::{MemNand, TrustedNand};
+use page_store::FlashPages;
 use pages::Pages;
-use program_words::{Chosen, choose, parse};
 use std::alloc::{AllocError, Global};
 use std::env::{self, Args};
 use std::fs::{File, OpenOptions};
 use std::io::{BufRead, LineWriter, Read, Write};
 use std::process::ExitCode;
-use trusted_nand::TrustedNand;
 
 /// The words after the program's name, which is the first of the arguments.
 fn words_after_name(alloc: Global, arguments: Args) -> Result<Vec<String>, AllocError>

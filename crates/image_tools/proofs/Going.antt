@@ -4,7 +4,7 @@ use Rattle.posix_profile.specs.State.{Objects, State}
 use Rattle.posix_profile.specs.Steps.{step}
 use Rattle.posix_profile.specs.declared.command.Stamped.{Stamped}
 use Rattle.posix_profile.specs.declared.reply.Reply.{Reply}
-use Rattle.plain_tree.specs.Reading.{IsToldBy, Tells}
+use Rattle.plain_volume.specs.Reading.{IsToldBy, Tells}
 use Rattle.volume_terms.specs.Sizes.{Sizes}
 use Rattle.image_tools.specs.Leaving.{GoesOn, Leaves}
 

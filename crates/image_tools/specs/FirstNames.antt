@@ -2,7 +2,7 @@
 use Rattle.std.specs.Prelude.{◌≡◌, ℕ, List, Option, option_map}
 use Rattle.std.specs.Ordering.{nat_cmp}
 use Rattle.std.specs.BTreeMap.{get}
-use Rattle.plain_tree.specs.Items.{Item}
+use Rattle.plain_volume.specs.Items.{Item}
 use Rattle.image_tools.specs.Folders.{first_path}
 use Rattle.image_tools.specs.declared.unpacking.FirstNames.{FirstNames}
 

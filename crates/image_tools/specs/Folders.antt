@@ -2,7 +2,7 @@
 use Rattle.std.specs.Prelude.{◌≡◌, ℕ, ◌++◌, List, [], ◌∷◌, map as list_map, Option, Some, None, option_map, nat_eq}
 use Rattle.std.specs.List.{find}
 use Rattle.posix_profile.specs.State.{Name, Objects}
-use Rattle.plain_tree.specs.Items.{Told, OfFile, OfDirectory, Item, AreRead, root_path}
+use Rattle.plain_volume.specs.Items.{Told, OfFile, OfDirectory, Item, AreRead, root_path}
 use Rattle.image_tools.specs.declared.folder.Folder.{Folder}
 use Rattle.image_tools.specs.declared.folder.FolderEntry.{FolderEntry}
 use Rattle.image_tools.specs.declared.folder.Node.{Node}

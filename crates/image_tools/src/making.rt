@@ -5,9 +5,8 @@ ghost use Rattle.std.specs.Prelude.{OnOk};
 ghost use Rattle.image_tools.specs.Leaving.{GoesOn};
 
 use crate::folder::{FolderEntry, Node};
-use command_answers::Answers;
-use plain_tree::{TreeFault, ask};
-use posix_profile::{Access, Bytes, Command, Errno, FilePath, OpenFlags, Reply};
+use plain_volume::{TreeFault, ask};
+use posix_profile::{Access, Answers, Bytes, Command, Errno, FilePath, OpenFlags, Reply};
 use std::alloc::{AllocError, Global};
 
 /// How many bytes are written at once: no volume writes fewer.

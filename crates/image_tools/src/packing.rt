@@ -7,8 +7,8 @@ use crate::alike::same_entries;
 use crate::folder::Folder;
 use crate::making::make;
 use crate::unpacking::unpack;
-use command_answers::Answers;
-use plain_tree::TreeFault;
+use plain_volume::TreeFault;
+use posix_profile::Answers;
 use std::alloc::Global;
 
 /// Makes the tree in a volume with an empty root, by its commands and with its moments, syncs it, and reads it back. The volume

@@ -1,14 +1,14 @@
 // A tree, read out of a volume.
 ghost use Rattle.std.specs.Prelude.{◌≡◌, ℕ, [], ◌++◌, ◌∷◌, List, IfOk, OnOk, map as list_map, option_map, nat_eq, if◌then◌else◌, None};
 ghost use Rattle.std.specs.Option.{option_or};
-ghost use Rattle.plain_tree.specs.Items.{Item, item_of, told_of};
-ghost use Rattle.plain_tree.specs.Reading.{Tells};
+ghost use Rattle.plain_volume.specs.Items.{Item, item_of, told_of};
+ghost use Rattle.plain_volume.specs.Reading.{Tells};
 ghost use Rattle.image_tools.specs.Folders.{IsFolder, entries_of, entries_after, entry_of, entry_after, held_of, held_by};
 ghost use Rattle.image_tools.specs.FirstNames.{Knows, path_noted};
 
 use crate::folder::{Folder, FolderEntry, Node};
-use command_answers::Answers;
-use plain_tree::{Content, TreeEntry, TreeFault, TreeList};
+use plain_volume::{Content, TreeEntry, TreeFault, TreeList};
+use posix_profile::Answers;
 use std::alloc::{AllocError, Global};
 use std::collections::BTreeMap;
 

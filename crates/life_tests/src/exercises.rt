@@ -3,7 +3,7 @@ use crate::lines::{formatted, script};
 use exerciser::{CutFault, Finding, cut, kept, mount_fault_name, tell};
 use line_shell::read_script;
 use nand_model::{Geometry, MemNand};
-use plain_tree::{Answers, PlainTree};
+use plain_volume::{Answers, PlainTree};
 use posix_calls::{Errno, MountFault, Reply, Stamped, format};
 use powercut::SessionEnd;
 use std::alloc::Global;

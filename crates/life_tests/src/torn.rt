@@ -2,7 +2,7 @@
 use crate::lines::script;
 use exerciser::{Finding, Seen, compare};
 use nand_model::Geometry;
-use plain_tree::{Answers, PlainTree};
+use plain_volume::{Answers, PlainTree};
 use posix_calls::{Bytes, Command, Errno, FilePath, NameList, Reply, Stamped};
 use powercut::SessionEnd;
 use std::alloc::{AllocError, Global};

@@ -2,11 +2,11 @@
 use crate::lines::{formatted, live_through, script, told};
 use flash_tree::{Key, TagNumbers};
 use nand_model::{Fate, MemNand};
-use plain_search::{greatest, newest};
 use posix_calls::MountFault;
 use powercut::{Session, SessionEnd};
 use std::alloc::Global;
 use std::process::Abort;
+use test_devices::{greatest, newest};
 
 /// A file of five bytes, and what is told.
 const HELLO: &str = "open /a rwc\nwrite 0 hello\nseek 0 0 set\nread 0 10\nspace\nfsync 0\n";

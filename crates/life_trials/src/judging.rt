@@ -3,7 +3,7 @@ use crate::living::{device_of, has_tree, live_through, mounted, shown};
 use anyhow::{Result, anyhow};
 use line_shell::write_reply;
 use nand_model::MemNand;
-use plain_tree::PlainTree;
+use plain_volume::PlainTree;
 use posix_calls::{Errno, MountFault, Reply, Stamped};
 use powercut::{Session, SessionEnd};
 use std::alloc::{AllocError, Global};

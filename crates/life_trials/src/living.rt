@@ -2,7 +2,7 @@
 use anyhow::{Result, anyhow};
 use exerciser::kept;
 use nand_model::MemNand;
-use plain_tree::PlainTree;
+use plain_volume::PlainTree;
 use posix_calls::Volume;
 use powercut::{Session, SessionEnd, live};
 use std::alloc::Global;

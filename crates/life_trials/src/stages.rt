@@ -2,7 +2,7 @@
 use crate::judging::Stage;
 use anyhow::{Result, anyhow};
 use nand_model::{Geometry, MemNand};
-use plain_tree::PlainTree;
+use plain_volume::PlainTree;
 use posix_calls::format;
 use std::alloc::Global;
 use volume_terms::VolumeSizes;

@@ -4,9 +4,9 @@ use crate::same::assert_same;
 use block_state::Blocks;
 use flash_tree::{Found, Key};
 use nand_model::{MemNand, Nand, PageKind};
-use plain_search::newest;
 use std::alloc::Global;
 use std::process::Abort;
+use test_devices::newest;
 
 /// The version of a page, and the byte of which all its data are.
 #[derive(Clone, Copy, Debug, PartialEq, Eq)]

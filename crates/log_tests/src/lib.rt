@@ -1,5 +1,6 @@
-//! Tests of the crates of the log, most of which need several: the scan beside a plain search, an index by hand and that of a
-//! scan, a move, a retirement and collections, call by call.
+//! Tests of the crates of the log, most of which need several: the scan beside a plain search, an index by hand and that of a scan,
+//! a move, a retirement and collections, call by call; and a checkpoint put together by hand: what a search finds, also after an
+//! alteration of each rule, and what the allocation of its block and a move of kept pages leave, wherever the power goes.
 #![tactic(auto)]
 
 #[cfg(test)]
@@ -9,6 +10,12 @@ mod index;
 #[cfg(test)]
 mod kept;
 #[cfg(test)]
+mod laid;
+#[cfg(test)]
+mod left;
+#[cfg(test)]
+mod moved;
+#[cfg(test)]
 mod moves;
 #[cfg(test)]
 mod retirements;
@@ -16,6 +23,10 @@ mod retirements;
 mod same;
 #[cfg(test)]
 mod scans;
+#[cfg(test)]
+mod searches;
+#[cfg(test)]
+mod taken;
 #[cfg(test)]
 mod volumes;
 #[cfg(test)]

@@ -7,7 +7,7 @@ use flash_log::{MoveFault, Moved, RoomFault};
 use nand_model::{MemNand, Nand};
 use std::alloc::Global;
 use std::process::Abort;
-use test_log::mount_log;
+use test_devices::mount_log;
 
 /// The reads of a mount of eight blocks of 32 pages.
 pub(crate) const MOUNT: u64 = 256;

@@ -3,16 +3,14 @@
 use crate::same::assert_same;
 use crate::worked::{WorkedFlash, broken_off, flashes, powered_up, small, tag, written};
 use flash_tree::{Found, Key};
-use found_pages::{BUCKETS, FoundPages, PageCopy};
-use mount_scan::{ScanFault, scan, scan_newest};
+use mount_scan::{BUCKETS, FoundPages, PageCopy, ScanFault, scan, scan_newest};
 use nand_model::{Fate, MemNand};
-use plain_search::{greatest, newest};
 use rand_core::utils::NextWord;
 use rand_pcg::Pcg32;
 use std::alloc::Global;
 use std::collections::BTreeMap;
 use std::process::Abort;
-use test_flash::TestFlash;
+use test_devices::{TestFlash, greatest, newest};
 
 /// The pages of all buckets.
 pub(crate) fn pages_of(rt: &impl Abort, alloc: Global, found: &FoundPages) -> Vec<PageCopy> {

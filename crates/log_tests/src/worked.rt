@@ -5,7 +5,7 @@ use nand_model::{Geometry, MemNand};
 use page_tags::Tag;
 use std::alloc::Global;
 use std::process::Abort;
-use test_flash::TestFlash;
+use test_devices::TestFlash;
 
 /// Five blocks of 32 pages of 512 bytes.
 pub(crate) fn small(rt: &impl Abort, alloc: Global) -> TestFlash {

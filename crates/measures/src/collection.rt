@@ -11,7 +11,7 @@ use anyhow::{Result, anyhow};
 use nand_model::MemNand;
 use std::alloc::Global;
 use std::time::CpuClock;
-use test_log::mount_log;
+use test_devices::mount_log;
 
 /// The pages for which room is made.
 const COUNT: u32 = 8;

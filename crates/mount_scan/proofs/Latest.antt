@@ -13,10 +13,10 @@ use Rattle.flash_tree.specs.laws.Newest.{one_spot}
 use Rattle.flash_tree.specs.laws.Place.{same_flash, tag_placed}
 use Rattle.flash_tree.specs.declared.place.Found.{Found}
 use Rattle.flash_tree.specs.Places.{spot_of}
-use Rattle.found_pages.specs.Copies.{FitsCopy, copy_at, copy_of, spot_of_copy}
-use Rattle.found_pages.specs.Keys.{HaveOneKey, ThinsFound, AreLatest}
-use Rattle.found_pages.specs.declared.copy.PageCopy.{PageCopy}
-use Rattle.found_pages.specs.laws.Order.{not_after_on}
+use Rattle.mount_scan.specs.Copies.{FitsCopy, copy_at, copy_of, spot_of_copy}
+use Rattle.mount_scan.specs.Keys.{HaveOneKey, ThinsFound, AreLatest}
+use Rattle.mount_scan.specs.declared.page_copy.PageCopy.{PageCopy}
+use Rattle.mount_scan.specs.laws.Order.{not_after_on}
 use Rattle.mount_scan.specs.Scanned.{IsNewestCopy, AreNewest, TellsNewest}
 use Rattle.mount_scan.specs.laws.Scan.{found_of}
 use Rattle.mount_scan.specs.Runs.{AddsCounted}

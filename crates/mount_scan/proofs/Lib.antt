@@ -4,3 +4,13 @@ pub mod Tagged
 pub mod Raised
 pub mod Latest
 pub mod NewestMap
+pub mod Ranked
+pub mod FoundLatest
+pub mod Thinning
+pub mod Listing
+pub mod CheckpointParts
+pub mod CheckpointPages
+pub mod CheckpointCandidates
+pub mod ReadCount
+pub mod ReadPages
+pub mod BestCandidate

@@ -5,9 +5,9 @@ use Rattle.nand_model.specs.Calls.{Device}
 use Rattle.flash_tree.specs.Newest.{Spot, Holds, IsAfter}
 use Rattle.flash_tree.specs.declared.place.Found.{Found}
 use Rattle.flash_tree.specs.Places.{spot_of}
-use Rattle.found_pages.specs.Copies.{copy_at, copy_of, spot_of_copy}
-use Rattle.found_pages.specs.Keys.{HaveOneKey}
-use Rattle.found_pages.specs.declared.copy.PageCopy.{PageCopy}
+use Rattle.mount_scan.specs.Copies.{copy_at, copy_of, spot_of_copy}
+use Rattle.mount_scan.specs.Keys.{HaveOneKey}
+use Rattle.mount_scan.specs.declared.page_copy.PageCopy.{PageCopy}
 
 -- What is told of a block: of each device places in it, and of an honest one exactly the pages that count.
 pub record TellsBlock (device : Device) (b : ℕ) (list : List Found) : Type 0 where

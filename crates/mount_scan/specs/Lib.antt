@@ -4,3 +4,12 @@ pub mod Runs
 pub mod Blocks
 pub mod Latest
 pub mod NewestMap
+pub mod Copies
+pub mod Keys
+pub mod Buckets
+pub mod Listed
+pub mod CheckpointParts
+pub mod CheckpointPages
+pub mod FoundCheckpoint
+pub mod CheckpointCandidates
+pub mod CheckpointBlocks

@@ -7,9 +7,9 @@ use Rattle.nand_model.specs.Changes.{OnlyReads}
 use Rattle.flash_tree.specs.Newest.{Spot, Holds, IsNewest}
 use Rattle.flash_tree.specs.declared.place.Found.{Found}
 use Rattle.flash_tree.specs.Places.{spot_of}
-use Rattle.found_pages.specs.Copies.{copy_at}
-use Rattle.found_pages.specs.Keys.{HaveOtherKeys}
-use Rattle.found_pages.specs.declared.copy.PageCopy.{PageCopy}
+use Rattle.mount_scan.specs.Copies.{copy_at}
+use Rattle.mount_scan.specs.Keys.{HaveOtherKeys}
+use Rattle.mount_scan.specs.declared.page_copy.PageCopy.{PageCopy}
 use Rattle.mount_scan.specs.declared.fault.ScanFault.{ScanFault}
 use Rattle.mount_scan.specs.declared.fault.ScanFault.TheVariants as faults
 

@@ -1,1 +1,5 @@
 pub mod Scan
+pub mod Keys
+pub mod Order
+pub mod Listed
+pub mod CheckpointReads

@@ -1,7 +1,7 @@
 // What a scan returns.
 
+use crate::FoundPages;
 use flash_tree::{Found, TagNumbers};
-use found_pages::FoundPages;
 use std::collections::BTreeMap;
 
 /// What is on a flash.

@@ -2,7 +2,7 @@
 ghost use Rattle.std.specs.Prelude.{◌≡◌, ◌↔◌, ◌<◌, ◌^◌, ℕ, List, Some, slice_get, Contains};
 ghost use Rattle.nand_model.specs.Flash.{Flash, Written};
 ghost use Rattle.flash_tree.specs.Newest.{Spot, IsNewest, HasNewest};
-ghost use Rattle.found_pages.specs.declared.copy.PageCopy.{PageCopy};
+ghost use Rattle.mount_scan.specs.declared.page_copy.PageCopy.{PageCopy};
 ghost use Rattle.mount_scan.specs.Scanned.{AreNewest};
 
 /// A key of a chunk that a tree may look up has a newest page exactly where the list of the newest pages has a copy of one of it.

@@ -1,18 +1,34 @@
-//! A scan of a flash: which pages count, which of them is the newest of its key, and the greatest numbers.
+//! What a mount reads of tags: which pages are valid, which of them is the newest of its key, and the greatest numbers; or the
+//! whole checkpoint.
 #![tactic(auto)]
 
 mod answer;
 mod block;
+mod bucket;
+mod checkpoint_block;
+mod checkpoint_candidate;
+mod checkpoint_page;
+mod checkpoint_part;
+mod checkpoint_search;
 mod fault;
+mod found_checkpoint;
+mod found_pages;
 mod group;
+mod keeping;
 mod law;
 mod newest;
+mod page_copy;
 mod raise;
 mod whole;
 
 pub use answer::{NewestScan, Scan};
+pub use bucket::Bucket;
+pub use checkpoint_search::find_checkpoint;
 pub use fault::ScanFault;
+pub use found_checkpoint::{CheckpointSearch, FoundCheckpoint};
+pub use found_pages::{BUCKETS, FoundPages};
 pub use law::{
     a_found_page_has_the_newest_data, a_page_is_found_for_each_key, each_key_stands_once,
 };
+pub use page_copy::PageCopy;
 pub use whole::{scan, scan_newest};

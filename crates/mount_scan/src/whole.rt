@@ -6,8 +6,9 @@ ghost use Rattle.mount_scan.specs.Scanned.{TellsCounted, TellsNewest, ReadsEach,
 ghost use Rattle.mount_scan.specs.Blocks.{TellsBelow, AreGreatestBelow};
 ghost use Rattle.mount_scan.specs.Latest.{TellsBlock, HasLatestBelow};
 ghost use Rattle.mount_scan.specs.NewestMap.{ReportsNewest};
-ghost use Rattle.found_pages.specs.Listed.{listed};
+ghost use Rattle.mount_scan.specs.Listed.{listed};
 
+use crate::FoundPages;
 use crate::answer::{NewestScan, Scan};
 use crate::block::read_tags;
 use crate::fault::ScanFault;
@@ -15,7 +16,6 @@ use crate::group::add_counted;
 use crate::newest::newest_of;
 use crate::raise::raised_by;
 use flash_tree::{Found, TagNumbers};
-use found_pages::FoundPages;
 use nand_model::Nand;
 use page_tags::Tag;
 use std::alloc::Global;

@@ -8,16 +8,16 @@ use Rattle.nand_model.specs.declared.geometry.Geometry.{Geometry}
 use Rattle.flash_tree.specs.Mount.{Wrong, Answers, NotAVolume, IsWrong, IsVolume, IsNoVolume, HasWrongRoot, sizes_of}
 use Rattle.flash_tree.specs.laws.Place.{same_flash}
 use Rattle.chunk_index.specs.declared.index.Index.{Index}
-use Rattle.page_buffer.specs.Shown.{kept_data}
+use Rattle.page_store.specs.Shown.{kept_data}
 use Rattle.pages.specs.Maps.{PageMap, has}
 use Rattle.tree_walk.specs.Trees.{IsWrongTree}
 use Rattle.tree_walk.specs.declared.fault.RootFault.{RootFault}
 use Rattle.tree_walk.specs.declared.fault.RootFault.TheVariants as roots
-use Rattle.mount_answers.specs.Newest.{IsNewestMap}
+use Rattle.mounting.specs.NewestMaps.{IsNewestMap}
 use Rattle.mounting.specs.Faults.{AnswersFault}
 use Rattle.tree_walk.specs.declared.tree.Tree.{Tree}
 use Rattle.mounting.specs.Mounted.{IsTreeOn}
-use Rattle.mount_answers.specs.Trees.{HasWrongTree, WhyNoTree}
+use Rattle.mounting.specs.TreeAnswers.{HasWrongTree, WhyNoTree}
 use Rattle.mounting.specs.Trees.{IsGoneThrough}
 
 -- the laws that are used of a map of the newest pages

@@ -10,14 +10,14 @@ use Rattle.flash_tree.specs.laws.Place.{same_flash}
 use Rattle.chunk_index.specs.declared.index.Index.{Index}
 use Rattle.name_index.specs.Covering.{HasHashes}
 use Rattle.name_index.specs.declared.index.NameIndex.{NameIndex}
-use Rattle.page_buffer.specs.Shown.{kept_data}
+use Rattle.page_store.specs.Shown.{kept_data}
 use Rattle.pages.specs.Maps.{PageMap, known_pages}
 use Rattle.posix_profile.specs.State.{Objects}
 use Rattle.tree_walk.specs.Covering.{CoversObjects}
 use Rattle.tree_walk.specs.Hashes.{CoversTree}
 use Rattle.tree_walk.specs.declared.tree.Tree.{Tree}
 use Rattle.volume_terms.specs.Sizes.{Sizes}
-use Rattle.mount_answers.specs.Newest.{IsNewestMap}
+use Rattle.mounting.specs.NewestMaps.{IsNewestMap}
 use Rattle.mounting.specs.Mounted.{CoversNewest}
 
 -- what the one has of pages the other has too

@@ -14,12 +14,12 @@ use Rattle.block_state.specs.Table.{Table}
 use Rattle.chunk_index.specs.declared.index.Index.{Index}
 use Rattle.chunk_index.specs.Maps.{kept_pages}
 use Rattle.name_index.specs.declared.index.NameIndex.{NameIndex}
-use Rattle.newest_pages.specs.Checked.{HasTrueFlash}
-use Rattle.newest_pages.specs.Opened.{IsOpenedBy, kept_at}
-use Rattle.page_buffer.specs.Shown.{kept_data}
+use Rattle.page_store.specs.Checked.{HasTrueFlash}
+use Rattle.page_store.specs.Opened.{IsOpenedBy, kept_at}
+use Rattle.page_store.specs.Shown.{kept_data}
 use Rattle.pages.specs.Maps.{PageMap, has}
-use Rattle.trusted_nand.specs.Trusting.{trusted_as}
-use Rattle.trusted_nand.specs.laws.Trusted.{honest_of}
+use Rattle.nand_model.specs.Trusting.{trusted_as}
+use Rattle.nand_model.specs.laws.Trusted.{honest_of}
 use Rattle.tree_walk.specs.Hashes.{CoversTree}
 use Rattle.tree_walk.specs.Trees.{IsLookedUp, TellsHeads, keeps_key, objects_listed, page_size}
 use Rattle.tree_walk.specs.declared.tree.Tree.{Tree}

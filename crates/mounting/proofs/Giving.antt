@@ -12,19 +12,19 @@ use Rattle.flash_tree.specs.Tree.{Shows}
 use Rattle.flash_tree.specs.Mount.{Answers, IsTreeOf, IsVolume, sizes_of}
 use Rattle.chunk_index.specs.declared.form.KeptPage.{KeptPage}
 use Rattle.chunk_index.specs.declared.index.Index.{Index}
-use Rattle.object_pages.specs.Holding.{HoldsObjects}
+use Rattle.paged_objects.specs.Holding.{HoldsObjects}
 use Rattle.object_store.specs.Stores.{CanHave}
-use Rattle.object_pages.specs.laws.Holding.{same_objects}
+use Rattle.paged_objects.specs.laws.Holding.{same_objects}
 use Rattle.object_store.specs.Stores.{settled}
-use Rattle.object_table.specs.Told.{Tells}
-use Rattle.object_table.specs.declared.table.ObjectTable.{ObjectTable}
-use Rattle.page_buffer.specs.Shown.{kept_data}
+use Rattle.object_store.specs.Told.{Tells}
+use Rattle.object_store.specs.declared.table.ObjectTable.{ObjectTable}
+use Rattle.page_store.specs.Shown.{kept_data}
 use Rattle.pages.specs.Maps.{PageMap, has}
 use Rattle.pages.specs.State.{PagesState}
 use Rattle.pages.specs.Stores.{bad_on}
 use Rattle.paged_objects.specs.Standing.{volume_of, Shown}
 use Rattle.paged_objects.specs.laws.Showing.{kept_shown}
-use Rattle.flash_pages.specs.ReadOnly.{IsWorn}
+use Rattle.page_store.specs.ReadOnly.{IsWorn}
 use Rattle.name_index.specs.declared.index.NameIndex.{NameIndex}
 use Rattle.flash_log.specs.Standing.{AreKept}
 use Rattle.chunk_index.specs.Maps.{kept_pages}

@@ -16,15 +16,15 @@ use Rattle.flash_log.specs.Standing.{IsKeptAt, AreKept}
 use Rattle.chunk_index.specs.declared.form.KeptPage.{KeptPage}
 use Rattle.chunk_index.specs.declared.index.Index.{Index}
 use Rattle.chunk_index.specs.Maps.{kept_pages}
-use Rattle.page_buffer.specs.Shown.{data_of, data_at, kept_data}
+use Rattle.page_store.specs.Shown.{data_of, data_at, kept_data}
 use Rattle.pages.specs.Maps.{PageMap, known_pages}
 use Rattle.pages.specs.State.{FailsBy, OnlyFinds, PagesState}
 use Rattle.pages.specs.declared.store.Presence.{Presence}
 use Rattle.tree_walk.specs.Trees.{tree_pages}
 use Rattle.tree_walk.specs.declared.tree.Tree.{Tree}
-use Rattle.trusted_nand.specs.Trusting.{trusted_as}
-use Rattle.trusted_nand.specs.laws.Trusted.{honest_of}
-use Rattle.newest_pages.specs.laws.Reading.{finds_seen}
+use Rattle.nand_model.specs.Trusting.{trusted_as}
+use Rattle.nand_model.specs.laws.Trusted.{honest_of}
+use Rattle.page_store.specs.laws.Reading.{finds_seen}
 use Rattle.volume_terms.specs.declared.fault.StoreFault.{StoreFault}
 use Rattle.volume_terms.specs.declared.fault.StoreFault.TheVariants as faults
 use Rattle.mounting.specs.Lending.{TrustsKept, IsTagOf, lent}

@@ -12,4 +12,14 @@ pub mod ReadsTree
 pub mod PagesMade
 pub mod Placed
 pub mod Giving
-pub mod Reasons
+pub mod FaultReasons
+pub mod SameMaps
+pub mod NewestMaps
+pub mod WholeTrees
+pub mod Footprints
+pub mod Picked
+pub mod Room
+pub mod Listed
+pub mod Filtered
+pub mod VolumeSizes
+pub mod RootFaults

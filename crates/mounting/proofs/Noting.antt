@@ -25,15 +25,15 @@ use Rattle.chunk_index.specs.Kept.{HoldsNone}
 use Rattle.chunk_index.specs.Maps.{kept_pages, kept_in}
 use Rattle.chunk_index.specs.declared.index.Index.{Index}
 use Rattle.flash_log.specs.Standing.{AreKept}
-use Rattle.newest_pages.specs.Checked.{HasTrueFlash}
-use Rattle.newest_pages.specs.Opened.{IsOpenedBy}
+use Rattle.page_store.specs.Checked.{HasTrueFlash}
+use Rattle.page_store.specs.Opened.{IsOpenedBy}
 use Rattle.pages.specs.Maps.{PageMap, has}
-use Rattle.trusted_nand.specs.Trusting.{trusted_as}
+use Rattle.nand_model.specs.Trusting.{trusted_as}
 use Rattle.volume_terms.specs.Rounding.{ceiling}
 use Rattle.volume_terms.specs.Sizes.{Sizes, root_number}
-use Rattle.mount_answers.specs.Footprints.{KeepsFootprint}
-use Rattle.mount_answers.specs.Newest.{IsNewestMap}
-use Rattle.checkpoint_reading.specs.Found.{HasForm, IsWholeOn, HasNoneWhole, TellsSeqs, AreFirstSeqs}
+use Rattle.mounting.specs.Footprints.{KeepsFootprint}
+use Rattle.mounting.specs.NewestMaps.{IsNewestMap}
+use Rattle.mount_scan.specs.FoundCheckpoint.{HasForm, IsWholeOn, HasNoneWhole, TellsSeqs, AreFirstSeqs}
 use Rattle.mounting.specs.Going.{IsGoodOn, MayBeNoted, NotesFree}
 use Rattle.mounting.specs.Marked.{AreFitting}
 use Rattle.mounting.specs.Mounted.{IsTreeRead, IsTreeShown, HasRoomOn}

@@ -20,15 +20,15 @@ use Rattle.transactions.specs.Ready.{IsReady}
 use Rattle.flash_log.specs.Standing.{AreHeld, IsKept, Stands, HasFreeBlocks, KeepsOrdinary, TablesAgree}
 use Rattle.flash_log.specs.laws.FreeBlocks.{leaves_fewer, leaves_unkept, same_bad_blocks}
 use Rattle.flash_log.specs.laws.Moves.{are_held}
-use Rattle.page_buffer.specs.BufferOf.{buffered, most_pages}
-use Rattle.page_buffer.specs.Shown.{data_at, data_by, kept_data, present_data}
+use Rattle.page_store.specs.BufferOf.{buffered, most_pages}
+use Rattle.page_store.specs.Shown.{data_at, data_by, kept_data, present_data}
 use Rattle.pages.specs.Maps.{PageMap, known_pages}
 use Rattle.pages.specs.State.{PagesState}
 use Rattle.pages.specs.Stores.{bad_on, Carries, HasPage, HasNumbersLeft, IsCarried}
 use Rattle.page_store.specs.StoreOf.{kept_map, next_numbers}
 use Rattle.page_store.specs.StoreState.{StoreState, committed_in, seen_of}
-use Rattle.newest_pages.specs.Newest.{seen}
-use Rattle.flash_pages.specs.ReadOnly.{IsWorn, only_read, next_after}
+use Rattle.page_store.specs.Newest.{seen}
+use Rattle.page_store.specs.ReadOnly.{IsWorn, only_read, next_after}
 use Rattle.mounting.specs.Made.{ArePagesOn, CanBeWritten}
 use Rattle.mounting.specs.Marked.{marked, AreFitting}
 use Rattle.mounting.specs.Mounted.{HasRoomOn}

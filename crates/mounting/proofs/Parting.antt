@@ -24,14 +24,14 @@ use Rattle.chunk_index.specs.declared.form.KeptPage.{KeptPage}
 use Rattle.chunk_index.specs.declared.index.Index.{Index}
 use Rattle.chunk_index.specs.Maps.{kept_pages}
 use Rattle.name_index.specs.declared.index.NameIndex.{NameIndex}
-use Rattle.newest_pages.specs.Opened.{kept_at}
-use Rattle.page_buffer.specs.Shown.{data_at, kept_data}
+use Rattle.page_store.specs.Opened.{kept_at}
+use Rattle.page_store.specs.Shown.{data_at, kept_data}
 use Rattle.pages.specs.Maps.{PageMap, has}
 use Rattle.tree_walk.specs.Hashes.{CoversTree}
 use Rattle.tree_walk.specs.Trees.{IsTreeThrough, IsLookedUp, TellsHeads, AreNamesOf, objects_listed}
 use Rattle.tree_walk.specs.declared.tree.NamedObject.{NamedObject}
 use Rattle.tree_walk.specs.declared.tree.Tree.{Tree}
-use Rattle.mount_answers.specs.Newest.{IsNewestMap}
+use Rattle.mounting.specs.NewestMaps.{IsNewestMap}
 use Rattle.mounting.specs.Trees.{IsGoneThrough}
 
 -- ---- a map of all newest pages

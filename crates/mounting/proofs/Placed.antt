@@ -8,7 +8,7 @@ use Rattle.flash_tree.specs.Mount.{Answers, IsTreeOf, sizes_of}
 use Rattle.block_state.specs.Table.{Table}
 use Rattle.chunk_index.specs.declared.index.Index.{Index}
 use Rattle.chunk_index.specs.Maps.{CountsAgree, kept_pages}
-use Rattle.flash_pages.specs.declared.mounted.FlashPages.{FlashPages}
+use Rattle.page_store.specs.declared.flash_pages.FlashPages.{FlashPages}
 use Rattle.mounting.specs.Mounted.{KeepsPlaces}
 use Rattle.mounting.specs.Places.{ArePlaced, HasTables}
 

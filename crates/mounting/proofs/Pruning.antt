@@ -26,7 +26,7 @@ use Rattle.chunk_index.specs.Kept.{HoldsNone}
 use Rattle.transactions.specs.Ready.{IsReady}
 use Rattle.flash_log.specs.Taking.{LiesApart}
 use Rattle.flash_log.specs.Standing.{IsKeptAt, AreKept, MayLie}
-use Rattle.newest_pages.specs.Opened.{IsOpened, IsOpenedBy, AreLeft, kept_at}
+use Rattle.page_store.specs.Opened.{IsOpened, IsOpenedBy, AreLeft, kept_at}
 use Rattle.mounting.specs.Marked.{AreFitting}
 use Rattle.mounting.specs.Tables.{KeepsOnly, IsPruned}
 

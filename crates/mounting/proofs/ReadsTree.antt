@@ -11,8 +11,8 @@ use Rattle.flash_tree.specs.Mount.{Answer, Answers, IsWrong, IsDamaged, IsTreeOf
 use Rattle.flash_tree.specs.Sound.{IsSoundFlash}
 use Rattle.flash_tree.specs.Tree.{Shows}
 use Rattle.flash_tree.specs.laws.Place.{same_flash}
-use Rattle.newest_pages.specs.Checked.{HasTrueFlash}
-use Rattle.checkpoint_reading.specs.Found.{IsWholeOn, ReadsFew}
+use Rattle.page_store.specs.Checked.{HasTrueFlash}
+use Rattle.mount_scan.specs.FoundCheckpoint.{IsWholeOn, ReadsFew}
 use Rattle.flash_tree.specs.Checkpoints.{Checkpoint}
 use Rattle.mount_scan.specs.Scanned.{good_pages}
 use Rattle.pages.specs.Maps.{PageMap, has}

@@ -22,16 +22,16 @@ use Rattle.chunk_index.specs.Maps.{KeptMap, kept_pages, CountsAgree}
 use Rattle.chunk_index.specs.declared.form.KeptPage.{KeptPage}
 use Rattle.chunk_index.specs.declared.index.Index.{Index}
 use Rattle.flash_log.specs.Standing.{AreKept, IsKeptAt}
-use Rattle.object_pages.specs.Holding.{HoldsObjects}
-use Rattle.page_buffer.specs.Shown.{data_of, data_at, kept_data}
+use Rattle.paged_objects.specs.Holding.{HoldsObjects}
+use Rattle.page_store.specs.Shown.{data_of, data_at, kept_data}
 use Rattle.pages.specs.Maps.{PageMap, has}
 use Rattle.pages.specs.Stores.{bad_on, Carries}
-use Rattle.newest_pages.specs.Opened.{kept_at}
+use Rattle.page_store.specs.Opened.{kept_at}
 use Rattle.tree_walk.specs.Trees.{IsLookedUp, TellsHeads, keeps_key, objects_listed, page_size}
 use Rattle.tree_walk.specs.declared.tree.Tree.{Tree}
-use Rattle.mount_answers.specs.Footprints.{KeepsFootprint, IsFootprint}
-use Rattle.mount_answers.specs.KeptTrees.{LieNewest, KeepsOnlyTree}
-use Rattle.mount_answers.specs.Newest.{IsNewestMap}
+use Rattle.mounting.specs.Footprints.{KeepsFootprint, IsFootprint}
+use Rattle.mounting.specs.KeptTrees.{LieNewest, KeepsOnlyTree}
+use Rattle.mounting.specs.NewestMaps.{IsNewestMap}
 use Rattle.mounting.specs.Marked.{marked}
 use Rattle.mounting.specs.Mounted.{IsTreeOn, IsTreeShown, HasRoomOn, KeepsPlaces}
 use Rattle.mounting.specs.Tables.{IsPruned}

@@ -7,8 +7,8 @@ use Rattle.volume_terms.specs.Sizes.{Sizes}
 use Rattle.nand_model.specs.Flash.{Flash}
 use Rattle.posix_profile.specs.State.{Object, Objects}
 use Rattle.posix_profile.specs.WellFormed.{IsForest}
-use Rattle.object_pages.specs.Holding.{HoldsObject, HoldsObjects}
-use Rattle.page_buffer.specs.Shown.{data_at, data_of, kept_data}
+use Rattle.paged_objects.specs.Holding.{HoldsObject, HoldsObjects}
+use Rattle.page_store.specs.Shown.{data_at, data_of, kept_data}
 use Rattle.chunk_index.specs.Maps.{kept_pages}
 use Rattle.nand_model.specs.Calls.{Device}
 use Rattle.flash_tree.specs.Newest.{Numbers}
@@ -16,7 +16,7 @@ use Rattle.block_state.specs.Table.{Table}
 use Rattle.block_state.specs.laws.Kept.{free_where_closed}
 use Rattle.chunk_index.specs.declared.index.Index.{Index}
 use Rattle.flash_log.specs.Standing.{AreKept, KeepsOrdinary, Stands, TablesAgree, HasFreeBlocks}
-use Rattle.newest_pages.specs.Opened.{AreLeft}
+use Rattle.page_store.specs.Opened.{AreLeft}
 use Rattle.mounting.specs.Marked.{AreFitting}
 use Rattle.mounting.specs.Tables.{IsPruned}
 

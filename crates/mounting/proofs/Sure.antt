@@ -14,16 +14,16 @@ use Rattle.flash_tree.specs.Tree.{Shows, InFootprint, KeepsFootprint}
 use Rattle.flash_tree.specs.laws.Finding.{same_header, header_no_fault, kinds_apart}
 use Rattle.flash_tree.specs.laws.Shown.{Each, IsThere, ends_well, not_twice}
 use Rattle.flash_tree.specs.laws.Tree.{footprint_law}
-use Rattle.newest_pages.specs.Checked.{KeepsItsTree}
-use Rattle.newest_pages.specs.declared.opening.Opened.{Opened}
-use Rattle.page_buffer.specs.Shown.{data_of, data_at, kept_data}
+use Rattle.page_store.specs.Checked.{KeepsItsTree}
+use Rattle.page_store.specs.declared.opening.Opened.{Opened}
+use Rattle.page_store.specs.Shown.{data_of, data_at, kept_data}
 use Rattle.pages.specs.Maps.{PageMap, has}
 use Rattle.tree_walk.specs.Trees.{IsWrongTree}
 use Rattle.tree_walk.specs.declared.fault.RootFault.{RootFault}
 use Rattle.tree_walk.specs.declared.fault.RootFault.TheVariants as roots
 use Rattle.volume_terms.specs.Sizes.{Sizes, root_number}
 use Rattle.mounting.specs.Reads.{WhyNotThrough, EndsMount}
-use Rattle.mount_answers.specs.Trees.{HasWrongTree, WhyNoTree}
+use Rattle.mounting.specs.TreeAnswers.{HasWrongTree, WhyNoTree}
 use Rattle.mounting.proofs.Entering.{is_size}
 use Rattle.mounting.proofs.Noting.{one_spare}
 use Rattle.mounting.proofs.Parting.{single}

@@ -4,8 +4,8 @@ use Rattle.nand_model.specs.Calls.{Device}
 use Rattle.flash_tree.specs.Mount.{Answers, NotAVolume, IsWrong, IsNewer, IsDamaged}
 use Rattle.mount_scan.specs.declared.fault.ScanFault.{ScanFault}
 use Rattle.mount_scan.specs.declared.fault.ScanFault.TheVariants as scans
-use Rattle.newest_pages.specs.declared.opening.OpenFault.{OpenFault}
-use Rattle.newest_pages.specs.declared.opening.OpenFault.TheVariants as opens
+use Rattle.page_store.specs.declared.opening.OpenFault.{OpenFault}
+use Rattle.page_store.specs.declared.opening.OpenFault.TheVariants as opens
 use Rattle.tree_walk.specs.declared.fault.RootFault.{RootFault}
 use Rattle.tree_walk.specs.declared.fault.RootFault.TheVariants as roots
 use Rattle.mounting.specs.declared.fault.MountFault.{MountFault}

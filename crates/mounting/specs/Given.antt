@@ -5,8 +5,8 @@ use Rattle.nand_model.specs.Calls.{Device}
 use Rattle.nand_model.specs.declared.nand.Nand.{Ghosts}
 use Rattle.posix_profile.specs.State.{Objects}
 use Rattle.flash_tree.specs.Checkpoints.{IsChecked}
-use Rattle.flash_pages.specs.declared.mounted.FlashPages.{FlashPages}
-use Rattle.newest_pages.specs.Checked.{HasTrueFlash}
+use Rattle.page_store.specs.declared.flash_pages.FlashPages.{FlashPages}
+use Rattle.page_store.specs.Checked.{HasTrueFlash}
 use Rattle.pages.specs.State.{PagesState}
 use Rattle.mounting.specs.Made.{AreNext, CanOnlyBeRead, HasSizes, IsMountedWith}
 use Rattle.mounting.specs.Named.{IsTrustedSince}

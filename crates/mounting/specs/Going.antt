@@ -6,7 +6,7 @@ use Rattle.flash_tree.specs.Checkpoints.{StandsOnly}
 use Rattle.flash_tree.specs.Mount.{Answers, IsTreeOf, sizes_of}
 use Rattle.block_state.specs.Table.{Table}
 use Rattle.block_state.specs.TableOf.{table}
-use Rattle.newest_pages.specs.Checked.{HasTrueFlash}
+use Rattle.page_store.specs.Checked.{HasTrueFlash}
 use Rattle.posix_profile.specs.State.{Objects}
 use Rattle.posix_profile.specs.Charge.{charge}
 use Rattle.volume_terms.specs.Sizes.{capacity}

@@ -10,8 +10,8 @@ use Rattle.chunk_index.specs.declared.index.Index.{Index}
 use Rattle.chunk_index.specs.Maps.{kept_pages}
 use Rattle.flash_log.specs.Standing.{AreKept}
 use Rattle.pages.specs.State.{PagesState}
-use Rattle.trusted_nand.specs.Trusting.{trusted_as}
-use Rattle.newest_pages.specs.Newest.{seen}
+use Rattle.nand_model.specs.Trusting.{trusted_as}
+use Rattle.page_store.specs.Newest.{seen}
 
 -- each kept page lies on the device
 abbrev pub LieWithin : Device → Index → Type 0

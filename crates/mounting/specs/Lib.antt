@@ -11,3 +11,7 @@ pub mod Made
 pub mod Places
 pub mod Given
 pub mod laws
+pub mod NewestMaps
+pub mod Footprints
+pub mod KeptTrees
+pub mod TreeAnswers

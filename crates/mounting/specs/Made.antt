@@ -7,18 +7,18 @@ use Rattle.nand_model.specs.Calls.{Device}
 use Rattle.flash_tree.specs.Newest.{Numbers, AreGreatest}
 use Rattle.flash_tree.specs.Mount.{Answers, IsTreeOf}
 use Rattle.chunk_index.specs.declared.index.Index.{Index}
-use Rattle.flash_pages.specs.ReadOnly.{next_after}
+use Rattle.page_store.specs.ReadOnly.{next_after}
 use Rattle.name_index.specs.declared.index.NameIndex.{NameIndex}
 use Rattle.object_store.specs.Stores.{CanHave}
 use Rattle.object_store.specs.Stores.{settled}
-use Rattle.object_table.specs.Told.{table_sizes, Tells}
-use Rattle.object_table.specs.declared.table.ObjectTable.{ObjectTable}
-use Rattle.page_buffer.specs.Shown.{kept_data}
+use Rattle.object_store.specs.Told.{table_sizes, Tells}
+use Rattle.object_store.specs.declared.table.ObjectTable.{ObjectTable}
+use Rattle.page_store.specs.Shown.{kept_data}
 use Rattle.pages.specs.State.{PagesState, NextNumbers}
 use Rattle.pages.specs.Stores.{bad_on, SamePages, KeptAs}
 use Rattle.paged_objects.specs.Standing.{volume_of, StandsFor, Shown}
 use Rattle.posix_profile.specs.State.{Objects}
-use Rattle.newest_pages.specs.Opened.{AreLeft}
+use Rattle.page_store.specs.Opened.{AreLeft}
 use Rattle.tree_walk.specs.Covering.{CoversObjects}
 
 -- groups can be written: there are numbers left, and no more blocks are bad than there are to spare

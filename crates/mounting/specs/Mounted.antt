@@ -11,9 +11,9 @@ use Rattle.block_state.specs.Table.{Table}
 use Rattle.chunk_index.specs.declared.form.KeptPage.{KeptPage}
 use Rattle.chunk_index.specs.declared.index.Index.{Index}
 use Rattle.chunk_index.specs.Maps.{KeptMap, kept_pages}
-use Rattle.newest_pages.specs.Opened.{kept_at}
-use Rattle.object_pages.specs.Holding.{HoldsObjects}
-use Rattle.page_buffer.specs.Shown.{kept_data}
+use Rattle.page_store.specs.Opened.{kept_at}
+use Rattle.paged_objects.specs.Holding.{HoldsObjects}
+use Rattle.page_store.specs.Shown.{kept_data}
 use Rattle.pages.specs.Maps.{PageMap, has}
 use Rattle.pages.specs.Stores.{bad_on}
 use Rattle.posix_profile.specs.State.{Objects}
@@ -22,7 +22,7 @@ use Rattle.tree_walk.specs.Hashes.{CoversTree}
 use Rattle.tree_walk.specs.Trees.{keeps_key}
 use Rattle.tree_walk.specs.declared.tree.Tree.{Tree}
 use Rattle.flash_tree.specs.Tree.{Shows, InFootprint}
-use Rattle.mount_answers.specs.Newest.{IsNewestMap}
+use Rattle.mounting.specs.NewestMaps.{IsNewestMap}
 use Rattle.mounting.specs.Marked.{marked}
 use Rattle.mounting.specs.Tables.{IsPruned}
 use Rattle.mounting.specs.Trees.{IsGoneThrough}

@@ -5,8 +5,8 @@ use Rattle.nand_model.specs.Calls.{Device}
 use Rattle.nand_model.specs.Changes.{OnlyReads}
 use Rattle.flash_tree.specs.Places.{numbers_of}
 use Rattle.block_state.specs.TableOf.{table}
-use Rattle.newest_pages.specs.Checked.{HasTrueFlash}
-use Rattle.trusted_nand.specs.Trusting.{trusted_as}
+use Rattle.page_store.specs.Checked.{HasTrueFlash}
+use Rattle.nand_model.specs.Trusting.{trusted_as}
 use Rattle.mounting.specs.Mounted.{IsTreeRead, CoversNewest}
 use Rattle.mounting.specs.declared.tree_on.NamedTree.{NamedTree}
 

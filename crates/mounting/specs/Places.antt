@@ -10,8 +10,8 @@ use Rattle.block_state.specs.Table.{Table}
 use Rattle.chunk_index.specs.declared.index.Index.{Index}
 use Rattle.chunk_index.specs.Free.{HasMarks}
 use Rattle.chunk_index.specs.Maps.{CountsAgree, kept_pages}
-use Rattle.flash_pages.specs.Parts.{index_in, table_in}
-use Rattle.flash_pages.specs.declared.mounted.FlashPages.{FlashPages}
+use Rattle.page_store.specs.FlashParts.{index_in, table_in}
+use Rattle.page_store.specs.declared.flash_pages.FlashPages.{FlashPages}
 use Rattle.mounting.specs.Mounted.{KeepsPlaces}
 
 -- The pages have this index; and where they can be written, their table of blocks has the marks of the flash, and for each block the number

@@ -8,15 +8,15 @@ use Rattle.flash_tree.specs.Mount.{sizes_of}
 use Rattle.flash_tree.specs.Sound.{IsSoundFlash}
 use Rattle.chunk_index.specs.declared.index.Index.{Index}
 use Rattle.mount_scan.specs.Scanned.{good_pages}
-use Rattle.newest_pages.specs.Checked.{HasTrueFlash}
-use Rattle.page_buffer.specs.Shown.{kept_data}
+use Rattle.page_store.specs.Checked.{HasTrueFlash}
+use Rattle.page_store.specs.Shown.{kept_data}
 use Rattle.pages.specs.Maps.{has}
 use Rattle.tree_walk.specs.Looked.{looked_pages}
 use Rattle.tree_walk.specs.Trees.{tree_pages}
 use Rattle.tree_walk.specs.declared.fault.RootFault.{RootFault}
 use Rattle.tree_walk.specs.declared.fault.RootFault.TheVariants as roots
 use Rattle.tree_walk.specs.declared.tree.Tree.{Tree}
-use Rattle.mount_answers.specs.Trees.{WhyNoTree}
+use Rattle.mounting.specs.TreeAnswers.{WhyNoTree}
 
 -- at most the pages of the tree's headers and slots were read
 abbrev pub ReadsThrough : Device → Device → (spare : ℕ) → Tree → Type 0

@@ -6,7 +6,7 @@ use Rattle.flash_tree.specs.Newest.{Spot, IsNewest, Numbers}
 use Rattle.block_state.specs.Table.{Table}
 use Rattle.chunk_index.specs.declared.index.Index.{Index}
 use Rattle.chunk_index.specs.Maps.{kept_pages}
-use Rattle.newest_pages.specs.Opened.{IsOpenedBy, kept_at}
+use Rattle.page_store.specs.Opened.{IsOpenedBy, kept_at}
 
 -- Of the keys that a test keeps an index has what the other had, and of no other key a page.
 pub record KeepsOnly (keeps : ℕ → ℕ → Bool) (old new : Index) : Type 0 where

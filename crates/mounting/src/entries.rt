@@ -5,23 +5,22 @@ ghost use Rattle.nand_model.specs.Flash.{IsWithin};
 ghost use Rattle.flash_tree.specs.Checkpoints.{IsChecked};
 ghost use Rattle.flash_tree.specs.Places.{numbers_of};
 ghost use Rattle.block_state.specs.TableOf.{table};
-ghost use Rattle.checkpoint_reading.specs.Found.{HasForm, IsWholeOn, TellsSeqs, checkpoint_of};
-ghost use Rattle.newest_pages.specs.Checked.{HasTrueFlash};
-ghost use Rattle.newest_pages.specs.Opened.{IsOpenedBy};
-ghost use Rattle.trusted_nand.specs.Parts.{inner_of};
-ghost use Rattle.trusted_nand.specs.Trusting.{trusted_as};
+ghost use Rattle.mount_scan.specs.FoundCheckpoint.{HasForm, IsWholeOn, TellsSeqs, checkpoint_of};
+ghost use Rattle.page_store.specs.Checked.{HasTrueFlash};
+ghost use Rattle.page_store.specs.Opened.{IsOpenedBy};
+ghost use Rattle.nand_model.specs.TrustedParts.{inner_of};
+ghost use Rattle.nand_model.specs.Trusting.{trusted_as};
 ghost use Rattle.mounting.specs.Named.{IsNamedTree, IsReadAs, IsTrustedSince};
 ghost use Rattle.mounting.specs.Reads.{EndsMount, ReadsThrough, WhyNotThrough};
 
 use crate::prune::prune;
 use crate::reading::go_through;
 use crate::tree_on::{NamedTree, TreeOn};
-use checkpoint_reading::FoundCheckpoint;
-use nand_model::Nand;
-use newest_pages::{Opened, open_kept};
+use mount_scan::FoundCheckpoint;
+use nand_model::{Nand, TrustedNand};
+use page_store::{Opened, open_kept};
 use std::alloc::Global;
 use tree_walk::{RootFault, the_headers_tell_the_keys};
-use trusted_nand::TrustedNand;
 
 /// A device whose flash lies within its sizes.
 struct Bounded<N: Nand> {

@@ -5,9 +5,9 @@ ghost use Rattle.nand_model.specs.Changes.{OnlyReads};
 ghost use Rattle.flash_tree.specs.Checkpoints.{IsChecked};
 ghost use Rattle.flash_tree.specs.Sound.{IsSoundFlash};
 ghost use Rattle.block_state.specs.TableOf.{table};
-ghost use Rattle.checkpoint_reading.specs.Found.{HasForm, IsWholeOn, TellsSeqs, checkpoint_of};
-ghost use Rattle.newest_pages.specs.Checked.{HasTrueFlash};
-ghost use Rattle.trusted_nand.specs.Parts.{inner_of};
+ghost use Rattle.mount_scan.specs.FoundCheckpoint.{HasForm, IsWholeOn, TellsSeqs, checkpoint_of};
+ghost use Rattle.page_store.specs.Checked.{HasTrueFlash};
+ghost use Rattle.nand_model.specs.TrustedParts.{inner_of};
 ghost use Rattle.mounting.specs.Faults.{WhyNotMounted};
 ghost use Rattle.mounting.specs.Going.{IsGoing, MayBeNoted, NotesFree};
 ghost use Rattle.mounting.specs.Named.{IsTrustedSince};
@@ -19,18 +19,17 @@ use crate::going_on::go_on;
 use crate::naming::{search_fault, unmounted};
 use crate::scanned::scan_going;
 use crate::tree_on::{Going, NamedTree, TreeOn};
+use crate::{a_volume_has_sizes, the_tree_looks_up_its_footprint};
 use block_state::Blocks;
-use checkpoint_reading::{CheckpointSearch, FoundCheckpoint, find_checkpoint};
 use chunk_index::the_counts_are_of_the_keys;
 use flash_tree::a_flash_has_one_answer_at_most;
-use mount_answers::{a_volume_has_sizes, the_tree_looks_up_its_footprint};
-use nand_model::Nand;
+use mount_scan::{CheckpointSearch, FoundCheckpoint, find_checkpoint};
+use nand_model::{Nand, TrustedNand};
 use pages::has_power;
 use std::alloc::Global;
 use tree_walk::{
     RootFault, the_headers_tell_the_keys, the_pages_of_a_tree_are_those_of_its_objects,
 };
-use trusted_nand::TrustedNand;
 
 /// Notes the block that may have a checkpoint, unless it is bad or holds a kept page.
 fn note_free(blocks: &mut Blocks, noted: Option<u32>)

@@ -15,11 +15,11 @@ ghost use Rattle.mounting.specs.Mounted.{IsTreeRead, IsTreeShown, HasRoomOn};
 
 use crate::prune::{are_fitting, has_room};
 use crate::tree_on::TreeOn;
-use chunk_index::{blocks_without_kept_pages_are_free, the_list_of_a_block_is_whole};
-use mount_answers::{
+use crate::{
     a_shown_tree_has_room_or_not, a_whole_list_shows_a_tree, the_footprint_holds_the_tree,
     the_tree_looks_up_its_footprint, what_the_tree_looks_up_is_kept,
 };
+use chunk_index::{blocks_without_kept_pages_are_free, the_list_of_a_block_is_whole};
 use nand_model::{Geometry, Nand};
 use tree_walk::{charge, the_headers_tell_the_keys};
 use volume_terms::VolumeSizes;

@@ -1,4 +1,5 @@
-//! The mount of a device: its newest pages, the tree that they show, and whether a volume can go on with it.
+//! The mount of a device: its newest pages, the tree that they show, and whether a volume can go on with it; and what a mount
+//! answers, read off a map of newest pages.
 #![tactic(auto)]
 
 mod entries;
@@ -6,6 +7,7 @@ mod fault;
 mod going;
 mod going_on;
 mod keys;
+mod law;
 mod making;
 mod marks;
 mod mounted;
@@ -14,6 +16,7 @@ mod opening;
 mod prune;
 mod reader;
 mod reading;
+mod reasons;
 mod scanned;
 mod scanning;
 mod tagged;
@@ -21,6 +24,12 @@ mod tree;
 mod tree_on;
 
 pub use fault::MountFault;
+pub use law::{
+    a_map_of_the_newest_pages_answers, a_shown_tree_has_room_or_not, a_volume_has_sizes,
+    a_whole_list_shows_a_tree, the_footprint_holds_the_tree, the_tree_looks_up_its_footprint,
+    what_the_tree_looks_up_is_kept,
+};
 pub use mounted::Mounted;
 pub use naming::unmounted;
 pub use opening::mount;
+pub use reasons::first_fault;

@@ -2,18 +2,18 @@
 ghost use Rattle.std.specs.Prelude.{◌≡◌, ◌↔◌, true, IfOk, IfErr};
 ghost use Rattle.posix_profile.specs.State.{Objects};
 ghost use Rattle.block_state.specs.TableOf.{table};
-ghost use Rattle.flash_pages.specs.Parts.{device_in};
+ghost use Rattle.page_store.specs.FlashParts.{device_in};
 ghost use Rattle.mounting.specs.Going.{IsGoing};
 ghost use Rattle.mounting.specs.Made.{CanOnlyBeRead, AreNext, HasSizes, IsMountedWith};
 ghost use Rattle.mounting.specs.Places.{ArePlaced};
 
 use crate::making::{is_worn, make_pages};
 use crate::tree_on::{Going, NamedTree};
-use flash_pages::FlashPages;
-use mount_answers::{a_volume_has_sizes, the_footprint_holds_the_tree};
+use crate::{a_volume_has_sizes, the_footprint_holds_the_tree};
 use name_index::NameIndex;
 use nand_model::Nand;
-use object_table::ObjectTable;
+use object_store::ObjectTable;
+use page_store::FlashPages;
 use pages::Pages;
 use std::alloc::Global;
 use std::num::NonZeroUsize;

@@ -6,7 +6,7 @@ ghost use Rattle.mounting.specs.Faults.{IsReason, WhyNotMounted, of_open, of_roo
 use crate::fault::MountFault;
 use mount_scan::ScanFault;
 use nand_model::Nand;
-use newest_pages::OpenFault;
+use page_store::OpenFault;
 use pages::has_power;
 use tree_walk::RootFault;
 

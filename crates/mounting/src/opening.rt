@@ -1,8 +1,8 @@
 // The mount.
 ghost use Rattle.std.specs.Prelude.{IfOk, IfErr};
 ghost use Rattle.nand_model.specs.Changes.{OnlyReads};
-ghost use Rattle.flash_pages.specs.Parts.{device_in};
-ghost use Rattle.trusted_nand.specs.Parts.{inner_of};
+ghost use Rattle.page_store.specs.FlashParts.{device_in};
+ghost use Rattle.nand_model.specs.TrustedParts.{inner_of};
 ghost use Rattle.mounting.specs.Faults.{WhyNotMounted};
 ghost use Rattle.mounting.specs.Given.{IsGiven};
 
@@ -10,12 +10,11 @@ use crate::fault::MountFault;
 use crate::going::open_volume;
 use crate::mounted::{Mounted, make_mounted};
 use crate::naming::unmounted;
-use flash_pages::FlashPages;
-use nand_model::Nand;
+use nand_model::{Nand, TrustedNand};
+use page_store::FlashPages;
 use pages::Pages;
 use std::alloc::Global;
 use std::num::NonZeroUsize;
-use trusted_nand::TrustedNand;
 
 /// Mounts a device, which is only read, with a cache of at most so many pages: by its checkpoint, where one is whole and its entries
 /// do, and else by a scan. What is said of an honest device is said where it is trusted: so where its flash was true. The block

@@ -6,7 +6,7 @@ ghost use Rattle.flash_tree.specs.Newest.{Numbers};
 ghost use Rattle.block_state.specs.Kept.{unkept_count};
 ghost use Rattle.block_state.specs.TableOf.{table};
 ghost use Rattle.chunk_index.specs.Maps.{CountsAgree};
-ghost use Rattle.newest_pages.specs.Opened.{IsOpenedBy};
+ghost use Rattle.page_store.specs.Opened.{IsOpenedBy};
 ghost use Rattle.tree_walk.specs.Trees.{keeps_key};
 ghost use Rattle.pages.specs.Stores.{bad_on};
 ghost use Rattle.mounting.specs.Marked.{marked};

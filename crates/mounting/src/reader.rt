@@ -3,7 +3,7 @@ ghost use Rattle.std.specs.Prelude.{◌≡◌, ◌<◌, ◌&&◌, ℕ, Bool, len
 ghost use Rattle.nand_model.specs.Changes.{OnlyReads};
 ghost use Rattle.chunk_index.specs.Maps.{kept_pages};
 ghost use Rattle.chunk_index.specs.declared.form.KeptPage.{KeptPage};
-ghost use Rattle.page_buffer.specs.Shown.{data_at};
+ghost use Rattle.page_store.specs.Shown.{data_at};
 ghost use Rattle.flash_log.specs.Standing.{IsKeptAt};
 ghost use Rattle.mounting.specs.Lending.{LieWithin, TrustsKept, lent};
 ghost use Rattle.mounting.specs.laws.OneProof.{trusts_prop};
@@ -11,10 +11,9 @@ ghost use Rattle.mounting.specs.laws.OneProof.{trusts_prop};
 use crate::tagged::read_tagged;
 use chunk_index::{Index, KeptPage};
 use flash_tree::Key;
-use nand_model::Nand;
+use nand_model::{Nand, Trust};
 use pages::{KnownPages, Pages, Presence, has_power};
 use std::alloc::{AllocError, Global};
-use trusted_nand::Trust;
 use volume_terms::StoreFault;
 
 /// The kept pages of a device, which are read and not changed, over an index that is lent. They are known where the index is

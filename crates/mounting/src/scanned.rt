@@ -16,7 +16,7 @@ use crate::reading::read_tree;
 use crate::scanning::scan;
 use crate::tree_on::{Going, NamedTree, TreeOn};
 use nand_model::Nand;
-use newest_pages::{Opened, the_opened_pages_are_the_newest};
+use page_store::{Opened, the_opened_pages_are_the_newest};
 use std::alloc::Global;
 
 /// Scans a device and goes through its tree, whose pages alone are kept then.

@@ -3,14 +3,14 @@ ghost use Rattle.std.specs.Prelude.{◌≡◌, ◌≤◌, ◌+◌, false, IfOk, 
 ghost use Rattle.nand_model.specs.Changes.{OnlyReads};
 ghost use Rattle.flash_tree.specs.Places.{numbers_of};
 ghost use Rattle.block_state.specs.TableOf.{table};
-ghost use Rattle.newest_pages.specs.Opened.{IsOpened};
+ghost use Rattle.page_store.specs.Opened.{IsOpened};
 ghost use Rattle.mounting.specs.Faults.{WhyNotMounted};
 ghost use Rattle.mounting.specs.Reads.{all_pages};
 
 use crate::fault::MountFault;
 use crate::naming::{scan_fault, unmounted};
 use nand_model::Nand;
-use newest_pages::{Opened, open};
+use page_store::{Opened, open};
 use std::alloc::Global;
 
 /// Scans a device, which is given back with what was found, or with the reason why nothing was.

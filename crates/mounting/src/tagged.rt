@@ -2,7 +2,7 @@
 ghost use Rattle.std.specs.Prelude.{◌≡◌, ◌↔◌, ◌<◌, ◌≤◌, ◌+◌, ◌⊎◌, true, IsTrue, Some, length, OnOk, IfErr};
 ghost use Rattle.nand_model.specs.Changes.{OnlyReads};
 ghost use Rattle.flash_log.specs.Standing.{IsKeptAt};
-ghost use Rattle.page_buffer.specs.Shown.{data_at};
+ghost use Rattle.page_store.specs.Shown.{data_at};
 ghost use Rattle.mounting.specs.Lending.{IsTagOf};
 
 use chunk_index::KeptPage;

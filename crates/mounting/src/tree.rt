@@ -5,10 +5,10 @@ ghost use Rattle.pages.specs.Maps.{has};
 ghost use Rattle.pages.specs.State.{OnlyFinds, KeepsPower};
 ghost use Rattle.tree_walk.specs.Hashes.{CoversTree};
 ghost use Rattle.tree_walk.specs.Trees.{tree_pages};
-ghost use Rattle.mount_answers.specs.Trees.{WhyNoTree, FailsTree};
+ghost use Rattle.mounting.specs.TreeAnswers.{WhyNoTree, FailsTree};
 ghost use Rattle.mounting.specs.Trees.{IsGoneThrough};
 
-use mount_answers::first_fault;
+use crate::first_fault;
 use name_index::NameIndex;
 use nand_model::Geometry;
 use pages::KnownPages;

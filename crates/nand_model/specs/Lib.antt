@@ -11,3 +11,5 @@ pub mod Memory
 pub mod MemoryState
 pub mod Putting
 pub mod laws
+pub mod Trusting
+pub mod TrustedParts

@@ -10,6 +10,8 @@ mod memory;
 mod nand;
 mod plan;
 mod power;
+mod trust;
+mod trusted_nand;
 
 pub use count::Count;
 pub use fate::Fate;
@@ -20,3 +22,5 @@ pub use law::{
 };
 pub use memory::MemNand;
 pub use nand::{EraseFault, Gone, Nand, PageKind, ProgramFault};
+pub use trust::Trust;
+pub use trusted_nand::TrustedNand;

@@ -6,7 +6,7 @@ use nandfs_program::{
     CheckForm, Drawing, Marked, ToolFault, blocks_of, check, mount, show_dump, show_map,
     show_space, show_space_as_json,
 };
-use plain_tree::info_at;
+use plain_volume::info_at;
 use std::fs;
 use std::io::{BufWriter, IsTerminal, Write};
 

@@ -4,7 +4,7 @@ use crate::files::{new_meter, volume_in, word};
 use clap::ArgMatches;
 use image_tools::unpack;
 use nandfs_program::{Meter, Metered, Stored, ToolFault, copy_out, store};
-use plain_tree::{bytes_at, info_at};
+use plain_volume::{bytes_at, info_at};
 
 /// Writes the whole volume to a folder of the host, with a line about how far it is.
 fn unpack_metered(

@@ -1,9 +1,9 @@
 // Commands that are asked of a volume.
 
 use crate::fault::ToolFault;
-use command_answers::Answers;
-use plain_tree::ask;
+use plain_volume::ask;
 use posix_calls::{Command, FilePath};
+use posix_profile::Answers;
 use std::alloc::{AllocError, Global};
 
 /// A path of its own.

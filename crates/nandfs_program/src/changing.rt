@@ -3,10 +3,10 @@
 use crate::asking::{below, change, path_of};
 use crate::fault::ToolFault;
 use crate::host_files::HostFile;
-use command_answers::Answers;
 use image_tools::make_file;
-use plain_tree::{TreeFault, info_at, names_at};
+use plain_volume::{TreeFault, info_at, names_at};
 use posix_calls::{Command, Errno, Kind};
+use posix_profile::Answers;
 use std::alloc::Global;
 
 /// What is added to a path for the file that is written beside it.

@@ -6,7 +6,7 @@ ghost use Rattle.nandfs_program.specs.declared.fault.ToolFault.TheVariants as fa
 use chip_map::MapFault;
 use mount_scan::ScanFault;
 use nand_image::ImageFault;
-use plain_tree::TreeFault;
+use plain_volume::TreeFault;
 use posix_calls::{Errno, FormatFault, MountFault};
 use std::alloc::{AllocError, AllocFailed};
 use std::io;

@@ -19,8 +19,10 @@ mod session;
 mod showing;
 mod space;
 mod storing;
+mod table;
 mod tree;
 mod walking;
+mod words;
 
 pub use blocks::{greatest_file, least_blocks, units_of};
 pub use changing::{copy_in, link, make_directory, move_to, remove};
@@ -41,3 +43,4 @@ pub use space::{show_space, show_space_as_json};
 pub use storing::{Stored, store};
 pub use tree::show_tree;
 pub use volume_bench::{Bench, FlashTimes};
+pub use words::program;

@@ -2,10 +2,10 @@
 
 use crate::fault::ToolFault;
 use crate::walking::{Child, Walk, last_name};
-use command_answers::Answers;
 use image_tools::host_name;
-use plain_tree::info_at;
+use plain_volume::info_at;
 use posix_calls::{Info, Kind};
+use posix_profile::Answers;
 use std::alloc::Global;
 use std::io::Write;
 

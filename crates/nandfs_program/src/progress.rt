@@ -1,7 +1,7 @@
 // How far long work is, on a terminal.
 
-use command_answers::Answers;
 use posix_calls::{Reply, Stamped};
+use posix_profile::Answers;
 
 /// The bytes of a mebibyte.
 const MEBIBYTE: u64 = 1 << 20;

@@ -2,9 +2,9 @@
 
 use crate::fault::ToolFault;
 use crate::listing::{shown_path, write_text};
-use command_answers::Answers;
-use plain_tree::{bytes_at, info_at};
+use plain_volume::{bytes_at, info_at};
 use posix_calls::Kind;
+use posix_profile::Answers;
 use std::alloc::Global;
 use std::io::Write;
 

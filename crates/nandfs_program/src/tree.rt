@@ -3,10 +3,10 @@
 use crate::asking::below;
 use crate::fault::ToolFault;
 use crate::listing::write_text;
-use command_answers::Answers;
 use image_tools::host_name;
-use plain_tree::{info_at, names_at};
+use plain_volume::{info_at, names_at};
 use posix_calls::Kind;
+use posix_profile::Answers;
 use std::alloc::Global;
 use std::io::Write;
 

@@ -2,9 +2,9 @@
 
 use crate::asking::below;
 use crate::fault::ToolFault;
-use command_answers::Answers;
-use plain_tree::{info_at, names_at};
+use plain_volume::{info_at, names_at};
 use posix_calls::{Info, Kind};
+use posix_profile::Answers;
 use std::alloc::{AllocError, Global};
 
 /// A path, and what it leads to.

@@ -2,7 +2,7 @@
 use Rattle.std.specs.Prelude.{◌≡◌, Bool, true, false}
 use Rattle.std.proofs.Common.{sym, ◌∙◌, ap, subst, inl, inr}
 use Rattle.std.proofs.lemmas.Bool.{true≢false, cond-true, cond-false}
-use Rattle.command_answers.specs.Answering.{IsAnswered}
+use Rattle.posix_profile.specs.Answering.{IsAnswered}
 use Rattle.command_plans.specs.Classes.{class_of}
 use Rattle.object_commands.specs.Answering.{ShowsState}
 use Rattle.object_commands.specs.Endings.{IsAt, CommandEnds}

@@ -2,9 +2,8 @@
 ghost use Rattle.object_commands.specs.Answering.{ShowsState};
 
 use crate::volume::Volume;
-use command_answers::Answers;
 use object_store::ObjectStore;
-use posix_profile::{Reply, Stamped};
+use posix_profile::{Answers, Reply, Stamped};
 
 impl<S: ObjectStore> Answers for Volume<S> {
     ghost shows = { ShowsState S.meaning };

@@ -2,3 +2,10 @@ pub mod Facts
 pub mod Changes
 pub mod Stores
 pub mod laws
+pub mod TableFacts
+pub mod Packed
+pub mod Taken
+pub mod Numbers
+pub mod Counted
+pub mod Told
+pub mod Built

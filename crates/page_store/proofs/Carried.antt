@@ -14,7 +14,7 @@ use Rattle.transactions.specs.Ready.{IsReady}
 use Rattle.flash_log.specs.Standing.{IsKept, IsKeptAt, AreKept, TablesAgree}
 use Rattle.flash_log.specs.laws.FreeBlocks.{leaves_fewer, leaves_unkept}
 use Rattle.flash_log.specs.laws.Moves.{are_held}
-use Rattle.page_buffer.specs.Shown.{data_of, data_at, kept_data}
+use Rattle.page_store.specs.Shown.{data_of, data_at, kept_data}
 use Rattle.pages.specs.Maps.{PageMap, known_pages}
 use Rattle.pages.specs.Stores.{HasPage, IsCarried, SamePages}
 use Rattle.page_store.specs.StoreOf.{kept_map}

@@ -6,8 +6,8 @@ use Rattle.nand_model.specs.laws.Calls.{lasts_here}
 use Rattle.nand_model.specs.Counts.{ReadsFew, ReadsFor, unfinished}
 use Rattle.flash_log.specs.laws.Bills.{pays_none}
 use Rattle.page_store.specs.Committing.{KeepsOpen, PaysCommit, PaysUpTo}
-use Rattle.page_buffer.specs.BufferOf.{buffered}
-use Rattle.page_buffer.specs.declared.buffer.Buffer.{Buffer}
+use Rattle.page_store.specs.BufferOf.{buffered}
+use Rattle.page_store.specs.declared.buffer.Buffer.{Buffer}
 use Rattle.pages.specs.Stores.{SamePages, IsCarried}
 use Rattle.transactions.specs.Checking.{LogState}
 use Rattle.transactions.specs.Handing.{HandsOut}

@@ -15,8 +15,8 @@ use Rattle.chunk_index.specs.declared.index.Index.{Index}
 use Rattle.chunk_index.specs.Entries.{as_kept, kept_of, present_of, present_by}
 use Rattle.chunk_index.specs.Maps.{kept_pages, present, moved_to}
 use Rattle.chunk_index.specs.Shelves.{look}
-use Rattle.page_buffer.specs.Buffering.{Buffers}
-use Rattle.page_buffer.specs.Shown.{data_of, data_at, data_by, kept_data, present_data}
+use Rattle.page_store.specs.Buffering.{Buffers}
+use Rattle.page_store.specs.Shown.{data_of, data_at, data_by, kept_data, present_data}
 use Rattle.flash_log.specs.Standing.{AreKept, HasVersion, IsKeptAt, SameData}
 use Rattle.pages.specs.Stores.{Carries}
 use Rattle.flash_log.specs.Steps.{MovesKept}

@@ -15,8 +15,8 @@ use Rattle.chunk_index.specs.declared.index.Index.{Index}
 use Rattle.chunk_index.specs.Entries.{written_page}
 use Rattle.chunk_index.specs.Listing.{block_keys}
 use Rattle.chunk_index.specs.Maps.{kept_pages, kept_in, present, once_written, CountsAgree, Settles}
-use Rattle.page_buffer.specs.Buffering.{Buffers, key_at}
-use Rattle.page_buffer.specs.laws.Buffering.{place_within}
+use Rattle.page_store.specs.Buffering.{Buffers, key_at}
+use Rattle.page_store.specs.laws.Buffering.{place_within}
 use Rattle.flash_log.specs.Standing.{AreHeld}
 use Rattle.page_store.proofs.Following.{on_flash_kept}
 

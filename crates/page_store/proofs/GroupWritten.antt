@@ -16,7 +16,7 @@ use Rattle.chunk_index.specs.declared.form.WrittenGroup.{WrittenGroup}
 use Rattle.chunk_index.specs.declared.index.Index.{Index}
 use Rattle.chunk_index.specs.Counts.{Recounts}
 use Rattle.chunk_index.specs.Maps.{kept_in, kept_pages, CountsAgree, Settles}
-use Rattle.page_buffer.specs.Buffering.{Buffers}
+use Rattle.page_store.specs.Buffering.{Buffers}
 use Rattle.transactions.specs.Committing.{fresh_name, fresh_bytes}
 use Rattle.transactions.specs.Groups.{AddsPages, GroupsAfter, OkTable, TellsGroup, closed, next_group}
 use Rattle.transactions.specs.Handing.{HandsOut}

@@ -22,9 +22,9 @@ use Rattle.chunk_index.specs.declared.form.Present.{Present}
 use Rattle.chunk_index.specs.declared.form.Present.TheVariants as presents
 use Rattle.chunk_index.specs.declared.index.Index.{Index}
 use Rattle.chunk_index.specs.Maps.{kept_pages, present}
-use Rattle.page_buffer.specs.Buffering.{Buffers, key_at}
-use Rattle.page_buffer.specs.laws.Buffering.{place_within}
-use Rattle.page_buffer.specs.Shown.{data_of, data_at, data_by, data_in, present_data}
+use Rattle.page_store.specs.Buffering.{Buffers, key_at}
+use Rattle.page_store.specs.laws.Buffering.{place_within}
+use Rattle.page_store.specs.Shown.{data_of, data_at, data_by, data_in, present_data}
 use Rattle.transactions.specs.Committing.{fresh_name, fresh_bytes, no_key}
 use Rattle.transactions.specs.Groups.{GroupsAfter, closed, next_group}
 use Rattle.transactions.specs.Handing.{HandsOut}

@@ -2,7 +2,7 @@
 use Rattle.std.specs.Prelude.{◌≡◌, ◌<◌, ℕ, Bool, true, false, not, ◌&&◌, ◌||◌, zero, suc, List, [], ◌∷◌, length, Option, Some, None, IsSome, Result, Ok, Err, IfOk, IfErr}
 use Rattle.std.proofs.Common.{refl, sym, ◌∙◌, ap, subst, inl, inr, arith}
 use Rattle.std.proofs.lemmas.Bool.{cases_Bool, or_left, or_right}
-use Rattle.page_buffer.specs.Buffering.{lacks}
+use Rattle.page_store.specs.Buffering.{lacks}
 use Rattle.chunk_index.specs.declared.form.Present.{Present}
 use Rattle.nand_model.specs.Flash.{Flash}
 use Rattle.nand_model.specs.Calls.{Device, Lasts}
@@ -23,8 +23,8 @@ use Rattle.chunk_index.specs.declared.index.Index.{Index}
 use Rattle.chunk_index.specs.Entries.{as_kept, present_by, present_of, kept_of}
 use Rattle.chunk_index.specs.Shelves.{look}
 use Rattle.chunk_index.specs.Maps.{kept_pages, present}
-use Rattle.page_buffer.specs.Shown.{data_of, data_at, data_by, data_in, kept_data, present_data}
-use Rattle.page_cache.specs.declared.cache.PageCache.{PageCache}
+use Rattle.page_store.specs.Shown.{data_of, data_at, data_by, data_in, kept_data, present_data}
+use Rattle.page_store.specs.declared.cache.PageCache.{PageCache}
 use Rattle.pages.specs.Maps.{known_pages}
 use Rattle.pages.specs.laws.Known.{known_same}
 use Rattle.pages.specs.State.{OnlyFinds, FindsPage, FailsBy}
@@ -32,8 +32,8 @@ use Rattle.pages.specs.declared.store.Presence.{Presence}
 use Rattle.pages.specs.declared.store.Presence.TheVariants as presences
 use Rattle.volume_terms.specs.declared.fault.StoreFault.{StoreFault}
 use Rattle.volume_terms.specs.declared.fault.StoreFault.TheVariants as faults
-use Rattle.page_buffer.specs.BufferOf.{buffered, most_pages}
-use Rattle.page_buffer.specs.declared.buffer.Buffer.{Buffer}
+use Rattle.page_store.specs.BufferOf.{buffered, most_pages}
+use Rattle.page_store.specs.declared.buffer.Buffer.{Buffer}
 use Rattle.page_store.specs.Found.{bytes_or}
 use Rattle.page_store.specs.Caching.{Shows}
 use Rattle.page_store.specs.Counts.{IsRefused}

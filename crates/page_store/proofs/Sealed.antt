@@ -22,7 +22,7 @@ use Rattle.flash_log.specs.Moving.{MarksFailures}
 use Rattle.flash_log.specs.Standing.{AreKept, IsKept, IsKeptAt, HasVersion, SameData, Stands}
 use Rattle.flash_log.specs.laws.FreeBlocks.{leaves_fewer, leaves_unkept, same_bad_blocks}
 use Rattle.flash_log.specs.laws.Moves.{are_held}
-use Rattle.page_buffer.specs.Shown.{data_of, data_at, kept_data}
+use Rattle.page_store.specs.Shown.{data_of, data_at, kept_data}
 use Rattle.pages.specs.State.{PagesState}
 use Rattle.pages.specs.Stores.{Carries, HandsOutNumbers, HasPage, IsCarried, KeptAs, StaysSame, bad_on}
 use Rattle.flash_log.specs.CheckpointDue.{IsDue}

@@ -19,9 +19,9 @@ use Rattle.chunk_index.specs.declared.index.Index.{Index}
 use Rattle.chunk_index.specs.Counts.{Recounts}
 use Rattle.chunk_index.specs.Entries.{written_page}
 use Rattle.chunk_index.specs.Maps.{kept_pages, kept_in, present, once_written, CountsAgree, Settles}
-use Rattle.page_buffer.specs.Buffering.{Buffers}
-use Rattle.page_buffer.specs.laws.Buffering.{place_within, written_kept}
-use Rattle.page_buffer.specs.Shown.{data_at, data_by, kept_data, present_data}
+use Rattle.page_store.specs.Buffering.{Buffers}
+use Rattle.page_store.specs.laws.Buffering.{place_within, written_kept}
+use Rattle.page_store.specs.Shown.{data_at, data_by, kept_data, present_data}
 use Rattle.transactions.specs.Committing.{fresh_name, fresh_bytes}
 use Rattle.transactions.specs.Groups.{OkTable, next_group}
 use Rattle.transactions.specs.Handing.{HandsOut}

@@ -5,10 +5,10 @@ use Rattle.std.proofs.lemmas.Bool.{cases_eq}
 use Rattle.flash_tree.specs.declared.place.FreshPage.{FreshPage}
 use Rattle.pages.specs.Maps.{PageMap, IsPageOf, IsCut}
 use Rattle.pages.specs.declared.change.Cut.{Cut}
-use Rattle.page_cache.specs.Slots.{Held, Reserved, Page, page_in}
-use Rattle.page_cache.specs.Cached.{held, cached, held_count, capacity_of}
-use Rattle.page_cache.specs.Changes.{KeepsSizes, HasTheSame, IsOther, Changes, Puts, DropsFrom}
-use Rattle.page_cache.specs.declared.cache.PageCache.{PageCache}
+use Rattle.page_store.specs.Slots.{Held, Reserved, Page, page_in}
+use Rattle.page_store.specs.Cached.{held, cached, held_count, capacity_of}
+use Rattle.page_store.specs.Changes.{KeepsSizes, HasTheSame, IsOther, Changes, Puts, DropsFrom}
+use Rattle.page_store.specs.declared.cache.PageCache.{PageCache}
 use Rattle.page_store.specs.Caching.{Shows, HasNoMore, KeepsKeys}
 
 pub sizes_on : (a b c : PageCache) → KeepsSizes a b → KeepsSizes b c → KeepsSizes a c

@@ -27,11 +27,11 @@ use Rattle.pages.specs.laws.Maps.{page_elsewhere, cut_elsewhere, elsewhere}
 use Rattle.pages.specs.laws.Changes.{cuts_nothing}
 use Rattle.pages.specs.declared.change.Change.{Change}
 use Rattle.pages.specs.declared.change.Cut.{Cut}
-use Rattle.page_buffer.specs.BufferOf.{buffered, most_pages, bytes_of_page}
-use Rattle.page_buffer.specs.declared.buffer.Buffer.{Buffer}
-use Rattle.page_buffer.specs.Shown.{data_at, data_by, kept_data, present_data}
-use Rattle.page_buffer.specs.Buffering.{Buffers, lacks, new_keys, with_new}
-use Rattle.page_cache.specs.declared.cache.PageCache.{PageCache}
+use Rattle.page_store.specs.BufferOf.{buffered, most_pages, bytes_of_page}
+use Rattle.page_store.specs.declared.buffer.Buffer.{Buffer}
+use Rattle.page_store.specs.Shown.{data_at, data_by, kept_data, present_data}
+use Rattle.page_store.specs.Buffering.{Buffers, lacks, new_keys, with_new}
+use Rattle.page_store.specs.declared.cache.PageCache.{PageCache}
 use Rattle.page_store.specs.Caching.{Shows, HasNoMore, LacksCuts, LacksPages, AreIn}
 use Rattle.page_store.specs.Carrying.{AreNumbered, AreWritable}
 use Rattle.page_store.specs.Changing.{IsCommitFault, fault_of}

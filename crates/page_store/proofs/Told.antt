@@ -28,7 +28,7 @@ use Rattle.volume_terms.specs.declared.fault.StoreFault.{StoreFault}
 use Rattle.volume_terms.specs.declared.fault.StoreFault.TheVariants as faults
 use Rattle.page_store.specs.Changing.{ChangeEnds, HasNothingLeft, IsChanged, IsCommitted, IsUnchanged, StaysWhole, WriteOutEnds}
 use Rattle.page_store.specs.StoreState.{committed_in, seen_of, StoreState, waiting}
-use Rattle.page_buffer.specs.BufferOf.{most_pages}
+use Rattle.page_store.specs.BufferOf.{most_pages}
 use Rattle.pages.specs.declared.change.Change.{Change}
 use Rattle.page_store.specs.StoreOf.{next_numbers}
 use Rattle.page_store.proofs.Carried.{carried_same}

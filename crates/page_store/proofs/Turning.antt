@@ -16,9 +16,9 @@ use Rattle.chunk_index.specs.declared.form.Present.TheVariants as presents
 use Rattle.chunk_index.specs.declared.index.Index.{Index}
 use Rattle.chunk_index.specs.Entries.{as_kept}
 use Rattle.chunk_index.specs.Maps.{kept_pages}
-use Rattle.page_buffer.specs.Buffering.{Buffers, IsUnbuffered}
-use Rattle.page_buffer.specs.Shown.{data_at, data_by, kept_data, present_data}
-use Rattle.page_buffer.specs.laws.Buffering.{buffers_empty}
+use Rattle.page_store.specs.Buffering.{Buffers, IsUnbuffered}
+use Rattle.page_store.specs.Shown.{data_at, data_by, kept_data, present_data}
+use Rattle.page_store.specs.laws.Buffering.{buffers_empty}
 use Rattle.pages.specs.Maps.{PageMap}
 use Rattle.pages.specs.Stores.{HasNumbersLeft, HasPage, IsCarried}
 use Rattle.transactions.specs.Ready.{IsReady}

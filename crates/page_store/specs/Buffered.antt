@@ -7,9 +7,9 @@ use Rattle.block_state.specs.TableOf.{table}
 use Rattle.block_state.specs.declared.blocks.Blocks.{Blocks}
 use Rattle.flash_tree.specs.declared.place.FreshPage.{FreshPage}
 use Rattle.chunk_index.specs.declared.index.Index.{Index}
-use Rattle.page_buffer.specs.declared.buffer.Buffer.{Buffer}
-use Rattle.page_buffer.specs.BufferOf.{buffered, last_written}
-use Rattle.page_buffer.specs.Shown.{kept_data, present_data}
+use Rattle.page_store.specs.declared.buffer.Buffer.{Buffer}
+use Rattle.page_store.specs.BufferOf.{buffered, last_written}
+use Rattle.page_store.specs.Shown.{kept_data, present_data}
 use Rattle.pages.specs.Maps.{PageMap}
 use Rattle.transactions.specs.Checking.{LogState, log_of}
 use Rattle.flash_log.specs.LogOf.{log_state}

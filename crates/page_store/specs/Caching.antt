@@ -3,9 +3,9 @@ use Rattle.std.specs.Prelude.{◌≡◌, ◌⊎◌, ◌<◌, ◌≤◌, ℕ, Lis
 use Rattle.flash_tree.specs.declared.place.FreshPage.{FreshPage}
 use Rattle.pages.specs.Maps.{PageMap, IsPageOf, IsCut}
 use Rattle.pages.specs.declared.change.Cut.{Cut}
-use Rattle.page_cache.specs.Cached.{held, cached, held_count, capacity_of}
-use Rattle.page_cache.specs.Changes.{IsOther}
-use Rattle.page_cache.specs.declared.cache.PageCache.{PageCache}
+use Rattle.page_store.specs.Cached.{held, cached, held_count, capacity_of}
+use Rattle.page_store.specs.Changes.{IsOther}
+use Rattle.page_store.specs.declared.cache.PageCache.{PageCache}
 
 -- each page in the cache is its key's in the map
 abbrev pub Shows : PageCache → PageMap → Type 0

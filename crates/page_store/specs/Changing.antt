@@ -11,9 +11,9 @@ use Rattle.flash_log.specs.declared.fault.MoveFault.TheVariants as moves
 use Rattle.chunk_index.specs.Maps.{SameKept, SamePresent}
 use Rattle.page_store.specs.Committing.{IsUnhindered, KeepsOpen}
 use Rattle.flash_tree.specs.declared.place.FreshPage.{FreshPage}
-use Rattle.page_buffer.specs.BufferOf.{buffered, most_pages}
-use Rattle.page_buffer.specs.Buffering.{AreBuffered, with_new}
-use Rattle.page_cache.specs.Cached.{held_count, capacity_of}
+use Rattle.page_store.specs.BufferOf.{buffered, most_pages}
+use Rattle.page_store.specs.Buffering.{AreBuffered, with_new}
+use Rattle.page_store.specs.Cached.{held_count, capacity_of}
 use Rattle.pages.specs.Maps.{changed}
 use Rattle.pages.specs.Stores.{SamePages, IsCarried}
 use Rattle.pages.specs.declared.change.Change.{Change}

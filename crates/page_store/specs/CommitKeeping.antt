@@ -4,9 +4,9 @@ use Rattle.nand_model.specs.Calls.{Lasts}
 use Rattle.chunk_index.specs.declared.index.Index.{Index}
 use Rattle.chunk_index.specs.Entries.{as_kept}
 use Rattle.chunk_index.specs.Maps.{kept_pages, present}
-use Rattle.page_buffer.specs.declared.buffer.Buffer.{Buffer}
-use Rattle.page_buffer.specs.BufferOf.{most_pages, bytes_of_page}
-use Rattle.page_buffer.specs.Buffering.{Buffers}
+use Rattle.page_store.specs.declared.buffer.Buffer.{Buffer}
+use Rattle.page_store.specs.BufferOf.{most_pages, bytes_of_page}
+use Rattle.page_store.specs.Buffering.{Buffers}
 use Rattle.transactions.specs.Checking.{LogState}
 use Rattle.transactions.specs.Handing.{HandsOut}
 use Rattle.transactions.specs.Ready.{IsReady}

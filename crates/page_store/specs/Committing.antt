@@ -5,7 +5,7 @@ use Rattle.block_state.specs.Kept.{bad_count}
 use Rattle.block_state.specs.Table.{Table, room}
 use Rattle.chunk_index.specs.declared.form.KeptPage.{KeptPage}
 use Rattle.chunk_index.specs.Maps.{kept_pages}
-use Rattle.page_buffer.specs.Buffering.{IsUnbuffered}
+use Rattle.page_store.specs.Buffering.{IsUnbuffered}
 use Rattle.nand_model.specs.Counts.{Costs, ReadsFor}
 use Rattle.transactions.specs.Checking.{LogState}
 use Rattle.flash_log.specs.Bills.{Bill, Pays}

@@ -1,9 +1,9 @@
 -- The page that was found last.
 use Rattle.std.specs.Prelude.{◌≡◌, ◌<◌, List, ℕ, length, Option, Some, None}
 use Rattle.flash_tree.specs.declared.place.FreshPage.{FreshPage}
-use Rattle.page_buffer.specs.Shown.{data_in}
-use Rattle.page_cache.specs.Cached.{cached}
-use Rattle.page_cache.specs.declared.cache.PageCache.{PageCache}
+use Rattle.page_store.specs.Shown.{data_in}
+use Rattle.page_store.specs.Cached.{cached}
+use Rattle.page_store.specs.declared.cache.PageCache.{PageCache}
 use Rattle.page_store.specs.declared.store.Found.{Found}
 use Rattle.page_store.specs.declared.store.Found.TheVariants as places
 

@@ -13,3 +13,17 @@ pub mod CommitKeeping
 pub mod Committing
 pub mod GroupWriting
 pub mod laws
+pub mod Slots
+pub mod Cached
+pub mod Changes
+pub mod KeptReading
+pub mod Shown
+pub mod BufferOf
+pub mod Buffering
+pub mod Opened
+pub mod Checked
+pub mod NewestParts
+pub mod Newest
+pub mod ReadOnly
+pub mod FlashParts
+pub mod FlashSealing

@@ -4,9 +4,9 @@ use Rattle.nand_model.specs.Calls.{Device}
 use Rattle.nand_model.specs.Changes.{OnlyReads}
 use Rattle.flash_tree.specs.declared.place.Key.{Key}
 use Rattle.chunk_index.specs.declared.form.KeptPage.{KeptPage}
-use Rattle.page_buffer.specs.Shown.{data_at}
-use Rattle.page_cache.specs.Cached.{cached}
-use Rattle.page_cache.specs.declared.cache.PageCache.{PageCache}
+use Rattle.page_store.specs.Shown.{data_at}
+use Rattle.page_store.specs.Cached.{cached}
+use Rattle.page_store.specs.declared.cache.PageCache.{PageCache}
 use Rattle.volume_terms.specs.declared.fault.StoreFault.{StoreFault}
 use Rattle.volume_terms.specs.declared.fault.StoreFault.TheVariants as faults
 use Rattle.page_store.specs.Counts.{IsRefused, NoneFalls}

@@ -2,7 +2,7 @@
 -- From: this project.
 use Rattle.std.specs.Prelude.{ℕ, List}
 use Rattle.nand_model.specs.declared.nand.Nand.{Ghosts}
-use Rattle.page_buffer.specs.BufferOf.{buffered}
+use Rattle.page_store.specs.BufferOf.{buffered}
 use Rattle.flash_log.specs.LogOf.{log_state}
 use Rattle.page_store.specs.Found.{found_bytes}
 use Rattle.page_store.specs.StoreState.{StoreState}

@@ -7,9 +7,9 @@ use Rattle.chunk_index.specs.declared.index.Index.{Index}
 use Rattle.pages.specs.Maps.{PageMap, known_pages}
 use Rattle.block_state.specs.Table.{Table}
 use Rattle.pages.specs.State.{NextNumbers}
-use Rattle.page_buffer.specs.BufferOf.{buffered}
-use Rattle.page_buffer.specs.Shown.{kept_data, present_data}
-use Rattle.page_buffer.specs.declared.buffer.Buffer.{Buffer}
+use Rattle.page_store.specs.BufferOf.{buffered}
+use Rattle.page_store.specs.Shown.{kept_data, present_data}
+use Rattle.page_store.specs.declared.buffer.Buffer.{Buffer}
 
 -- the pages of the last commit, where they are known
 abbrev pub kept_map : Device → Index → PageMap

@@ -3,10 +3,10 @@
 use Rattle.std.specs.Prelude.{ℕ, Bool, false, not, ◌&&◌, ◌||◌, List, length}
 use Rattle.chunk_index.specs.declared.index.Index.{Index}
 use Rattle.chunk_index.specs.Maps.{present}
-use Rattle.page_buffer.specs.BufferOf.{buffered, most_pages}
-use Rattle.page_buffer.specs.declared.buffer.Buffer.{Buffer}
-use Rattle.page_cache.specs.declared.cache.PageCache.{PageCache}
-use Rattle.page_cache.specs.Cached.{cached}
+use Rattle.page_store.specs.BufferOf.{buffered, most_pages}
+use Rattle.page_store.specs.declared.buffer.Buffer.{Buffer}
+use Rattle.page_store.specs.declared.cache.PageCache.{PageCache}
+use Rattle.page_store.specs.Cached.{cached}
 use Rattle.pages.specs.Maps.{PageMap}
 use Rattle.pages.specs.State.{PagesState}
 use Rattle.transactions.specs.Checking.{LogState}

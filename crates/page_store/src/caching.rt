@@ -1,14 +1,13 @@
 // What a change and a commit do to the cache.
 ghost use Rattle.std.specs.Prelude.{◌≡◌, ◌≤◌, ◌+◌, None, false, length, OnOk};
 ghost use Rattle.pages.specs.Maps.{PageMap};
-ghost use Rattle.page_buffer.specs.BufferOf.{buffered, last_written, most_pages, bytes_of_page};
-ghost use Rattle.page_cache.specs.Cached.{cached, held_count, capacity_of, page_bytes_of};
-ghost use Rattle.page_cache.specs.Changes.{KeepsSizes};
+ghost use Rattle.page_store.specs.BufferOf.{buffered, last_written, most_pages, bytes_of_page};
+ghost use Rattle.page_store.specs.Cached.{cached, held_count, capacity_of, page_bytes_of};
+ghost use Rattle.page_store.specs.Changes.{KeepsSizes};
 ghost use Rattle.page_store.specs.Caching.{Shows, HasNoMore, LacksCuts, LacksPages, AreIn, TakesPages, KeepsUncut, KeepsUnwritten, KeepsKeys, HavePlaces};
 
+use crate::{Buffer, PageCache};
 use flash_tree::FreshPage;
-use page_buffer::Buffer;
-use page_cache::PageCache;
 use pages::Cut;
 use std::alloc::AllocError;
 

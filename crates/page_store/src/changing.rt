@@ -2,10 +2,10 @@
 ghost use Rattle.std.specs.Prelude.{◌≡◌, ◌≤◌, ◌+◌, ◌/◌, length, true, false, OnOk, IfErr};
 ghost use Rattle.chunk_index.specs.Maps.{SameKept, SamePresent};
 ghost use Rattle.page_store.specs.Committing.{PaysUpTo};
-ghost use Rattle.page_buffer.specs.BufferOf.{buffered};
-ghost use Rattle.page_buffer.specs.Buffering.{ArePrepared, AreReady, AreBuffered, with_new};
-ghost use Rattle.page_cache.specs.Cached.{held_count, capacity_of};
-ghost use Rattle.page_cache.specs.Changes.{KeepsSizes};
+ghost use Rattle.page_store.specs.BufferOf.{buffered};
+ghost use Rattle.page_store.specs.Buffering.{ArePrepared, AreReady, AreBuffered, with_new};
+ghost use Rattle.page_store.specs.Cached.{held_count, capacity_of};
+ghost use Rattle.page_store.specs.Changes.{KeepsSizes};
 ghost use Rattle.pages.specs.Changes.{AreApart, AreSized, AreOfTrees};
 ghost use Rattle.pages.specs.Maps.{changed};
 ghost use Rattle.pages.specs.Stores.{SamePages};
@@ -18,11 +18,10 @@ ghost use Rattle.page_store.specs.StateOf.{state_of};
 
 use crate::caching::{drop_committed, drop_cuts, make_places};
 use crate::store::{Found, Store};
+use crate::{PageCache, prepare};
 use chunk_index::{Index, the_counts_are_of_the_keys};
 use flash_tree::FreshPage;
 use nand_model::Nand;
-use page_buffer::prepare;
-use page_cache::PageCache;
 use pages::Change;
 use std::alloc::AllocError;
 use volume_terms::StoreFault;

@@ -1,6 +1,6 @@
 // The commit of a store's pages.
 ghost use Rattle.std.specs.Prelude.{◌≡◌, [], false, IsOk};
-ghost use Rattle.page_buffer.specs.BufferOf.{buffered};
+ghost use Rattle.page_store.specs.BufferOf.{buffered};
 ghost use Rattle.page_store.specs.Committing.{PaysCommit};
 ghost use Rattle.page_store.specs.Changing.{CommitKeeps, HasNoHindrance, StaysCarried, WriteOutEnds, fault_of};
 ghost use Rattle.page_store.specs.StoreState.{waiting};

@@ -4,8 +4,8 @@ ghost use Rattle.volume_terms.specs.Sizes.{number_end};
 ghost use Rattle.nand_model.specs.Calls.{Lasts};
 ghost use Rattle.block_state.specs.Kept.{bad_count};
 ghost use Rattle.block_state.specs.TableOf.{table};
-ghost use Rattle.page_buffer.specs.BufferOf.{buffered};
-ghost use Rattle.page_buffer.specs.Buffering.{Buffers};
+ghost use Rattle.page_store.specs.BufferOf.{buffered};
+ghost use Rattle.page_store.specs.Buffering.{Buffers};
 ghost use Rattle.transactions.specs.Ready.{IsReady};
 ghost use Rattle.flash_log.specs.Standing.{Stands};
 ghost use Rattle.flash_log.specs.RoomMaking.{FitsOpen};
@@ -14,12 +14,12 @@ ghost use Rattle.page_store.specs.Carrying.{AreWritable};
 ghost use Rattle.page_store.specs.CommitKeeping.{SameSizes};
 ghost use Rattle.page_store.specs.GroupWriting.{Attempts, PaysAttempt, TrustsOpen};
 
+use crate::Buffer;
 use crate::key_ranges::have_ranges;
 use block_state::Blocks;
 use chunk_index::{Index, WrittenGroup, the_list_of_a_block_is_whole};
 use flash_log::RoomFault;
 use nand_model::Nand;
-use page_buffer::Buffer;
 use transactions::{Fresh, GroupFault, write_group};
 
 /// What became of the group of the buffered pages.

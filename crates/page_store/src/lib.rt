@@ -1,22 +1,48 @@
-//! The store of pages: pages of keys on a log, with a buffer over them and a cache beside. What is buffered is committed as one
-//! group.
+//! The store of pages: pages of keys on a log, with a buffer over them and a cache beside. It is opened by a scan or a checkpoint,
+//! and what is buffered is committed as one group. The pages of a worn device are only read.
 #![tactic(auto)]
 
+mod block_seqs;
+mod buffer;
+mod buffer_law;
+mod buffering;
+mod cache;
 mod caching;
 mod changing;
+mod checkpoint_opening;
 mod committing;
 mod counts;
 mod cutting;
+mod dropping;
+mod flash_pages;
 mod group_writing;
+mod kept_reading;
 mod key_ranges;
 mod log_commit;
+mod newest_law;
+mod newest_pages;
+mod opening;
+mod page_names;
+mod read_only;
 mod reading;
 mod sealing;
+mod slot;
 mod store;
 mod store_trait;
 mod turn;
 
+pub use buffer::Buffer;
+pub use buffer_law::a_written_buffer_is_kept;
+pub use buffering::prepare;
+pub use cache::PageCache;
+pub use checkpoint_opening::open_kept;
 pub use counts::StoreCounts;
-pub use object_table::ObjectTable;
+pub use flash_pages::FlashPages;
+pub use kept_reading::read_kept;
+pub use newest_law::the_opened_pages_are_the_newest;
+pub use newest_pages::NewestPages;
+pub use object_store::ObjectTable;
+pub use opening::{OpenFault, Opened, open};
 pub use pages::Change;
+pub use read_only::ReadOnlyPages;
 pub use store::Store;

@@ -4,8 +4,8 @@ ghost use Rattle.block_state.specs.TableOf.{table};
 ghost use Rattle.chunk_index.specs.declared.form.WrittenGroup.{WrittenGroup};
 ghost use Rattle.chunk_index.specs.Counts.{Recounts};
 ghost use Rattle.chunk_index.specs.Maps.{CountsAgree, Settles, kept_in};
-ghost use Rattle.page_buffer.specs.BufferOf.{buffered, last_written};
-ghost use Rattle.page_buffer.specs.Buffering.{Buffers, IsUnbuffered};
+ghost use Rattle.page_store.specs.BufferOf.{buffered, last_written};
+ghost use Rattle.page_store.specs.Buffering.{Buffers, IsUnbuffered};
 ghost use Rattle.flash_log.specs.LogOf.{HasReserve, log_state};
 ghost use Rattle.flash_log.specs.Standing.{HasFreeBlocks};
 ghost use Rattle.page_store.specs.Buffered.{held};
@@ -14,12 +14,12 @@ ghost use Rattle.page_store.specs.Committing.{CommitEnds, CommitsNothing, PaysCo
 ghost use Rattle.page_store.specs.CommitKeeping.{KeepsBuffer, KeepsLog, SameSizes};
 ghost use Rattle.page_store.specs.GroupWriting.{GoesWell};
 
+use crate::Buffer;
 use crate::turn::write_whole;
 use block_state::Blocks;
 use chunk_index::{Index, WrittenGroup, the_list_of_a_block_is_whole};
 use flash_log::{Log, RoomFault};
 use nand_model::Nand;
-use page_buffer::Buffer;
 
 /// Settles the index, where no page is buffered: what was dropped is not kept any more.
 fn settle_empty(index: &mut Index, buffer: &mut Buffer, blocks: &mut Blocks)

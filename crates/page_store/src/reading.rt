@@ -1,17 +1,16 @@
 // The reading of a page that is kept.
 ghost use Rattle.std.specs.Prelude.{◌≡◌, ◌<◌, ◌≤◌, ◌+◌, ◌⊎◌, ℕ, List, length, true, false, Some, IsSome, OnOk, IfErr};
 ghost use Rattle.nand_model.specs.Changes.{OnlyReads};
-ghost use Rattle.page_buffer.specs.Shown.{data_at};
-ghost use Rattle.page_cache.specs.Cached.{cached, page_bytes_of};
-ghost use Rattle.page_cache.specs.Changes.{KeepsSizes};
+ghost use Rattle.page_store.specs.Shown.{data_at};
+ghost use Rattle.page_store.specs.Cached.{cached, page_bytes_of};
+ghost use Rattle.page_store.specs.Changes.{KeepsSizes};
 ghost use Rattle.page_store.specs.Caching.{KeepsRest};
 ghost use Rattle.page_store.specs.Reading.{IsLoadFault, Caches};
 
+use crate::{PageCache, read_kept};
 use chunk_index::KeptPage;
 use flash_tree::Key;
 use nand_model::Nand;
-use page_buffer::read_kept;
-use page_cache::PageCache;
 use volume_terms::StoreFault;
 
 /// Sees that the page of a key, which is kept there, is in the cache. It is read into `scratch`, which changes places with a

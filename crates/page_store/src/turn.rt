@@ -2,8 +2,8 @@
 ghost use Rattle.std.specs.Prelude.{◌≡◌, ◌<◌, ◌≤◌, length};
 ghost use Rattle.volume_terms.specs.Sizes.{number_end};
 ghost use Rattle.block_state.specs.TableOf.{table};
-ghost use Rattle.page_buffer.specs.BufferOf.{buffered};
-ghost use Rattle.page_buffer.specs.Buffering.{Buffers};
+ghost use Rattle.page_store.specs.BufferOf.{buffered};
+ghost use Rattle.page_store.specs.Buffering.{Buffers};
 ghost use Rattle.flash_log.specs.LogOf.{HasReserve, log_state};
 ghost use Rattle.flash_log.specs.Standing.{HasFreeBlocks};
 ghost use Rattle.flash_log.specs.RoomMaking.{FitsOpen};
@@ -13,10 +13,10 @@ ghost use Rattle.page_store.specs.Committing.{PaysCommit};
 ghost use Rattle.page_store.specs.CommitKeeping.{Leaves, SameSizes};
 ghost use Rattle.page_store.specs.GroupWriting.{GoesWell, PaysTurn, PaysWriting, TurnEnds, WholeEnds};
 
+use crate::Buffer;
 use crate::group_writing::{Attempt, write_buffered};
 use flash_log::{Log, RoomFault};
 use nand_model::Nand;
-use page_buffer::Buffer;
 use volume_terms::NUMBER_END;
 
 /// What became of a turn.

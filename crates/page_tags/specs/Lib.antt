@@ -6,3 +6,4 @@ pub mod Slots
 pub mod SlotEntry
 pub mod Checks
 pub mod laws
+pub mod Summaries

@@ -4,3 +4,4 @@ pub mod Check
 pub mod Header
 pub mod Slot
 pub mod Tag
+pub mod Summary

@@ -1,4 +1,4 @@
-//! The bytes of the formats: a page's tag, an object's header, a directory's slot, a checkpoint's head and entries. No
+//! The bytes of the formats: a tag, a header, a slot, the head and an entry of a checkpoint and of a block summary. No
 //! call takes memory.
 #![tactic(auto)]
 
@@ -8,6 +8,8 @@ mod law;
 mod numbers;
 mod presence;
 mod slot;
+mod summary_entry;
+mod summary_head;
 mod tag;
 mod zeros;
 
@@ -23,4 +25,6 @@ pub use law::{
 };
 pub use presence::{is_present, set_present};
 pub use slot::{Slot, decode_slot, encode_slot};
+pub use summary_entry::{SummaryEntry, decode_summary_entry, encode_summary_entry};
+pub use summary_head::{SummaryHead, decode_summary_head, encode_summary_head};
 pub use tag::Tag;

@@ -2,8 +2,8 @@
 use crate::store::{ROOT, Store, changed, empty_volume, entry};
 use directories::{LeftSlot, left_slot, read_head};
 use name_index::name_hash;
-use object_pages::{find, plan};
 use object_store::ObjectChange;
+use paged_objects::{find, plan};
 use pages::{Pages, are_sized};
 use posix_profile::Kind;
 use std::alloc::Global;

@@ -2,8 +2,8 @@
 use crate::store::{ROOT, Store, changed, empty_volume, entry};
 use directories::read_head;
 use flash_tree::Key;
-use object_pages::{find, names, read_into};
 use object_store::ObjectChange;
+use paged_objects::{find, names, read_into};
 use pages::{Pages, Presence};
 use posix_profile::Kind;
 use std::alloc::Global;

@@ -7,8 +7,8 @@ use Rattle.posix_profile.specs.Charge.{charge}
 use Rattle.posix_profile.specs.State.{Objects}
 use Rattle.pages.specs.State.{PagesState}
 use Rattle.pages.specs.Stores.{GoesOn, IsCrowded, IsWornOut}
-use Rattle.object_pages.specs.Counting.{HavePages}
-use Rattle.object_pages.specs.laws.Counting.{pages_charged}
+use Rattle.paged_objects.specs.Counting.{HavePages}
+use Rattle.paged_objects.specs.laws.Counting.{pages_charged}
 use Rattle.paged_objects.specs.Standing.{volume_of, StandsFor, Shown}
 use Rattle.paged_objects.specs.Ending.{HasPages, IsUsedUp}
 use Rattle.paged_objects.specs.laws.Going.{volume_on}

@@ -21,7 +21,7 @@ use Rattle.pages.specs.declared.change.Change.{Change}
 use Rattle.directories.specs.Leaving.{LeavesName}
 use Rattle.directories.specs.declared.leaving.LeftSlot.{LeftSlot}
 use Rattle.directories.specs.laws.Keys.{cuts_leave}
-use Rattle.object_pages.specs.Naming.{HasNames}
+use Rattle.paged_objects.specs.Naming.{HasNames}
 use Rattle.paged_objects.specs.Changing.{IsStale, HasLeft, HasLeftBy, LeavesBy}
 use Rattle.paged_objects.specs.laws.Lawful.{same_slot}
 

@@ -6,19 +6,19 @@ use Rattle.volume_terms.specs.Sizes.{Sizes}
 use Rattle.volume_terms.specs.declared.fault.StoreFault.{StoreFault}
 use Rattle.volume_terms.specs.declared.fault.StoreFault.TheVariants as faults
 use Rattle.posix_profile.specs.State.{Objects}
-use Rattle.object_table.specs.Told.{Tells, TellsTheSame}
+use Rattle.object_store.specs.Told.{Tells, TellsTheSame}
 use Rattle.name_index.specs.Names.{DropsDirectory}
 use Rattle.name_index.specs.declared.index.NameIndex.{NameIndex}
 use Rattle.directories.specs.Hashing.{HoldsMore}
-use Rattle.object_pages.specs.Naming.{HasNames}
+use Rattle.paged_objects.specs.Naming.{HasNames}
 use Rattle.pages.specs.Faults.{MayLackMemory}
 use Rattle.pages.specs.Maps.{PageMap, without_cuts}
 use Rattle.pages.specs.State.{PagesState, OnlyFinds}
 use Rattle.pages.specs.Stores.{SamePages, GoesOn, StaysSame, KeptAs, KeepsEither, ChangeFailsBy, CommitFailsBy}
 use Rattle.pages.specs.declared.fault.PageFault.{PageFault}
 use Rattle.pages.specs.declared.fault.PageFault.TheVariants as page_faults
-use Rattle.object_pages.specs.Holding.{HoldsObjects}
-use Rattle.object_pages.specs.laws.Holding.{cut_object, same_objects}
+use Rattle.paged_objects.specs.Holding.{HoldsObjects}
+use Rattle.paged_objects.specs.laws.Holding.{cut_object, same_objects}
 use Rattle.paged_objects.specs.Faults.{fault_of, ReadFailsBy}
 use Rattle.paged_objects.specs.Standing.{StandsFor}
 use Rattle.paged_objects.specs.Ending.{StaysAs, Turns, Fails, Commits, HasPages, EndsPages}

@@ -3,3 +3,12 @@ pub mod Ends
 pub mod Planned
 pub mod Meant
 pub mod Dropped
+pub mod Contents
+pub mod Entries
+pub mod Growing
+pub mod NamedHere
+pub mod Holdings
+pub mod Results
+pub mod Wholes
+pub mod Sensible
+pub mod LowPages

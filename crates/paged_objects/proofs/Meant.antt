@@ -12,12 +12,12 @@ use Rattle.object_store.specs.declared.change.ObjectChange.{ObjectChange}
 use Rattle.object_store.specs.declared.change.ObjectChange.TheVariants as changes
 use Rattle.object_store.specs.Stores.{Has, ReadFaults, Applies}
 use Rattle.object_store.specs.Stores as meant
-use Rattle.object_table.specs.Told.{table_sizes, Tells, TellsTheSame}
+use Rattle.object_store.specs.Told.{table_sizes, Tells, TellsTheSame}
 use Rattle.object_store.specs.Stores.{CanHave}
-use Rattle.object_table.specs.declared.table.ObjectTable.{ObjectTable}
+use Rattle.object_store.specs.declared.table.ObjectTable.{ObjectTable}
 use Rattle.name_index.specs.Names.{Holds}
 use Rattle.name_index.specs.declared.index.NameIndex.{NameIndex}
-use Rattle.object_pages.specs.Naming.{HasNames}
+use Rattle.paged_objects.specs.Naming.{HasNames}
 use Rattle.pages.specs.State.{OnlyFinds}
 use Rattle.pages.specs.Stores.{GoesOn, SamePages, KeptAs, KeepsEither, CommitFailsBy}
 use Rattle.paged_objects.specs.Faults.{ReadFailsBy}

@@ -9,7 +9,7 @@ use Rattle.object_store.specs.Changes.{IsSensible, IsTarget, LeadsTo}
 use Rattle.object_store.specs.declared.change.DirectoryEntry.{DirectoryEntry}
 use Rattle.object_store.specs.declared.change.ObjectChange.{ObjectChange}
 use Rattle.object_store.specs.declared.change.ObjectChange.TheVariants as changes
-use Rattle.object_pages.specs.Plans.{most_pages}
+use Rattle.paged_objects.specs.Plans.{most_pages}
 
 -- a name that leads somewhere is in a directory
 pub entry_directory : (objects : Objects) (entry : DirectoryEntry) (o : ℕ) → LeadsTo objects entry o → IsDirectory objects entry.directory

@@ -10,12 +10,12 @@ use Rattle.volume_terms.specs.declared.fault.StoreFault.TheVariants as faults
 use Rattle.posix_profile.specs.State.{Name, Objects, IsDirectory}
 use Rattle.object_store.specs.declared.change.ObjectChange.{ObjectChange}
 use Rattle.object_store.specs.declared.change.ObjectChange.TheVariants as changes
-use Rattle.object_table.specs.Told.{Tells}
+use Rattle.object_store.specs.Told.{Tells}
 use Rattle.pages.specs.Maps.{PageMap, has}
 use Rattle.pages.specs.declared.change.Change.{Change}
 use Rattle.directories.specs.Leaving.{LeavesName}
 use Rattle.directories.specs.declared.leaving.LeftSlot.{LeftSlot}
-use Rattle.object_pages.specs.Naming.{HasNames}
+use Rattle.paged_objects.specs.Naming.{HasNames}
 use Rattle.paged_objects.specs.Standing.{StandsFor}
 use Rattle.paged_objects.specs.Ending.{Turns, Fails}
 use Rattle.paged_objects.specs.Known.{ObjectsState, sizes_in, StaysIn}

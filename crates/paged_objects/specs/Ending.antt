@@ -8,7 +8,7 @@ use Rattle.posix_profile.specs.State.{Objects}
 use Rattle.object_store.specs.Stores.{settled}
 use Rattle.pages.specs.State.{PagesState}
 use Rattle.pages.specs.Stores.{Begins, SamePages, GoesOn, HasFailed, bad_on}
-use Rattle.object_pages.specs.Holding.{HoldsObjects}
+use Rattle.paged_objects.specs.Holding.{HoldsObjects}
 use Rattle.object_store.specs.Stores.{CanHave}
 use Rattle.paged_objects.specs.Standing.{StandsFor, Shown}
 

@@ -2,11 +2,11 @@
 use Rattle.name_index.specs.declared.index.NameIndex.{NameIndex}
 use Rattle.volume_terms.specs.Sizes.{Sizes}
 use Rattle.posix_profile.specs.State.{Objects}
-use Rattle.object_table.specs.Told.{table_sizes, Tells, TellsTheSame}
-use Rattle.object_table.specs.declared.table.ObjectTable.{ObjectTable}
+use Rattle.object_store.specs.Told.{table_sizes, Tells, TellsTheSame}
+use Rattle.object_store.specs.declared.table.ObjectTable.{ObjectTable}
 use Rattle.pages.specs.State.{PagesState}
 use Rattle.directories.specs.Hashing.{HoldsMore}
-use Rattle.object_pages.specs.Naming.{HasNames}
+use Rattle.paged_objects.specs.Naming.{HasNames}
 use Rattle.paged_objects.specs.Standing.{StandsFor}
 use Rattle.paged_objects.specs.Ending.{StaysAs, HasPages}
 

@@ -6,3 +6,7 @@ pub mod Faults
 pub mod Meaning
 pub mod Parts
 pub mod laws
+pub mod Holding
+pub mod Naming
+pub mod Counting
+pub mod Plans

@@ -1,6 +1,6 @@
 -- The parts of a store of objects in pages.
 use Rattle.name_index.specs.declared.index.NameIndex.{NameIndex}
-use Rattle.object_table.specs.declared.table.ObjectTable.{ObjectTable}
+use Rattle.object_store.specs.declared.table.ObjectTable.{ObjectTable}
 use Rattle.pages.specs.State.{PagesState}
 use Rattle.paged_objects.specs.Known.{ObjectsState, state_with}
 use Rattle.paged_objects.specs.declared.store.PagedObjects.{PagedObjects}

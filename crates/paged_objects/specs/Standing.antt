@@ -7,7 +7,7 @@ use Rattle.object_store.specs.Stores.{settled}
 use Rattle.pages.specs.Maps.{PageMap}
 use Rattle.pages.specs.State.{PagesState}
 use Rattle.pages.specs.Stores.{SamePages, IsCarried}
-use Rattle.object_pages.specs.Holding.{HoldsObjects}
+use Rattle.paged_objects.specs.Holding.{HoldsObjects}
 use Rattle.object_store.specs.Stores.{CanHave}
 
 -- the numbers of the volume on a store's device

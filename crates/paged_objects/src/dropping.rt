@@ -4,15 +4,14 @@ ghost use Rattle.name_index.specs.Hashes.{fnv1a};
 ghost use Rattle.volume_terms.specs.Sizes.{Sizes};
 ghost use Rattle.posix_profile.specs.State.{Objects};
 ghost use Rattle.object_store.specs.Changes.{made, without};
-ghost use Rattle.object_table.specs.Told.{Tells};
+ghost use Rattle.object_store.specs.Told.{Tells};
 ghost use Rattle.pages.specs.Maps.{PageMap};
-ghost use Rattle.object_pages.specs.Naming.{HasNames};
+ghost use Rattle.paged_objects.specs.Naming.{HasNames};
 ghost use Rattle.paged_objects.specs.Changing.{HasLeft, HasLeftBy};
 
 use directories::LeftSlot;
 use name_index::{NameIndex, name_hash};
-use object_store::{DirectoryEntry, ObjectChange};
-use object_table::ObjectTable;
+use object_store::{DirectoryEntry, ObjectChange, ObjectTable};
 
 /// Drops what the index holds under the names that a change took from their slots, and under those of a directory that went.
 /// It takes no memory.

@@ -5,13 +5,12 @@ ghost use Rattle.volume_terms.specs.declared.fault.StoreFault.TheVariants as fau
 ghost use Rattle.posix_profile.specs.State.{Objects};
 ghost use Rattle.posix_profile.specs.WellFormed.{IsForest};
 ghost use Rattle.object_store.specs.Facts.{bytes_of};
-ghost use Rattle.object_table.specs.Told.{table_sizes, Tells};
+ghost use Rattle.object_store.specs.Told.{table_sizes, Tells};
 
 use crate::changing::{forget, make};
 use crate::fault::fault_of;
 use name_index::NameIndex;
-use object_store::{ObjectChange, ObjectStore};
-use object_table::ObjectTable;
+use object_store::{ObjectChange, ObjectStore, ObjectTable};
 use pages::PageStore;
 use posix_profile::{Info, NameList};
 use std::alloc::Global;
@@ -105,14 +104,14 @@ impl<P: PageStore> ObjectStore for PagedObjects<P> {
 
     fn find(&mut self, directory: u64, name: &[u8]) -> Result<Option<u64>, StoreFault> {
         let count = self.table.entry_count(directory);
-        match object_pages::find(&self.names, &mut self.pages, directory, count, name) {
+        match crate::find(&self.names, &mut self.pages, directory, count, name) {
             Ok(found) => Ok(found),
             Err(fault) => Err(fault_of(fault)),
         }
     }
 
     fn names(&mut self, alloc: Global, directory: u64) -> Result<NameList, StoreFault> {
-        match object_pages::names(&mut self.pages, alloc, directory) {
+        match crate::names(&mut self.pages, alloc, directory) {
             Ok(names) => Ok(names),
             Err(fault) => Err(fault_of(fault)),
         }
@@ -125,7 +124,7 @@ impl<P: PageStore> ObjectStore for PagedObjects<P> {
         buffer: &mut [u8],
     ) -> Result<usize, StoreFault> {
         let len = length_of(&self.table, file);
-        match object_pages::read_into(&mut self.pages, file, len, offset, buffer) {
+        match crate::read_into(&mut self.pages, file, len, offset, buffer) {
             Ok(count) => Ok(count),
             Err(fault) => Err(fault_of(fault)),
         }

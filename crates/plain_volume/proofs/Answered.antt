@@ -2,7 +2,7 @@
 use Rattle.std.specs.Prelude.{◌≡◌, Bool, true, false}
 use Rattle.std.proofs.Common.{sym, ◌∙◌, subst, inl, inr}
 use Rattle.std.proofs.lemmas.Bool.{cases_Bool, cond-true, cond-false}
-use Rattle.command_answers.specs.Answering.{IsAnswered}
+use Rattle.posix_profile.specs.Answering.{IsAnswered}
 use Rattle.plain_volume.specs.Answering.{ShowsPlain}
 use Rattle.plain_volume.specs.Views.{PlainView}
 use Rattle.posix_profile.specs.Runs.{is_no_memory, is_stop, takes_no_memory}

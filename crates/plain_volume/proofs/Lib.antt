@@ -5,3 +5,6 @@ pub mod Kept
 pub mod Fitting
 pub mod Plain
 pub mod Answered
+pub mod Steps
+pub mod Asked
+pub mod TreesAlike

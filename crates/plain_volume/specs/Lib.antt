@@ -6,3 +6,7 @@ pub mod Standing
 pub mod Runs
 pub mod Answering
 pub mod laws
+pub mod Items
+pub mod Lists
+pub mod Reading
+pub mod Sameness

@@ -1,2 +1,5 @@
 pub mod PlainState
 pub mod PlainMeaning
+pub mod Listing
+pub mod Paths
+pub mod Sameness

@@ -1,7 +1,6 @@
 // A volume over maps answers commands.
 use crate::volume::PlainVolume;
-use command_answers::Answers;
-use posix_profile::{Reply, Stamped};
+use posix_profile::{Answers, Reply, Stamped};
 
 impl Answers for PlainVolume {
     ghost use Rattle.plain_volume.specs.Answering.{ShowsPlain};

@@ -9,3 +9,9 @@ pub mod Places
 pub mod Sending
 pub mod State
 pub mod laws
+pub mod Packed
+pub mod SmallSpare
+pub mod Refused
+pub mod Answers
+pub mod Adapted
+pub mod Parts

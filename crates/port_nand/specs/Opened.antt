@@ -7,9 +7,9 @@ use Rattle.port_nand.specs.declared.port.Port.{Ghosts}
 use Rattle.port_nand.specs.declared.sizes.Sizes.{Sizes}
 use Rattle.port_nand.specs.declared.sizes.TagForm.TheVariants as forms
 use Rattle.port_nand.specs.declared.small_device.SmallPortNand.{SmallPortNand}
-use Rattle.packed_tags.specs.Parts.{inner_of}
-use Rattle.packed_tags.specs.declared.device.SmallSpareNand.{Ghosts as SmallGhosts}
-use Rattle.packed_tags.specs.declared.packed_nand.PackedNand.{PackedNand}
+use Rattle.port_nand.specs.Parts.{inner_of}
+use Rattle.port_nand.specs.declared.small_spare.SmallSpareNand.{Ghosts as SmallGhosts}
+use Rattle.port_nand.specs.declared.packed_nand.PackedNand.{PackedNand}
 
 module _ {P : Type 0} {port : Ghosts P} {small : SmallGhosts (SmallPortNand P port)} where
   -- its driver

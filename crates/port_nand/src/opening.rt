@@ -3,6 +3,7 @@ ghost use Rattle.std.specs.Prelude.{◌≡◌, false, IfOk};
 ghost use Rattle.port_nand.specs.Opened.{driver_of, sizes_of};
 ghost use Rattle.port_nand.specs.Opening.{AsksAll};
 
+use crate::PackedNand;
 use crate::device::PortNand;
 use crate::driver::Driver;
 use crate::either_nand::EitherNand;
@@ -10,7 +11,6 @@ use crate::port::Port;
 use crate::sizes::{OpenFault, TagForm};
 use crate::small_device::SmallPortNand;
 use nand_model::Nand;
-use packed_tags::PackedNand;
 use std::alloc::Global;
 
 /// A device whose driver is behind a port, with tags of either form.

@@ -31,7 +31,7 @@ impl From<AllocError> for OpenFault {
 pub enum TagForm {
     /// Its 48 bytes.
     Whole,
-    /// The 24 bytes of `packed_tags`.
+    /// The 24 bytes of a packed tag.
     Packed,
 }
 

@@ -3,10 +3,10 @@ ghost use Rattle.std.specs.Prelude.{◌≡◌, false};
 ghost use Rattle.port_nand.specs.Calls.{session};
 ghost use Rattle.port_nand.specs.Driving.{IsKept};
 
+use crate::SmallSpareNand;
 use crate::driver::Driver;
 use crate::port::Port;
 use nand_model::{EraseFault, Geometry, Gone, PageKind, ProgramFault};
-use packed_tags::SmallSpareNand;
 
 /// As `PortNand`, of a driver that keeps 24 bytes of a tag with a page.
 #[derive(Drop)]

@@ -1,12 +1,12 @@
 -- What a volume on a device answers, from the state that it stands for.
 use Rattle.std.specs.Prelude.{◌≡◌, Bool}
 use Rattle.std.proofs.Common.{◌∙◌, subst}
-use Rattle.command_answers.specs.Answering.{IsAnswered}
-use Rattle.page_volume.specs.Volumes.{IsVolumeOf}
-use Rattle.page_volume.specs.declared.volume.PageVolume.{PageVolume}
+use Rattle.posix_profile.specs.Answering.{IsAnswered}
+use Rattle.posix_calls.specs.PageVolumes.{IsVolumeOf}
+use Rattle.posix_calls.specs.declared.page_volume.PageVolume.{PageVolume}
 use Rattle.pages.specs.State.{PagesState}
 use Rattle.posix_calls.specs.Answering.{ShowsState}
-use Rattle.page_volume.specs.Calls.{IsCalled}
+use Rattle.posix_calls.specs.Calls.{IsCalled}
 use Rattle.posix_profile.specs.Runs.{Replies, after_one}
 use Rattle.posix_profile.specs.State.{State}
 use Rattle.posix_profile.specs.declared.command.Stamped.{Stamped}

@@ -1,3 +1,7 @@
 mod Mounting
 mod Unmounting
 pub mod Answered
+mod Calls
+pub mod Called
+pub mod Closed
+pub mod Exact

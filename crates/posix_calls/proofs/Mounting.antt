@@ -9,21 +9,21 @@ use Rattle.lives.specs.Lives.{at_mount}
 use Rattle.flash_tree.specs.Checkpoints.{IsChecked}
 use Rattle.flash_tree.specs.Mount.{Answers, IsTreeOf}
 use Rattle.name_index.specs.declared.index.NameIndex.{NameIndex}
-use Rattle.object_table.specs.Told.{table_sizes}
-use Rattle.object_table.specs.declared.table.ObjectTable.{ObjectTable}
+use Rattle.object_store.specs.Told.{table_sizes}
+use Rattle.object_store.specs.declared.table.ObjectTable.{ObjectTable}
 use Rattle.pages.specs.State.{PagesState}
 use Rattle.paged_objects.specs.Standing.{volume_of, Shown}
 use Rattle.nand_model.specs.Calls.{Device}
 use Rattle.nand_model.specs.declared.nand.Nand.{Ghosts}
-use Rattle.flash_pages.specs.declared.mounted.FlashPages.{FlashPages}
+use Rattle.page_store.specs.declared.flash_pages.FlashPages.{FlashPages}
 use Rattle.mounting.specs.Given.{IsGiven, IsMade}
 use Rattle.mounting.specs.Made.{CanOnlyBeRead, AreNext, IsMountedWith}
 use Rattle.mounting.specs.declared.mounted.Mounted.{Mounted}
 use Rattle.mounting.specs.Named.{IsTrustedSince}
 use Rattle.mounting.specs.Reads.{ReadsAtMost}
-use Rattle.newest_pages.specs.Checked.{HasTrueFlash}
-use Rattle.page_volume.specs.Volumes.{pages_of, is_read_only, is_stopped, IsVolumeOf}
-use Rattle.page_volume.specs.declared.volume.PageVolume.{PageVolume}
+use Rattle.page_store.specs.Checked.{HasTrueFlash}
+use Rattle.posix_calls.specs.PageVolumes.{pages_of, is_read_only, is_stopped, IsVolumeOf}
+use Rattle.posix_calls.specs.declared.page_volume.PageVolume.{PageVolume}
 use Rattle.paged_objects.specs.Parts as parts
 use Rattle.paged_objects.specs.declared.store.PagedObjects.{PagedObjects}
 use Rattle.mounting.specs.Places.{ArePlaced}

@@ -4,16 +4,16 @@ use Rattle.std.proofs.Common.{refl, sym, ◌∙◌, ap, subst, inl, inr}
 use Rattle.std.proofs.lemmas.Bool.{true≢false}
 use Rattle.nand_model.specs.Calls.{Device}
 use Rattle.nand_model.specs.declared.geometry.Geometry.{Geometry}
-use Rattle.object_pages.specs.laws.Holding.{same_objects}
+use Rattle.paged_objects.specs.laws.Holding.{same_objects}
 use Rattle.object_store.specs.Stores.{settled}
 use Rattle.flash_tree.specs.Mount.{sizes_of}
 use Rattle.flash_tree.specs.Newest.{HasNewest}
 use Rattle.flash_tree.specs.Tree.{InFootprint}
 use Rattle.page_store.specs.Sealing.{EndsOn, IsExact, IsSealed, SealEnds}
 use Rattle.page_store.specs.laws.Sealing.{ends_going}
-use Rattle.page_volume.specs.Closing.{KeepsOnly, CanWrite}
-use Rattle.page_volume.specs.Volumes.{pages_of, is_read_only, is_stopped, IsVolumeOf}
-use Rattle.page_volume.specs.declared.volume.PageVolume.{PageVolume}
+use Rattle.posix_calls.specs.Closing.{KeepsOnly, CanWrite}
+use Rattle.posix_calls.specs.PageVolumes.{pages_of, is_read_only, is_stopped, IsVolumeOf}
+use Rattle.posix_calls.specs.declared.page_volume.PageVolume.{PageVolume}
 use Rattle.pages.specs.State.{PagesState}
 use Rattle.pages.specs.Stores.{GoesOn, KeptAs, bad_on}
 use Rattle.paged_objects.specs.Ending.{HasEnded}
@@ -25,7 +25,7 @@ use Rattle.posix_profile.specs.State.{Objects, State}
 use Rattle.posix_profile.specs.declared.reply.Errno.TheVariants as errors
 use Rattle.posix_profile.specs.declared.reply.Reply.{Reply}
 use Rattle.posix_profile.specs.declared.reply.Reply.TheVariants as replies
-use Rattle.trusted_nand.specs.Trusting.{trusted_as}
+use Rattle.nand_model.specs.Trusting.{trusted_as}
 use Rattle.volume_terms.specs.Sizes.{Sizes}
 use Rattle.volume_terms.specs.declared.fault.StoreFault.{StoreFault}
 use Rattle.volume_terms.specs.declared.fault.StoreFault.TheVariants as faults

@@ -1,7 +1,7 @@
 -- What a volume on a device answers commands from.
 use Rattle.std.specs.Prelude.{◌≡◌, Bool, false}
-use Rattle.page_volume.specs.Volumes.{is_read_only, is_stopped, IsVolumeOf}
-use Rattle.page_volume.specs.declared.volume.PageVolume.{PageVolume}
+use Rattle.posix_calls.specs.PageVolumes.{is_read_only, is_stopped, IsVolumeOf}
+use Rattle.posix_calls.specs.declared.page_volume.PageVolume.{PageVolume}
 use Rattle.pages.specs.State.{PagesState}
 use Rattle.posix_profile.specs.State.{State}
 use Rattle.volume_terms.specs.Sizes.{Sizes}

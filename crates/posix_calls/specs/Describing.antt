@@ -1,8 +1,8 @@
 -- What a volume reports of a descriptor.
 use Rattle.std.specs.Prelude.{◌≡◌, ℕ, true, false, Result, Err}
 use Rattle.object_commands.specs.Describing.{Describes}
-use Rattle.page_volume.specs.Volumes.{is_stopped, IsVolumeOf}
-use Rattle.page_volume.specs.declared.volume.PageVolume.{PageVolume}
+use Rattle.posix_calls.specs.PageVolumes.{is_stopped, IsVolumeOf}
+use Rattle.posix_calls.specs.declared.page_volume.PageVolume.{PageVolume}
 use Rattle.pages.specs.State.{PagesState}
 use Rattle.posix_profile.specs.State.{State}
 use Rattle.posix_profile.specs.declared.reply.Errno.{Errno}

@@ -5,8 +5,8 @@ use Rattle.nand_model.specs.Calls.{Device}
 use Rattle.nand_model.specs.Counts.{Costs}
 use Rattle.object_store.specs.Stores.{settled}
 use Rattle.page_store.specs.Sealing.{EndsOn, StaysRight, IsSealed, SealEnds}
-use Rattle.page_volume.specs.Volumes.{pages_of, is_read_only, is_stopped, IsVolumeOf}
-use Rattle.page_volume.specs.declared.volume.PageVolume.{PageVolume}
+use Rattle.posix_calls.specs.PageVolumes.{pages_of, is_read_only, is_stopped, IsVolumeOf}
+use Rattle.posix_calls.specs.declared.page_volume.PageVolume.{PageVolume}
 use Rattle.pages.specs.State.{PagesState}
 use Rattle.pages.specs.Stores.{GoesOn, bad_on}
 use Rattle.paged_objects.specs.Ending.{HasEnded}
@@ -15,7 +15,7 @@ use Rattle.posix_profile.specs.State.{Objects, State}
 use Rattle.posix_profile.specs.declared.reply.Errno.TheVariants as errors
 use Rattle.posix_profile.specs.declared.reply.Reply.{Reply}
 use Rattle.posix_profile.specs.declared.reply.Reply.TheVariants as replies
-use Rattle.trusted_nand.specs.Trusting.{trusted_as}
+use Rattle.nand_model.specs.Trusting.{trusted_as}
 use Rattle.volume_terms.specs.Sizes.{Sizes}
 use Rattle.volume_terms.specs.declared.fault.StoreFault.{StoreFault}
 

@@ -4,3 +4,7 @@ pub mod Volumes
 pub mod Endings
 pub mod laws
 pub mod Answering
+pub mod PageVolumes
+pub mod Running
+pub mod Calls
+pub mod Closing

@@ -1,8 +1,8 @@
 -- What a mounted volume is.
 use Rattle.nand_model.specs.declared.nand.Nand.{Ghosts}
-use Rattle.trusted_nand.specs.declared.device.TrustedNand.{TrustedNand}
-use Rattle.flash_pages.specs.declared.mounted.FlashPages.{FlashPages}
-use Rattle.page_volume.specs.declared.volume.PageVolume.{PageVolume}
+use Rattle.nand_model.specs.declared.trusted_nand.TrustedNand.{TrustedNand}
+use Rattle.page_store.specs.declared.flash_pages.FlashPages.{FlashPages}
+use Rattle.posix_calls.specs.declared.page_volume.PageVolume.{PageVolume}
 use Rattle.posix_calls.specs.declared.volume.Volume.{Volume}
 
 -- the volume over the pages of its device, which is trusted or not

@@ -1,11 +1,9 @@
 // A volume that answers what reads its tree by commands.
 use crate::volume::Volume;
-use command_answers::Answers;
-use flash_pages::FlashPages;
-use nand_model::Nand;
+use nand_model::{Nand, TrustedNand};
+use page_store::FlashPages;
 use pages::Pages;
-use posix_profile::{Reply, Stamped};
-use trusted_nand::TrustedNand;
+use posix_profile::{Answers, Reply, Stamped};
 
 impl<N: Nand> Answers for Volume<N> {
     ghost use Rattle.posix_calls.specs.Answering.{ShowsState};

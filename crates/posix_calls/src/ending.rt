@@ -1,9 +1,9 @@
 // The end of the pages of a volume.
 ghost use Rattle.posix_calls.specs.Endings.{CostsACheckpoint, EndsWith};
-ghost use Rattle.flash_pages.specs.Sealing.{IsDueOf, check_pages_of};
+ghost use Rattle.page_store.specs.FlashSealing.{IsDueOf, check_pages_of};
 
-use flash_pages::FlashPages;
 use nand_model::Nand;
+use page_store::FlashPages;
 use pages::Pages;
 use posix_profile::{Errno, Reply};
 

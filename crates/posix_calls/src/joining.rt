@@ -4,11 +4,11 @@ ghost use Rattle.std.specs.FinMap as map;
 ghost use Rattle.command_plans.specs.Tables.{handles_in};
 ghost use Rattle.paged_objects.specs.Parts as parts;
 ghost use Rattle.posix_profile.specs.State.{Objects};
-ghost use Rattle.page_volume.specs.Volumes.{pages_of, is_read_only, is_stopped};
+ghost use Rattle.posix_calls.specs.PageVolumes.{pages_of, is_read_only, is_stopped};
 ghost use Rattle.posix_calls.specs.Mounts.{AreMounted, StandsForTree};
 
+use crate::PageVolume;
 use command_plans::table::DescriptorTable;
-use page_volume::PageVolume;
 use paged_objects::PagedObjects;
 use pages::PageStore;
 use std::alloc::Global;

@@ -1,9 +1,9 @@
 // The laws of volumes on devices, each by a function that does nothing.
 ghost use Rattle.std.specs.Prelude.{◌≡◌};
 ghost use Rattle.nand_model.specs.Calls.{Device};
-ghost use Rattle.page_volume.specs.Calls.{VolumeGoesOn};
-ghost use Rattle.page_volume.specs.Volumes.{pages_of};
-ghost use Rattle.page_volume.specs.declared.volume.PageVolume.{PageVolume};
+ghost use Rattle.posix_calls.specs.Calls.{VolumeGoesOn};
+ghost use Rattle.posix_calls.specs.PageVolumes.{pages_of};
+ghost use Rattle.posix_calls.specs.declared.page_volume.PageVolume.{PageVolume};
 ghost use Rattle.posix_calls.specs.Endings.{IsUnmounted, LiesOn};
 ghost use Rattle.posix_calls.specs.Mounts.{IsMounted};
 ghost use Rattle.posix_profile.specs.declared.reply.Reply.{Reply};

@@ -6,14 +6,13 @@ ghost use Rattle.mounting.specs.Faults.{WhyNotMounted};
 use crate::joining::join;
 use crate::volume::Volume;
 use command_plans::table::DescriptorTable;
-use flash_pages::FlashPages;
 use mounting::{MountFault, Mounted, unmounted};
-use nand_model::Nand;
+use nand_model::{Nand, TrustedNand};
+use page_store::FlashPages;
 use paged_objects::PagedObjects;
 use pages::Pages;
 use std::alloc::Global;
 use std::num::NonZeroUsize;
-use trusted_nand::TrustedNand;
 
 impl<N: Nand> Volume<N> {
     ghost use Rattle.posix_calls.specs.Mounts.{IsMounted, LieAsScanned};

@@ -1,18 +1,17 @@
 // A volume on a device.
 ghost use Rattle.std.specs.Prelude.{◌≡◌, ◌≤◌, ℕ, false, length, OnOk};
 ghost use Rattle.volume_terms.specs.Sizes.{most_written};
-ghost use Rattle.object_table.specs.Told.{table_sizes};
+ghost use Rattle.object_store.specs.Told.{table_sizes};
 ghost use Rattle.posix_profile.specs.Requests.{stamped_of};
 ghost use Rattle.posix_profile.specs.declared.reply.Reply.TheVariants as replies;
 
+use crate::PageVolume;
 use crate::ending::end_with;
-use flash_pages::FlashPages;
-use nand_model::Nand;
-use page_volume::PageVolume;
+use nand_model::{Nand, TrustedNand};
+use page_store::FlashPages;
 use pages::Pages;
 use posix_profile::{Asked, Errno, Info, Reply, Stamped};
 use std::alloc::AllocError;
-use trusted_nand::TrustedNand;
 
 /// A mounted volume. One that is stopped answers EIO to each command until the next mount.
 ///
@@ -28,10 +27,10 @@ where
 
 impl<N: Nand> Volume<N> {
     ghost use Rattle.object_commands.specs.Reads.{LeavesRest, asked_of, read_reply, reading};
-    ghost use Rattle.page_volume.specs.Running.{RunsPages};
-    ghost use Rattle.page_volume.specs.Volumes.{pages_of, table_of, is_read_only, is_stopped};
-    ghost use Rattle.flash_pages.specs.Sealing.{IsDueOf, check_pages_of};
-    ghost use Rattle.page_volume.specs.Calls.{IsCalled, VolumeGoesOn};
+    ghost use Rattle.posix_calls.specs.Running.{RunsPages};
+    ghost use Rattle.posix_calls.specs.PageVolumes.{pages_of, table_of, is_read_only, is_stopped};
+    ghost use Rattle.page_store.specs.FlashSealing.{IsDueOf, check_pages_of};
+    ghost use Rattle.posix_calls.specs.Calls.{IsCalled, VolumeGoesOn};
     ghost use Rattle.posix_calls.specs.Describing.{IsDescribed};
     ghost use Rattle.posix_calls.specs.Endings.{IsUnmounted, LeavesCheckpoint, LiesOn};
     ghost use Rattle.posix_calls.specs.Volumes.{over_pages};

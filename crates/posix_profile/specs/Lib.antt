@@ -12,3 +12,4 @@ pub mod Runs
 pub mod Losses
 pub mod WellFormed
 pub mod laws
+pub mod Answering

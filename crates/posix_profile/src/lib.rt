@@ -1,12 +1,15 @@
-//! What each command of the file system means: the types of commands and replies, and the definitions of `specs/`.
+//! What each command of the file system means: the types of commands and replies, the definitions of `specs/`, and the trait of
+//! what answers commands.
 #![tactic(auto)]
 
+mod answers;
 mod bytes;
 mod command;
 mod law;
 mod reply;
 mod request;
 
+pub use answers::Answers;
 pub use bytes::{Bytes, FilePath, NameList};
 pub use command::{Access, Command, OpenFlags, Stamped, Whence};
 pub use law::{

@@ -11,9 +11,9 @@ use Rattle.posix_profile.specs.declared.reply.Reply.TheVariants as replies
 use Rattle.pages.specs.State.{PagesState}
 use Rattle.paged_objects.specs.Ending.{HasEndedAt}
 use Rattle.paged_objects.specs.laws.Going.{ended_at}
-use Rattle.page_volume.specs.Volumes.{pages_of, is_stopped, IsVolumeOf}
-use Rattle.page_volume.specs.declared.volume.PageVolume.{PageVolume}
-use Rattle.page_volume.specs.Calls.{IsReplied}
+use Rattle.posix_calls.specs.PageVolumes.{pages_of, is_stopped, IsVolumeOf}
+use Rattle.posix_calls.specs.declared.page_volume.PageVolume.{PageVolume}
+use Rattle.posix_calls.specs.Calls.{IsReplied}
 use Rattle.posix_calls.specs.Endings.{IsUnmounted}
 
 pub call_ended : {P : Type 0} {state : P → PagesState} {z : Sizes} {s : State} {old : PageVolume P} {command : Stamped} {reply : Reply} {new : PageVolume P} → IsReplied state z s old command reply new

@@ -8,7 +8,7 @@ use Rattle.nand_model.specs.Flash.{Flash}
 use Rattle.nand_model.specs.Calls.{Device, Lasts}
 use Rattle.nand_model.specs.Changes.{OnlyReads}
 use Rattle.nand_model.specs.laws.Calls.{lasts_on}
-use Rattle.newest_pages.specs.Checked.{HasTrueFlash}
+use Rattle.page_store.specs.Checked.{HasTrueFlash}
 use Rattle.nand_model.specs.declared.geometry.Geometry.{Geometry}
 use Rattle.posix_profile.specs.Losses.{Covers, settled_after}
 use Rattle.posix_profile.specs.Runs.{RunHolds}
@@ -28,9 +28,9 @@ use Rattle.lives.specs.Lives.{Mounted, Gone, SessionRecord, at_mount, IsSessionF
 use Rattle.lives.specs.laws.Sessions.{loss_keeps}
 use Rattle.pages.specs.State.{PagesState, NextNumbers}
 use Rattle.pages.specs.Stores.{bad_on, HasFailed}
-use Rattle.trusted_nand.specs.Trusting.{trusted_as}
+use Rattle.nand_model.specs.Trusting.{trusted_as}
 use Rattle.posix_calls.specs.laws.Trusting.{read_since, left_as_seen, lasts_seen}
-use Rattle.flash_pages.specs.ReadOnly.{next_after}
+use Rattle.page_store.specs.ReadOnly.{next_after}
 use Rattle.mounting.specs.Made.{CanOnlyBeRead, AreNext}
 use Rattle.mounting.specs.Named.{IsTrustedSince}
 use Rattle.page_store.specs.Sealing.{EndsOn}

@@ -8,15 +8,15 @@ use Rattle.flash_tree.specs.Mount.{Answers, IsTreeOf, sizes_of, bad_blocks}
 use Rattle.mounting.specs.Faults.{WhyNotMounted}
 use Rattle.mounting.specs.declared.fault.MountFault.{MountFault}
 use Rattle.mounting.specs.declared.fault.MountFault.TheVariants as faults
-use Rattle.newest_pages.specs.Checked.{HasTrueFlash}
+use Rattle.page_store.specs.Checked.{HasTrueFlash}
 use Rattle.pages.specs.Stores.{bad_on}
 use Rattle.nand_model.specs.Calls.{Device}
 use Rattle.nand_model.specs.Changes.{PowersUp}
 use Rattle.nand_model.specs.Plans.{Plan}
 use Rattle.nand_model.specs.declared.fate.Fate.{Fate}
 use Rattle.nand_model.specs.declared.geometry.Geometry.{Geometry}
-use Rattle.planned_nand.specs.Planning.{call_of, calls_of, calls_since, IsPlanned}
-use Rattle.planned_nand.specs.Running.{RunsAsPlanned}
+use Rattle.powercut.specs.Planning.{call_of, calls_of, calls_since, IsPlanned}
+use Rattle.powercut.specs.Running.{RunsAsPlanned}
 use Rattle.lives.specs.Lives.{SessionRecord, at_mount}
 use Rattle.posix_profile.specs.Runs.{RunHolds}
 use Rattle.posix_profile.specs.declared.command.Stamped.{Stamped}

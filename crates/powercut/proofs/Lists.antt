@@ -4,7 +4,7 @@ use Rattle.std.proofs.Common.{refl, sym, ◌∙◌, ap, subst, arith}
 use Rattle.std.proofs.lemmas.List.{length-append}
 use Rattle.nand_model.specs.Calls.{Device}
 use Rattle.lives.specs.Lives.{SessionRecord}
-use Rattle.planned_nand.specs.Planning.{failing, are_counted}
+use Rattle.powercut.specs.Planning.{failing, are_counted}
 use Rattle.powercut.specs.Starting.{plan_of}
 use Rattle.powercut.specs.declared.session.Session.{Session}
 use Rattle.powercut.specs.declared.session.SessionEnd.{SessionEnd}

@@ -1,11 +1,11 @@
 -- A volume that is mounted stands for its tree.
 use Rattle.pages.specs.State.{PagesState}
 use Rattle.posix_profile.specs.State.{Objects}
-use Rattle.page_volume.specs.declared.volume.PageVolume.{PageVolume}
+use Rattle.posix_calls.specs.declared.page_volume.PageVolume.{PageVolume}
 use Rattle.posix_calls.specs.Mounts.{StandsForTree}
 use Rattle.powercut.specs.Commands.{Meaning}
 use Rattle.powercut.proofs.InPower.{Stands}
-use Rattle.page_volume.specs.Volumes.{pages_of, is_read_only, is_stopped, IsVolumeOf}
+use Rattle.posix_calls.specs.PageVolumes.{pages_of, is_read_only, is_stopped, IsVolumeOf}
 
 -- what a volume over such pages is
 abbrev pub meaning_of : {V P : Type 0} → (P → PagesState) → (V → PageVolume P) → Meaning V

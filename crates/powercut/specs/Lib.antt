@@ -5,3 +5,7 @@ pub mod Living
 pub mod Commands
 pub mod Serving
 pub mod laws
+pub mod Planning
+pub mod Running
+pub mod Naming
+pub mod States

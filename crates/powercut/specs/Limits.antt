@@ -5,7 +5,7 @@ use Rattle.nand_model.specs.Calls.{Device}
 use Rattle.flash_tree.specs.Mount.{bad_blocks}
 use Rattle.flash_tree.specs.Newest.{Numbers, AreGreatest}
 use Rattle.pages.specs.Stores.{bad_on}
-use Rattle.planned_nand.specs.Planning.{are_counted}
+use Rattle.powercut.specs.Planning.{are_counted}
 use Rattle.volume_terms.specs.Sizes.{number_limit}
 use Rattle.powercut.specs.Sessions.{failing_in}
 use Rattle.powercut.specs.declared.session.Session.{Session}

@@ -13,8 +13,8 @@ use Rattle.nand_model.specs.Calls.{Device}
 use Rattle.pages.specs.Stores.{bad_on}
 use Rattle.nand_model.specs.Changes.{PowersUp}
 use Rattle.nand_model.specs.Plans.{Plan}
-use Rattle.planned_nand.specs.Planning.{failing, IsPlanned}
-use Rattle.planned_nand.specs.Running.{RunsAsPlanned}
+use Rattle.powercut.specs.Planning.{failing, IsPlanned}
+use Rattle.powercut.specs.Running.{RunsAsPlanned}
 use Rattle.posix_profile.specs.Runs.{RunHolds, is_stop}
 use Rattle.posix_profile.specs.State.{Objects}
 use Rattle.posix_profile.specs.declared.command.Stamped.{Stamped}

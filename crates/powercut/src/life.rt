@@ -1,18 +1,18 @@
 // A life of a volume.
 ghost use Rattle.std.specs.Prelude.{◌≡◌, ◌≤◌, ◌+◌, ◌∷◌, [], ℕ, true, false, length, IfOk};
 ghost use Rattle.nand_model.specs.MemoryState.{device, plan};
-ghost use Rattle.planned_nand.specs.Planning.{calls_since};
+ghost use Rattle.powercut.specs.Planning.{calls_since};
 ghost use Rattle.pages.specs.Stores.{bad_on};
 ghost use Rattle.posix_profile.specs.State.{Objects};
 ghost use Rattle.powercut.specs.Sessions.{record_of, records_of, IsEnded, AreEnded, cuts_in};
 ghost use Rattle.powercut.specs.Limits.{StaysWithin, NumbersLast, HasReserve, FailsAsListed};
 ghost use Rattle.powercut.specs.Living.{HasLived, IsTrueOn, IsSoundOn, LivesOn};
 
+use crate::PlannedNand;
 use crate::power::power_on;
 use crate::serving::serve;
 use crate::session::{Session, SessionEnd};
 use nand_model::MemNand;
-use planned_nand::PlannedNand;
 use std::alloc::{AllocError, Global};
 use thiserror::Error;
 

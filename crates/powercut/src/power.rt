@@ -2,7 +2,7 @@
 ghost use Rattle.std.specs.Prelude.{◌≡◌, ◌<◌, ◌^◌, ℕ, None, IfOk, is_some};
 ghost use Rattle.nand_model.specs.MemoryState.{device, plan};
 ghost use Rattle.nand_model.specs.Plans.{listed};
-ghost use Rattle.planned_nand.specs.Planning.{fuse_call, call_of};
+ghost use Rattle.powercut.specs.Planning.{fuse_call, call_of};
 ghost use Rattle.powercut.specs.Starting.{Starts, fuse_of, plan_of};
 
 use crate::session::Session;

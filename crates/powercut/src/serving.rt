@@ -1,8 +1,8 @@
 // What is done between a power-up and the end of a session, on any device.
 ghost use Rattle.std.specs.Prelude.{◌≡◌, true, false, [], ◌∷◌, length, is_some, Ok, IfOk};
 ghost use Rattle.nand_model.specs.Calls.{Lasts};
-ghost use Rattle.newest_pages.specs.Checked.{HasTrueFlash};
-ghost use Rattle.page_volume.specs.Volumes.{pages_of, is_read_only, is_stopped, IsVolumeOf};
+ghost use Rattle.page_store.specs.Checked.{HasTrueFlash};
+ghost use Rattle.posix_calls.specs.PageVolumes.{pages_of, is_read_only, is_stopped, IsVolumeOf};
 ghost use Rattle.posix_calls.specs.Volumes.{over_pages};
 ghost use Rattle.powercut.specs.Commands.{IsUsed};
 ghost use Rattle.powercut.specs.Living.{HasLived};
@@ -10,13 +10,12 @@ ghost use Rattle.powercut.specs.Serving.{served_record, IsServed};
 ghost use Rattle.powercut.specs.Sessions.{IsServedFrom};
 
 use crate::commands::{Commanded, do_commands};
-use flash_pages::FlashPages;
 use flash_tree::a_flash_has_one_answer_at_most;
-use nand_model::Nand;
+use nand_model::{Nand, TrustedNand};
+use page_store::FlashPages;
 use pages::Pages;
 use posix_calls::{MountFault, Reply, Stamped, Volume};
 use std::alloc::{AllocError, Global};
-use trusted_nand::TrustedNand;
 
 impl<N: Nand> Commanded for Volume<N> {
     ghost meaning = { record {

@@ -1,7 +1,7 @@
 // What is asked of images, and of the help.
 use crate::images::Images;
 use anyhow::{Result, anyhow};
-use program_words::parse;
+use flash_program::parse;
 
 /// How many bytes an image has.
 fn length(rt: &HostRuntime, images: &mut Images, image: &str) -> Result<usize> {

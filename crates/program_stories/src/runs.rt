@@ -1,8 +1,7 @@
 // Runs of the program.
 use crate::images::Images;
 use anyhow::Result;
-use flash_program::act;
-use program_words::{Chosen, choose};
+use flash_program::{Chosen, act, choose};
 use std::alloc::Global;
 use std::io::Cursor;
 

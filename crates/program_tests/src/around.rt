@@ -1,6 +1,5 @@
 // The program between an image, lines and outputs, each of which may fail.
-use flash_program::act;
-use program_words::choose;
+use flash_program::{act, choose};
 use std::alloc::Global;
 use std::io::{
     BufReader, Cursor, Error, ErrorKind, Read, Result as IoResult, Seek, SeekFrom, Write,

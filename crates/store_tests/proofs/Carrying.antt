@@ -4,7 +4,7 @@ use Rattle.std.proofs.Common.{sym, ap, subst, ◌∙◌}
 use Rattle.nand_model.specs.Calls.{Device}
 use Rattle.flash_tree.specs.Newest.{HasNewest}
 use Rattle.chunk_index.specs.declared.index.Index.{Index}
-use Rattle.page_buffer.specs.Shown.{kept_data}
+use Rattle.page_store.specs.Shown.{kept_data}
 use Rattle.pages.specs.Stores.{Carries}
 
 -- by another name of the device and of the index

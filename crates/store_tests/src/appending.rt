@@ -7,7 +7,7 @@ use pages::{PageStore, Pages, Presence};
 use std::alloc::Global;
 use std::num::NonZeroUsize;
 use std::process::Abort;
-use test_store::{Apart, fits, open_each};
+use test_devices::{Apart, fits, open_each};
 
 /// The bytes of a page, and of an append.
 const PAGE: usize = 2048;

@@ -1,9 +1,9 @@
 // Which page goes first from a cache.
 ghost use Rattle.std.specs.Prelude.{◌≡◌};
-ghost use Rattle.page_cache.specs.Cached.{page_bytes_of};
+ghost use Rattle.page_store.specs.Cached.{page_bytes_of};
 
 use flash_tree::Key;
-use page_cache::PageCache;
+use page_store::PageCache;
 use std::alloc::Global;
 use std::num::NonZeroUsize;
 use std::process::Abort;

@@ -6,7 +6,7 @@ use page_store::Store;
 use pages::{Cut, PageStore};
 use std::alloc::Global;
 use std::process::Abort;
-use test_store::{Apart, fits};
+use test_devices::{Apart, fits};
 use volume_terms::StoreFault;
 
 /// How many keys there are, and how many an object has.

@@ -6,12 +6,11 @@ use crate::plain::Stamps;
 use chunk_index::KeyFilter;
 use flash_tree::Key;
 use nand_model::{Fate, Geometry, MemNand};
-use newest_pages::{NewestPages, open, the_opened_pages_are_the_newest};
-use page_store::Store;
+use page_store::{NewestPages, Store, open, the_opened_pages_are_the_newest};
 use std::alloc::Global;
 use std::num::NonZeroUsize;
 use std::process::Abort;
-use test_store::{open_each, open_kept};
+use test_devices::{open_each, open_kept};
 
 /// What is to go wrong with a device.
 #[derive(Clone, Copy, Debug)]

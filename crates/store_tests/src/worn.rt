@@ -1,14 +1,13 @@
 // The pages of a worn device in memory.
 
-use flash_pages::{FlashPages, ReadOnlyPages};
 use flash_tree::Key;
 use nand_model::{Geometry, MemNand};
-use newest_pages::{NewestPages, open, the_opened_pages_are_the_newest};
+use page_store::{FlashPages, NewestPages, ReadOnlyPages, open, the_opened_pages_are_the_newest};
 use page_tags::Tag;
 use pages::{Change, Cut, PageStore, Pages, Presence};
 use std::alloc::Global;
 use std::process::Abort;
-use test_flash::TestFlash;
+use test_devices::TestFlash;
 use volume_terms::StoreFault;
 
 /// Numbers from here on are not handed out.

@@ -12,7 +12,7 @@ use Rattle.posix_profile.specs.State.{Name, Entries, Object, File, Dir, Objects}
 use Rattle.posix_profile.specs.Names.{Names}
 use Rattle.posix_profile.specs.Charge.{fits}
 use Rattle.posix_profile.specs.laws.Map.{get_here, get_there, insert_cases}
-use Rattle.object_table.specs.Built.{IsBare, CanCome}
+use Rattle.object_store.specs.Built.{IsBare, CanCome}
 use Rattle.tree_walk.specs.Walks.{IsOn, IsOnce}
 use Rattle.tree_walk.specs.declared.head.Head.{Head}
 use Rattle.tree_walk.specs.Building.{kind_as, IsPartOf, ArePartOf, IsNameless}

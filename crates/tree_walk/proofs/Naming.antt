@@ -15,7 +15,7 @@ use Rattle.posix_profile.specs.WellFormed.{IsForest, IsNamed}
 use Rattle.posix_profile.specs.laws.Directory.{with_from, with_kept, with_here, there_after}
 use Rattle.posix_profile.specs.laws.Map.{insert_cases}
 use Rattle.posix_profile.specs.laws.Name.{name_same, entry_named}
-use Rattle.object_table.specs.Counted.{GetsName}
+use Rattle.object_store.specs.Counted.{GetsName}
 use Rattle.tree_walk.specs.Building.{IsPartOf, ArePartOf, IsNameless}
 use Rattle.tree_walk.proofs.Elements.{none_of}
 use Rattle.tree_walk.proofs.Parts.{part_countable}

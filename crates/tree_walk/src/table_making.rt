@@ -6,13 +6,13 @@ ghost use Rattle.posix_profile.specs.State.{Objects};
 ghost use Rattle.posix_profile.specs.Charge.{fits};
 ghost use Rattle.flash_tree.specs.Tree.{Shows};
 ghost use Rattle.pages.specs.Maps.{PageMap, has};
-ghost use Rattle.object_table.specs.Told.{table_sizes, Tells};
+ghost use Rattle.object_store.specs.Told.{table_sizes, Tells};
 ghost use Rattle.tree_walk.specs.Trees.{IsTreeThrough};
 
 use crate::tree::Tree;
 use crate::tree_names::insert_names;
 use crate::tree_objects::insert_objects;
-use object_table::{ObjectTable, TableBuilder};
+use object_store::{ObjectTable, TableBuilder};
 use std::alloc::{AllocError, Global};
 use volume_terms::VolumeSizes;
 

@@ -3,14 +3,14 @@ ghost use Rattle.std.specs.Prelude.{◌≡◌, ℕ, List, Some};
 ghost use Rattle.pages.specs.Maps.{PageMap};
 ghost use Rattle.posix_profile.specs.State.{Objects};
 ghost use Rattle.posix_profile.specs.Changes.{with_name};
-ghost use Rattle.object_table.specs.Built.{sizes_built, Builds};
-ghost use Rattle.object_table.specs.Counted.{GetsName};
+ghost use Rattle.object_store.specs.Built.{sizes_built, Builds};
+ghost use Rattle.object_store.specs.Counted.{GetsName};
 ghost use Rattle.tree_walk.specs.Trees.{head_at};
 ghost use Rattle.tree_walk.specs.declared.head.Head.{Head};
 ghost use Rattle.tree_walk.specs.Building.{IsShown, IsNameless};
 
 use crate::tree::{NamedObject, Tree};
-use object_table::TableBuilder;
+use object_store::TableBuilder;
 
 /// The objects of a tree, which came without names, get them.
 pub(crate) fn insert_names(tree: &Tree, builder: &mut TableBuilder)

@@ -3,13 +3,13 @@ ghost use Rattle.std.specs.Prelude.{◌≡◌, ℕ, Some, OnOk};
 ghost use Rattle.std.specs.FinMap as map;
 ghost use Rattle.pages.specs.Maps.{PageMap};
 ghost use Rattle.posix_profile.specs.State.{Object, Objects};
-ghost use Rattle.object_table.specs.Built.{sizes_built, Builds, IsBare, CanCome};
+ghost use Rattle.object_store.specs.Built.{sizes_built, Builds, IsBare, CanCome};
 ghost use Rattle.tree_walk.specs.Trees.{head_at};
 ghost use Rattle.tree_walk.specs.declared.head.Head.{Head};
 ghost use Rattle.tree_walk.specs.Building.{kind_as, IsShown, IsNameless};
 
 use crate::tree::Tree;
-use object_table::TableBuilder;
+use object_store::TableBuilder;
 use page_tags::ObjectKind;
 use posix_profile::Kind;
 use std::alloc::AllocError;

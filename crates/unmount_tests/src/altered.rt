@@ -6,11 +6,11 @@ use crate::search::{checkpoint_of, expect_entries, put, read};
 use flash_tree::Key;
 use nand_model::{MemNand, Nand};
 use page_tags::Tag;
-use plain_search::newest;
-use plain_tree::PlainTree;
+use plain_volume::PlainTree;
 use posix_calls::MountFault;
 use std::alloc::Global;
 use std::process::Abort;
+use test_devices::newest;
 use volume_terms::VolumeSizes;
 
 /// Another byte at a place of a page of the checkpoint, or of its tag.

@@ -6,7 +6,7 @@ use crate::lines::{Mounted, abandon, mount, mount_as_it_is, stepped, told, unmou
 use crate::search::checkpoint_of;
 use flash_tree::count_bad;
 use nand_model::{Fate, MemNand};
-use plain_tree::PlainTree;
+use plain_volume::PlainTree;
 use std::alloc::Global;
 use std::process::Abort;
 use volume_terms::VolumeSizes;

@@ -2,7 +2,7 @@
 
 use line_shell::{read_script, write_reply};
 use nand_model::MemNand;
-use plain_tree::PlainTree;
+use plain_volume::PlainTree;
 use posix_calls::{MountFault, Reply, Stamped, Volume};
 use std::alloc::Global;
 use std::process::Abort;

@@ -7,10 +7,10 @@ use crate::lines::{
 use crate::search::{checkpoint_bytes, checkpoint_of, expect_entries};
 use flash_tree::{Found, Key};
 use nand_model::{Fate, MemNand};
-use plain_search::newest;
 use posix_calls::MountFault;
 use std::alloc::Global;
 use std::process::Abort;
+use test_devices::newest;
 
 /// A head of three entries begins so.
 const HEAD: [u8; 16] = [0x4e, 0x4c, 0x46, 0x43, 1, 0, 0, 0, 3, 0, 0, 0, 0, 0, 0, 0];

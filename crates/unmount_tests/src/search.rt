@@ -3,9 +3,9 @@
 use flash_tree::{CHECK_OBJECT, Found, Key};
 use nand_model::{MemNand, Nand, PageKind};
 use page_tags::decode_check_entry;
-use plain_search::newest;
 use std::alloc::Global;
 use std::process::Abort;
+use test_devices::newest;
 
 /// The place of the first page of the newest checkpoint whose group is whole.
 pub(crate) fn checkpoint_of(rt: &impl Abort, nand: &mut MemNand) -> Option<Found> {

@@ -6,9 +6,9 @@ use crate::search::{checkpoint_of, put};
 use flash_tree::Key;
 use nand_model::{MemNand, Nand};
 use page_tags::Tag;
-use plain_search::newest;
 use std::alloc::Global;
 use std::process::Abort;
+use test_devices::newest;
 
 /// Lines that make a file of so many pages.
 fn filling(rt: &impl Abort, alloc: Global, pages: usize) -> String {

@@ -13,11 +13,11 @@ use Rattle.flash_tree.specs.Mount.{Wrong, IsNewer, IsDamaged, Wholly, GoesThroug
 use Rattle.flash_tree.specs.laws.Place.{same_flash}
 use Rattle.std.specs.Prelude.{List}
 use Rattle.chunk_index.specs.declared.index.Index.{Index}
-use Rattle.page_buffer.specs.Shown.{kept_data}
+use Rattle.page_store.specs.Shown.{kept_data}
 use Rattle.pages.specs.Maps.{PageMap, has}
 use Rattle.tree_walk.specs.Trees.{IsWrongTree, objects_listed}
-use Rattle.mount_answers.specs.Newest.{IsNewestMap}
-use Rattle.mount_answers.specs.Trees.{HasWrongTree}
+use Rattle.mounting.specs.NewestMaps.{IsNewestMap}
+use Rattle.mounting.specs.TreeAnswers.{HasWrongTree}
 use Rattle.volume_check.specs.Verdicts.{TellsVerdict, SaysOfFlash}
 use Rattle.volume_check.specs.declared.verdict.Verdict.{Verdict}
 use Rattle.volume_check.specs.declared.verdict.Verdict.TheVariants as verdicts

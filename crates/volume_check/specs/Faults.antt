@@ -1,8 +1,8 @@
 -- Why a check is not made.
 use Rattle.std.specs.Prelude.{◌≡◌, true, false}
 use Rattle.nand_model.specs.Calls.{Device}
-use Rattle.newest_pages.specs.declared.opening.OpenFault.{OpenFault}
-use Rattle.newest_pages.specs.declared.opening.OpenFault.TheVariants as opens
+use Rattle.page_store.specs.declared.opening.OpenFault.{OpenFault}
+use Rattle.page_store.specs.declared.opening.OpenFault.TheVariants as opens
 use Rattle.volume_check.specs.declared.fault.CheckFault.{CheckFault}
 use Rattle.volume_check.specs.declared.fault.CheckFault.TheVariants as faults
 

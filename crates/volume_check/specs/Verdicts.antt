@@ -7,7 +7,7 @@ use Rattle.flash_tree.specs.Newest.{HasNewest}
 use Rattle.flash_tree.specs.Tree.{NewestMap, Shows}
 use Rattle.flash_tree.specs.Mount.{IsNewer, IsDamaged, sizes_of, IsVolume, IsNoVolume, NotAVolume, IsWrong, Answers}
 use Rattle.pages.specs.State.{PagesState}
-use Rattle.mount_answers.specs.Trees.{HasWrongTree}
+use Rattle.mounting.specs.TreeAnswers.{HasWrongTree}
 use Rattle.volume_check.specs.Trees.{HasWholeTree}
 use Rattle.volume_check.specs.declared.verdict.Verdict.{Verdict}
 use Rattle.volume_check.specs.declared.verdict.Verdict.TheVariants as verdicts

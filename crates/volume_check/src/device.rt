@@ -12,9 +12,9 @@ use crate::verdict::{Verdict, tree_verdict};
 use crate::walk::find_fault;
 use chunk_index::Index;
 use flash_tree::Key;
-use mount_answers::{a_map_of_the_newest_pages_answers, a_whole_list_shows_a_tree};
+use mounting::{a_map_of_the_newest_pages_answers, a_whole_list_shows_a_tree};
 use nand_model::{Geometry, Nand};
-use newest_pages::{NewestPages, open, the_opened_pages_are_the_newest};
+use page_store::{NewestPages, open, the_opened_pages_are_the_newest};
 use pages::KnownPages;
 use std::alloc::Global;
 

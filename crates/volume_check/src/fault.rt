@@ -3,7 +3,7 @@ ghost use Rattle.std.specs.Prelude.{◌≡◌};
 ghost use Rattle.volume_check.specs.Faults.{of_open};
 ghost use Rattle.volume_check.specs.declared.fault.CheckFault.TheVariants as faults;
 
-use newest_pages::OpenFault;
+use page_store::OpenFault;
 use std::alloc::{AllocError, AllocFailed};
 
 /// Why a check was not made.

@@ -2,13 +2,13 @@
 ghost use Rattle.std.specs.Prelude.{◌≡◌, ◌⊎◌, true, IfOk, IfErr, OnOk};
 ghost use Rattle.pages.specs.Maps.{has};
 ghost use Rattle.pages.specs.State.{OnlyFinds};
-ghost use Rattle.mount_answers.specs.Trees.{WhyNoTree, FailsTree};
+ghost use Rattle.mounting.specs.TreeAnswers.{WhyNoTree, FailsTree};
 ghost use Rattle.volume_check.specs.Faults.{WhyNotChecked};
 ghost use Rattle.volume_check.specs.Trees.{HasWholeTree};
 ghost use Rattle.volume_check.specs.Verdicts.{TellsVerdict, LosesPages};
 
 use crate::fault::CheckFault;
-use mount_answers::first_fault;
+use mounting::first_fault;
 use name_index::NameIndex;
 use nand_model::Geometry;
 use pages::KnownPages;

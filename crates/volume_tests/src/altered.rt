@@ -8,10 +8,10 @@ use crate::stories::{Part, tell};
 use flash_tree::Key;
 use nand_model::{MemNand, Nand};
 use page_tags::Tag;
-use plain_search::newest;
 use posix_calls::MountFault;
 use std::alloc::Global;
 use std::process::Abort;
+use test_devices::newest;
 
 /// The page of an object's chunk: its first bytes. All others are zero.
 #[derive(Clone, Copy)]

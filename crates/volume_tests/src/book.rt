@@ -1,7 +1,7 @@
 // What a plain tree tells of commands, and the tree after each of them.
 
 use line_shell::{read_script, write_reply};
-use plain_tree::{Answers, PlainTree};
+use plain_volume::{Answers, PlainTree};
 use posix_calls::{Reply, Stamped};
 use std::alloc::Global;
 use std::process::Abort;

@@ -4,7 +4,7 @@ use crate::book::{commands_of, new_tree, step, text_of};
 use crate::devices::formatted;
 use crate::rows::expect;
 use crate::served::{Served, mount};
-use plain_tree::{Answers, PlainTree};
+use plain_volume::{Answers, PlainTree};
 use posix_calls::Stamped;
 use rand_core::{Rng, SeedableRng};
 use rand_pcg::Lcg128Xsl64;

@@ -2,6 +2,10 @@
 //! left where power goes, where calls fail and where memory is refused, flashes that no volume wrote, and a plain tree beside it.
 #![tactic(auto)]
 
+mod store;
+
+pub use store::RefusingPages;
+
 #[cfg(test)]
 mod altered;
 #[cfg(test)]

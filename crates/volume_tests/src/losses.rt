@@ -4,7 +4,7 @@ use crate::book::{Book, book_of};
 use crate::devices::{ALL_LEFT, Hit, Left, cut, formatted};
 use crate::served::{Served, mount, try_mount};
 use nand_model::MemNand;
-use plain_tree::Answers;
+use plain_volume::Answers;
 use posix_calls::{Command, Errno, Reply};
 use std::alloc::Global;
 use std::process::Abort;

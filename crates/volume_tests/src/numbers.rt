@@ -8,10 +8,10 @@ use crate::stories::{Part, tell};
 use flash_tree::{TagNumbers, tag_at};
 use nand_model::{Fate, MemNand, Nand};
 use page_tags::Tag;
-use plain_search::greatest;
 use posix_calls::MountFault;
 use std::alloc::Global;
 use std::process::Abort;
+use test_devices::greatest;
 
 /// Each page reads as before.
 const OLD: Left = &[Fate::Old];

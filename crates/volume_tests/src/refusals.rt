@@ -1,23 +1,21 @@
 // Sessions over the flash of which each call of the pages that may take memory is refused in turn.
 
+use crate::RefusingPages;
 use crate::book::{Book, book_of};
 use crate::devices::formatted;
 use crate::losses::SESSION;
 use crate::refused::{FILE, TREE};
 use crate::served::mount;
 use command_plans::table::DescriptorTable;
-use flash_pages::FlashPages;
 use mounting::Mounted;
-use nand_model::MemNand;
-use page_volume::PageVolume;
+use nand_model::{MemNand, TrustedNand};
+use page_store::FlashPages;
 use paged_objects::PagedObjects;
-use plain_tree::Answers;
-use posix_calls::{Command, Errno, Reply, Stamped};
-use refusing_pages::RefusingPages;
+use plain_volume::Answers;
+use posix_calls::{Command, Errno, PageVolume, Reply, Stamped};
 use std::alloc::Global;
 use std::num::NonZeroUsize;
 use std::process::Abort;
-use trusted_nand::TrustedNand;
 
 /// A volume over the pages of a flash, of which one call is refused.
 #[derive(Drop)]

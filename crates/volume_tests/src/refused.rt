@@ -5,7 +5,7 @@ use crate::devices::formatted;
 use crate::losses::SESSION;
 use crate::served::{Served, mount, try_mount};
 use nand_model::MemNand;
-use plain_tree::{Answers, PlainTree};
+use plain_volume::{Answers, PlainTree};
 use posix_calls::{Errno, MountFault, Reply, Stamped};
 use std::alloc::Global;
 use std::process::Abort;

@@ -2,7 +2,7 @@
 
 use line_shell::{Serve, shell};
 use nand_model::MemNand;
-use plain_tree::Answers;
+use plain_volume::Answers;
 use posix_calls::{MountFault, Reply, Stamped, Volume};
 use std::alloc::{AllocError, Global};
 use std::process::Abort;

@@ -5,7 +5,7 @@ use crate::devices::formatted;
 use crate::stories::Part::{Lost, LostAfter, Rows, Turns, Unmounted};
 use crate::stories::{Part, ask_part, served_after};
 use line_shell::Serve;
-use plain_tree::PlainTree;
+use plain_volume::PlainTree;
 use posix_calls::{Errno, Reply, Stamped};
 use std::process::Abort;
 

@@ -2,8 +2,8 @@
 use Rattle.std.specs.Prelude.{◌≡◌, List, [], ◌∷◌}
 use Rattle.std.proofs.Common.{refl, sym, ◌∙◌, ap}
 use Rattle.posix_profile.specs.State.{Objects}
-use Rattle.plain_tree.specs.Items.{Item, root_path}
-use Rattle.plain_tree.specs.laws.Listing.{one_reading}
+use Rattle.plain_volume.specs.Items.{Item, root_path}
+use Rattle.plain_volume.specs.laws.Listing.{one_reading}
 use Rattle.image_tools.specs.Folders.{Entry, IsFolder, entries_after}
 
 pub one_folder : (objects : Objects) (a b : List Entry) → IsFolder objects a → IsFolder objects b → a ≡ b

@@ -4,7 +4,7 @@ use anyhow::{Result, anyhow};
 use nand_model::{Geometry, MemNand};
 use page_tags::Tag;
 use std::alloc::Global;
-use test_flash::TestFlash;
+use test_devices::TestFlash;
 
 const BYTES: u32 = 2048;
 

@@ -7,7 +7,7 @@ use page_tags::Tag;
 use rand_core::utils::NextWord;
 use rand_pcg::Pcg32;
 use std::alloc::Global;
-use test_flash::TestFlash;
+use test_devices::TestFlash;
 
 /// The bytes of a page, the pages of a block, and those of a group.
 pub(crate) const BYTES: u32 = 512;

@@ -12,7 +12,7 @@ use rand_pcg::Pcg32;
 use std::alloc::Global;
 use std::num::NonZeroUsize;
 use std::time::CpuClock;
-use test_store::{Apart, fits, open_each};
+use test_devices::{Apart, fits, open_each};
 use volume_bench::{CountedNand, Counts};
 
 /// The pages in the cache.

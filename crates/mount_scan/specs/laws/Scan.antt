@@ -8,10 +8,10 @@ use Rattle.page_tags.specs.Tags.{tag_bytes}
 use Rattle.flash_tree.specs.Newest.{Spot, IsNewest, HasNewest}
 use Rattle.flash_tree.specs.declared.place.Found.{Found}
 use Rattle.flash_tree.specs.Places.{spot_of}
-use Rattle.found_pages.specs.Copies.{copy_at}
-use Rattle.found_pages.specs.Keys.{HaveOtherKeys}
-use Rattle.found_pages.specs.declared.copy.PageCopy.{PageCopy}
-use Rattle.found_pages.specs.laws.Keys.{pair_at}
+use Rattle.mount_scan.specs.Copies.{copy_at}
+use Rattle.mount_scan.specs.Keys.{HaveOtherKeys}
+use Rattle.mount_scan.specs.declared.page_copy.PageCopy.{PageCopy}
+use Rattle.mount_scan.specs.laws.Keys.{pair_at}
 use Rattle.mount_scan.specs.Scanned.{IsNewestCopy, AreNewest}
 
 -- a place with a tag, as programs have it

@@ -6,9 +6,9 @@ use Rattle.volume_terms.specs.Sizes.{Sizes}
 use Rattle.posix_profile.specs.State.{Objects}
 use Rattle.posix_profile.specs.Charge.{charge}
 use Rattle.object_store.specs.Stores.{IsLawful, settled}
-use Rattle.object_table.specs.Facts.{IsTold}
-use Rattle.object_table.specs.Told.{table_sizes, Tells, TellsTheSame}
-use Rattle.object_table.specs.declared.table.ObjectTable.{ObjectTable}
+use Rattle.object_store.specs.TableFacts.{IsTold}
+use Rattle.object_store.specs.Told.{table_sizes, Tells, TellsTheSame}
+use Rattle.object_store.specs.declared.table.ObjectTable.{ObjectTable}
 use Rattle.pages.specs.State.{PagesState}
 use Rattle.directories.specs.Hashing.{HoldsMore}
 use Rattle.flash_tree.specs.Tree.{SlotIs}
@@ -16,7 +16,7 @@ use Rattle.name_index.specs.declared.index.NameIndex.{NameIndex}
 use Rattle.page_tags.specs.Slots.{Entry}
 use Rattle.pages.specs.Maps.{PageMap, has}
 use Rattle.pages.specs.Stores.{SamePages}
-use Rattle.object_pages.specs.Naming.{HasNames}
+use Rattle.paged_objects.specs.Naming.{HasNames}
 use Rattle.paged_objects.specs.Standing.{StandsFor, Shown}
 use Rattle.paged_objects.specs.Ending.{Changes, Fails, Commits}
 use Rattle.paged_objects.specs.Known.{ObjectsState, sizes_in, StandsIn, StaysIn}

@@ -30,10 +30,10 @@ use Rattle.flash_tree.specs.laws.Tree.{footprint_law}
 use Rattle.pages.specs.Maps.{PageMap, has}
 use Rattle.pages.specs.State.{PagesState}
 use Rattle.pages.specs.Stores.{Carries, HasPage, HasNumbersLeft, bad_on}
-use Rattle.object_pages.specs.Holding.{HoldsObject, HoldsObjects}
+use Rattle.paged_objects.specs.Holding.{HoldsObject, HoldsObjects}
 use Rattle.object_store.specs.Stores.{CanHave}
-use Rattle.object_pages.specs.laws.Holding.{held}
-use Rattle.object_pages.specs.laws.Settled.{shows_settled, holds_volume}
+use Rattle.paged_objects.specs.laws.Holding.{held}
+use Rattle.paged_objects.specs.laws.Settled.{shows_settled, holds_volume}
 use Rattle.paged_objects.specs.Standing.{volume_of, Shown}
 
 page_bounds : (z : Sizes) → IsSizes z → (0 < z.page_bytes) × (z.page_bytes ≤ 4096)

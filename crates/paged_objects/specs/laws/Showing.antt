@@ -13,9 +13,9 @@ use Rattle.object_store.specs.Stores.{settled}
 use Rattle.pages.specs.Maps.{PageMap}
 use Rattle.pages.specs.State.{PagesState}
 use Rattle.pages.specs.Stores.{Carries, HasPage, HasNumbersLeft, HasFailed, IsCarried, SamePages, GoesOn, KeptAs, KeepsEither}
-use Rattle.object_pages.specs.Holding.{HoldsObjects, HoldsIn}
+use Rattle.paged_objects.specs.Holding.{HoldsObjects, HoldsIn}
 use Rattle.object_store.specs.Stores.{CanHave}
-use Rattle.object_pages.specs.laws.Holding.{same_objects}
+use Rattle.paged_objects.specs.laws.Holding.{same_objects}
 use Rattle.paged_objects.specs.Standing.{volume_of, StandsFor, Shown}
 use Rattle.paged_objects.specs.Ending.{StaysAs, Turns, Changes, Fails, Commits}
 use Rattle.paged_objects.specs.laws.Going.{ended_after, stays_goes, goes_on, volume_on}

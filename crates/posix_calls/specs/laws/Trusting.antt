@@ -4,11 +4,11 @@ use Rattle.std.proofs.Common.{sym, ◌∙◌, ap, subst}
 use Rattle.nand_model.specs.Calls.{Device, Lasts}
 use Rattle.nand_model.specs.Changes.{OnlyReads}
 use Rattle.mounting.specs.Named.{IsTrustedSince}
-use Rattle.newest_pages.specs.Checked.{HasTrueFlash}
+use Rattle.page_store.specs.Checked.{HasTrueFlash}
 use Rattle.pages.specs.State.{PagesState}
 use Rattle.posix_calls.specs.Endings.{LiesOn}
-use Rattle.trusted_nand.specs.Trusting.{trusted_as}
-use Rattle.trusted_nand.specs.laws.Trusted.{trusted_of, honest_where}
+use Rattle.nand_model.specs.Trusting.{trusted_as}
+use Rattle.nand_model.specs.laws.Trusted.{trusted_of, honest_where}
 
 -- a device that is trusted is seen as it is
 pub as_it_is : (t : Bool) (d : Device) → t ≡ true → trusted_as t d ≡ d

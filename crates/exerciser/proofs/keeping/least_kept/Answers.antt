@@ -4,7 +4,7 @@ use Rattle.plain_volume.specs.Views.{PlainView}
 use Rattle.posix_profile.specs.Names.{settle}
 use Rattle.posix_profile.specs.State.{State}
 use Rattle.posix_profile.specs.WellFormed.{IsTree}
-use Rattle.plain_tree.specs.Lists.{Lists}
+use Rattle.plain_volume.specs.Lists.{Lists}
 use Rattle.volume_terms.specs.Sizes.{Sizes}
 use Rattle.exerciser.specs.Keeping.{after_told, shown_after}
 use Rattle.exerciser.proofs.Covering.{covers_more}

@@ -1,6 +1,6 @@
 use Rattle.std.proofs.Common.{◌≡◌, ◌≤◌, take}
 use Rattle.posix_profile.specs.Losses.{Covers}
-use Rattle.plain_tree.specs.Lists.{Lists}
+use Rattle.plain_volume.specs.Lists.{Lists}
 use Rattle.exerciser.specs.Keeping.{after_all_told}
 use Rattle.exerciser.proofs.Following.{NoneBelow}
 use Rattle.exerciser.proofs.keeping.least_kept.Given as goal

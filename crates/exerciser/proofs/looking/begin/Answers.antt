@@ -2,7 +2,7 @@ use Rattle.std.proofs.Common.{sym, subst}
 use Rattle.std.proofs.lemmas.Result.{err_from_is_err_and}
 use Rattle.nand_model.specs.Calls.{Device}
 use Rattle.nand_model.specs.MemoryState.{device}
-use Rattle.plain_tree.specs.Lists.{IsMadeOf}
+use Rattle.plain_volume.specs.Lists.{IsMadeOf}
 use Rattle.posix_calls.specs.Volumes.{over_pages}
 use Rattle.exerciser.specs.Causes.{HasTree, IsAnswered, IsTreeOn, WhyNotBegun}
 use Rattle.exerciser.proofs.Causes.{begins_for, begins_untold}

@@ -2,7 +2,7 @@ use Rattle.std.proofs.Common.{◌≡◌, sym, ◌∙◌, ap, subst}
 use Rattle.std.specs.Prelude.{false}
 use Rattle.nand_model.specs.Calls.{Device}
 use Rattle.nand_model.specs.MemoryState.{device}
-use Rattle.planned_nand.specs.Planning.{calls_since}
+use Rattle.powercut.specs.Planning.{calls_since}
 use Rattle.powercut.specs.Sessions.{IsEnded}
 use Rattle.exerciser.proofs.Causes.{uncounted}
 use Rattle.exerciser.proofs.Seeds.{counts}

@@ -1,5 +1,5 @@
 use Rattle.std.proofs.Common.{Some}
-use Rattle.plain_tree.specs.Lists.{IsMadeOf, shown_of}
+use Rattle.plain_volume.specs.Lists.{IsMadeOf, shown_of}
 use Rattle.exerciser.proofs.Following.{least_listed}
 use Rattle.exerciser.proofs.looking.judge.Goals as goal
 

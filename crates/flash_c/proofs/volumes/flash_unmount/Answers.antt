@@ -1,7 +1,7 @@
 use Rattle.std.proofs.Common.{◌≡◌, ◌∙◌, ℤ, true, false, ap, sym, subst, to_z, of_z, w32, rules}
 use Rattle.std.proofs.lemmas.Int.{to_z-of_z}
 use Rattle.nand_model.specs.Calls.{Device}
-use Rattle.page_volume.specs.declared.volume.PageVolume.{PageVolume}
+use Rattle.posix_calls.specs.declared.page_volume.PageVolume.{PageVolume}
 use Rattle.pages.specs.State.{PagesState}
 use Rattle.posix_calls.specs.Volumes.{over_pages}
 use Rattle.flash_c.specs.Volumes.{IsEnded}

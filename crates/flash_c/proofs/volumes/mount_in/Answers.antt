@@ -1,6 +1,6 @@
 use Rattle.std.proofs.Common.{◌≡◌, ◌∙◌, ◌<ℤ◌, ℤ, pos, true, false, refl, sym, ap, subst, inl, inr, Ok, Err, to_z, of_z, w32, arith, rules}
 use Rattle.std.proofs.lemmas.Int.{to_z-of_z}
-use Rattle.page_volume.specs.Volumes.{is_stopped}
+use Rattle.posix_calls.specs.PageVolumes.{is_stopped}
 use Rattle.posix_calls.specs.Volumes.{over_pages}
 use Rattle.flash_c.specs.declared.session.Session.{Session}
 use Rattle.flash_c.proofs.Mounts.{mount_same, mount_sign, not_above, not_zero, mounted_as}

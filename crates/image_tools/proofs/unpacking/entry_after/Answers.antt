@@ -1,6 +1,6 @@
 use Rattle.std.proofs.Common.{◌∙◌, ℕ, List, Option, Some, None, sym, ap, cond, nat_eq}
 use Rattle.std.specs.Option.{option_or}
-use Rattle.plain_tree.specs.Items.{item_of, told_of}
+use Rattle.plain_volume.specs.Items.{item_of, told_of}
 use Rattle.image_tools.specs.Folders.{held_by, first_path}
 use Rattle.image_tools.proofs.Reading.{first_path_more}
 use Rattle.image_tools.proofs.unpacking.entry_after.Goals as goal

@@ -3,7 +3,7 @@ use Rattle.std.proofs.Common.{map as list_map}
 use Rattle.std.proofs.lemmas.List.{map-append, map-id}
 use Rattle.std.proofs.lemmas.Iterator.Adapters.{YieldsList-from_vec}
 use Rattle.std.proofs.lemmas.Iterator.Consumers.{YieldsList-end}
-use Rattle.plain_tree.specs.Items.{Item, item_of}
+use Rattle.plain_volume.specs.Items.{Item, item_of}
 use Rattle.image_tools.specs.FirstNames.{Knows}
 use Rattle.image_tools.specs.Folders.{entry_of, entries_after}
 use Rattle.image_tools.proofs.Reading.{entries_more}

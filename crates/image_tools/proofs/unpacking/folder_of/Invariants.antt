@@ -1,6 +1,6 @@
 use Rattle.std.proofs.Common.{◌≡◌, []}
 use Rattle.std.proofs.Common.{map as list_map}
-use Rattle.plain_tree.specs.Items.{item_of}
+use Rattle.plain_volume.specs.Items.{item_of}
 use Rattle.image_tools.specs.FirstNames.{Knows}
 use Rattle.image_tools.specs.Folders.{entry_of, entries_after}
 use Rattle.image_tools.proofs.unpacking.folder_of.Given as goal

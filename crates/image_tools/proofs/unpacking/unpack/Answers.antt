@@ -1,7 +1,7 @@
 use Rattle.std.proofs.Common.{map as list_map}
-use Rattle.plain_tree.specs.Items.{item_of}
-use Rattle.plain_tree.specs.Lists.{Lists}
-use Rattle.plain_tree.specs.laws.Listing.{tells_then}
+use Rattle.plain_volume.specs.Items.{item_of}
+use Rattle.plain_volume.specs.Lists.{Lists}
+use Rattle.plain_volume.specs.laws.Listing.{tells_then}
 use Rattle.image_tools.specs.Folders.{IsFolder, entries_of}
 use Rattle.image_tools.proofs.unpacking.unpack.Goals as goal
 

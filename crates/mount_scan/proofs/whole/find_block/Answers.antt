@@ -1,6 +1,6 @@
 use Rattle.std.proofs.Common.{subst}
-use Rattle.found_pages.specs.Keys.{ThinsFound}
-use Rattle.found_pages.specs.Listed.{listed}
+use Rattle.mount_scan.specs.Keys.{ThinsFound}
+use Rattle.mount_scan.specs.Listed.{listed}
 use Rattle.mount_scan.proofs.Latest.{latest_block}
 use Rattle.mount_scan.proofs.whole.find_block.Goals as goal
 

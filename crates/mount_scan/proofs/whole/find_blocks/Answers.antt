@@ -6,7 +6,7 @@ use Rattle.flash_tree.specs.Places.{numbers_of}
 use Rattle.flash_tree.specs.laws.Place.{same_flash}
 use Rattle.mount_scan.specs.Blocks.{AreGreatestBelow}
 use Rattle.mount_scan.specs.Latest.{HasLatestBelow}
-use Rattle.found_pages.specs.Listed.{listed}
+use Rattle.mount_scan.specs.Listed.{listed}
 use Rattle.mount_scan.proofs.Latest.{latest_on, latest_back, latest_none}
 use Rattle.mount_scan.proofs.Reading.{block_read, block_ends, read_none}
 use Rattle.mount_scan.proofs.Raised.{greatest_all}

@@ -3,7 +3,7 @@ use Rattle.flash_tree.specs.Places.{numbers_of}
 use Rattle.mount_scan.specs.Scanned.{good_pages}
 use Rattle.mount_scan.specs.Blocks.{AreGreatestBelow}
 use Rattle.mount_scan.specs.Latest.{HasLatestBelow}
-use Rattle.found_pages.specs.Listed.{listed}
+use Rattle.mount_scan.specs.Listed.{listed}
 use Rattle.mount_scan.proofs.Reading.{HasRead}
 use Rattle.mount_scan.proofs.whole.find_blocks.Given as goal
 

@@ -2,7 +2,7 @@ use Rattle.std.proofs.Common.{◌≡◌, Some, true, sym, subst}
 use Rattle.nand_model.specs.Calls.{Device}
 use Rattle.flash_tree.specs.Places.{numbers_of}
 use Rattle.block_state.specs.TableOf.{table}
-use Rattle.trusted_nand.specs.Trusting.{trusted_as}
+use Rattle.nand_model.specs.Trusting.{trusted_as}
 use Rattle.mounting.specs.Mounted.{IsTreeRead, CoversNewest}
 use Rattle.mounting.proofs.Entering.{tree_read, names_read}
 use Rattle.mounting.proofs.Lent.{reads_trusted}

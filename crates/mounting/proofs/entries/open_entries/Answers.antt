@@ -2,11 +2,11 @@ use Rattle.std.proofs.Common.{subst}
 use Rattle.std.proofs.lemmas.Bool.{and_from}
 use Rattle.std.specs.Prelude.{IfSome}
 use Rattle.flash_tree.specs.Checkpoints.{IsChecked}
-use Rattle.checkpoint_reading.specs.Found.{checkpoint_of}
-use Rattle.newest_pages.specs.Checked.{IsOpenedFor, KeepsItsTree}
-use Rattle.newest_pages.specs.laws.Trust.{trust, right_said}
-use Rattle.trusted_nand.specs.Parts.{inner_of}
-use Rattle.trusted_nand.specs.Trusting.{trusted_as}
+use Rattle.mount_scan.specs.FoundCheckpoint.{checkpoint_of}
+use Rattle.page_store.specs.Checked.{IsOpenedFor, KeepsItsTree}
+use Rattle.page_store.specs.laws.Trust.{trust, right_said}
+use Rattle.nand_model.specs.TrustedParts.{inner_of}
+use Rattle.nand_model.specs.Trusting.{trusted_as}
 use Rattle.mounting.proofs.Entering.{since_read, checked_at}
 use Rattle.mounting.proofs.Noting.{err_map}
 use Rattle.mounting.proofs.Sure.{ends_mount}

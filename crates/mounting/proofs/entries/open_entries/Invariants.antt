@@ -1,5 +1,5 @@
-use Rattle.checkpoint_reading.specs.Found.{checkpoint_of}
-use Rattle.newest_pages.specs.laws.Trust.{trust}
+use Rattle.mount_scan.specs.FoundCheckpoint.{checkpoint_of}
+use Rattle.page_store.specs.laws.Trust.{trust}
 use Rattle.mounting.proofs.entries.open_entries.Given as goal
 
 abbrev pub ghost-go_by : goal.ghost-go_by

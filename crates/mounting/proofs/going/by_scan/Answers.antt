@@ -9,7 +9,7 @@ use Rattle.volume_terms.specs.Sizes.{capacity}
 use Rattle.volume_terms.specs.VolumeSizes as volume
 use Rattle.block_state.specs.TableOf.{table}
 use Rattle.mounting.specs.Mounted.{IsTreeRead, IsTreeShown, HasRoomOn, CoversNewest}
-use Rattle.trusted_nand.specs.Trusting.{trusted_as}
+use Rattle.nand_model.specs.Trusting.{trusted_as}
 use Rattle.mounting.specs.Named.{IsTrustedSince}
 use Rattle.mounting.specs.Reads.{ReadsAll}
 use Rattle.mounting.proofs.ReadsTree.{ReadLaws, reads_all}

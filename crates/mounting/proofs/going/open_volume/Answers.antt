@@ -1,11 +1,11 @@
 use Rattle.std.proofs.Common.{Some, subst}
 use Rattle.std.specs.Prelude.{IfSome}
 use Rattle.nand_model.specs.laws.Changes.{only_reads_on}
-use Rattle.checkpoint_reading.specs.Found.{HasForm, IsWholeOn, checkpoint_of}
+use Rattle.mount_scan.specs.FoundCheckpoint.{HasForm, IsWholeOn, checkpoint_of}
 use Rattle.mounting.proofs.Noting.{form_after, whole_after, may_after, found_noted, since_before, since_with, checked_before, true_after, ok_map, ok_both}
-use Rattle.trusted_nand.specs.Parts.{inner_of}
+use Rattle.nand_model.specs.TrustedParts.{inner_of}
 use Rattle.mounting.specs.Reads.{EndsMount}
-use Rattle.newest_pages.specs.Checked.{HasTrueFlash}
+use Rattle.page_store.specs.Checked.{HasTrueFlash}
 use Rattle.mounting.proofs.ReadsTree.{ok_all, ok_each, ok_unless, reads_by, reads_none, scans_after, scans_not}
 use Rattle.mounting.proofs.going.open_volume.Goals as goal
 

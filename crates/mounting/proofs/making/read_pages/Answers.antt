@@ -1,8 +1,8 @@
 use Rattle.std.proofs.Common.{◌≡◌, ◌/◌, false, sym, ap, subst, rules}
 use Rattle.flash_tree.specs.Places.{numbers_of}
 use Rattle.block_state.specs.TableOf.{table}
-use Rattle.flash_pages.specs.ReadOnly.{only_read}
-use Rattle.newest_pages.specs.Newest.{seen}
+use Rattle.page_store.specs.ReadOnly.{only_read}
+use Rattle.page_store.specs.Newest.{seen}
 use Rattle.pages.specs.State.{PagesState}
 use Rattle.tree_walk.specs.Trees.{keeps_key}
 use Rattle.mounting.specs.Made.{ArePagesOn}

@@ -4,8 +4,8 @@ use Rattle.flash_tree.specs.Places.{numbers_of}
 use Rattle.block_state.specs.Kept.{bad_count}
 use Rattle.block_state.specs.TableOf.{table}
 use Rattle.flash_log.specs.Standing.{Stands, HasFreeBlocks}
-use Rattle.page_buffer.specs.BufferOf.{buffered}
-use Rattle.page_buffer.specs.Shown.{present_data}
+use Rattle.page_store.specs.BufferOf.{buffered}
+use Rattle.page_store.specs.Shown.{present_data}
 use Rattle.page_store.specs.StoreOf.{kept_map}
 use Rattle.page_store.specs.StateOf.{lent_by, state_of}
 use Rattle.tree_walk.specs.Trees.{keeps_key}

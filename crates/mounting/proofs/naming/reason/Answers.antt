@@ -1,4 +1,4 @@
-use Rattle.mounting.proofs.Reasons.{reason_told}
+use Rattle.mounting.proofs.FaultReasons.{reason_told}
 use Rattle.mounting.proofs.naming.reason.Goals as goal
 
 pub returns-then-has_power-clause-why : goal.returns-then-has_power-clause-why

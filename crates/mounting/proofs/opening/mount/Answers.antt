@@ -3,7 +3,7 @@ use Rattle.nand_model.specs.Calls.{Device}
 use Rattle.nand_model.specs.Changes.{OnlyReads}
 use Rattle.nand_model.specs.laws.Changes.{only_reads_on}
 use Rattle.flash_tree.specs.Checkpoints.{IsChecked}
-use Rattle.trusted_nand.specs.Parts.{inner_of}
+use Rattle.nand_model.specs.TrustedParts.{inner_of}
 use Rattle.mounting.specs.Reads.{ReadsAtMost}
 use Rattle.mounting.proofs.Noting.{since_same}
 use Rattle.mounting.proofs.ReadsTree.{reads_seen, scans_seen}

@@ -1,6 +1,6 @@
 use Rattle.std.proofs.Common.{◌&&◌, true, ap}
 use Rattle.mounting.proofs.Answering.{MapsAnswer, fault_answered}
-use Rattle.mounting.proofs.Reasons.{tree_reason}
+use Rattle.mounting.proofs.FaultReasons.{tree_reason}
 use Rattle.mounting.proofs.reading.read_tree.Goals as goal
 
 pub unmounted-requires : goal.unmounted-requires

@@ -1,7 +1,7 @@
 use Rattle.std.proofs.Common.{◌≡◌, ◌<◌, ℕ, None}
 use Rattle.pages.specs.Maps.{IsCut}
-use Rattle.page_cache.specs.Cached.{held, cached}
-use Rattle.page_cache.specs.Changes.{KeepsSizes}
+use Rattle.page_store.specs.Cached.{held, cached}
+use Rattle.page_store.specs.Changes.{KeepsSizes}
 use Rattle.page_store.specs.Caching.{HasNoMore}
 use Rattle.page_store.proofs.caching.drop_cuts.Given as goal
 

@@ -3,8 +3,8 @@ use Rattle.std.proofs.Common.{◌∙◌, refl, sym, ap, subst, arith, inl, inr}
 use Rattle.std.proofs.lemmas.Bool.{cases_eq}
 use Rattle.std.proofs.lemmas.Option.{slice_get_within}
 use Rattle.flash_tree.specs.declared.place.FreshPage.{FreshPage}
-use Rattle.page_buffer.specs.BufferOf.{last_written}
-use Rattle.page_cache.specs.Cached.{held, cached}
+use Rattle.page_store.specs.BufferOf.{last_written}
+use Rattle.page_store.specs.Cached.{held, cached}
 use Rattle.page_store.specs.Caching.{AreIn}
 use Rattle.page_store.proofs.Shown.{sizes_on, sizes_exchanged, shows_exchanged, held_exchanged, cached_exchanged, cached_here, get_before, get_last, one_longer, all_first, all_last}
 use Rattle.page_store.proofs.caching.keep_written.Goals as goal

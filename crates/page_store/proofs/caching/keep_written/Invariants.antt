@@ -1,9 +1,9 @@
 use Rattle.std.proofs.Common.{◌≡◌, ◌<◌, ◌≤◌, ℕ, Some, IsSome, length, slice_get}
 use Rattle.flash_tree.specs.declared.place.FreshPage.{FreshPage}
 use Rattle.pages.specs.Maps.{PageMap}
-use Rattle.page_buffer.specs.BufferOf.{buffered, last_written, most_pages, bytes_of_page}
-use Rattle.page_cache.specs.Cached.{held, cached}
-use Rattle.page_cache.specs.Changes.{KeepsSizes}
+use Rattle.page_store.specs.BufferOf.{buffered, last_written, most_pages, bytes_of_page}
+use Rattle.page_store.specs.Cached.{held, cached}
+use Rattle.page_store.specs.Changes.{KeepsSizes}
 use Rattle.page_store.specs.Caching.{Shows, AreIn}
 use Rattle.page_store.proofs.caching.keep_written.Given as goal
 

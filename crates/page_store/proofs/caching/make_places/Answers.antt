@@ -4,8 +4,8 @@ use Rattle.std.proofs.lemmas.Bool.{cases_eq}
 use Rattle.std.proofs.lemmas.Option.{slice_get_within, slice_get_read}
 use Rattle.flash_tree.specs.declared.place.FreshPage.{FreshPage}
 use Rattle.std.specs.Option.{option_and_then}
-use Rattle.page_cache.specs.Slots.{page_in}
-use Rattle.page_cache.specs.Cached.{held, held_count, capacity_of}
+use Rattle.page_store.specs.Slots.{page_in}
+use Rattle.page_store.specs.Cached.{held, held_count, capacity_of}
 use Rattle.page_store.proofs.Shown.{sizes_on, fewer_placed, held_put, lacks_on, lacks_page}
 use Rattle.page_store.proofs.caching.make_places.Goals as goal
 

@@ -1,8 +1,8 @@
 use Rattle.std.proofs.Common.{◌≡◌, ◌<◌, ◌≤◌, ◌+◌, ℕ, length, Some, None, IsSome, slice_get}
 use Rattle.flash_tree.specs.declared.place.FreshPage.{FreshPage}
 use Rattle.pages.specs.Maps.{IsPageOf}
-use Rattle.page_cache.specs.Cached.{held, cached, held_count, capacity_of}
-use Rattle.page_cache.specs.Changes.{KeepsSizes}
+use Rattle.page_store.specs.Cached.{held, cached, held_count, capacity_of}
+use Rattle.page_store.specs.Changes.{KeepsSizes}
 use Rattle.page_store.specs.Caching.{HasNoMore}
 use Rattle.page_store.proofs.caching.make_places.Given as goal
 

@@ -6,7 +6,7 @@ use Rattle.flash_tree.specs.declared.place.FreshPage.{FreshPage}
 use Rattle.block_state.specs.Table.{Table}
 use Rattle.block_state.specs.TableOf.{table}
 use Rattle.chunk_index.specs.declared.index.Index.{Index}
-use Rattle.page_buffer.specs.BufferOf.{buffered}
+use Rattle.page_store.specs.BufferOf.{buffered}
 use Rattle.transactions.specs.Checking.{log_of}
 use Rattle.transactions.specs.Committing.{fresh_name, fresh_bytes}
 use Rattle.transactions.specs.Groups.{AddsPages, GroupsAfter, OkTable, TellsGroup, next_group}

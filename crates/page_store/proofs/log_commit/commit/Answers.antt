@@ -5,8 +5,8 @@ use Rattle.nand_model.specs.Calls.{Device}
 use Rattle.nand_model.specs.laws.Calls.{lasts_here}
 use Rattle.block_state.specs.Kept.{bad_count}
 use Rattle.block_state.specs.Table.{Table}
-use Rattle.page_buffer.specs.BufferOf.{buffered}
-use Rattle.page_buffer.specs.laws.Buffering.{buffers_empty}
+use Rattle.page_store.specs.BufferOf.{buffered}
+use Rattle.page_store.specs.laws.Buffering.{buffers_empty}
 use Rattle.transactions.specs.laws.Handing.{hands_nothing}
 use Rattle.page_store.specs.Buffered.{BufferedLog, held, in_parts}
 use Rattle.page_store.specs.Committing.{StaysOpen}

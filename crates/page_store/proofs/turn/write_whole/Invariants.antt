@@ -1,8 +1,8 @@
 use Rattle.std.proofs.Common.{◌≡◌, ◌≤◌, ◌-◌, ◌+◌, ◌*◌}
 use Rattle.block_state.specs.Kept.{bad_count}
 use Rattle.block_state.specs.TableOf.{table}
-use Rattle.page_buffer.specs.BufferOf.{buffered}
-use Rattle.page_buffer.specs.Buffering.{Buffers}
+use Rattle.page_store.specs.BufferOf.{buffered}
+use Rattle.page_store.specs.Buffering.{Buffers}
 use Rattle.nand_model.specs.Counts.{Costs, ReadsFew}
 use Rattle.flash_log.specs.LogOf.{log_state}
 use Rattle.flash_log.specs.Moving.{AnswersFailures, MarksFailures}

@@ -2,8 +2,8 @@ use Rattle.std.proofs.Common.{◌≡◌, ◌≤◌, ◌∙◌, length, sym, ap, 
 use Rattle.std.proofs.lemmas.Result.{err_from_is_err_and}
 use Rattle.volume_terms.specs.Sizes.{buffer_pages}
 use Rattle.object_store.specs.Changes.{made}
-use Rattle.object_pages.specs.Holding.{HoldsObjects}
-use Rattle.object_pages.specs.Plans.{most_pages}
+use Rattle.paged_objects.specs.Holding.{HoldsObjects}
+use Rattle.paged_objects.specs.Plans.{most_pages}
 use Rattle.pages.specs.Maps.{PageMap, changed}
 use Rattle.pages.specs.State.{PagesState}
 use Rattle.pages.specs.Stores.{SamePages}

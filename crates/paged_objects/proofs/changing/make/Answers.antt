@@ -4,7 +4,7 @@ use Rattle.volume_terms.specs.Sizes.{Sizes}
 use Rattle.volume_terms.specs.declared.fault.StoreFault.TheVariants as faults
 use Rattle.object_store.specs.Changes.{made}
 use Rattle.posix_profile.specs.Changes.{new_number}
-use Rattle.object_table.specs.Told.{table_sizes, Tells, LedBefore}
+use Rattle.object_store.specs.Told.{table_sizes, Tells, LedBefore}
 use Rattle.pages.specs.State.{PagesState}
 use Rattle.paged_objects.specs.Ending.{EndsPages}
 use Rattle.paged_objects.specs.Known.{ObjectsState, state_with, HasNamed}

@@ -1,7 +1,7 @@
 use Rattle.std.proofs.Common.{sym, subst}
 use Rattle.object_store.specs.Changes.{made}
-use Rattle.object_pages.specs.Holding.{HoldsObjects}
-use Rattle.object_pages.specs.Naming.{HasNames, HoldsNamed}
+use Rattle.paged_objects.specs.Holding.{HoldsObjects}
+use Rattle.paged_objects.specs.Naming.{HasNames, HoldsNamed}
 use Rattle.pages.specs.Maps.{PageMap, changed}
 use Rattle.pages.specs.State.{PagesState}
 use Rattle.paged_objects.specs.laws.Showing.{holds_in}

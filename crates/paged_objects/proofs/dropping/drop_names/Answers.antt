@@ -2,7 +2,7 @@ use Rattle.std.proofs.Common.{sym, subst}
 use Rattle.posix_profile.specs.Changes.{with_name, without_name}
 use Rattle.object_store.specs.Changes.{made}
 use Rattle.object_store.specs.declared.change.ObjectChange.{ObjectChange}
-use Rattle.object_pages.specs.Naming.{HasNames}
+use Rattle.paged_objects.specs.Naming.{HasNames}
 use Rattle.paged_objects.specs.Changing.{HasLeftBy}
 use Rattle.paged_objects.proofs.dropping.drop_names.Goals as goal
 

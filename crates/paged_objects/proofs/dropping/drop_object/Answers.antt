@@ -1,6 +1,6 @@
 use Rattle.std.proofs.Common.{Option, ℕ, sym, subst}
 use Rattle.object_store.specs.Changes.{without}
-use Rattle.object_pages.specs.Naming.{HasNames}
+use Rattle.paged_objects.specs.Naming.{HasNames}
 use Rattle.paged_objects.proofs.Dropped.{object_dropped}
 use Rattle.paged_objects.proofs.dropping.drop_object.Goals as goal
 

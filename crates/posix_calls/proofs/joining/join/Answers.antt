@@ -1,8 +1,8 @@
 use Rattle.std.proofs.Common.{sym, ap, subst}
 use Rattle.volume_terms.specs.Sizes.{Sizes, IsSizes}
-use Rattle.object_pages.specs.Naming.{HasNames}
-use Rattle.object_table.specs.Told.{table_sizes}
-use Rattle.page_volume.specs.Volumes.{IsStored}
+use Rattle.paged_objects.specs.Naming.{HasNames}
+use Rattle.object_store.specs.Told.{table_sizes}
+use Rattle.posix_calls.specs.PageVolumes.{IsStored}
 use Rattle.paged_objects.specs.Standing.{StandsFor, Shown}
 use Rattle.posix_calls.proofs.Mounting.{sound_at, stands_for}
 use Rattle.posix_calls.proofs.joining.join.Goals as goal

@@ -1,9 +1,9 @@
 -- The honesty of a device by itself, from before its mount until it is given back.
 use Rattle.std.proofs.Common.{◌≡◌, ◌∙◌, ap, sym}
 use Rattle.nand_model.specs.Calls.{Device}
-use Rattle.page_volume.specs.Calls.{VolumeGoesOn}
-use Rattle.page_volume.specs.Volumes.{pages_of}
-use Rattle.page_volume.specs.declared.volume.PageVolume.{PageVolume}
+use Rattle.posix_calls.specs.Calls.{VolumeGoesOn}
+use Rattle.posix_calls.specs.PageVolumes.{pages_of}
+use Rattle.posix_calls.specs.declared.page_volume.PageVolume.{PageVolume}
 use Rattle.pages.specs.State.{PagesState}
 use Rattle.posix_calls.specs.Endings.{LiesOn}
 use Rattle.posix_calls.specs.Mounts.{IsMounted}

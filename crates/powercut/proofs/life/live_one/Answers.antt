@@ -7,10 +7,10 @@ use Rattle.nand_model.specs.MemoryState.{device, plan}
 use Rattle.lives.specs.Lives.{SessionRecord}
 use Rattle.mounting.specs.Faults.{WhyNotMounted}
 use Rattle.mounting.specs.declared.fault.MountFault.TheVariants as faults
-use Rattle.newest_pages.specs.Checked.{HasTrueFlash}
-use Rattle.planned_nand.specs.Planning.{IsPlanned}
-use Rattle.planned_nand.specs.Running.{RunsAsPlanned}
-use Rattle.planned_nand.specs.States.{state_of}
+use Rattle.page_store.specs.Checked.{HasTrueFlash}
+use Rattle.powercut.specs.Planning.{IsPlanned}
+use Rattle.powercut.specs.Running.{RunsAsPlanned}
+use Rattle.powercut.specs.States.{state_of}
 use Rattle.powercut.specs.Living.{HasLived}
 use Rattle.powercut.specs.Sessions.{IsServedFrom}
 use Rattle.powercut.specs.Starting.{plan_of}

@@ -1,5 +1,5 @@
 use Rattle.nand_model.specs.MemoryState.{device}
-use Rattle.planned_nand.specs.Naming.{totals}
+use Rattle.powercut.specs.Naming.{totals}
 use Rattle.powercut.proofs.life.live_one.Given as goal
 
 -- the counts that the session begins with

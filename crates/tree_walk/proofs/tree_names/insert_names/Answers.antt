@@ -7,8 +7,8 @@ use Rattle.volume_terms.specs.laws.List.{at_mapped}
 use Rattle.posix_profile.specs.State.{Dir}
 use Rattle.posix_profile.specs.Changes.{with_name}
 use Rattle.flash_tree.specs.Tree.{IsPageSize}
-use Rattle.object_table.specs.Built.{sizes_built, Builds}
-use Rattle.object_table.specs.Counted.{GetsName}
+use Rattle.object_store.specs.Built.{sizes_built, Builds}
+use Rattle.object_store.specs.Counted.{GetsName}
 use Rattle.tree_walk.specs.Trees.{head_at, objects_listed}
 use Rattle.tree_walk.specs.declared.tree.NamedObject.{NamedObject}
 use Rattle.tree_walk.specs.declared.tree.Tree.{Tree}

@@ -1,7 +1,7 @@
 use Rattle.std.proofs.Common.{◌≡◌}
 use Rattle.pages.specs.Maps.{PageMap}
 use Rattle.posix_profile.specs.State.{Objects}
-use Rattle.object_table.specs.Built.{sizes_built, Builds}
+use Rattle.object_store.specs.Built.{sizes_built, Builds}
 use Rattle.tree_walk.specs.Building.{IsShown, IsNameless}
 use Rattle.tree_walk.proofs.Naming.{HasNamed}
 use Rattle.tree_walk.proofs.Told.{slots_of, page_size}

@@ -3,7 +3,7 @@ use Rattle.std.proofs.lemmas.Option.{slice_get-get_or}
 use Rattle.std.specs.FinMap as map
 use Rattle.volume_terms.specs.Sizes.{Sizes}
 use Rattle.flash_tree.specs.Tree.{IsPageSize}
-use Rattle.object_table.specs.Built.{sizes_built, CanCome}
+use Rattle.object_store.specs.Built.{sizes_built, CanCome}
 use Rattle.tree_walk.specs.Trees.{objects_listed}
 use Rattle.tree_walk.specs.declared.tree.Tree.{Tree}
 use Rattle.tree_walk.proofs.Bare.{bare, bare_said, begins_bare, can_come, bare_more, nameless}

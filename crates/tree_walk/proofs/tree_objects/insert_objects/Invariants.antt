@@ -2,7 +2,7 @@ use Rattle.std.proofs.Common.{◌≡◌}
 use Rattle.std.specs.FinMap as map
 use Rattle.pages.specs.Maps.{PageMap}
 use Rattle.posix_profile.specs.State.{Objects}
-use Rattle.object_table.specs.Built.{sizes_built, Builds}
+use Rattle.object_store.specs.Built.{sizes_built, Builds}
 use Rattle.tree_walk.specs.Trees.{objects_listed}
 use Rattle.tree_walk.specs.Building.{IsShown}
 use Rattle.tree_walk.proofs.Bare.{HasBare}

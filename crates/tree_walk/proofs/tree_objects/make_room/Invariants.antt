@@ -1,6 +1,6 @@
 use Rattle.std.proofs.Common.{◌≡◌}
 use Rattle.posix_profile.specs.State.{Objects}
-use Rattle.object_table.specs.Built.{sizes_built, Builds}
+use Rattle.object_store.specs.Built.{sizes_built, Builds}
 use Rattle.tree_walk.proofs.tree_objects.make_room.Given as goal
 
 abbrev pub invariant-loop-place : goal.invariant-loop-place

@@ -3,9 +3,9 @@ use Rattle.nand_model.specs.Calls.{Device}
 use Rattle.nand_model.specs.Changes.{OnlyReads}
 use Rattle.nand_model.specs.declared.geometry.Geometry.{Geometry}
 use Rattle.flash_tree.specs.Places.{numbers_of}
-use Rattle.page_buffer.specs.Shown.{kept_data}
+use Rattle.page_store.specs.Shown.{kept_data}
 use Rattle.pages.specs.Maps.{PageMap, has, known_pages}
-use Rattle.mount_answers.specs.Newest.{IsNewestMap}
+use Rattle.mounting.specs.NewestMaps.{IsNewestMap}
 use Rattle.volume_check.specs.Verdicts.{TellsVerdict, SaysOfFlash}
 use Rattle.volume_check.specs.declared.verdict.Verdict.{Verdict}
 use Rattle.volume_check.proofs.Saying.{MapsAnswer, says, newest_map, not_lost}

@@ -1,8 +1,8 @@
 use Rattle.std.proofs.Common.{ℕ, sym, ◌∙◌, subst, inl}
 use Rattle.flash_tree.specs.Mount.{IsVolume, sizes_of}
 use Rattle.pages.specs.Maps.{PageMap, has}
-use Rattle.mount_answers.specs.Trees.{WhyNoTree, of_walk}
-use Rattle.mount_answers.specs.laws.Trees.{wrong_below}
+use Rattle.mounting.specs.TreeAnswers.{WhyNoTree, of_walk}
+use Rattle.mounting.specs.laws.TreeAnswers.{wrong_below}
 use Rattle.volume_check.proofs.verdict.go_through.Goals as goal
 
 pub returns-in-Some-clause-whole : goal.returns-in-Some-clause-whole

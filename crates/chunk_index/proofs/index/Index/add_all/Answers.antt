@@ -1,7 +1,7 @@
 use Rattle.std.proofs.Common.{◌≡◌, ◌∙◌, refl, sym, ap, subst, arith}
 use Rattle.nand_model.specs.declared.geometry.Geometry.{Geometry}
-use Rattle.found_pages.specs.Listed.{listed}
-use Rattle.found_pages.specs.laws.Listed.{before, before_all, bucket_part, part_end}
+use Rattle.mount_scan.specs.Listed.{listed}
+use Rattle.mount_scan.specs.laws.Listed.{before, before_all, bucket_part, part_end}
 use Rattle.chunk_index.specs.Newest.{LieInPages, LieWithin}
 use Rattle.chunk_index.specs.Found.{HasPages}
 use Rattle.chunk_index.proofs.Counting.{recounts_here, recounts_on}

@@ -1,7 +1,7 @@
 use Rattle.std.proofs.Common.{◌≡◌, ◌≤◌, ℕ}
 use Rattle.block_state.specs.TableOf.{table}
-use Rattle.found_pages.specs.Listed.{listed, bucket_at}
-use Rattle.found_pages.specs.laws.Listed.{before}
+use Rattle.mount_scan.specs.Listed.{listed, bucket_at}
+use Rattle.mount_scan.specs.laws.Listed.{before}
 use Rattle.chunk_index.specs.Counts.{Recounts}
 use Rattle.chunk_index.specs.Found.{HasPages}
 use Rattle.chunk_index.specs.Maps.{kept_in, CountsAgree}

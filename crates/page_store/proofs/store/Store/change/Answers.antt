@@ -3,16 +3,16 @@ use Rattle.std.proofs.Common.{◌∙◌, sym, ap, subst, inl, inr, arith}
 use Rattle.std.proofs.lemmas.Bool.{true≢false}
 use Rattle.std.proofs.lemmas.Result.{err_from_is_err_and}
 use Rattle.page_store.specs.Changing.{IsBroken}
-use Rattle.page_buffer.specs.BufferOf.{buffered}
-use Rattle.page_buffer.specs.declared.buffer.Buffer.{Buffer}
+use Rattle.page_store.specs.BufferOf.{buffered}
+use Rattle.page_store.specs.declared.buffer.Buffer.{Buffer}
 use Rattle.pages.specs.laws.Changes.{changed_same}
 use Rattle.flash_tree.specs.declared.place.FreshPage.{FreshPage}
-use Rattle.page_cache.specs.Cached.{held_count, capacity_of}
-use Rattle.page_cache.specs.declared.cache.PageCache.{PageCache}
+use Rattle.page_store.specs.Cached.{held_count, capacity_of}
+use Rattle.page_store.specs.declared.cache.PageCache.{PageCache}
 use Rattle.page_store.specs.Caching.{LacksPages}
 use Rattle.page_store.specs.StoreState.{StoreState, current_in, waiting}
 use Rattle.page_store.specs.StateOf.{state_of}
-use Rattle.page_buffer.specs.Buffering.{AreReady}
+use Rattle.page_store.specs.Buffering.{AreReady}
 use Rattle.page_store.proofs.Carried.{store_carries}
 use Rattle.page_store.proofs.Changed.{broken_ends, broken_made, carried_made, commits_none, commits_not, commits_not_after, committed_made, current_before, lasts_made, lasts_prepared, lasts_still, open_made, pays_done, pays_failed, pays_here, pays_made, refused_made, same_here, whole_made}
 use Rattle.page_store.proofs.Steps.{fits_on, ready_prepared, few_new}

@@ -1,7 +1,7 @@
 use Rattle.std.specs.Prelude.{◌≡◌, List, [], ◌∷◌}
 use Rattle.std.proofs.Common.{◌∙◌}
-use Rattle.page_buffer.specs.BufferOf.{buffered}
-use Rattle.page_buffer.specs.Shown.{present_data}
+use Rattle.page_store.specs.BufferOf.{buffered}
+use Rattle.page_store.specs.Shown.{present_data}
 use Rattle.pages.specs.declared.change.Cut.{Cut}
 use Rattle.page_store.specs.declared.store.Found.TheVariants as places
 use Rattle.page_store.proofs.Carried.{newest_kept}

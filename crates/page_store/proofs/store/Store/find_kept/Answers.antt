@@ -4,7 +4,7 @@ use Rattle.transactions.specs.laws.Ready.{ready_read}
 use Rattle.block_state.specs.TableOf.{table}
 use Rattle.transactions.specs.Checking.{log_of}
 use Rattle.flash_log.specs.Room.{IsRoomFor}
-use Rattle.page_buffer.specs.BufferOf.{buffered}
+use Rattle.page_store.specs.BufferOf.{buffered}
 use Rattle.page_store.specs.StoreState.{StoreState}
 use Rattle.page_store.specs.StateOf.{state_of}
 use Rattle.page_store.specs.declared.store.Found.TheVariants as places

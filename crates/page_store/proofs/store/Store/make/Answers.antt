@@ -1,10 +1,10 @@
 use Rattle.std.specs.Prelude.{◌≡◌, List, Option, IsSome}
 use Rattle.std.proofs.Common.{◌∙◌, sym, subst}
-use Rattle.page_buffer.specs.BufferOf.{buffered}
-use Rattle.page_buffer.specs.Shown.{present_data}
+use Rattle.page_store.specs.BufferOf.{buffered}
+use Rattle.page_store.specs.Shown.{present_data}
 use Rattle.flash_tree.specs.declared.place.FreshPage.{FreshPage}
 use Rattle.pages.specs.declared.change.Cut.{Cut}
-use Rattle.page_cache.specs.Slots.{Held}
+use Rattle.page_store.specs.Slots.{Held}
 use Rattle.page_store.specs.Caching.{LacksCuts, LacksPages, KeepsUncut}
 use Rattle.page_store.specs.declared.store.Found.TheVariants as places
 use Rattle.page_store.proofs.Carried.{newest_kept}

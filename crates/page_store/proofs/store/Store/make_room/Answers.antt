@@ -1,7 +1,7 @@
 use Rattle.std.specs.Prelude.{◌≡◌, ◌≤◌, ◌/◌, length, true, false}
 use Rattle.std.proofs.Common.{◌∙◌, refl, sym, ap, subst, inl, inr, arith}
 use Rattle.nand_model.specs.declared.geometry.Geometry.{Geometry}
-use Rattle.page_buffer.specs.BufferOf.{buffered}
+use Rattle.page_store.specs.BufferOf.{buffered}
 use Rattle.block_state.specs.TableOf.{table}
 use Rattle.page_store.specs.StoreState.{StoreState, waiting}
 use Rattle.page_store.specs.StateOf.{state_of}

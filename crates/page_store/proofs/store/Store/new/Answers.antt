@@ -2,8 +2,8 @@ use Rattle.std.specs.Prelude.{◌≡◌, ◌/◌, List, Some, None, slice_get, o
 use Rattle.std.proofs.Common.{◌∙◌, sym, ap}
 use Rattle.nand_model.specs.declared.geometry.Geometry.{Geometry}
 use Rattle.flash_tree.specs.declared.place.FreshPage.{FreshPage}
-use Rattle.page_buffer.specs.laws.Buffering.{buffers_empty}
-use Rattle.page_cache.specs.Slots.{page_in}
+use Rattle.page_store.specs.laws.Buffering.{buffers_empty}
+use Rattle.page_store.specs.Slots.{page_in}
 use Rattle.page_store.specs.declared.store.Found.TheVariants as places
 use Rattle.page_store.proofs.store.Store.new.Goals as goal
 

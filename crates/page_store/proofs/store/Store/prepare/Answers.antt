@@ -1,6 +1,6 @@
 use Rattle.std.proofs.Common.{◌∙◌}
-use Rattle.page_buffer.specs.BufferOf.{buffered}
-use Rattle.page_buffer.specs.laws.Buffering.{buffers_same}
+use Rattle.page_store.specs.BufferOf.{buffered}
+use Rattle.page_store.specs.laws.Buffering.{buffers_same}
 use Rattle.page_store.proofs.Carried.{newest_kept}
 use Rattle.page_store.proofs.Steps.{stands_kept, shown_same}
 use Rattle.page_store.proofs.store.Store.prepare.Goals as goal

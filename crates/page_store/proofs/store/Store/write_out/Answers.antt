@@ -1,11 +1,11 @@
 use Rattle.std.specs.Prelude.{◌≡◌, ◌≤◌, ◌/◌, true, false, List, [], Some, None, length, slice_get}
 use Rattle.std.proofs.Common.{◌∙◌, refl, sym, ap, subst, inl, inr, arith}
 use Rattle.nand_model.specs.declared.geometry.Geometry.{Geometry}
-use Rattle.page_buffer.specs.BufferOf.{buffered}
-use Rattle.page_buffer.specs.Shown.{kept_data, present_data}
+use Rattle.page_store.specs.BufferOf.{buffered}
+use Rattle.page_store.specs.Shown.{kept_data, present_data}
 use Rattle.flash_tree.specs.declared.place.FreshPage.{FreshPage}
-use Rattle.page_buffer.specs.BufferOf.{last_written}
-use Rattle.page_buffer.specs.Buffering.{Buffers}
+use Rattle.page_store.specs.BufferOf.{last_written}
+use Rattle.page_store.specs.Buffering.{Buffers}
 use Rattle.page_store.specs.Caching.{Shows, AreIn, TakesPages}
 use Rattle.pages.specs.Stores.{SamePages}
 use Rattle.block_state.specs.Kept.{bad_count}

@@ -1,8 +1,8 @@
 use Rattle.std.proofs.Common.{◌≡◌, ◌<◌, length, ◌∙◌, sym, subst}
 use Rattle.chunk_index.specs.declared.form.Present.TheVariants as presents
 use Rattle.chunk_index.specs.Maps.{present}
-use Rattle.page_buffer.specs.laws.Buffering.{place_within}
-use Rattle.page_buffer.specs.BufferOf.{buffered}
+use Rattle.page_store.specs.laws.Buffering.{place_within}
+use Rattle.page_store.specs.BufferOf.{buffered}
 use Rattle.page_store.specs.StateOf.{lent_by, state_of}
 use Rattle.page_store.proofs.ReadOnly.{near_cached, finds_seen, buffered_lent, kept_lent, not_absent, fault_seen}
 use Rattle.page_store.proofs.store.StorePages.find.Goals as goal

@@ -2,7 +2,7 @@ use Rattle.std.proofs.Common.{◌∙◌, ◌/◌, sym, ap, subst}
 use Rattle.nand_model.specs.declared.geometry.Geometry.{Geometry}
 use Rattle.transactions.specs.laws.Ready.{ready_read}
 use Rattle.flash_log.specs.Room.{IsRoomFor}
-use Rattle.page_buffer.specs.BufferOf.{buffered}
+use Rattle.page_store.specs.BufferOf.{buffered}
 use Rattle.page_store.proofs.Steps.{numbered_on}
 use Rattle.page_store.proofs.ReadOnly.{stands_read, newest_read, still_shown}
 use Rattle.page_store.proofs.store.StorePages.has_power.Goals as goal

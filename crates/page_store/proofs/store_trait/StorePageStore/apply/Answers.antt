@@ -3,7 +3,7 @@ use Rattle.std.proofs.Common.{refl, ◌∙◌, sym, ap, subst, arith}
 use Rattle.nand_model.specs.Calls.{Device}
 use Rattle.nand_model.specs.declared.geometry.Geometry.{Geometry}
 use Rattle.block_state.specs.Table.{Table}
-use Rattle.page_buffer.specs.BufferOf.{buffered, most_pages}
+use Rattle.page_store.specs.BufferOf.{buffered, most_pages}
 use Rattle.pages.specs.Stores.{AreNear, IsCarried}
 use Rattle.page_store.specs.StoreOf.{next_numbers}
 use Rattle.page_store.specs.StoreState.{committed_in, current_in, seen_of, StoreState}

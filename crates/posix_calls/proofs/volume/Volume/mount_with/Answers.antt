@@ -2,7 +2,7 @@ use Rattle.std.proofs.Common.{ap, subst, ◌∙◌}
 use Rattle.nand_model.specs.Calls.{Device}
 use Rattle.nand_model.specs.Changes.{OnlyReads}
 use Rattle.nand_model.specs.laws.Changes.{only_reads_on}
-use Rattle.trusted_nand.specs.Parts.{inner_of}
+use Rattle.nand_model.specs.TrustedParts.{inner_of}
 use Rattle.posix_calls.proofs.Mounting.{mounted_over, placed_over}
 use Rattle.posix_calls.proofs.volume.Volume.mount_with.Goals as goal
 

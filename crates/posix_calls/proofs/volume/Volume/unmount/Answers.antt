@@ -1,6 +1,6 @@
 use Rattle.std.proofs.Common.{◌∙◌, sym}
 use Rattle.std.proofs.lemmas.Bool.{true≢false}
-use Rattle.flash_pages.specs.Sealing.{IsDueOf, check_pages_of}
+use Rattle.page_store.specs.FlashSealing.{IsDueOf, check_pages_of}
 use Rattle.posix_calls.proofs.Unmounting.{left_alone, ends_with, leaves_one}
 use Rattle.posix_calls.proofs.volume.Volume.unmount.Goals as goal
 

@@ -1,9 +1,0 @@
-use Rattle.checkpoint_reading.specs.Candidates.{FirstsBelow}
-use Rattle.checkpoint_reading.proofs.ReadCount.{HasRead}
-use Rattle.checkpoint_reading.proofs.candidate.read_firsts.Given as goal
-
-abbrev pub invariant-loop-block : goal.invariant-loop-block
-invariant-loop-block g l = record {
-  read : HasRead l.block (g.N.Nand.state l.fn.device) (g.N.Nand.state l.device);
-  below : FirstsBelow (g.N.Nand.state l.fn.device) l.block l.firsts;
-}

@@ -1,7 +1,0 @@
-use Rattle.std.proofs.Common.{◌≡◌, ◌↔◌, ◌<◌, ◌+◌, ◌*◌, min, ℕ, List, take, drop}
-use Rattle.page_tags.specs.declared.check.CheckEntry.{CheckEntry}
-use Rattle.checkpoint_reading.specs.Parts.{Takes, entry_part}
-use Rattle.checkpoint_reading.proofs.part.take_parts.Given as goal
-
-abbrev pub invariant-loop-k : goal.invariant-loop-k
-invariant-loop-k l = Takes l.n (l.first + l.k) (λ fs. (i : ℕ) → i < l.k → take 32 (drop (32 * i) l.parts) ≡ entry_part fs (l.first + i)) l.fn.entries.items l.entries.items

@@ -1,4 +1,0 @@
-pub mod ReadOnly
-pub mod Parts
-pub mod Sealing
-pub mod laws

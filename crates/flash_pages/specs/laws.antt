@@ -1,2 +1,0 @@
-pub mod OneProof
-pub mod Sound

@@ -1,4 +1,0 @@
-pub mod Ranked
-pub mod Latest
-pub mod Thinning
-pub mod Listing

@@ -1,4 +1,0 @@
-use Rattle.found_pages.proofs.newest.gather_last.Goals as goal
-
-pub loop-i-preserved : goal.loop-i-preserved
-loop-i-preserved c = c.gather_at-kept.ensures _ c.requires c.loop-i.invariant

@@ -1,5 +1,0 @@
-use Rattle.found_pages.specs.Keys.{Gathers}
-use Rattle.found_pages.proofs.newest.gather_last.Given as goal
-
-abbrev pub invariant-loop-i : goal.invariant-loop-i
-invariant-loop-i l = Gathers l.fn.sorted.items l.i l.sorted.items l.kept

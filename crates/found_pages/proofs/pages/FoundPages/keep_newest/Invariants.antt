@@ -1,5 +1,0 @@
-use Rattle.found_pages.proofs.Listing.{AreThinned}
-use Rattle.found_pages.proofs.pages.FoundPages.keep_newest.Given as goal
-
-abbrev pub invariant-loop-at : goal.invariant-loop-at
-invariant-loop-at l = AreThinned l.fn.self.buckets.items l.self.buckets.items l.at

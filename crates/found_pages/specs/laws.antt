@@ -1,3 +1,0 @@
-pub mod Keys
-pub mod Order
-pub mod Listed

@@ -1,2 +1,0 @@
-pub mod Fuses
-pub mod Refusals

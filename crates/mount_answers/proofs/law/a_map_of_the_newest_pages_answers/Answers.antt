@@ -1,5 +1,0 @@
-use Rattle.mount_answers.proofs.NewestMaps.{no_volume, wrong_root, wrong_object, two_names, wrong_tree}
-use Rattle.mount_answers.proofs.law.a_map_of_the_newest_pages_answers.Goals as goal
-
-pub returns : goal.returns
-returns c = record { no_volume = no_volume; root = wrong_root; object = wrong_object; names = two_names; tree = wrong_tree }

@@ -1,0 +1,37 @@
+// Why a tree was not gone through.
+ghost use Rattle.std.specs.Prelude.{◌≡◌, ℕ, true};
+ghost use Rattle.flash_tree.specs.Mount.{IsVolume};
+ghost use Rattle.pages.specs.Maps.{has};
+ghost use Rattle.pages.specs.State.{OnlyFinds};
+ghost use Rattle.mounting.specs.TreeAnswers.{WhyNoTree, FailsTree, of_walk};
+
+use nand_model::Geometry;
+use pages::Pages;
+use tree_walk::{RootFault, WalkFault, root};
+
+/// The fault of a walk, as one of the root.
+fn root_fault(fault: WalkFault) -> RootFault
+    ensures { result ≡ of_walk fault }
+{
+    match fault {
+        WalkFault::NoMemory => RootFault::NoMemory,
+        WalkFault::Device => RootFault::Device,
+        WalkFault::Newer(format) => RootFault::Newer(format),
+        WalkFault::Damaged => RootFault::Damaged,
+    }
+}
+
+/// The first fault of a tree that a walk did not go through: that of the root's header, which is asked for again, or else the one that
+/// the walk found below it.
+pub fn first_fault<P: Pages>(pages: &mut P, geometry: Geometry, below: WalkFault) -> RootFault
+    ensures finds { OnlyFinds (P.state pages.old) (P.state pages.new) }
+    ensures reason { (P.state pages.old).sound ≡ true → geometry.bytes ≡ (P.state pages.old).page_bytes
+        → ((spare : ℕ) → IsVolume geometry (has (P.state pages.old).present) spare → WhyNoTree geometry (has (P.state pages.old).present) (of_walk below))
+        → WhyNoTree geometry (has (P.state pages.old).present) result }
+    ensures device { FailsTree (P.state pages.old) (of_walk below) → FailsTree (P.state pages.new) result }
+{
+    match root(pages, geometry) {
+        Ok(_) => root_fault(below),
+        Err(fault) => fault,
+    }
+}

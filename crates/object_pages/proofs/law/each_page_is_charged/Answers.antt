@@ -1,5 +1,0 @@
-use Rattle.object_pages.specs.laws.Counting.{pages_charged}
-use Rattle.object_pages.proofs.law.each_page_is_charged.Goals as goal
-
-pub returns : goal.returns
-returns c = λ z m objects numbers holds keys once each. pages_charged z m objects numbers holds keys once each

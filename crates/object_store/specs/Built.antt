@@ -1,0 +1,31 @@
+-- What a table that is being made stands for.
+use Rattle.std.specs.Prelude.{◌≡◌, ℕ, length, None}
+use Rattle.std.specs.FinMap as map
+use Rattle.volume_terms.specs.Sizes.{Sizes}
+use Rattle.posix_profile.specs.State.{Object, File, Dir, Objects}
+use Rattle.posix_profile.specs.WellFormed.{IsNamed}
+use Rattle.posix_profile.specs.declared.reply.Kind.{Kind}
+use Rattle.posix_profile.specs.declared.reply.Kind.TheVariants as kinds
+use Rattle.object_store.specs.Counted.{sizes_in, Counts, IsCountable}
+use Rattle.object_store.specs.declared.table_builder.TableBuilder.{TableBuilder}
+
+-- the numbers of the volume
+abbrev pub sizes_built : TableBuilder → Sizes
+sizes_built builder = sizes_in builder.counted
+
+-- the objects that came so far, with those of their names that were told
+abbrev pub Builds : TableBuilder → Objects → Type 0
+Builds builder objects = Counts builder.counted objects
+
+-- a file of this moment and length, or a directory of this moment without entries
+abbrev pub IsBare : Kind → ℕ → ℕ → Object → Type 0
+IsBare kinds.File moment n (File m bytes) = (m ≡ moment) × (length bytes ≡ n)
+IsBare kinds.File moment n (Dir m entries) = ⊥
+IsBare kinds.Directory moment n (File m bytes) = ⊥
+IsBare kinds.Directory moment n (Dir m entries) = (m ≡ moment) × (entries ≡ map.empty)
+
+-- An object may come that is not there, and to which no name leads yet.
+pub record CanCome (z : Sizes) (objects : Objects) (o : ℕ) (x : Object) : Type 0 where
+  pub free : map.get objects o ≡ None
+  pub unnamed : IsNamed objects o → ⊥
+  pub countable : IsCountable z (map.insert objects o x)

@@ -1,5 +1,0 @@
-use Rattle.object_table.proofs.Building.{counts_same}
-use Rattle.object_table.proofs.builder.TableBuilder.make_room.Goals as goal
-
-pub returns-clause-same : goal.returns-clause-same
-returns-clause-same c = λ objects builds. counts_same c.args.self.now.counted c.make_room.new.self objects c.make_room.ensures.same builds

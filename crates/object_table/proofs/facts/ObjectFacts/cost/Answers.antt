@@ -1,5 +1,0 @@
-use Rattle.std.proofs.Common.{arith}
-use Rattle.object_table.proofs.facts.ObjectFacts.cost.Goals as goal
-
-pub units-requires : goal.units-requires
-units-requires c = omega (arith, c.page_bytes.ensures, c.args.sizes.least_page)

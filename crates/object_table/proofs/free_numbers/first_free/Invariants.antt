@@ -1,5 +1,0 @@
-use Rattle.object_table.specs.Taken.{AllTaken, taken_in}
-use Rattle.object_table.proofs.free_numbers.first_free.Given as goal
-
-abbrev pub invariant-loop-number : goal.invariant-loop-number
-invariant-loop-number l = AllTaken (taken_in l.facts) l.from → AllTaken (taken_in l.facts) l.number

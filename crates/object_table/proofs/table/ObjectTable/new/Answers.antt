@@ -1,4 +1,0 @@
-use Rattle.object_table.proofs.table.ObjectTable.new.Goals as goal
-
-pub invariant_of-result : goal.invariant_of-result
-invariant_of-result c = record { free = c.new-numbers.ensures }

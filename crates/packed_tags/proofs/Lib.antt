@@ -1,2 +1,0 @@
-pub mod Erasing
-pub mod Walks

@@ -1,2 +1,0 @@
-pub mod Adapted
-pub mod Packed

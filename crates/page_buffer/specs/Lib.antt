@@ -1,5 +1,0 @@
-pub mod Reading
-pub mod Shown
-pub mod BufferOf
-pub mod Buffering
-pub mod laws

@@ -1,0 +1,66 @@
+-- A device that is only read keeps what it has.
+use Rattle.std.specs.Prelude.{◌≡◌, ◌<◌, ◌+◌, ℕ, Bool, true, false, count_by}
+use Rattle.std.specs.List.{range_with_len}
+use Rattle.std.proofs.Common.{refl, arith}
+use Rattle.nand_model.specs.Flash.{Flash}
+use Rattle.nand_model.specs.laws.Calls.{lasts_here}
+use Rattle.nand_model.specs.declared.geometry.Geometry.{Geometry}
+use Rattle.volume_terms.specs.Sizes.{number_limit}
+use Rattle.flash_tree.specs.Newest.{Numbers}
+use Rattle.flash_tree.specs.Mount.{bad_blocks}
+use Rattle.flash_tree.specs.FreeBlocks.{LeavesFree}
+use Rattle.flash_tree.specs.laws.Truth.{true_same}
+use Rattle.transactions.specs.laws.Handing.{below_greater}
+use Rattle.pages.specs.State.{PagesState}
+use Rattle.pages.specs.Stores.{GoesOn, HasPage, HasNumbersLeft, KeptAs}
+use Rattle.page_store.specs.ReadOnly.{IsWorn, HasGreatest, IsCarrying, only_read}
+
+-- where more blocks are bad than there are to spare, none has to be free
+none_free : (g : Geometry) (flash : Flash) (spare : ℕ) (keys : ℕ → ℕ → Type 0) → spare < bad_blocks g flash → LeavesFree g flash spare keys
+none_free g flash spare keys bad = record {
+  free = λ b. false;
+  enough = let none = count_by (λ (b : ℕ). false) (range_with_len 0 g.blocks) in omega (arith, bad);
+  each = λ b within is. absurd cc;
+}
+
+-- where numbers are left on a worn device, too many blocks are bad
+too_many_bad : (p : PagesState) (n : Numbers) (spare : ℕ) → IsWorn p.device n spare → HasGreatest p.device n → p.device.honest ≡ true
+    → HasNumbersLeft p.device.flash → spare < bad_blocks p.device.geometry p.device.flash
+too_many_bad p n spare worn greatest honest left =
+    let least = (greatest honest).least (record { version = number_limit; group = number_limit; seq = number_limit }) left in
+    worn (omega (arith, least.1)) (omega (arith, least.2))
+
+-- what is there is kept
+pub keeps_all : (p : PagesState) (n : Numbers) (spare most : ℕ) (refused_change : Bool) → IsWorn p.device n spare → HasGreatest p.device n → IsCarrying p
+    → KeptAs (only_read p n spare most refused_change) p.present
+keeps_all p n spare most refused_change worn greatest carrying = record {
+  carried = λ honest. record {
+    newest = carrying honest;
+    free = λ left. none_free p.device.geometry p.device.flash spare (HasPage p.present) (too_many_bad p n spare worn greatest honest left);
+  };
+  kept = λ sound o c. refl;
+}
+
+-- nor does the device change, nor the numbers that come next
+pub goes_on : (p : PagesState) (n : Numbers) (spare most : ℕ) (was is : Bool) → GoesOn (only_read p n spare most was) (only_read p n spare most is)
+goes_on p n spare most was is = record {
+  page_bytes = refl;
+  most = refl;
+  spare = refl;
+  worn = refl;
+  refused = omega arith;
+  commits = omega arith;
+  failed = λ yes. yes;
+  device = lasts_here p.device;
+  numbers = record {
+    groups_rise = omega arith;
+    seqs_rise = omega arith;
+    seqs = omega arith;
+    groups = λ honest power. omega arith;
+    below = λ honest below. below;
+    written = λ honest below more counted. below_greater p.device.flash (n.group + 1) (n.seq + 1) _ _ (omega arith) (omega arith) below;
+  };
+  marks = omega arith;
+  limits = λ honest left. left;
+  truth = true_same p.device p.checkpoint p.checkpoint refl;
+}

@@ -1,0 +1,137 @@
+-- The tables of a true flash, by its checkpoint.
+use Rattle.std.specs.Prelude.{◌≡◌, ◌<◌, ◌≤◌, ◌^◌, ◌-◌, ℕ, ◌+◌, true, false, List, map, Some, Contains}
+use Rattle.std.proofs.Common.{sym, ◌∙◌, ap, subst, inl, inr, arith}
+use Rattle.std.proofs.lemmas.Bool.{cases_Bool}
+use Rattle.volume_terms.specs.laws.List.{slice_get_there}
+use Rattle.nand_model.specs.Flash.{Flash, IsWithin}
+use Rattle.nand_model.specs.Calls.{Device}
+use Rattle.page_tags.specs.declared.check.CheckEntry.{CheckEntry}
+use Rattle.flash_tree.specs.Checkpoints.{Checkpoint, IsWhole, IsRight, IsTrueFlash, IsChecked}
+use Rattle.flash_tree.specs.Mount.{sizes_of}
+use Rattle.flash_tree.specs.Newest.{Spot, IsNewest, HasNewest, Numbers}
+use Rattle.flash_tree.specs.Places.{numbers_of}
+use Rattle.nand_model.specs.declared.geometry.Geometry.{Geometry}
+use Rattle.flash_tree.specs.Tree.{InFootprint}
+use Rattle.flash_tree.specs.laws.Checking.{same_block}
+use Rattle.flash_tree.specs.laws.Newest.{one_spot}
+use Rattle.flash_tree.specs.laws.NewestExists.{tag_at}
+use Rattle.flash_tree.specs.laws.Place.{tag_placed}
+use Rattle.block_state.specs.Table.{Table}
+use Rattle.block_state.specs.TableOf.{table}
+use Rattle.chunk_index.specs.Adding.{entry_key}
+use Rattle.chunk_index.specs.Counts.{Recounts}
+use Rattle.chunk_index.specs.Kept.{IsListOf}
+use Rattle.pages.specs.laws.Low.{looked_low}
+use Rattle.chunk_index.specs.Maps.{kept_pages, kept_in}
+use Rattle.chunk_index.specs.declared.form.KeptKey.{KeptKey}
+use Rattle.chunk_index.specs.declared.form.KeptPage.{KeptPage}
+use Rattle.chunk_index.specs.declared.index.Index.{Index}
+use Rattle.mount_scan.specs.FoundCheckpoint.{HasForm, IsFirstSeq, TellsSeqs}
+use Rattle.page_store.specs.Checked.{MayAllBeKept, HaveFirstSeqs, KeepsItsTree}
+use Rattle.page_store.specs.Opened.{AreLeft, AreNoted, kept_at}
+use Rattle.page_store.specs.declared.opening.Opened.{Opened}
+use Rattle.page_store.specs.laws.Trust.{right_said}
+use Rattle.page_store.proofs.Entries.{mapped, contains_at, there_at, told_by, are_newest}
+
+-- the seq of page 0 of a block is not above the checkpoint's
+first_below : (g : Geometry) (flash : Flash) (c : Checkpoint) (b seq : ℕ) → IsRight g flash c → IsFirstSeq flash b seq → seq ≤ c.seq
+first_below g flash c b seq right first = elim (cases_Bool (flash.bad b)) [
+  | inl bad ↦
+      let none : seq ≡ 0 = first.other (λ t good has. let two : true ≡ false = sym bad ∙ good in cc) in
+      omega (arith, none)
+  | inr good ↦ elim (tag_at flash b 0) [
+    | inl (t, has) ↦ let same = first.tagged t good has in let most = (right.above b 0 t good has).2 in omega (arith, same, most)
+    | inr no_tag ↦ let none : seq ≡ 0 = first.other (λ t is has. no_tag t has) in omega (arith, none)
+  ]
+]
+
+module _ (d : Device) (c : Checkpoint) (honest : d.honest ≡ true) (whole : IsWhole d.geometry d.flash c) (true_flash : IsTrueFlash d.geometry d.flash) where
+  right : IsRight d.geometry d.flash c
+  right = true_flash c whole
+
+  -- each entry of a right checkpoint may tell of a kept page
+  pub all_may : IsWithin d.geometry.pages d.geometry.blocks d.flash → MayAllBeKept d c
+  all_may within i e at =
+      let has = contains_at c.entries i e at in
+      let listed = right.tree.only e has in
+      let foot = listed.0 in
+      let (s, newest, told) = listed.1 in
+      let held = newest.holds in
+      let lies = tag_placed d.geometry.pages d.geometry.blocks d.flash s.block s.page s.tag within held.has in
+      let good : d.flash.bad s.block ≡ false = ap d.flash.bad held.block ∙ held.whole.good in
+      let most = (right.above s.block s.page s.tag good held.has).0 in
+      let block : e.block ≡ s.block = ap (λ (f : CheckEntry). f.block) told in
+      let page : e.page ≡ s.page = ap (λ (f : CheckEntry). f.page) told in
+      let version : e.version ≡ s.tag.version = ap (λ (f : CheckEntry). f.version) told in
+      let object = right.tree.shows.tree.forest.each e.object foot.object foot.there in
+      let below : e.object < 2 ^ 64 - 1 = object.number in
+      record {
+        block = omega (arith, lies, block);
+        page = omega (arith, lies, page);
+        good = ap d.flash.bad block ∙ good;
+        apart = right.apart e has;
+        object = (object.numbered, below);
+        low = looked_low (sizes_of d.geometry right.tree.spare) (record { least = let least = d.geometry.least_bytes in omega (arith, least); most = d.geometry.most_bytes }) foot.fields e.chunk foot.has.1 foot.looks;
+        version = (omega (arith, held.has.valid.version, version), omega (arith, most, version));
+      }
+
+  module _ (opened : Opened) (t0 t1 t2 : Table) (n : Numbers) (form : HasForm d c) (placed : MayAllBeKept d c) (list : IsListOf (kept_pages opened.index) (map entry_key c.entries))
+      (next : AreLeft n → t0.next_seq ≡ c.seq + 1) (seqs : List ℕ) (tells : TellsSeqs d seqs) (notes : AreNoted seqs d.geometry.blocks t0 t1)
+      (recounts : Recounts (λ b. 0) (kept_in opened.index) t1 t2) (last : table opened.blocks ≡ record t2 { checkpoint = Some c.block }) (same : numbers_of opened.numbers ≡ n) where
+    abbrev x : Index
+    x = opened.index
+
+    -- an entry's page is kept
+    entry_kept : (e : CheckEntry) → Contains c.entries e → kept_pages x e.object e.chunk ≡ Some (entry_key e).at
+    entry_kept e has = let at = there_at c.entries e has in list.each at.0 (entry_key e) (mapped entry_key c.entries at.0 e at.1)
+
+    all : (o k : ℕ) (s : Spot) → InFootprint (sizes_of d.geometry right.tree.spare) (HasNewest d.flash) right.tree.objects o k → IsNewest d.flash o k s → kept_pages x o k ≡ Some (kept_at s)
+    all o k s foot newest =
+        let (e, has, object, chunk) = right.tree.all o k foot in
+        let (r, last, told) = (right.tree.only e has).1 in
+        let key : IsNewest d.flash o k r = subst (λ j. IsNewest d.flash o j r) chunk (subst (λ j. IsNewest d.flash j e.chunk r) object last) in
+        let spot : r ≡ s = one_spot d.flash o k r s key newest in
+        let page : (entry_key e).at ≡ kept_at s = ap (λ (f : CheckEntry). (entry_key f).at) told ∙ ap kept_at spot in
+        sym (ap (λ j. kept_pages x j e.chunk) object ∙ ap (kept_pages x o) chunk) ∙ entry_kept e has ∙ ap Some page
+
+    only : (o k : ℕ) (p : KeptPage) → kept_pages x o k ≡ Some p → InFootprint (sizes_of d.geometry right.tree.spare) (HasNewest d.flash) right.tree.objects o k
+    only o k p is =
+        let (i, e, at, key) = told_by d c x form placed list o k p is in
+        let foot = (right.tree.only e (contains_at c.entries i e at)).0 in
+        let object : e.object ≡ o = ap (λ (y : KeptKey). y.key.object) key in
+        let chunk : e.chunk ≡ k = ap (λ (y : KeptKey). y.key.chunk) key in
+        subst (λ j. InFootprint (sizes_of d.geometry right.tree.spare) (HasNewest d.flash) right.tree.objects o j) chunk
+        (subst (λ j. InFootprint (sizes_of d.geometry right.tree.spare) (HasNewest d.flash) right.tree.objects j e.chunk) object foot)
+
+    -- the block of the checkpoint alone has one
+    noted : (table opened.blocks).checkpoint ≡ Some c.block
+    noted = ap (λ (t : Table). t.checkpoint) last
+
+    checked : IsChecked d.geometry d.flash (table opened.blocks).checkpoint
+    checked = record {
+      right = true_flash;
+      only = λ other there. noted ∙ ap Some (same_block d.geometry d.flash true_flash c other whole there);
+    }
+
+    first_seqs : AreLeft (numbers_of opened.numbers) → HaveFirstSeqs d (table opened.blocks)
+    first_seqs left b lt =
+        let there = slice_get_there seqs b (omega (arith, lt, tells.len)) in
+        let first = tells.each honest b there.0 there.1 in
+        let low = first_below d.geometry d.flash c b there.0 right first in
+        let one_above = next (subst AreLeft same left) in
+        let is : (t1.entry b).seq ≡ there.0 = notes b there.0 lt there.1 (omega (arith, low, one_above)) in
+        let seq : ((table opened.blocks).entry b).seq ≡ there.0 = ap (λ (t : Table). (t.entry b).seq) last ∙ recounts.seq b ∙ is in
+        subst (IsFirstSeq d.flash b) (sym seq) first
+
+    pub keeps_tree : KeepsItsTree d opened
+    keeps_tree = record {
+      spare = right.tree.spare;
+      objects = right.tree.objects;
+      volume = right.tree.volume;
+      shows = right.tree.shows;
+      newest = are_newest d c x form placed list d.flash (right_said d.geometry d.flash c right).newest;
+      all = all;
+      only = only;
+      checked = checked;
+      seqs = first_seqs;
+    }

@@ -1,0 +1,137 @@
+-- The tables of a device that was scanned.
+-- From: this project.
+use Rattle.std.specs.Prelude.{◌≡◌, ◌≢◌, ◌⊎◌, ◌<◌, ◌≤◌, ◌^◌, ℕ, ◌+◌, true, false, List, Option, Some, None, slice_get}
+use Rattle.volume_terms.specs.Sizes.{number_end}
+use Rattle.nand_model.specs.Flash.{Flash}
+use Rattle.nand_model.specs.Calls.{Device}
+use Rattle.flash_tree.specs.Newest.{Spot, IsNewest, Numbers, AreGreatest}
+use Rattle.mount_scan.specs.declared.page_copy.PageCopy.{PageCopy}
+use Rattle.block_state.specs.Table.{Table, Sets}
+use Rattle.chunk_index.specs.declared.form.KeptPage.{KeptPage}
+use Rattle.chunk_index.specs.declared.index.Index.{Index}
+use Rattle.chunk_index.specs.Entries.{as_kept}
+use Rattle.chunk_index.specs.Maps.{kept_pages, present, CountsAgree}
+use Rattle.page_store.specs.Buffering.{IsUnbuffered}
+use Rattle.transactions.specs.Ready.{IsReady}
+use Rattle.transactions.specs.Sources.{IsPageName}
+use Rattle.transactions.specs.declared.source.PageName.{PageName}
+use Rattle.flash_log.specs.Standing.{AreKept, MayLie}
+use Rattle.flash_log.specs.Taking.{LiesApart}
+use Rattle.mount_scan.specs.declared.fault.ScanFault.{ScanFault}
+use Rattle.mount_scan.specs.declared.fault.ScanFault.TheVariants as scans
+use Rattle.page_store.specs.declared.opening.OpenFault.{OpenFault}
+use Rattle.page_store.specs.declared.opening.OpenFault.TheVariants as faults
+
+-- what the page of a copy is called
+abbrev pub name_in : PageCopy → PageName
+name_in f = record { key = record { object = f.object; chunk = f.chunk }; version = f.version }
+
+-- each page may be named in a tag of the group of this number
+abbrev pub HaveNames : ℕ → List PageCopy → Type 0
+HaveNames number list = (i : ℕ) (f : PageCopy) → slice_get list i ≡ Some f → IsPageName number (name_in f)
+
+-- there are numbers left above these
+abbrev pub AreLeft : Numbers → Type 0
+AreLeft n = (n.group < number_end) × (n.seq < number_end)
+
+-- where the page lies, and its version
+abbrev pub kept_at : Spot → KeptPage
+kept_at s = record { block = s.block; page = s.page; version = s.tag.version }
+
+-- A table of the device in which nothing is kept, no block is open, none is noted for a checkpoint, and no good one is marked. Where
+-- there are numbers left, it has the marks of the device, and the next numbers are one above these.
+pub record IsTableOf (device : Device) (n : Numbers) (t : Table) : Type 0 where
+  pub geometry : t.geometry ≡ device.geometry
+  pub closed : t.open_block ≡ None
+  pub checkpoint : t.checkpoint ≡ None
+  pub none : (b : ℕ) → (t.entry b).kept ≡ 0
+  pub good : (b : ℕ) → device.flash.bad b ≡ false → (t.entry b).bad ≡ false
+  pub marks : AreLeft n → (b : ℕ) → (t.entry b).bad ≡ device.flash.bad b
+  pub group : AreLeft n → t.next_group ≡ n.group + 1
+  pub seq : AreLeft n → t.next_seq ≡ n.seq + 1
+
+-- only the numbers of blocks are other
+pub record OnlySeqs (old new : Table) : Type 0 where
+  pub bad : (b : ℕ) → (new.entry b).bad ≡ (old.entry b).bad
+  pub kept : (b : ℕ) → (new.entry b).kept ≡ (old.entry b).kept
+  pub geometry : new.geometry ≡ old.geometry
+  pub open_block : new.open_block ≡ old.open_block
+  pub checkpoint : new.checkpoint ≡ old.checkpoint
+  pub next_group : new.next_group ≡ old.next_group
+  pub next_seq : new.next_seq ≡ old.next_seq
+
+-- A block gets this seq, where that was handed out, and else nothing changes.
+pub record NotesOne (b seq : ℕ) (old new : Table) : Type 0 where
+  pub sets : seq < old.next_seq → Sets b (record (old.entry b) { seq = seq }) old new
+  pub open_block : new.open_block ≡ old.open_block
+  pub checkpoint : new.checkpoint ≡ old.checkpoint
+  pub next_seq : new.next_seq ≡ old.next_seq
+  pub same : old.next_seq ≤ seq → new ≡ old
+
+-- each of the first n blocks has its number of the list, where that was handed out
+abbrev pub AreNoted : List ℕ → (n : ℕ) → Table → Table → Type 0
+AreNoted seqs n old new = (b seq : ℕ) → b < n → slice_get seqs b ≡ Some seq → seq < old.next_seq → (new.entry b).seq ≡ seq
+
+-- one of the first n pages lies in block b, and has this seq
+pub record HasSeqOf (list : List PageCopy) (n b seq : ℕ) : Type 0 where
+  pub index : ℕ
+  pub found : PageCopy
+  pub before : index < n
+  pub there : slice_get list index ≡ Some found
+  pub block : found.block ≡ b
+  pub seq_is : seq ≡ found.seq
+
+-- no seq of the first n pages in block b is below this number
+abbrev pub AreNotBelow : List PageCopy → (n b next : ℕ) → Type 0
+AreNotBelow list n b next = (i : ℕ) (f : PageCopy) → i < n → slice_get list i ≡ Some f → f.block ≡ b → next ≤ f.seq
+
+-- Block b has the seq of one of the first n pages, which lies in it; or the seq that it had, where none of them that lies
+-- in it has a seq that was handed out.
+abbrev pub NotesSeq : List PageCopy → (n : ℕ) → Table → Table → ℕ → Type 0
+NotesSeq list n old new b = HasSeqOf list n b (new.entry b).seq ⊎ (((new.entry b).seq ≡ (old.entry b).seq) × AreNotBelow list n b old.next_seq)
+
+-- no newest page of a chunk that a tree may look up lies in block b, and its number is that of a block that was not taken; or its number is the seq of one
+-- that does
+abbrev pub HasItsSeq : Flash → Table → ℕ → Type 0
+HasItsSeq flash t b = (((o c : ℕ) (s : Spot) → c < 2 ^ 32 → IsNewest flash o c s → s.block ≢ b) × ((t.entry b).seq ≡ 0))
+    ⊎ ((o : ℕ) × (c : ℕ) × (s : Spot) × IsNewest flash o c s × (s.block ≡ b) × ((t.entry b).seq ≡ s.tag.seq))
+
+-- The tables of a device, by a checkpoint in this block or, with none, by a scan. What is kept is on the device, of a chunk that a tree
+-- may look up, and is present, and no page of it lies in that block; no block is open, and no good one is marked; the counts of blocks are those of the index. On an honest
+-- device each kept page is the newest of its key, and the numbers are the greatest. Where there are numbers left, groups can be
+-- written: the next numbers are one above these, and each kept page may be copied.
+pub record IsOpenedBy (checkpoint : Option ℕ) (device : Device) (t : Table) (x : Index) (n : Numbers) : Type 0 where
+  pub counts : CountsAgree t x
+  pub geometry : t.geometry ≡ device.geometry
+  pub good : (b : ℕ) → device.flash.bad b ≡ false → (t.entry b).bad ≡ false
+  pub closed : t.open_block ≡ None
+  pub noted : t.checkpoint ≡ checkpoint
+  pub apart : LiesApart t
+  pub shown : (o c : ℕ) → present x o c ≡ as_kept (kept_pages x o c)
+  pub unbuffered : IsUnbuffered x
+  pub within : (o c : ℕ) (p : KeptPage) → kept_pages x o c ≡ Some p → (p.block < device.geometry.blocks) × (p.page < device.geometry.pages)
+  pub low : (o c : ℕ) (p : KeptPage) → kept_pages x o c ≡ Some p → c < 2 ^ 32
+  pub newest : device.honest ≡ true → AreKept device.flash (kept_pages x)
+  pub numbers : device.honest ≡ true → AreGreatest device.flash n
+  pub ready : AreLeft n → IsReady device t
+  pub group : AreLeft n → t.next_group ≡ n.group + 1
+  pub seq : AreLeft n → t.next_seq ≡ n.seq + 1
+  pub lie : AreLeft n → (o c : ℕ) (p : KeptPage) → kept_pages x o c ≡ Some p → MayLie t o c p
+
+-- The tables of a device by a scan: on an honest one the newest page of each key of a chunk that a tree may look up is kept, with its place and version, and blocks have
+-- the numbers that their pages tell.
+pub record IsOpened (device : Device) (t : Table) (x : Index) (n : Numbers) : Type 0 where
+  pub tables : IsOpenedBy None device t x n
+  pub all : device.honest ≡ true → (o c : ℕ) (s : Spot) → c < 2 ^ 32 → IsNewest device.flash o c s → kept_pages x o c ≡ Some (kept_at s)
+  pub seqs : device.honest ≡ true → AreLeft n → (b : ℕ) → HasItsSeq device.flash t b
+
+-- what a scan's fault is here
+abbrev pub of_scan : ScanFault → OpenFault
+of_scan scans.NoMemory = faults.NoMemory
+of_scan scans.Gone = faults.Gone
+
+-- Why a device was not opened: memory was refused; it is not honest; it is gone.
+abbrev pub WhyNotOpened : Device → OpenFault → Type 0
+WhyNotOpened device faults.NoMemory = Unit {0}
+WhyNotOpened device faults.Lost = device.honest ≡ false
+WhyNotOpened device faults.Gone = device.gone ≡ true

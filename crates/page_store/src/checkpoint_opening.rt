@@ -1,0 +1,79 @@
+// The tables of a device, by the entries of a checkpoint.
+ghost use Rattle.std.specs.Prelude.{◌↔◌, IsSome, IsTrue, IfOk, IfSome};
+ghost use Rattle.mount_scan.specs.FoundCheckpoint.{HasForm, IsWholeOn, TellsSeqs, checkpoint_of};
+ghost use Rattle.page_store.specs.Checked.{HasTrueFlash, IsOpenedFor, KeepsItsTree, MayAllBeKept, MayBeKept};
+
+use crate::block_seqs::note_each;
+use crate::opening::{Opened, table_above};
+use chunk_index::{Index, the_counts_are_of_the_keys};
+use flash_tree::{CHECK_OBJECT, CHUNK_END, TagNumbers};
+use mount_scan::FoundCheckpoint;
+use nand_model::Nand;
+use page_tags::CheckEntry;
+use std::alloc::{AllocError, Global};
+
+/// Whether an entry of a checkpoint may tell of a kept page.
+fn may_be_kept<N: Nand>(device: &N, found: &FoundCheckpoint, entry: &CheckEntry) -> bool
+    ensures { IsTrue result ↔ MayBeKept (N.state device.now) (checkpoint_of found.now) entry.now }
+{
+    let geometry = device.geometry();
+    if entry.block >= geometry.blocks() || entry.page >= geometry.pages() {
+        return false;
+    }
+    if device.is_bad(entry.block) || entry.block == found.block {
+        return false;
+    }
+    if entry.object < 1 || entry.object >= CHECK_OBJECT || entry.chunk >= CHUNK_END {
+        return false;
+    }
+    entry.version >= 1 && entry.version <= found.number
+}
+
+/// Whether each entry of a checkpoint may.
+fn may_all_be_kept<N: Nand>(device: &N, found: &FoundCheckpoint) -> bool
+    ensures { IsTrue result ↔ MayAllBeKept (N.state device.now) (checkpoint_of found.now) }
+{
+    for entry in &found.entries {
+        if !may_be_kept(device, found, entry) {
+            return false;
+        }
+    }
+    true
+}
+
+/// The tables of a device by the entries of a checkpoint that is whole, and by the seqs of the page 0 of its blocks: exactly
+/// what the entries tell of is kept, and the checkpoint's block is noted. There are none where an entry cannot tell of a kept
+/// page.
+pub fn open_kept<N: Nand>(
+    alloc: Global,
+    device: &N,
+    found: &FoundCheckpoint,
+    seqs: &[u64],
+) -> Result<Option<Opened>, AllocError>
+    requires form { HasForm (N.state device.now) (checkpoint_of found.now) }
+    requires whole { IsWholeOn (N.state device.now) (checkpoint_of found.now) }
+    requires seqs { TellsSeqs (N.state device.now) seqs.now }
+    ensures opened { IfOk result (λ made. IfSome made (IsOpenedFor (N.state device.now) (checkpoint_of found.now))) }
+    ensures tree { HasTrueFlash (N.state device.now) → IfOk result (λ made. IfSome made (KeepsItsTree (N.state device.now))) }
+    ensures some { HasTrueFlash (N.state device.now) → IfOk result (λ made. IsSome made) }
+{
+    the_counts_are_of_the_keys();
+    if !may_all_be_kept(device, found) {
+        return Ok(None);
+    }
+    let numbers = TagNumbers {
+        version: found.number,
+        group: found.number,
+        seq: found.seq,
+    };
+    let mut blocks = table_above(alloc, device, numbers)?;
+    note_each(seqs, &mut blocks);
+    let (index, blocks) = Index::from_kept(alloc, &found.entries, blocks)?;
+    let mut blocks = blocks;
+    blocks.note_checkpoint(found.block);
+    Ok(Some(Opened {
+        blocks,
+        index,
+        numbers,
+    }))
+}

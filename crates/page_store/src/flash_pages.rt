@@ -1,0 +1,132 @@
+// The pages of a mounted volume.
+ghost use Rattle.std.specs.Prelude.{◌≡◌, ◌≤◌, ◌+◌, true, Ok};
+ghost use Rattle.nand_model.specs.Counts.{Costs};
+ghost use Rattle.page_store.specs.Sealing.{IsSealed};
+ghost use Rattle.page_store.specs.declared.flash_pages.FlashPages.TheVariants as kinds;
+
+use crate::Store;
+use crate::read_only::ReadOnlyPages;
+use flash_tree::Key;
+use nand_model::Nand;
+use pages::{Change, Cut, PageStore, Pages, Presence};
+use volume_terms::StoreFault;
+
+/// The pages of a mounted volume: a store, or pages that are only read.
+#[derive(Drop)]
+pub enum FlashPages<N: Nand> {
+    Store(Store<N>),
+    ReadOnly(ReadOnlyPages<N>),
+}
+
+impl<N: Nand> FlashPages<N> {
+    ghost use Rattle.page_store.specs.FlashParts.{device_in};
+    ghost use Rattle.page_store.specs.FlashSealing.{IsDueOf, check_pages_of};
+
+    /// The device, as it is.
+    pub fn into_device(self) -> N
+        ensures state { N.state result ≡ (⟦<FlashPages<N> as Pages>⟧.state self).device }
+        ensures device { result ≡ device_in self }
+    {
+        match self {
+            FlashPages::Store(store) => store.into_device(),
+            FlashPages::ReadOnly(pages) => pages.into_device(),
+        }
+    }
+
+    /// Writes a checkpoint of the pages that are kept, where one is due, and gives the device back. Of pages that are only
+    /// read it makes no call.
+    pub fn seal(self) -> (N, Result<(), StoreFault>)
+        ensures seals { IsSealed (IsDueOf self) (⟦<FlashPages<N> as Pages>⟧.state self) (N.state result.0) result.1 }
+        // The erase of a block and the pages of the checkpoint, and for each failure an erase or a mark, and what failed.
+        ensures costs { let d = (⟦<FlashPages<N> as Pages>⟧.state self).device in Costs (check_pages_of self + 1) 2 0 d (N.state result.0) }
+        // No page is read but one whose program is said to have failed.
+        ensures reads { let d = (⟦<FlashPages<N> as Pages>⟧.state self).device in (N.state result.0).reads + d.failures ≤ d.reads + (N.state result.0).failures }
+        ensures worn { (⟦<FlashPages<N> as Pages>⟧.state self).worn ≡ true → (N.state result.0 ≡ (⟦<FlashPages<N> as Pages>⟧.state self).device) × (result.1 ≡ Ok tt) }
+    {
+        match self {
+            FlashPages::Store(store) => store.seal(),
+            FlashPages::ReadOnly(pages) => (pages.into_device(), Ok(())),
+        }
+    }
+}
+
+impl<N: Nand> Pages for FlashPages<N> {
+    ghost state = { elim [ kinds.Store store ↦ ⟦<Store<N> as Pages>⟧.state store | kinds.ReadOnly pages ↦ ⟦<ReadOnlyPages<N> as Pages>⟧.state pages ] };
+
+    ghost sized = { elim [
+      | kinds.Store s ↦ ((⟦<Store<N> as Pages>⟧.state s).device.geometry.least_bytes, (⟦<Store<N> as Pages>⟧.state s).device.geometry.most_bytes)
+      | kinds.ReadOnly s ↦ ((⟦<ReadOnlyPages<N> as Pages>⟧.state s).device.geometry.least_bytes, (⟦<ReadOnlyPages<N> as Pages>⟧.state s).device.geometry.most_bytes)
+    ] };
+
+    fn page_bytes(&self) -> u32 {
+        match self {
+            FlashPages::Store(store) => store.page_bytes(),
+            FlashPages::ReadOnly(pages) => pages.page_bytes(),
+        }
+    }
+
+    fn find(&mut self, key: Key) -> Result<Presence, StoreFault> {
+        match self {
+            FlashPages::Store(store) => store.find(key),
+            FlashPages::ReadOnly(pages) => pages.find(key),
+        }
+    }
+
+    fn has_power(&mut self) -> bool {
+        match self {
+            FlashPages::Store(store) => store.has_power(),
+            FlashPages::ReadOnly(pages) => pages.has_power(),
+        }
+    }
+
+    fn page(&self) -> &[u8] {
+        match self {
+            FlashPages::Store(store) => store.page(),
+            FlashPages::ReadOnly(pages) => pages.page(),
+        }
+    }
+}
+
+impl<N: Nand> PageStore for FlashPages<N> {
+    ghost use Rattle.block_state.specs.TableOf.{table};
+    ghost use Rattle.page_store.specs.laws.Sound.{lost_alone, few_bad};
+    ghost use Rattle.page_store.specs.laws.ReadOnlySound.{lost_reading, only_worn};
+
+    ghost lost = { elim [
+      | kinds.Store s ↦ λ sound failed. lost_alone (⟦<Store<N> as Pages>⟧.state s).device.gone (⟦<Store<N> as Pages>⟧.state s).device.honest s.broken sound failed
+      | kinds.ReadOnly s ↦ λ sound failed. lost_reading (⟦<ReadOnlyPages<N> as Pages>⟧.state s).device.gone (⟦<ReadOnlyPages<N> as Pages>⟧.state s).device.honest s.refused_change sound failed
+    ] };
+
+    ghost few = { elim [
+      | kinds.Store s ↦ λ sound fresh. few_bad (⟦<Store<N> as Pages>⟧.state s).device (table s.log.blocks) s.log.spare s.broken s.log.ready s.few sound
+      | kinds.ReadOnly s ↦ λ sound fresh. only_worn _ _ fresh
+    ] };
+
+    fn most_pages(&self) -> u32 {
+        match self {
+            FlashPages::Store(store) => PageStore::most_pages(store),
+            FlashPages::ReadOnly(pages) => PageStore::most_pages(pages),
+        }
+    }
+
+    fn apply(&mut self, change: Change) -> Result<(), StoreFault> {
+        match self {
+            FlashPages::Store(store) => PageStore::apply(store, change),
+            FlashPages::ReadOnly(pages) => PageStore::apply(pages, change),
+        }
+    }
+
+    fn cut(&mut self, cut: Cut) -> Result<(), StoreFault> {
+        match self {
+            FlashPages::Store(store) => PageStore::cut(store, cut),
+            FlashPages::ReadOnly(pages) => PageStore::cut(pages, cut),
+        }
+    }
+
+    fn commit(&mut self) -> Result<(), StoreFault> {
+        match self {
+            FlashPages::Store(store) => PageStore::commit(store),
+            FlashPages::ReadOnly(pages) => PageStore::commit(pages),
+        }
+    }
+}

@@ -1,0 +1,105 @@
+// The newest pages, to be read.
+ghost use Rattle.std.specs.Prelude.{◌≡◌, ◌<◌, ℕ, length, true, false, Some, IsSome, IfOk, IfErr, OnOk, ◌≤◌, ◌+◌, ◌⊎◌, None};
+ghost use Rattle.nand_model.specs.Changes.{OnlyReads};
+ghost use Rattle.block_state.specs.TableOf.{table};
+ghost use Rattle.chunk_index.specs.Maps.{kept_pages};
+ghost use Rattle.chunk_index.specs.declared.form.KeptPage.{KeptPage};
+ghost use Rattle.page_store.specs.Shown.{data_at};
+ghost use Rattle.page_store.specs.Newest.{seen};
+
+use crate::read_kept;
+use chunk_index::{Index, KeptPage};
+use flash_tree::Key;
+use nand_model::Nand;
+use pages::{KnownPages, Pages, Presence, has_power};
+use std::alloc::{AllocError, Global};
+use volume_terms::StoreFault;
+
+/// The kept pages of a device, which are read and not changed: no cache, and no buffer.
+#[derive(Drop)]
+pub struct NewestPages<N: Nand> {
+    device: N,
+    index: Index,
+    // The page that was found last.
+    page: Vec<u8>,
+    ghost size: { length page.items ≡ (N.state device).geometry.bytes },
+    ghost lie: { (o c : ℕ) (k : KeptPage) → kept_pages index o c ≡ Some k → (k.block < (N.state device).geometry.blocks) × (k.page < (N.state device).geometry.pages) },
+    ghost written: { (N.state device).honest ≡ true → (o c : ℕ) (k : KeptPage) → kept_pages index o c ≡ Some k → IsSome (data_at (N.state device).flash k) },
+}
+
+impl<N: Nand> NewestPages<N> {
+    ghost use Rattle.page_store.specs.NewestParts.{device_of, index_of};
+
+    /// The pages that an index keeps on a device. Where memory is refused the device is given back.
+    pub fn new(alloc: Global, device: N, index: Index) -> Result<NewestPages<N>, (N, AllocError)>
+        requires lie { (o c : ℕ) (k : KeptPage) → kept_pages index o c ≡ Some k → (k.block < (N.state device).geometry.blocks) × (k.page < (N.state device).geometry.pages) }
+        requires written { (N.state device).honest ≡ true → (o c : ℕ) (k : KeptPage) → kept_pages index o c ≡ Some k → IsSome (data_at (N.state device).flash k) }
+        ensures device { IfOk result (λ pages. device_of pages ≡ device) }
+        ensures index { IfOk result (λ pages. index_of pages ≡ index) }
+        ensures given_back { IfErr result (λ back. back.0 ≡ device) }
+    {
+        match vec![in alloc; 0u8; device.geometry().bytes() as usize] {
+            Ok(page) => Ok(NewestPages {
+                device,
+                index,
+                page,
+            }),
+            Err(refused) => Err((device, refused)),
+        }
+    }
+
+    /// The device and the index, as they are.
+    pub fn into_parts(self) -> (N, Index)
+        ensures device { result.0 ≡ device_of self }
+        ensures index { result.1 ≡ index_of self }
+    {
+        let NewestPages { device, index, .. } = self;
+        (device, index)
+    }
+
+    /// Reads the page that is kept there.
+    fn read(&mut self, at: KeptPage) -> Result<Presence, StoreFault>
+        requires { (o : ℕ) × (c : ℕ) × (kept_pages self.old.index o c ≡ Some at) }
+        ensures reads { OnlyReads (N.state self.old.device) (N.state self.new.device) }
+        ensures index { self.new.index ≡ self.old.index }
+        ensures asked { (N.state self.new.device).reads ≤ (N.state self.old.device).reads + 1 }
+        ensures power { OnOk result ((N.state self.new.device).gone ≡ (N.state self.old.device).gone) }
+        ensures there { IfOk result (λ presence. presence ≡ Presence.Present) }
+        ensures page { (N.state self.old.device).honest ≡ true → OnOk result (data_at (N.state self.old.device).flash at ≡ Some self.new.page.items) }
+        ensures fault { IfErr result (λ fault. (fault ≡ StoreFault.Device) × (((N.state self.new.device).gone ≡ true) ⊎ ((N.state self.old.device).honest ≡ true → data_at (N.state self.old.device).flash at ≡ None))) }
+    {
+        read_kept(&mut self.device, at, &mut self.page)?;
+        Ok(Presence::Present)
+    }
+}
+
+impl<N: Nand> Pages for NewestPages<N> {
+    ghost state = { λ s. seen (N.state s.device) s.index s.page.items };
+
+    ghost sized = { λ s. ((N.state s.device).geometry.least_bytes, (N.state s.device).geometry.most_bytes) };
+
+    fn page_bytes(&self) -> u32 {
+        self.device.geometry().bytes()
+    }
+
+    fn find(&mut self, key: Key) -> Result<Presence, StoreFault> {
+        match self.index.kept(key) {
+            Some(at) => self.read(at),
+            None => Ok(Presence::Absent),
+        }
+    }
+
+    fn has_power(&mut self) -> bool {
+        has_power(&mut self.device)
+    }
+
+    fn page(&self) -> &[u8] {
+        &self.page
+    }
+}
+
+impl<N: Nand> KnownPages for NewestPages<N> {
+    fn has(&self, key: Key) -> bool {
+        self.index.kept(key).is_some()
+    }
+}

@@ -1,4 +1,0 @@
-mod Calls
-pub mod Called
-pub mod Closed
-pub mod Exact

@@ -1,6 +1,0 @@
-use Rattle.posix_profile.specs.Requests.{stamped_of}
-use Rattle.page_volume.proofs.Called.{called}
-use Rattle.page_volume.proofs.volume.PageVolume.ask.Goals as goal
-
-pub returns : goal.returns
-returns g c = called g.P.Pages.state g.met.P.PageStore.few c.args.self.now (record { volume = c.ask.new.self }) (stamped_of c.args.asked.now) c.ask.result c.ask.ensures

@@ -1,5 +1,0 @@
-use Rattle.page_volume.proofs.Calls.{is_at}
-use Rattle.page_volume.proofs.volume.PageVolume.describe.Goals as goal
-
-pub returns-clause-describes : goal.returns-clause-describes
-returns-clause-describes g c goes z s is = c.describe.ensures.describes goes z s (is_at g.P.Pages.state z s c.args.self.now is)

@@ -1,4 +1,0 @@
-pub mod Volumes
-pub mod Running
-pub mod Calls
-pub mod Closing

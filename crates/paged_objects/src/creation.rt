@@ -1,0 +1,64 @@
+// The pages of a new object.
+ghost use Rattle.std.specs.Prelude.{◌≡◌, ◌≢◌, ◌≤◌, ℕ, Some, None, IfOk, IfErr, length};
+ghost use Rattle.volume_terms.specs.Sizes.{Sizes, root_number};
+ghost use Rattle.object_store.specs.Changes.{empty_object};
+ghost use Rattle.pages.specs.Changes.{IsChange, IsOnlyOf};
+ghost use Rattle.pages.specs.Maps.{PageMap, changed};
+ghost use Rattle.pages.specs.declared.fault.PageFault.TheVariants as faults;
+ghost use Rattle.paged_objects.specs.Holding.{HoldsObject};
+
+use directories::{DirectoryHead, head_page};
+use flash_tree::FreshPage;
+use pages::{Change, PageFault, Pages};
+use posix_profile::Kind;
+use std::alloc::Global;
+
+/// The page of an object without content: its header.
+fn first_page<P: Pages>(
+    pages: &P,
+    alloc: Global,
+    number: u64,
+    kind: Kind,
+    moment: u64,
+) -> Result<FreshPage, PageFault>
+    ensures object { IfOk result (λ page. page.key.object ≡ number) }
+    ensures chunk { IfOk result (λ page. page.key.chunk ≡ 0) }
+    ensures size { IfOk result (λ page. length page.bytes.items ≡ (P.state pages.now).page_bytes) }
+    ensures holds { (z : Sizes) (m : PageMap) → z.page_bytes ≡ (P.state pages.now).page_bytes → number ≢ root_number → ((c : ℕ) → 1 ≤ c → m number c ≡ None)
+        → IfOk result (λ page. m number 0 ≡ Some page.bytes.items → HoldsObject z m number (Some (empty_object kind moment))) }
+    ensures fault { IfErr result (λ e. e ≡ faults.NoMemory) }
+{
+    match kind {
+        Kind::File => file_io::create(alloc, pages, number, moment),
+        Kind::Directory => {
+            let head = DirectoryHead {
+                spare: 0,
+                length: 0,
+                moment,
+            };
+            Ok(head_page(alloc, pages.page_bytes(), number, head)?)
+        }
+    }
+}
+
+/// The change that makes an object without content under a number that has no pages, which is not the root's.
+pub(crate) fn new_object<P: Pages>(
+    pages: &P,
+    alloc: Global,
+    number: u64,
+    kind: Kind,
+    moment: u64,
+) -> Result<Change, PageFault>
+    ensures change { IfOk result (λ change. IsChange change (P.state pages.now).page_bytes 1) }
+    ensures only { IfOk result (λ change. IsOnlyOf change number) }
+    ensures holds { (z : Sizes) (m : PageMap) → z.page_bytes ≡ (P.state pages.now).page_bytes → number ≢ root_number → ((c : ℕ) → m number c ≡ None)
+        → IfOk result (λ change. HoldsObject z (changed change m) number (Some (empty_object kind moment))) }
+    ensures fault { IfErr result (λ e. e ≡ faults.NoMemory) }
+{
+    let page = first_page(pages, alloc, number, kind, moment)?;
+    let written = vec![in alloc; page]?;
+    Ok(Change {
+        pages: written,
+        cuts: Vec::new(alloc),
+    })
+}

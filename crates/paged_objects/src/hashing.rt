@@ -1,0 +1,31 @@
+// The names of objects after a change, in an index.
+ghost use Rattle.std.specs.Prelude.{◌≡◌, true, OnOk};
+ghost use Rattle.volume_terms.specs.Sizes.{Sizes, IsSizes};
+ghost use Rattle.posix_profile.specs.Charge.{fits};
+ghost use Rattle.posix_profile.specs.State.{Objects};
+ghost use Rattle.pages.specs.Changes.{AreSized};
+ghost use Rattle.pages.specs.Maps.{changed};
+ghost use Rattle.directories.specs.Hashing.{HoldsMore};
+ghost use Rattle.paged_objects.specs.Holding.{HoldsObjects};
+ghost use Rattle.paged_objects.specs.Naming.{HasNames, HoldsNamed, WritesNames};
+
+use directories::hash_change;
+use name_index::NameIndex;
+use pages::{Change, Pages};
+use std::alloc::AllocError;
+
+/// Adds the hashes of the names that a change writes, before it is made: the index has the names of the objects that the
+/// pages hold then. None is dropped.
+pub fn hash_names<P: Pages>(
+    names: &mut NameIndex,
+    pages: &P,
+    change: &Change,
+) -> Result<(), AllocError>
+    requires { AreSized change.now.pages.items (P.state pages.now).page_bytes }
+    ensures kept { HoldsMore names.old names.new }
+    ensures hashes { (z : Sizes) (old new : Objects) → HoldsNamed names.old (P.state pages.now) z old → WritesNames z change.now old new
+        → HoldsObjects z (changed change.now (P.state pages.now).present) new → IsSizes z → fits z new ≡ true
+        → OnOk result (HasNames names.new z (changed change.now (P.state pages.now).present) new) }
+{
+    hash_change(names, pages.page_bytes(), change)
+}

@@ -1,0 +1,96 @@
+// The move of a name.
+ghost use Rattle.std.specs.Prelude.{OnOk, IfOk, IfErr, IfSome};
+ghost use Rattle.std.specs.FinMap as map;
+ghost use Rattle.page_tags.specs.SlotEntry.{entry_of};
+ghost use Rattle.flash_tree.specs.Slots.{IsTreeSlot};
+ghost use Rattle.volume_terms.specs.Names.{IsName};
+ghost use Rattle.volume_terms.specs.Sizes.{Sizes};
+ghost use Rattle.posix_profile.specs.State.{Objects, IsDirectory, entries_of};
+ghost use Rattle.posix_profile.specs.Changes.{with_name, without_name};
+ghost use Rattle.object_store.specs.Changes.{LeadsTo, without};
+ghost use Rattle.pages.specs.Changes.{IsChange};
+ghost use Rattle.pages.specs.Faults.{MayLackMemory, SaysWhyChanging};
+ghost use Rattle.pages.specs.Maps.{changed};
+ghost use Rattle.pages.specs.State.{OnlyFinds, KeepsPower};
+ghost use Rattle.directories.specs.Directories.{IsNamed};
+ghost use Rattle.paged_objects.specs.Holding.{HoldsObjects};
+ghost use Rattle.paged_objects.specs.Naming.{HoldsNamed, WritesNames};
+ghost use Rattle.object_store.specs.Stores.{CanHave};
+
+use crate::naming::slot_for;
+use crate::removal::and_forget;
+use directories::{Route, rename_between, rename_within};
+use name_index::NameIndex;
+use object_store::DirectoryEntry;
+use page_tags::Slot;
+use pages::{Change, PageFault, Pages};
+use std::alloc::Global;
+
+/// The change that gives an object a second name in place of the first; the second then leads to it, also where it led to
+/// another, and the object that is told goes. Both are found through an index.
+pub fn move_name<P: Pages>(
+    names: &NameIndex,
+    pages: &mut P,
+    alloc: Global,
+    from: DirectoryEntry<'_>,
+    to: DirectoryEntry<'_>,
+    number: u64,
+    dropped: Option<u64>,
+    moment: u64,
+) -> Result<Change, PageFault>
+    ensures finds { OnlyFinds (P.state pages.old) (P.state pages.new) }
+    ensures power { OnOk result (KeepsPower (P.state pages.old) (P.state pages.new)) }
+    ensures change { IfOk result (λ change. IsChange change (P.state pages.old).page_bytes 4) }
+    ensures moves { (z : Sizes) (objects : Objects) → HoldsNamed names.now (P.state pages.old) z objects → LeadsTo objects from.entry number → IsDirectory objects to.entry.directory
+        → IfOk result (λ change. HoldsObjects z (changed change (P.state pages.old).present)
+        (without dropped (with_name (without_name objects moment from.entry.directory from.entry.name.now) moment to.entry.directory to.entry.name.now number))) }
+    ensures slots { (z : Sizes) (objects : Objects) → HoldsNamed names.now (P.state pages.old) z objects → LeadsTo objects from.entry number → IsDirectory objects to.entry.directory
+        → IfOk result (λ change. WritesNames z change objects
+        (without dropped (with_name (without_name objects moment from.entry.directory from.entry.name.now) moment to.entry.directory to.entry.name.now number))) }
+    ensures why { IfErr result (SaysWhyChanging (P.state pages.new)) }
+    ensures fault { (z : Sizes) (objects : Objects) → HoldsNamed names.now (P.state pages.old) z objects → CanHave z objects → LeadsTo objects from.entry number
+        → IsDirectory objects to.entry.directory → IsName to.entry.name.now → IfErr result (MayLackMemory (P.state pages.new)) }
+{
+    let slot = slot_for(to.name, number)?;
+    let Some(change) = rename(names, pages, alloc, from, to.directory, &slot, moment)? else {
+        return Err(PageFault::Damaged);
+    };
+    Ok(and_forget(alloc, change, dropped)?)
+}
+
+/// The change that takes a name from its directory and writes a slot into another, or into the same. There is none where
+/// the first has no such name. Both are found through an index.
+fn rename<P: Pages>(
+    names: &NameIndex,
+    pages: &mut P,
+    alloc: Global,
+    from: DirectoryEntry<'_>,
+    directory: u64,
+    slot: &Slot,
+    moment: u64,
+) -> Result<Option<Change>, PageFault>
+    requires { IsTreeSlot (entry_of slot.now) }
+    ensures finds { OnlyFinds (P.state pages.old) (P.state pages.new) }
+    ensures power { OnOk result (KeepsPower (P.state pages.old) (P.state pages.new)) }
+    ensures change { IfOk result (λ made. IfSome made (λ change. IsChange change (P.state pages.old).page_bytes 4)) }
+    ensures named { (z : Sizes) (objects : Objects) → HoldsNamed names.now (P.state pages.old) z objects → IsDirectory objects from.entry.directory
+        → IfOk result (λ made. IsNamed (entries_of (map.get objects from.entry.directory)) from.entry.name.now made) }
+    ensures moves { (z : Sizes) (objects : Objects) → HoldsNamed names.now (P.state pages.old) z objects → IsDirectory objects from.entry.directory → IsDirectory objects directory
+        → IfOk result (λ made. IfSome made (λ change. HoldsObjects z (changed change (P.state pages.old).present)
+        (with_name (without_name objects moment from.entry.directory from.entry.name.now) moment directory slot.now.name.now slot.now.object))) }
+    ensures slots { (z : Sizes) (objects : Objects) → HoldsNamed names.now (P.state pages.old) z objects → IsDirectory objects from.entry.directory → IsDirectory objects directory
+        → IfOk result (λ made. IfSome made (λ change. WritesNames z change objects
+        (with_name (without_name objects moment from.entry.directory from.entry.name.now) moment directory slot.now.name.now slot.now.object))) }
+    ensures why { IfErr result (SaysWhyChanging (P.state pages.new)) }
+    ensures fault { (z : Sizes) (objects : Objects) → HoldsNamed names.now (P.state pages.old) z objects → CanHave z objects → IsDirectory objects from.entry.directory
+        → IsDirectory objects directory → IfErr result (MayLackMemory (P.state pages.new)) }
+{
+    if from.directory == directory {
+        return rename_within(alloc, names, pages, directory, from.name, slot, moment);
+    }
+    let route = Route {
+        source: from.directory,
+        target: directory,
+    };
+    rename_between(alloc, names, pages, route, from.name, slot, moment)
+}

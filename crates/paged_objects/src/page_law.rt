@@ -1,0 +1,41 @@
+// Laws of pages that hold objects.
+ghost use Rattle.std.specs.Prelude.{◌≤◌, ◌+◌, ℕ, List, ◌∷◌, [], length};
+ghost use Rattle.std.specs.FinMap as map;
+ghost use Rattle.nand_model.specs.declared.geometry.Geometry.{Geometry};
+ghost use Rattle.flash_tree.specs.Mount.{sizes_of, IsVolume};
+ghost use Rattle.flash_tree.specs.Tree.{Shows};
+ghost use Rattle.flash_tree.specs.declared.place.Key.{Key};
+ghost use Rattle.volume_terms.specs.Sizes.{Sizes, IsSizes};
+ghost use Rattle.posix_profile.specs.Charge.{charge};
+ghost use Rattle.posix_profile.specs.State.{Objects};
+ghost use Rattle.posix_profile.specs.WellFormed.{IsForest};
+ghost use Rattle.object_store.specs.Stores.{settled};
+ghost use Rattle.pages.specs.Maps.{PageMap, has, without_cuts};
+ghost use Rattle.paged_objects.specs.Counting.{IsOnce, HavePages};
+ghost use Rattle.paged_objects.specs.Holding.{HoldsObjects};
+
+/// Pages that hold objects show those of them that names keep.
+#[tactic(auto, using(crate::specs::laws::Settled::shows_settled))]
+pub fn held_objects_are_shown()
+    ensures { (z : Sizes) (m : PageMap) (objects : Objects) → HoldsObjects z m objects → IsForest z objects → Shows z (has m) (settled objects) }
+{}
+
+/// Pages that hold the objects of a volume are those of a volume with as many spare blocks.
+#[tactic(auto, using(crate::specs::laws::Settled::holds_volume))]
+pub fn held_objects_are_a_volume()
+    ensures { (g : Geometry) (spare : ℕ) (m : PageMap) (objects : Objects) → HoldsObjects (sizes_of g spare) m objects → IsForest (sizes_of g spare) objects
+        → spare + 4 ≤ g.blocks → IsVolume g (has m) spare }
+{}
+
+/// Pages that hold objects hold them without the one that is cut whole.
+#[tactic(auto, using(crate::specs::laws::Holding::cut_object))]
+pub fn a_cut_object_is_held_no_more()
+    ensures { (z : Sizes) (m : PageMap) (objects : Objects) → HoldsObjects z m objects → (o : ℕ)
+        → HoldsObjects z (without_cuts (record { object = o; from = 0 } ∷ []) m) (map.remove objects o) }
+{}
+
+/// Where pages are those of objects, there are no more of them than units that the objects cost.
+pub fn each_page_is_charged()
+    ensures { (z : Sizes) (m : PageMap) (objects : Objects) → IsSizes z → HoldsObjects z m objects → (keys : List Key) → IsOnce keys → HavePages m keys
+        → length keys ≤ charge z objects }
+{}

@@ -1,0 +1,70 @@
+// What is read of the objects that the pages hold.
+ghost use Rattle.std.specs.Prelude.{◌≡◌, OnOk, IfOk, IfErr, ◌≤◌, length, take, drop};
+ghost use Rattle.std.specs.FinMap as map;
+ghost use Rattle.volume_terms.specs.Sizes.{Sizes};
+ghost use Rattle.posix_profile.specs.State.{Objects, IsFile, IsDirectory, entries_of};
+ghost use Rattle.object_store.specs.Facts.{bytes_from, bytes_of};
+ghost use Rattle.pages.specs.Faults.{MayLack, MayLackMemory, SaysWhy, SaysWhyMaking};
+ghost use Rattle.pages.specs.State.{OnlyFinds, KeepsPower};
+ghost use Rattle.directories.specs.Named.{AsksHeld};
+ghost use Rattle.paged_objects.specs.Holding.{HoldsIn};
+ghost use Rattle.paged_objects.specs.Naming.{HoldsNamed};
+
+use name_index::NameIndex;
+use pages::{PageFault, Pages};
+use posix_profile::NameList;
+use std::alloc::Global;
+
+/// The object that a name of a directory of so many entries leads to, found through an index of the names.
+pub fn find<P: Pages>(
+    names: &NameIndex,
+    pages: &mut P,
+    directory: u64,
+    count: u64,
+    name: &[u8],
+) -> Result<Option<u64>, PageFault>
+    ensures finds { OnlyFinds (P.state pages.old) (P.state pages.new) }
+    ensures asked { AsksHeld names.now directory name.now (P.state pages.old).asked (P.state pages.new).asked }
+    ensures power { OnOk result (KeepsPower (P.state pages.old) (P.state pages.new)) }
+    ensures found { (z : Sizes) (objects : Objects) → HoldsNamed names.now (P.state pages.old) z objects → (dir : IsDirectory objects directory)
+        → count ≡ map.len dir.1 → IfOk result (λ found. found ≡ map.get (entries_of (map.get objects directory)) name.now) }
+    ensures why { IfErr result (SaysWhy (P.state pages.old) (P.state pages.new)) }
+    ensures fault { (z : Sizes) (objects : Objects) → HoldsIn (P.state pages.old) z objects → (dir : IsDirectory objects directory)
+        → count ≡ map.len dir.1 → IfErr result (MayLack (P.state pages.old) (P.state pages.new)) }
+{
+    directories::find(names, pages, directory, count, name)
+}
+
+/// The names of a directory, in the order of their bytes.
+pub fn names<P: Pages>(pages: &mut P, alloc: Global, directory: u64) -> Result<NameList, PageFault>
+    ensures finds { OnlyFinds (P.state pages.old) (P.state pages.new) }
+    ensures power { OnOk result (KeepsPower (P.state pages.old) (P.state pages.new)) }
+    ensures found { (z : Sizes) (objects : Objects) → HoldsIn (P.state pages.old) z objects → IsDirectory objects directory
+        → IfOk result (λ names. names ≡ map.keys (entries_of (map.get objects directory))) }
+    ensures why { IfErr result (SaysWhyMaking (P.state pages.new)) }
+    ensures fault { (z : Sizes) (objects : Objects) → HoldsIn (P.state pages.old) z objects → IsDirectory objects directory
+        → IfErr result (MayLackMemory (P.state pages.new)) }
+{
+    directories::names(alloc, pages, directory)
+}
+
+/// Reads the bytes of a file of this length from the offset on into a buffer, as many as there are and the buffer has room for, and
+/// returns how many. After a fault the buffer may hold anything.
+pub fn read_into<P: Pages>(
+    pages: &mut P,
+    file: u64,
+    len: u64,
+    offset: u64,
+    buffer: &mut [u8],
+) -> Result<usize, PageFault>
+    ensures finds { OnlyFinds (P.state pages.old) (P.state pages.new) }
+    ensures power { OnOk result (KeepsPower (P.state pages.old) (P.state pages.new)) }
+    ensures size { length buffer.new ≡ length buffer.old }
+    ensures count { IfOk result (λ count. count ≤ length buffer.old) }
+    ensures rest { IfOk result (λ count. drop count buffer.new ≡ drop count buffer.old) }
+    ensures found { (z : Sizes) (objects : Objects) → HoldsIn (P.state pages.old) z objects → IsFile objects file → len ≡ length (bytes_of (map.get objects file))
+        → IfOk result (λ count. take count buffer.new ≡ bytes_from objects file offset (length buffer.old)) }
+    ensures fault { IfErr result (MayLack (P.state pages.old) (P.state pages.new)) }
+{
+    file_io::read_at(pages, file, len, offset, buffer)
+}

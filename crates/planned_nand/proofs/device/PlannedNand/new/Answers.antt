@@ -1,7 +1,0 @@
-use Rattle.std.proofs.Common.{◌∙◌}
-use Rattle.nand_model.specs.MemoryState.{device, plan}
-use Rattle.planned_nand.proofs.Runs.{runs_here}
-use Rattle.planned_nand.proofs.device.PlannedNand.new.Goals as goal
-
-pub invariant_of-result-clause-run : goal.invariant_of-result-clause-run
-invariant_of-result-clause-run g c = ∣ runs_here c.as_told.result.told (plan c.args.nand) (device c.args.nand) (c.as_told.ensures ∙ c.requires.1.1.1) c.requires.0 ∣₁

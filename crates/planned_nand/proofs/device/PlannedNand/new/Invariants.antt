@@ -1,4 +1,0 @@
-use Rattle.planned_nand.proofs.device.PlannedNand.new.Given as goal
-
-abbrev pub ghost-as_told : goal.ghost-as_told
-ghost-as_told g a = g.told

@@ -1,4 +1,0 @@
-pub mod Planning
-pub mod Running
-pub mod Naming
-pub mod States

@@ -1,0 +1,9 @@
+-- What is known of a device in a session.
+use Rattle.nand_model.specs.Calls.{Device}
+use Rattle.nand_model.specs.MemoryState.{device, plan}
+use Rattle.powercut.specs.Naming.{session_number, named}
+use Rattle.powercut.specs.declared.device.PlannedNand.{PlannedNand}
+
+-- all that is known of the device in memory, and which session it is in
+abbrev pub state_of : PlannedNand → Device
+state_of d = named (session_number (plan d.nand).fuse (plan d.nand).failures d.start.told) (device d.nand)

@@ -1,0 +1,91 @@
+-- The tables once some keys are forgotten, and once a free block is noted for a checkpoint.
+use Rattle.std.specs.Prelude.{◌≡◌, ◌<◌, ◌≤◌, ℕ, Bool, true, false, not, ◌&&◌, Some, None}
+use Rattle.std.proofs.Common.{refl, sym, ◌∙◌, subst, inl, inr, arith}
+use Rattle.std.proofs.lemmas.Bool.{cases_Bool}
+use Rattle.nand_model.specs.Calls.{Device}
+use Rattle.nand_model.specs.declared.geometry.Geometry.{Geometry}
+use Rattle.block_state.specs.Table.{Table, is_free}
+use Rattle.chunk_index.specs.Counts.{Recounts}
+use Rattle.chunk_index.specs.Maps.{kept_pages, kept_in, CountsAgree, Retains}
+use Rattle.chunk_index.specs.declared.form.KeptPage.{KeptPage}
+use Rattle.chunk_index.specs.declared.index.Index.{Index}
+use Rattle.transactions.specs.Ready.{IsReady, IsWaiting}
+use Rattle.flash_log.specs.Standing.{MayLie, Stands}
+use Rattle.test_devices.proofs.Mounting.{ready_counted}
+use Rattle.test_devices.specs.Scanned.{IsScanned}
+
+module _ (keeps : ℕ → ℕ → Bool) (d : Device) (t u : Table) (x y : Index) (is : IsScanned d t x) (retains : Retains keeps x y)
+    (counts : CountsAgree u y) (recounts : Recounts (kept_in x) (kept_in y) t u) where
+  -- what is kept was kept before
+  was_kept : (o c : ℕ) (p : KeptPage) → kept_pages y o c ≡ Some p → kept_pages x o c ≡ Some p
+  was_kept o c p at = elim (cases_Bool (keeps o c)) [
+    | inl stays ↦ sym (retains.kept o c stays) ∙ at
+    | inr goes ↦ let two : None ≡ Some p = sym (retains.kept_no_more o c goes) ∙ at in absurd cc
+  ]
+
+  lies : (o c : ℕ) (p : KeptPage) → MayLie t o c p → MayLie u o c p
+  lies o c p was = record {
+    block = subst (λ (g : Geometry). p.block < g.blocks) (sym recounts.geometry) was.block;
+    page = subst (λ (g : Geometry). p.page < g.pages) (sym recounts.geometry) was.page;
+    name = record {
+      object = was.name.object;
+      chunk = was.name.chunk;
+      version = (was.name.version.0, subst (λ m. p.version ≤ m) (sym recounts.next_group) was.name.version.1);
+    };
+  }
+
+  -- it is as after a scan
+  pub scanned_still : IsScanned d u y
+  scanned_still = record {
+    ready = ready_counted d (kept_in x) (kept_in y) t u recounts is.ready;
+    counts = counts;
+    closed = recounts.open_block ∙ is.closed;
+    newest = λ o c p at. is.newest o c p (was_kept o c p at);
+    lie = λ o c p at. lies o c p (is.lie o c p (was_kept o c p at));
+    limits = (omega (arith, is.limits, recounts.next_group), omega (arith, is.limits, recounts.next_seq));
+  }
+
+-- a free block is good
+good : (t : Table) (c : ℕ) → is_free t c ≡ true → (t.entry c).bad ≡ false
+good t c free = left (t.entry c).bad _ free where
+  left : (x y : Bool) → (not x && y) ≡ true → x ≡ false
+  left false y is = refl
+  left true y is = let two : false ≡ true = is in absurd cc
+
+-- and has no kept page
+unkept : (t : Table) (c : ℕ) → is_free t c ≡ true → (t.entry c).kept ≡ 0
+unkept t c free = grind (arith, free)
+
+module _ (d : Device) (t : Table) (c : ℕ) (closed : t.open_block ≡ None) (free : is_free t c ≡ true) where
+  -- the table in which the block is noted is ready
+  pub ready_noted : IsReady d t → c < t.geometry.blocks → (u : Table) → u ≡ record t { checkpoint = Some c } → IsReady d u
+  ready_noted ready within u is = subst (IsReady d) (sym is) (record {
+    geometry = ready.geometry;
+    marks = ready.marks;
+    open_block = λ o is. let two : None ≡ Some o = sym closed ∙ is in absurd cc;
+    waits = λ b noted.
+        let same : c ≡ b = cc in
+        subst (λ k. IsWaiting d (record t { checkpoint = Some c }) k) same (record {
+          within = subst (λ (g : Geometry). c < g.blocks) ready.geometry within;
+          good = sym (ready.marks c) ∙ good t c free;
+          closed = closed;
+        });
+    numbers = ready.numbers;
+    below = ready.below;
+  })
+
+  -- and stands
+  pub stands_noted : (spare : ℕ) (x : Index) → Stands spare d t x → (u : Table) → u ≡ record t { checkpoint = Some c } → Stands spare d u x
+  stands_noted spare x stands u is = subst (λ (v : Table). Stands spare d v x) (sym is) (record {
+    tables = record {
+      counts = record { counts = stands.tables.counts.counts; within = stands.tables.counts.within };
+      within = λ o k p at. let was = stands.tables.within o k p at in record { block = was.block; page = was.page; name = was.name };
+      fits = stands.tables.fits;
+      written = stands.tables.written;
+      unkept = stands.tables.unkept;
+      apart = λ b noted. let same : c ≡ b = cc in subst (λ k. (t.entry k).kept ≡ 0) same (unkept t c free);
+    };
+    newest = stands.newest;
+    ordinary = stands.ordinary;
+    limits = stands.limits;
+  })

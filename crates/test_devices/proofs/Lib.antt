@@ -1,0 +1,11 @@
+pub mod Followed
+pub mod Parts
+pub mod Held
+pub mod Passing
+pub mod Best
+pub mod Raising
+pub mod Mounting
+pub mod Beside
+pub mod Single
+pub mod Forgetting
+pub mod Tested

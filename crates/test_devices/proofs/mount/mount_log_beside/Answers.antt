@@ -1,0 +1,18 @@
+use Rattle.std.proofs.Common.{◌≤◌, sym, refl, subst, rules}
+use Rattle.nand_model.specs.MemoryState.{device}
+use Rattle.block_state.specs.Kept.{bad_count}
+use Rattle.block_state.specs.Table.{Table}
+use Rattle.test_devices.proofs.Beside.{ready_noted, scanned_still, stands_noted}
+use Rattle.test_devices.proofs.mount.mount_log_beside.Goals as goal
+
+pub invariant_of-result : goal.invariant_of-result
+invariant_of-result c =
+    let still = scanned_still _ _ _ _ _ _ c.in_ok-found.ensures.scanned c.retain.ensures.retains c.retain.ensures.agree c.retain.ensures.counts in
+    record {
+      ready = ready_noted _ _ c.args.checkpoint still.closed (search rules) still.ready (search rules) _ c.note_checkpoint.ensures;
+      stands = stands_noted (device c.scan_log.new.nand) _ c.args.checkpoint still.closed (search rules) c.args.spare _ (c.if-not-may_stand.ensures.stands refl _ still) _ c.note_checkpoint.ensures;
+      room_size = c.in_ok-found.ensures.room;
+    }
+
+pub returns-clause-reserve : goal.returns-clause-reserve
+returns-clause-reserve c = subst (λ (t : Table). bad_count t ≤ c.args.spare) (sym c.note_checkpoint.ensures) (c.if-not-may_stand.ensures.few refl)

@@ -1,0 +1,12 @@
+use Rattle.std.proofs.Common.{◌≡◌, true}
+use Rattle.nand_model.specs.Changes.{OnlyReads}
+use Rattle.flash_tree.specs.Places.{numbers_of}
+use Rattle.test_devices.specs.Searching.{AreGreatestBefore}
+use Rattle.test_devices.proofs.search.greatest_in.Given as goal
+
+abbrev pub invariant-loop-page : goal.invariant-loop-page
+invariant-loop-page g l = record {
+  reads : OnlyReads (g.N.Nand.state l.fn.device) (g.N.Nand.state l.device);
+  greatest : (g.N.Nand.state l.fn.device).honest ≡ true → AreGreatestBefore (g.N.Nand.state l.fn.device).flash l.block 0 (numbers_of l.fn.numbers)
+      → AreGreatestBefore (g.N.Nand.state l.fn.device).flash l.block l.page (numbers_of l.numbers);
+}

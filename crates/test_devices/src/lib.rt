@@ -1,0 +1,23 @@
+//! Devices for tests and benchmarks: a flash in memory that is put together page by page, a log and a store on a device as a scan
+//! finds them, and a plain search of a flash, which reads tags again and again.
+#![tactic(auto)]
+
+mod change;
+mod fault;
+mod flash;
+mod group;
+mod keys;
+mod mount;
+mod opening;
+mod search;
+mod stand_fault;
+mod standing;
+
+pub use change::{Apart, fits};
+pub use fault::LogFault;
+pub use flash::{TestFault, TestFlash};
+pub use mount::{mount_log, mount_log_beside};
+pub use opening::{EachKey, open_each, open_kept};
+pub use search::{greatest, newest};
+pub use stand_fault::StandFault;
+pub use standing::has_unkept;

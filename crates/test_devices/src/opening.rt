@@ -1,0 +1,132 @@
+// A store on a device, as a scan finds it.
+ghost use Rattle.std.specs.Prelude.{◌≡◌, ◌<◌, ◌≤◌, ℕ, IsTrue, true};
+ghost use Rattle.nand_model.specs.Calls.{Device};
+ghost use Rattle.flash_tree.specs.Places.{numbers_of};
+ghost use Rattle.block_state.specs.Kept.{bad_count};
+ghost use Rattle.block_state.specs.TableOf.{table};
+ghost use Rattle.chunk_index.specs.Maps.{CountsAgree};
+ghost use Rattle.transactions.specs.Ready.{IsReady};
+ghost use Rattle.flash_log.specs.Standing.{KeepsOrdinary, Stands, HasFreeBlocks};
+ghost use Rattle.page_store.specs.Opened.{IsOpened};
+ghost use Rattle.test_devices.specs.Keeping.{KeepsNewest};
+
+use crate::stand_fault::StandFault;
+use block_state::Blocks;
+use chunk_index::{Index, KeyFilter};
+use flash_log::Log;
+use flash_tree::{CHECK_OBJECT, Key};
+use nand_model::Nand;
+use page_store::{Opened, Store, open};
+use std::alloc::Global;
+use std::num::NonZeroUsize;
+use volume_terms::NUMBER_END;
+
+/// Keeps every key.
+#[derive(Clone, Copy, Debug)]
+pub struct EachKey;
+
+impl KeyFilter for EachKey {
+    ghost keeps = { λ _ _ _. true };
+
+    fn keeps(&self, _key: Key) -> bool {
+        true
+    }
+}
+
+/// Forgets all keys but those that a filter keeps.
+fn forget<F: KeyFilter>(opened: &mut Opened, filter: &F)
+    requires { CountsAgree (table opened.old.blocks) opened.old.index }
+    ensures { (d : Device) → IsOpened d (table opened.old.blocks) opened.old.index (numbers_of opened.old.numbers)
+        → KeepsNewest d (table opened.new.blocks) opened.new.index (numbers_of opened.new.numbers) }
+{
+    opened.index.retain(filter, &mut opened.blocks);
+}
+
+/// Whether no block has more kept pages than it has pages.
+fn fit(blocks: &Blocks) -> bool
+    ensures { IsTrue result → (b : ℕ) → b < (table blocks.now).geometry.blocks → ((table blocks.now).entry b).kept ≤ (table blocks.now).geometry.pages }
+{
+    for block in 0..blocks.geometry().blocks() {
+        if blocks.entry(block).kept > blocks.geometry().pages() {
+            return false;
+        }
+    }
+    true
+}
+
+/// Whether no more blocks are bad than these, and blocks enough are free.
+fn has_free(blocks: &Blocks, spare: u32) -> bool
+    ensures few { IsTrue result → bad_count (table blocks.now) ≤ spare }
+    ensures free { IsTrue result → HasFreeBlocks (table blocks.now) spare }
+{
+    let (free, bad) = (blocks.free_count(), blocks.bad_count());
+    bad <= spare && u64::from(free) + u64::from(bad) > u64::from(spare)
+}
+
+/// Whether no page of the object of checkpoints is kept.
+fn keeps_ordinary(index: &Index) -> bool
+    ensures { IsTrue result → KeepsOrdinary index.now }
+{
+    let last = Key {
+        object: CHECK_OBJECT - 1,
+        chunk: u64::MAX,
+    };
+    index.next_kept(Some(last)).is_none()
+}
+
+/// Whether there is what a store with so many blocks to spare needs: numbers are left, no block has too many kept pages, no
+/// more blocks are bad than are to spare, blocks enough are free, and no page of a checkpoint is kept.
+fn may_stand(opened: &Opened, spare: u32) -> bool
+    ensures ready { IsTrue result → (d : Device) → KeepsNewest d (table opened.now.blocks) opened.now.index (numbers_of opened.now.numbers)
+        → IsReady d (table opened.now.blocks) }
+    ensures stands { IsTrue result → (d : Device) → KeepsNewest d (table opened.now.blocks) opened.now.index (numbers_of opened.now.numbers)
+        → Stands spare d (table opened.now.blocks) opened.now.index }
+    ensures few { IsTrue result → bad_count (table opened.now.blocks) ≤ spare }
+    ensures free { IsTrue result → HasFreeBlocks (table opened.now.blocks) spare }
+{
+    if opened.numbers.group >= NUMBER_END || opened.numbers.seq >= NUMBER_END {
+        return false;
+    }
+    if opened.blocks.next_group() > NUMBER_END || opened.blocks.next_seq() > NUMBER_END {
+        return false;
+    }
+    if !fit(&opened.blocks) || !has_free(&opened.blocks, spare) {
+        return false;
+    }
+    keeps_ordinary(&opened.index)
+}
+
+/// A store of the newest pages of a device, of the keys that a filter keeps, with so many blocks to spare and so many pages
+/// in the cache.
+pub fn open_kept<N: Nand + Drop, F: KeyFilter>(
+    alloc: Global,
+    mut device: N,
+    filter: &F,
+    spare: u32,
+    capacity: NonZeroUsize,
+) -> Result<Store<N>, StandFault> {
+    let mut opened = open(alloc, &mut device)?;
+    forget(&mut opened, filter);
+    if !may_stand(&opened, spare) {
+        return Err(StandFault::Worn);
+    }
+    let Opened { blocks, index, .. } = opened;
+    let log = match Log::new(alloc, device, blocks, index, spare) {
+        Ok(log) => log,
+        Err((_, refused)) => return Err(refused.into()),
+    };
+    match Store::new(alloc, log, capacity) {
+        Ok(store) => Ok(store),
+        Err((_, refused)) => Err(refused.into()),
+    }
+}
+
+/// A store of all newest pages of a device, with so many blocks to spare and so many pages in the cache.
+pub fn open_each<N: Nand + Drop>(
+    alloc: Global,
+    device: N,
+    spare: u32,
+    capacity: NonZeroUsize,
+) -> Result<Store<N>, StandFault> {
+    open_kept(alloc, device, &EachKey, spare, capacity)
+}

@@ -1,6 +1,0 @@
-use Rattle.std.proofs.Common.{rules}
-use Rattle.test_flash.proofs.Followed.{followed_new}
-use Rattle.test_flash.proofs.flash.TestFlash.new.Goals as goal
-
-pub invariant_of-result : goal.invariant_of-result
-invariant_of-result c = record { followed = followed_new c.blocks-2.result _ _ _ (c.in_ok-nexts.ensures.items_if_clones_equal (λ y is. search rules)) (search rules) (search rules) }

@@ -1,3 +1,0 @@
-pub mod Following
-pub mod Faults
-pub mod Shown

@@ -1,2 +1,0 @@
-pub mod Mounting
-pub mod Beside

@@ -1,3 +1,0 @@
-pub mod Single
-pub mod Forgetting
-pub mod Tested

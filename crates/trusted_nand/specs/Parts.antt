@@ -1,6 +1,0 @@
--- The parts of a device that counts as honest only where it is trusted.
-use Rattle.trusted_nand.specs.declared.device.TrustedNand.{TrustedNand}
-
--- the device itself
-abbrev pub inner_of : {N : Type 0} → TrustedNand N → N
-inner_of d = d.inner

@@ -1,0 +1,55 @@
+-- What a call leaves of pages that refuse memory.
+use Rattle.std.specs.Prelude.{◌≤◌, ◌+◌, ℕ}
+use Rattle.std.proofs.Common.{refl, arith}
+use Rattle.nand_model.specs.Flash.{Flash}
+use Rattle.nand_model.specs.laws.Calls.{lasts_here}
+use Rattle.flash_tree.specs.laws.Truth.{true_same}
+use Rattle.flash_tree.specs.Numbering.{AreBelow}
+use Rattle.pages.specs.State.{PagesState}
+use Rattle.pages.specs.Stores.{GoesOn}
+use Rattle.volume_tests.specs.Refusing.{refusing}
+
+-- a call of the pages inside
+pub goes_on : (a b : ℕ) (p q : PagesState) → a ≤ b → GoesOn p q → GoesOn (refusing a p) (refusing b q)
+goes_on a b p q told x = record {
+  page_bytes = x.page_bytes;
+  most = x.most;
+  spare = x.spare;
+  worn = x.worn;
+  refused = omega (arith, told, x.refused);
+  commits = x.commits;
+  failed = x.failed;
+  device = x.device;
+  numbers = x.numbers;
+  marks = x.marks;
+  limits = x.limits;
+  truth = x.truth;
+}
+
+-- what is below some numbers is below greater ones
+below_more : (f : Flash) (g s more : ℕ) → AreBelow f g s → AreBelow f (g + more) (s + more)
+below_more f g s more below b p t good has = let was = below b p t good has in (omega (arith, was), omega (arith, was), omega (arith, was))
+
+-- a call that is refused
+pub goes_nowhere : (a b : ℕ) (p : PagesState) → a ≤ b → GoesOn (refusing a p) (refusing b p)
+goes_nowhere a b p told = record {
+  page_bytes = refl;
+  most = refl;
+  spare = refl;
+  worn = refl;
+  refused = omega (arith, told);
+  commits = omega arith;
+  failed = λ is. is;
+  device = lasts_here p.device;
+  numbers = record {
+    groups_rise = omega arith;
+    seqs_rise = omega arith;
+    seqs = omega arith;
+    groups = λ honest power. omega arith;
+    below = λ honest below. below;
+    written = λ honest below more counted. below_more p.device.flash p.next.group p.next.seq more below;
+  };
+  marks = omega arith;
+  limits = λ honest left. left;
+  truth = true_same p.device p.checkpoint p.checkpoint refl;
+}

@@ -1,5 +1,5 @@
-//! Tests of the picture of a chip and of the check of a volume: a flash with each state of a page, and a small tree with an
-//! alteration of each rule, both put together by hand.
+//! Tests of the picture of a chip, of the check of a volume and of a salvage: a flash with each state of a page, and a small tree with
+//! an alteration of each rule and each page lost in turn, put together by hand.
 #![tactic(auto)]
 
 #[cfg(test)]
@@ -10,3 +10,5 @@ mod drawn;
 mod dumped;
 #[cfg(test)]
 mod laid;
+#[cfg(test)]
+mod salvaged;

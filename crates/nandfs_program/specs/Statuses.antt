@@ -13,8 +13,9 @@ mount_status mounts.Damaged = 3
 mount_status mounts.Gone = 2
 mount_status mounts.NoMemory = 2
 
--- 1 for a word that is not taken, and 2 for each other fault
+-- 3 where not all of a volume could be read, 1 for a word that is not taken, and 2 for each other fault
 abbrev pub status_of : ToolFault → ℕ
 status_of (faults.Mount fault) = mount_status fault
+status_of faults.Losses = 3
 status_of faults.BadTime = 1
 status_of fault = 2

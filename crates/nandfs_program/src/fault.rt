@@ -8,6 +8,7 @@ use mount_scan::ScanFault;
 use nand_image::ImageFault;
 use plain_volume::TreeFault;
 use posix_calls::{Errno, FormatFault, MountFault};
+use salvage::SalvageFault;
 use std::alloc::{AllocError, AllocFailed};
 use std::io;
 use thiserror::Error;
@@ -57,6 +58,9 @@ pub enum ToolFault {
     /// Lines could not be measured.
     #[error(transparent)]
     Bench(BenchFault),
+    /// Of a volume not all could be salvaged.
+    #[error("not all could be read: see above")]
+    Losses,
     #[error("a file or a folder of the host could not be read or written")]
     Host,
     #[error("standard output could not be written: check where it goes")]
@@ -74,12 +78,14 @@ fn mount_status(fault: MountFault) -> u8
 }
 
 impl ToolFault {
-    /// The exit status: 3 for an image that has no volume that this program reads, 1 for a word that is not taken, else 2.
+    /// The exit status: 3 for an image that has no volume that this program reads, or not all of one, 1 for a word that is not taken,
+    /// else 2.
     pub fn status(self) -> u8
         ensures { result ≡ status_of self }
     {
         match self {
             ToolFault::Mount(fault) => mount_status(fault),
+            ToolFault::Losses => 3,
             ToolFault::BadTime => 1,
             _ => 2,
         }
@@ -139,6 +145,15 @@ impl From<CheckFault> for ToolFault {
         match fault {
             CheckFault::NoMemory => ToolFault::NoMemory,
             CheckFault::Gone | CheckFault::Lost => ToolFault::Mount(MountFault::Gone),
+        }
+    }
+}
+
+impl From<SalvageFault> for ToolFault {
+    fn from(fault: SalvageFault) -> ToolFault {
+        match fault {
+            SalvageFault::NoMemory => ToolFault::NoMemory,
+            SalvageFault::Gone => ToolFault::Mount(MountFault::Gone),
         }
     }
 }

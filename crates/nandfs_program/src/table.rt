@@ -101,7 +101,14 @@ pub(crate) const SUBCOMMANDS: &[Subcommand] = &[
     Subcommand {
         name: "unpack",
         about: "Writes all that is in an image into a folder that is new or empty",
-        words: &[IMAGE, FOLDER],
+        words: &[
+            IMAGE,
+            FOLDER,
+            Word::Flag(
+                "salvage",
+                "What can be read of a damaged volume, with zeros in place of lost bytes, and a list of what is lost. Status 3 where something is",
+            ),
+        ],
         example: "Example: nandfs unpack flash.img copy",
     },
     Subcommand {

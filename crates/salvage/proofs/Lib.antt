@@ -1,0 +1,14 @@
+pub mod Seeing
+pub mod Elements
+pub mod Saying
+pub mod Kept
+pub mod Chunking
+pub mod Slots
+pub mod Named
+pub mod Parts
+pub mod Sets
+pub mod Going
+pub mod Unnamed
+pub mod Whole
+pub mod WholeTrees
+pub mod Carried

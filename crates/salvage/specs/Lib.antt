@@ -1,0 +1,11 @@
+pub mod SeenBy
+pub mod StateOf
+pub mod Opened
+pub mod Told
+pub mod Reached
+pub mod Whole
+pub mod Headers
+pub mod Slots
+pub mod Chunks
+pub mod Reaching
+pub mod Orphans

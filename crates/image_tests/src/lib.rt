@@ -12,3 +12,5 @@ mod hostile;
 mod names;
 #[cfg(test)]
 mod rows;
+#[cfg(test)]
+mod salvaged;

@@ -114,10 +114,10 @@ fn find_pages<N: Nand>(
 }
 
 impl<N: Nand> Salvage<N> {
-    /// Opens what is left on a device, which is only read. Each tag of a good block is read twice, the headers of a tree and the pages
-    /// of its directories once; and where a page of a completed group is lost, nothing of its group is lost but that page. Where a mount
-    /// would find a whole tree, it is that tree. Else older pages are shown where the newest of their keys are lost, and the places of the
-    /// lost pages are listed. Where memory is refused or power is lost the device is given back.
+    /// Opens what is left on a device, which is only read: each tag of a good block, and again for the pages that it goes by, and what a
+    /// check of the tree reads. Where a mount would find a whole tree, it is that tree. Else of a completed group only the pages are lost
+    /// that do not read; older pages are shown where the newest of their keys are lost, and the places of the lost pages are listed. Where
+    /// memory is refused or power is lost the device is given back.
     pub fn open(alloc: Global, device: N) -> Result<Salvage<N>, (N, SalvageFault)>
         ensures reads { IfOk result (λ s. OnlyReads (N.state device) (N.state (device_in s))) }
         ensures back { IfErr result (λ back. OnlyReads (N.state device) (N.state back.0)) }

@@ -3,7 +3,7 @@
 //!
 //! Status 0: all was done. 2: the image, the volume or memory failed. 3: a cut tore the tree. 4: the lines or standard output
 //! failed. With 2 and 4 one line, `fault` and a name, goes to the writer for errors. Words that are not taken come to none of
-//! this: their status is 1 (`crate::choose`).
+//! this: their status is 1 (`choose`).
 #![tactic(auto)]
 
 mod acting;

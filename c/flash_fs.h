@@ -24,7 +24,7 @@
  * sync or fsync covers: either of them makes durable everything that was done before it, in all files.
  *
  * One thread at a time may be in a function of this header, whatever volume it is called for. No pointer is null, but for
- * the buffer of a read, a write or a list of 0 bytes.
+ * the buffer of a read, a write or a list of 0 bytes, and an array of 0 elements.
  */
 #ifndef FLASH_FS_H
 #define FLASH_FS_H
@@ -47,21 +47,22 @@ enum {
     FLASH_EIO = -5,           /* the device lost power or failed: the volume is stopped */
     FLASH_EBADF = -9,         /* no such descriptor, or not opened for this */
     FLASH_ENOMEM = -12,       /* memory was refused */
-    FLASH_EBUSY = -16,        /* the volume, or one of its driver, is mounted; the root cannot be removed or renamed */
+    FLASH_EBUSY = -16,        /* the volume, or one of its driver, is mounted or salvaged; no rmdir or rename of the root */
     FLASH_EEXIST = -17,       /* the name exists already */
     FLASH_ENOVOLUME = -19,    /* the device holds no volume */
     FLASH_ENOTDIR = -20,      /* a file where a directory is needed */
     FLASH_EISDIR = -21,       /* a directory where a file is needed */
     FLASH_EINVAL = -22,       /* an argument that no call takes, or a volume that is not mounted */
-    FLASH_EMFILE = -24,       /* all 64 descriptors of the volume are open, or all FLASH_VOLUMES volumes are mounted */
+    FLASH_EMFILE = -24,       /* all 64 descriptors of the volume are open, or FLASH_VOLUMES volumes are mounted or salvaged */
     FLASH_EFBIG = -27,        /* past the greatest length of a file, which is given at flash_fs_write */
     FLASH_ENOSPC = -28,       /* the volume is full; in a format: too few good blocks */
     FLASH_EROFS = -30,        /* the volume can only be read */
     FLASH_ERANGE = -34,       /* the buffer is too small for the names */
     FLASH_ENAMETOOLONG = -36, /* a path of more than 4,095 bytes, or a component of more than 255 */
     FLASH_ENOTEMPTY = -39,    /* a directory that has entries */
+    FLASH_ELOST = -61,        /* the page of a file is lost (flash_fs_salvage_read) */
     FLASH_EOVERFLOW = -75,    /* an offset above 2^63 - 1 */
-    FLASH_EDAMAGED = -84,     /* what the device holds is no tree that a volume can have */
+    FLASH_EDAMAGED = -84,     /* what the device holds is no tree that a volume can have: see flash_fs_salvage_open */
     FLASH_ENEWER = -95        /* a volume of a newer format */
 };
 
@@ -78,11 +79,11 @@ enum { FLASH_ERASED = 0, FLASH_WRITTEN = 1, FLASH_UNCORRECTABLE = 2 };
 /* What a program, an erase and a mark return; a mark only the first. */
 enum { FLASH_DONE = 0, FLASH_FAILED = 1 };
 
-/* A driver of a NAND flash. The struct and its context stay as they are while a volume over it is mounted, and only one is: two
- * drivers are of the same flash if they are one struct, or have the same context and the same program function.
+/* A driver of a NAND flash. The struct and its context stay as they are while a volume over it is mounted or salvaged, and only
+ * one is: two drivers are of the same flash if they are one struct, or have the same context and the same program function.
  *
  * A function that returns a number other than those it may return, as -1, reports a loss of power: nothing is asked of the
- * driver after that until the next format or mount.
+ * driver after that until the next format, mount or salvage.
  *
  * The library keeps to this, whatever the driver returns. It is proved of each request that the library makes, which names the
  * call and all that is handed over; that a request reaches the driver as it was made, by a read or write of a file and
@@ -133,7 +134,7 @@ struct flash_driver {
 
 /* ---- The volume ---- */
 
-/* How many volumes can be mounted at once; another number may be given when flash_port.c is compiled. */
+/* How many volumes can be mounted or salvaged at once; another number may be given when flash_port.c is compiled. */
 #ifndef FLASH_VOLUMES
 #define FLASH_VOLUMES 8
 #endif
@@ -304,6 +305,80 @@ int flash_fs_fsync(struct flash_fs *fs, int fd);
 
 /* The same, without a descriptor. */
 int flash_fs_sync(struct flash_fs *fs);
+
+/* ---- What is left of a damaged volume ---- */
+
+#define FLASH_SALVAGE_BYTES 512
+
+/* What is left of a volume that no longer mounts because pages of it are lost. It is zero before its first use, at a multiple
+ * of 16, and not copied or moved while it is open, as a struct flash_fs. The device is only read.
+ *
+ * A lost page ends nothing: what it had is missing, and all else is there. An object goes by its number: the root's is 1, and
+ * a list returns those of what a directory names. A number may lead to an object that is lost, and stand in several places.
+ *
+ * Any of these functions may return FLASH_EINVAL where the salvage is not open, and FLASH_EIO where the device has lost its
+ * power, also in an earlier call. Open, list and orphans take memory, and may return FLASH_ENOMEM.
+ */
+struct flash_salvage {
+    FLASH_ALIGNED unsigned char opaque[FLASH_SALVAGE_BYTES];
+};
+
+/* What the header of an object says. */
+struct flash_salvaged {
+    uint64_t kind;   /* FLASH_FILE or FLASH_DIRECTORY */
+    uint64_t size;   /* bytes of a file; slots of a directory, each with a name */
+    uint64_t moment; /* that of the last change */
+};
+
+/* The place of a page: its block, and the page in the block. */
+struct flash_place {
+    uint32_t block, page;
+};
+
+/* Opens what is left on a device. It goes by each page that reads and whose group was completed: of each part of an object by
+ * the newest. Where the groups of which no page is lost show a tree it goes by that one, as a mount that reads all tags does.
+ * It reads the tag of each page of a good block once or twice, and what a look through the tree takes; it takes memory by the
+ * number of pages that are kept, which a close gives back. Errors: EBUSY it is open, or a volume of the driver is mounted, or
+ * salvaged by another; EINVAL sizes out of range, or an address of `left`; EIO; ENOMEM; EMFILE. After an error it is not open,
+ * unless it was before.
+ */
+int flash_fs_salvage_open(struct flash_salvage *left, const struct flash_driver *driver);
+
+/* Gives the memory back. Nothing is done to one that is not open. */
+void flash_fs_salvage_close(struct flash_salvage *left);
+
+/* Reports what the header of an object says. Errors: ENOENT no header of it reads. */
+int flash_fs_salvage_stat(struct flash_salvage *left, uint64_t object, struct flash_salvaged *info);
+
+/* Fills the buffer with what a directory names, in the order of its slots, as far as they read: of each the number of the
+ * object in eight bytes, the lowest first, the name, and a zero. Returns how many bytes these take, and sets `lost` to how many
+ * slots do not read. Errors: ERANGE they take more than `size` bytes (the buffer stays as it was, and `lost` is set); ENOENT no
+ * header of it reads; ENOTDIR it is a file.
+ */
+int64_t flash_fs_salvage_list(struct flash_salvage *left, uint64_t directory, void *buffer, size_t size, uint64_t *lost);
+
+/* Reads bytes of a file from an offset on, at most up to the end of the page that has the first one; what lies past them in the
+ * buffer stays. Returns how many bytes were read: 0 at the end of the file. No byte of a lost page is returned. Errors: ELOST
+ * the page is lost, and the bytes up to its end are missing; ENOENT no header of the file reads; EISDIR it is a directory. So a
+ * file is read to its end, where `info` is of its stat and `page` is the driver's page_bytes:
+ *
+ *     for (int64_t at = 0, count = 1; count > 0 && at < (int64_t)info.size; at += count) {
+ *         count = flash_fs_salvage_read(&left, file, (uint64_t)at, bytes, sizeof bytes);
+ *         if (count == FLASH_ELOST) count = page - at % page; // the bytes that are missing, at most up to info.size
+ *     }
+ */
+int64_t flash_fs_salvage_read(struct flash_salvage *left, uint64_t file, uint64_t offset, void *buffer, size_t size);
+
+/* Fills `objects` with the objects whose header reads and that no directory names, but the root: as many as there is room for.
+ * Returns how many there are.
+ */
+int64_t flash_fs_salvage_orphans(struct flash_salvage *left, uint64_t *objects, size_t count);
+
+/* Fills `places` with the places of the pages that were found lost in the open, by block and then by page: as many as there is
+ * room for. Returns how many there are. Of a lost page nothing but its place is known; where an older page of the same part of
+ * an object was left, that is shown.
+ */
+int64_t flash_fs_salvage_lost(struct flash_salvage *left, struct flash_place *places, size_t count);
 
 #ifdef __cplusplus
 }

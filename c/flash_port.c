@@ -67,6 +67,14 @@ int flash_stat(struct flash_slot *slot, const uint8_t *path, size_t length, stru
 int flash_fstat(struct flash_slot *slot, uint32_t fd, struct flash_info *info);
 int64_t flash_list(struct flash_slot *slot, const uint8_t *path, size_t length, uint8_t *buffer, size_t size);
 int flash_space(struct flash_slot *slot, struct flash_space *space);
+size_t flash_salvage_slot_bytes(void);
+int flash_salvage_open(struct flash_slot *slot, struct flash_port port);
+void flash_salvage_close(struct flash_slot *slot);
+int flash_salvage_stat(struct flash_slot *slot, uint64_t object, struct flash_salvaged *info);
+int64_t flash_salvage_list(struct flash_slot *slot, uint64_t directory, uint8_t *buffer, size_t size, uint64_t *lost);
+int64_t flash_salvage_read(struct flash_slot *slot, uint64_t file, uint64_t offset, uint8_t *buffer, size_t size);
+int64_t flash_salvage_orphans(struct flash_slot *slot, uint64_t *objects, size_t count);
+int64_t flash_salvage_lost(struct flash_slot *slot, struct flash_place *places, size_t count);
 
 /* ---- What the library is given by this file. */
 
@@ -79,17 +87,31 @@ enum operation { SIZES, IS_MARKED, READ_TAG, READ_PAGE, LAST_TAG, NEXT_TAG, PROG
 
 enum { SIZES_BYTES = 16 };
 
-/* What is inside of a struct flash_fs. */
-struct volume {
-    struct flash_slot slot;
+/* A device that the library asks for by a stream. */
+struct device {
     const struct flash_driver *driver;
     int stream;
     uint8_t tag[FLASH_TAG_BYTES]; /* that of the page that was read last, or that is programmed next */
+};
+
+/* What is inside of a struct flash_fs. */
+struct volume {
+    struct flash_slot slot;
+    struct device device;
     _Alignas(16) uint8_t session[FLASH_FS_BYTES - 128];
+};
+
+/* What is inside of a struct flash_salvage. */
+struct salvage {
+    struct flash_slot slot;
+    struct device device;
+    _Alignas(16) uint8_t session[FLASH_SALVAGE_BYTES - 128];
 };
 
 static_assert(sizeof(struct volume) <= sizeof(struct flash_fs), "a volume is larger than FLASH_FS_BYTES");
 static_assert(_Alignof(struct volume) <= _Alignof(struct flash_fs), "a volume asks for more alignment");
+static_assert(sizeof(struct salvage) <= sizeof(struct flash_salvage), "a salvage is larger than FLASH_SALVAGE_BYTES");
+static_assert(_Alignof(struct salvage) <= _Alignof(struct flash_salvage), "a salvage asks for more alignment");
 static_assert(sizeof(void *) == 8, "the library is made for processors of 64 bits");
 
 static struct volume *volume_of(struct flash_fs *fs)
@@ -109,9 +131,9 @@ static struct flash_slot *slot_of(struct flash_fs *fs)
 
 enum { FIRST_STREAM = 1000 };
 
-static struct volume *streams[FLASH_VOLUMES];
+static struct device *streams[FLASH_VOLUMES];
 
-static struct volume *volume_at(int stream)
+static struct device *device_at(int stream)
 {
     return stream >= FIRST_STREAM && stream < FIRST_STREAM + FLASH_VOLUMES ? streams[stream - FIRST_STREAM] : NULL;
 }
@@ -122,8 +144,8 @@ static bool is_same(const struct flash_driver *one, const struct flash_driver *o
     return one == other || (one->context == other->context && one->program == other->program);
 }
 
-/* Whether a volume of the driver is mounted. */
-static bool is_mounted(const struct flash_driver *driver)
+/* Whether a device of the driver is open. */
+static bool is_open(const struct flash_driver *driver)
 {
     for (int i = 0; i < FLASH_VOLUMES; i++)
         if (streams[i] != NULL && is_same(streams[i]->driver, driver))
@@ -131,18 +153,18 @@ static bool is_mounted(const struct flash_driver *driver)
     return false;
 }
 
-static int open_stream(struct volume *volume, const struct flash_driver *driver)
+static int open_stream(struct device *device, const struct flash_driver *driver)
 {
-    if (is_mounted(driver))
+    if (is_open(driver))
         return FLASH_EBUSY;
-    if (flash_port_bytes() != sizeof volume->stream || flash_slot_bytes() > sizeof volume->session)
+    if (flash_port_bytes() != sizeof device->stream)
         return FLASH_EINVAL; /* this file is not of this library */
     for (int i = 0; i < FLASH_VOLUMES; i++)
         if (streams[i] == NULL) {
-            streams[i] = volume;
-            volume->driver = driver;
-            volume->stream = FIRST_STREAM + i;
-            memset(volume->tag, 0, sizeof volume->tag);
+            streams[i] = device;
+            device->driver = driver;
+            device->stream = FIRST_STREAM + i;
+            memset(device->tag, 0, sizeof device->tag);
             return 0;
         }
     return FLASH_EMFILE;
@@ -150,7 +172,7 @@ static int open_stream(struct volume *volume, const struct flash_driver *driver)
 
 int flash_port_close(int stream)
 {
-    if (volume_at(stream) != NULL)
+    if (device_at(stream) != NULL)
         streams[stream - FIRST_STREAM] = NULL;
     return 0;
 }
@@ -198,10 +220,10 @@ static int64_t checked(int returned, size_t size)
 /* A page and a tag are read by the driver to where the library wants them. */
 int64_t flash_port_read(int stream, void *bytes, size_t size, int64_t offset)
 {
-    struct volume *volume = volume_at(stream);
-    if (volume == NULL)
+    struct device *device = device_at(stream);
+    if (device == NULL)
         return -1;
-    const struct flash_driver *driver = volume->driver;
+    const struct flash_driver *driver = device->driver;
     uint8_t *answer = bytes;
     switch (operation_at(offset)) {
     case SIZES:
@@ -221,11 +243,11 @@ int64_t flash_port_read(int stream, void *bytes, size_t size, int64_t offset)
     case READ_PAGE:
         if (size != driver->page_bytes)
             return -1;
-        return checked(driver->read_page(driver->context, block_at(offset), page_at(offset), answer, volume->tag), size);
+        return checked(driver->read_page(driver->context, block_at(offset), page_at(offset), answer, device->tag), size);
     case LAST_TAG:
         if (size != tag_bytes_of(driver))
             return -1;
-        memcpy(answer, volume->tag, size);
+        memcpy(answer, device->tag, size);
         return 0;
     default:
         return -1;
@@ -234,20 +256,20 @@ int64_t flash_port_read(int stream, void *bytes, size_t size, int64_t offset)
 
 int64_t flash_port_write(int stream, const void *bytes, size_t size, int64_t offset)
 {
-    struct volume *volume = volume_at(stream);
-    if (volume == NULL)
+    struct device *device = device_at(stream);
+    if (device == NULL)
         return -1;
-    const struct flash_driver *driver = volume->driver;
+    const struct flash_driver *driver = device->driver;
     switch (operation_at(offset)) {
     case NEXT_TAG:
         if (size != tag_bytes_of(driver))
             return -1;
-        memcpy(volume->tag, bytes, size);
+        memcpy(device->tag, bytes, size);
         return 0;
     case PROGRAM:
         if (size != driver->page_bytes)
             return -1;
-        return checked(driver->program(driver->context, block_at(offset), page_at(offset), bytes, volume->tag), size);
+        return checked(driver->program(driver->context, block_at(offset), page_at(offset), bytes, device->tag), size);
     case ERASE:
         return checked(driver->erase(driver->context, block_at(offset)), size);
     case MARK_BAD:
@@ -262,21 +284,21 @@ int64_t flash_port_write(int stream, const void *bytes, size_t size, int64_t off
 /* Opens the device of a volume that is not mounted. */
 static int open_device(struct flash_fs *fs, const struct flash_driver *driver)
 {
-    if ((uintptr_t)fs % _Alignof(struct flash_fs) != 0)
+    if ((uintptr_t)fs % _Alignof(struct flash_fs) != 0 || flash_slot_bytes() > sizeof volume_of(fs)->session)
         return FLASH_EINVAL;
-    return slot_of(fs)->full ? FLASH_EBUSY : open_stream(volume_of(fs), driver);
+    return slot_of(fs)->full ? FLASH_EBUSY : open_stream(&volume_of(fs)->device, driver);
 }
 
 int flash_fs_format(struct flash_fs *fs, const struct flash_driver *driver, uint32_t spare)
 {
     int code = open_device(fs, driver);
-    return code < 0 ? code : flash_format((struct flash_port){&volume_of(fs)->stream}, spare);
+    return code < 0 ? code : flash_format((struct flash_port){&volume_of(fs)->device.stream}, spare);
 }
 
 int flash_fs_mount_with(struct flash_fs *fs, const struct flash_driver *driver, uint32_t cache_pages)
 {
     int code = open_device(fs, driver);
-    return code < 0 ? code : flash_mount_with(slot_of(fs), (struct flash_port){&volume_of(fs)->stream}, cache_pages);
+    return code < 0 ? code : flash_mount_with(slot_of(fs), (struct flash_port){&volume_of(fs)->device.stream}, cache_pages);
 }
 
 int flash_fs_mount(struct flash_fs *fs, const struct flash_driver *driver)
@@ -411,4 +433,61 @@ int flash_fs_fsync(struct flash_fs *fs, int fd)
 int flash_fs_sync(struct flash_fs *fs)
 {
     return flash_sync(slot_of(fs));
+}
+
+/* ---- Salvages */
+
+static struct salvage *salvage_of(struct flash_salvage *left)
+{
+    return (struct salvage *)(void *)left->opaque;
+}
+
+static struct flash_slot *salvage_slot_of(struct flash_salvage *left)
+{
+    struct salvage *salvage = salvage_of(left);
+    salvage->slot.at = salvage->session;
+    return &salvage->slot;
+}
+
+int flash_fs_salvage_open(struct flash_salvage *left, const struct flash_driver *driver)
+{
+    if ((uintptr_t)left % _Alignof(struct flash_salvage) != 0 || flash_salvage_slot_bytes() > sizeof salvage_of(left)->session)
+        return FLASH_EINVAL;
+    struct flash_slot *slot = salvage_slot_of(left);
+    int code = slot->full ? FLASH_EBUSY : open_stream(&salvage_of(left)->device, driver);
+    return code < 0 ? code : flash_salvage_open(slot, (struct flash_port){&salvage_of(left)->device.stream});
+}
+
+void flash_fs_salvage_close(struct flash_salvage *left)
+{
+    flash_salvage_close(salvage_slot_of(left));
+}
+
+int flash_fs_salvage_stat(struct flash_salvage *left, uint64_t object, struct flash_salvaged *info)
+{
+    return flash_salvage_stat(salvage_slot_of(left), object, info);
+}
+
+int64_t flash_fs_salvage_list(struct flash_salvage *left, uint64_t directory, void *buffer, size_t size, uint64_t *lost)
+{
+    uint8_t none;
+    return flash_salvage_list(salvage_slot_of(left), directory, size == 0 ? &none : buffer, size, lost);
+}
+
+int64_t flash_fs_salvage_read(struct flash_salvage *left, uint64_t file, uint64_t offset, void *buffer, size_t size)
+{
+    uint8_t none;
+    return flash_salvage_read(salvage_slot_of(left), file, offset, size == 0 ? &none : buffer, size);
+}
+
+int64_t flash_fs_salvage_orphans(struct flash_salvage *left, uint64_t *objects, size_t count)
+{
+    uint64_t none;
+    return flash_salvage_orphans(salvage_slot_of(left), count == 0 ? &none : objects, count);
+}
+
+int64_t flash_fs_salvage_lost(struct flash_salvage *left, struct flash_place *places, size_t count)
+{
+    struct flash_place none;
+    return flash_salvage_lost(salvage_slot_of(left), count == 0 ? &none : places, count);
 }

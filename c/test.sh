@@ -128,6 +128,20 @@ image_of_c() {
         [ "$("$OUT/list" "$work/own.img" /logs/old/29 | wc -c)" -eq 87000 ]
 }
 
+# Of an image of which a header and a page of another file are lost, which does not mount, all else is left.
+left_of_image() {
+    local image="$work/lost.img" headers
+    "$OUT/make_image" "$image" && "$OUT/salvage" "$image" > "$work/wanted" || return 1
+    headers=$(grep -abo NLFS "$image" | cut -d : -f 1) # the kind of a page is 49 bytes before its data; the pages take 49 + 2,048
+    poke "$image" $(($(sed -n 5p <<< "$headers") - 49)) 002 && poke "$image" $(($(sed -n 30p <<< "$headers") + 2048)) 002 || return 1
+    ! "$OUT/list" "$image" 2> "$work/said" && grep -q 'error -84' "$work/said" || return 1
+    "$OUT/salvage" "$image" > "$work/there" || return 1
+    diff "$work/wanted" "$work/there" | grep '^[<>]' > "$work/changes"
+    cat "$work/changes"
+    [ "$(wc -l < "$work/changes")" -eq 6 ] && [ "$(grep -c '^> lost page: block' "$work/changes")" -eq 2 ] &&
+        grep -q '^> its header is lost  */logs/old/00$' "$work/changes" && grep -q '33000 bytes,  2048 lost /logs/old/11$' "$work/changes"
+}
+
 # A file in another form, and one byte of it changed: FILE PLACE BYTE (octal).
 poke() { printf "\\$3" | dd of="$1" bs=1 seek="$2" conv=notrunc status=none; }
 
@@ -228,12 +242,14 @@ builds() {
         build test_cuts test/test_cuts.c $HARNESS "$LIBRARY" &&
         build test_torn test/test_torn.c test/sessions.c $CODED test/commands.c test/model.c "$LIBRARY" &&
         build test_lies test/test_lies.c $HARNESS "$LIBRARY" &&
-        build test_memory test/test_memory.c $HARNESS "$LIBRARY" &&
+        build test_memory test/test_memory.c test/refused_memory.c $HARNESS "$LIBRARY" &&
+        build test_salvage test/test_salvage.c test/refused_memory.c $HARNESS "$LIBRARY" &&
         build make_image test/make_image.c test/commands.c test/model.c drivers/file_nand.c "$LIBRARY" &&
         rm -f "$OUT/flash-raw" && make -s OUT="$OUT" CC="$CC" CFLAGS="-O2 -g -Werror" flash-raw && wrap "$OUT/flash-raw" &&
         build list examples/list.c drivers/file_nand.c "$LIBRARY" &&
         build hello examples/hello.c drivers/ram_nand.c "$LIBRARY" &&
-        build power_loss examples/power_loss.c drivers/ram_nand.c "$LIBRARY"
+        build power_loss examples/power_loss.c drivers/ram_nand.c "$LIBRARY" &&
+        build salvage examples/salvage.c drivers/file_nand.c "$LIBRARY"
 }
 run "the tests and examples compile" builds
 [ $failed -eq 0 ] || exit 1
@@ -265,9 +281,11 @@ run "power that goes, and calls that fail" "$OUT/test_cuts" $cuts
 run "pages and blocks that cuts leave torn" "$OUT/test_torn" $torn
 run "drivers that lie" "$OUT/test_lies" 500
 run "memory that is refused, many mounts, several volumes" "$OUT/test_memory" 60
+run "what is left of damaged volumes" "$OUT/test_salvage"
 run "the example hello" "$OUT/hello"
 run "the example power_loss" "$OUT/power_loss"
 run "an image that C made, shown by C" image_of_c
+run "what is left of an image, shown by the example salvage" left_of_image
 run "an image that the program made, shown by C" image_of_program ../crates/program_stories/data/made.img
 run "raw pages of an image, and back" raw_pages
 run "raw pages on a chip with a bad block" moved
@@ -309,12 +327,14 @@ elif [ "${1:-}" != quick ]; then
                 "$OUT/libflash_c.a"
         }
         run "compiled with the sanitizer" eval 'sanitized test_model flash_malloc.c && sanitized test_lies flash_malloc.c &&
-            sanitized test_cuts flash_malloc.c && sanitized test_memory && sanitized test_drivers flash_malloc.c &&
+            sanitized test_cuts flash_malloc.c && sanitized test_memory test/refused_memory.c &&
+            sanitized test_salvage test/refused_memory.c && sanitized test_drivers flash_malloc.c &&
             sanitized test_page_code flash_malloc.c'
         run "sanitizer: drawn calls" "$OUT/test_model_sanitized" 1000 3
         run "sanitizer: drivers that lie" "$OUT/test_lies_sanitized" 100 3
         run "sanitizer: power that goes" "$OUT/test_cuts_sanitized" 50 3
         run "sanitizer: memory that is refused" "$OUT/test_memory_sanitized" 20 3
+        run "sanitizer: what is left of damaged volumes" "$OUT/test_salvage_sanitized"
         run "sanitizer: the envelope of a page" "$OUT/test_page_code_sanitized" 20000 3
         run "sanitizer: the drivers" "$OUT/test_drivers_sanitized" "$work"
     else
@@ -325,6 +345,7 @@ elif [ "${1:-}" != quick ]; then
         run "valgrind: drawn calls" checked "$OUT/test_model" 300 5
         run "valgrind: drivers that lie" checked "$OUT/test_lies" 60 5
         run "valgrind: memory that is refused" checked "$OUT/test_memory" 4 5
+        run "valgrind: what is left of damaged volumes" checked "$OUT/test_salvage"
     else
         skip "valgrind" "it is not here"
     fi

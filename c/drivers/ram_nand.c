@@ -190,6 +190,11 @@ void ram_nand_power_up(struct ram_nand *nand)
         nand->next[block] = UINT32_MAX;
 }
 
+void ram_nand_lose(struct ram_nand *nand, uint32_t block, uint32_t page)
+{
+    nand->kinds[place_of(nand, block, page)] = FLASH_UNCORRECTABLE;
+}
+
 void ram_nand_copy(struct ram_nand *to, const struct ram_nand *from)
 {
     size_t pages = (size_t)from->driver.block_pages * from->driver.blocks;

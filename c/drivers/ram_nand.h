@@ -57,6 +57,9 @@ void ram_nand_free(struct ram_nand *nand);
 /* Power comes: nothing is to happen any more, and no block may be programmed before it is erased. */
 void ram_nand_power_up(struct ram_nand *nand);
 
+/* Makes a page uncorrectable. */
+void ram_nand_lose(struct ram_nand *nand, uint32_t block, uint32_t page);
+
 /* Makes the flash of one that has the same sizes that of another, and powers it up. */
 void ram_nand_copy(struct ram_nand *to, const struct ram_nand *from);
 

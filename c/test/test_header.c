@@ -25,6 +25,7 @@ IS(ENAMETOOLONG);
 IS(ENOTEMPTY);
 IS(EOVERFLOW);
 static_assert(FLASH_ENOVOLUME == -ENODEV, "ENOVOLUME");
+static_assert(FLASH_ELOST == -ENODATA, "ELOST");
 static_assert(FLASH_EDAMAGED == -EILSEQ, "EDAMAGED");
 static_assert(FLASH_ENEWER == -EOPNOTSUPP, "ENEWER");
 
@@ -49,12 +50,23 @@ LIES_AT(flash_space, total, 8);
 LIES_AT(flash_space, free, 16);
 static_assert(sizeof(struct flash_space) == 24, "flash_space");
 static_assert(sizeof(struct flash_fs) % 16 == 0 && _Alignof(struct flash_fs) == 16, "flash_fs");
+LIES_AT(flash_salvaged, kind, 0);
+LIES_AT(flash_salvaged, size, 8);
+LIES_AT(flash_salvaged, moment, 16);
+static_assert(sizeof(struct flash_salvaged) == 24, "flash_salvaged");
+LIES_AT(flash_place, block, 0);
+LIES_AT(flash_place, page, 4);
+static_assert(sizeof(struct flash_place) == 8, "flash_place");
+static_assert(sizeof(struct flash_salvage) % 16 == 0 && _Alignof(struct flash_salvage) == 16, "flash_salvage");
 
 size_t flash_slot_bytes(void);
+size_t flash_salvage_slot_bytes(void);
 size_t flash_port_bytes(void);
 
 int main(void)
 {
-    printf("  a volume takes %zu of the %d bytes of a struct flash_fs\n", flash_slot_bytes(), FLASH_FS_BYTES);
-    return flash_port_bytes() == sizeof(int) && flash_slot_bytes() <= FLASH_FS_BYTES - 128 ? 0 : 1;
+    size_t volume = flash_slot_bytes(), salvage = flash_salvage_slot_bytes();
+    printf("  a volume takes %zu of the %d bytes of a struct flash_fs, a salvage %zu of the %d of a struct flash_salvage\n", volume,
+           FLASH_FS_BYTES, salvage, FLASH_SALVAGE_BYTES);
+    return flash_port_bytes() == sizeof(int) && volume <= FLASH_FS_BYTES - 128 && salvage <= FLASH_SALVAGE_BYTES - 128 ? 0 : 1;
 }

@@ -1,66 +1,14 @@
-/* Memory that is refused, mounts that fail, many mounts, and several volumes at once. This program has the memory of the library
- * itself: it counts each allocation and each growth, and refuses those that it is told to.
+/* Memory that is refused, mounts that fail, many mounts, and several volumes at once.
  *
  *   test_memory [COMMANDS] [SEED]
  */
 #include "commands.h"
-#include "flash_memory.h"
 #include "ram_nand.h"
+#include "refused_memory.h"
 
 #include <stdio.h>
 #include <stdlib.h>
 #include <string.h>
-
-static struct {
-    uint64_t asked;              /* allocations, and growths of blocks */
-    uint64_t refuse_at, refused; /* the number of the one that is refused (0: none), and how many were */
-    bool refuse_on;              /* and all after it */
-    int64_t blocks;              /* that are not given back */
-} memory;
-
-static uint8_t nothing;
-
-static bool is_refused(void)
-{
-    memory.asked++;
-    bool refuses = memory.refuse_at != 0 &&
-                   (memory.asked == memory.refuse_at || (memory.refuse_on && memory.asked > memory.refuse_at));
-    memory.refused += refuses;
-    return refuses;
-}
-
-struct flash_memory flash_memory_alloc(size_t bytes, size_t align)
-{
-    check(align <= 16, "an alignment of %zu", align);
-    if (is_refused())
-        return (struct flash_memory){false, &nothing};
-    memory.blocks++;
-    return (struct flash_memory){true, malloc(bytes + 1)};
-}
-
-struct flash_memory flash_memory_realloc(uint8_t *at, size_t kept, size_t bytes, size_t align)
-{
-    check(align <= 16, "an alignment of %zu", align);
-    if (bytes > kept && is_refused())
-        return (struct flash_memory){false, &nothing};
-    uint8_t *moved = malloc(bytes + 1); /* another place each time */
-    memcpy(moved, at, kept < bytes ? kept : bytes);
-    free(at);
-    return (struct flash_memory){true, moved};
-}
-
-void flash_memory_dealloc(uint8_t *at)
-{
-    memory.blocks--;
-    free(at);
-}
-
-static void refuse(uint64_t at, bool on)
-{
-    memory.asked = memory.refused = 0;
-    memory.refuse_at = at;
-    memory.refuse_on = on;
-}
 
 enum { PAGE = 512, PAGES = 32, BLOCKS = 16, SPARE = 2 };
 

@@ -1,8 +1,11 @@
+pub mod EntryBytes
 pub mod Formats
+pub mod Fronts
 pub mod Mounts
 pub mod NameBytes
 pub mod Places
 pub mod DataBytes
 pub mod Replies
+pub mod Salvages
 pub mod Steps
 pub mod Writes

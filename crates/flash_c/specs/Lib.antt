@@ -6,6 +6,11 @@ pub mod Lending
 pub mod Numbers
 pub mod Placed
 pub mod Questions
+pub mod SalvageHeld
+pub mod SalvageLending
+pub mod SalvageSlots
+pub mod Salvaged
+pub mod Salvaging
 pub mod Sessions
 pub mod Slots
 pub mod Volumes

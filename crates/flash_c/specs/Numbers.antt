@@ -10,6 +10,8 @@ use Rattle.posix_profile.specs.declared.reply.Errno.{Errno}
 use Rattle.posix_profile.specs.declared.reply.Errno.TheVariants as errors
 use Rattle.posix_profile.specs.declared.reply.Reply.{Reply}
 use Rattle.posix_profile.specs.declared.reply.Reply.TheVariants as replies
+use Rattle.salvage.specs.declared.fault.SalvageFault.{SalvageFault}
+use Rattle.salvage.specs.declared.fault.SalvageFault.TheVariants as salvages
 
 -- the number of an error
 abbrev pub error_number : Errno → ℤ
@@ -35,6 +37,10 @@ error_number errors.EOVERFLOW = neg_ℤ (pos 75)
 abbrev pub no_room : ℤ
 no_room = neg_ℤ (pos 34)
 
+-- a page of a file is lost: ENODATA
+abbrev pub lost_page : ℤ
+lost_page = neg_ℤ (pos 61)
+
 -- why a device was not opened: one whose sizes are none that a device may have is EINVAL
 abbrev pub open_number : OpenFault → ℤ
 open_number opens.Gone = error_number errors.EIO
@@ -55,6 +61,11 @@ format_number formats.Spare = error_number errors.EINVAL
 format_number formats.NoMemory = error_number errors.ENOMEM
 format_number formats.Worn = error_number errors.ENOSPC
 format_number formats.Gone = error_number errors.EIO
+
+-- why a salvage returned nothing
+abbrev pub salvage_number : SalvageFault → ℤ
+salvage_number salvages.NoMemory = error_number errors.ENOMEM
+salvage_number salvages.Gone = error_number errors.EIO
 
 -- a count as a number of 64 bits: one that has no place there is EOVERFLOW
 abbrev pub signed : ℕ → ℤ

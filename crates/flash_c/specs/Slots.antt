@@ -1,5 +1,5 @@
 -- What the functions do to a slot.
-use Rattle.std.specs.Prelude.{◌≡◌, ◌≢◌, ◌≤ℤ◌, ℕ, Bool, true, false, ℤ, pos, if◌then◌else◌}
+use Rattle.std.specs.Prelude.{◌≡◌, ◌≢◌, ◌≤ℤ◌, Bool, true, false, ℤ, pos, if◌then◌else◌}
 use Rattle.posix_calls.specs.PageVolumes.{is_stopped}
 use Rattle.posix_calls.specs.Volumes.{over_pages}
 use Rattle.posix_profile.specs.declared.command.Stamped.{Stamped}

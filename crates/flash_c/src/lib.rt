@@ -6,16 +6,22 @@
 //! and no pointer is null.
 #![tactic(auto)]
 
+mod asking;
 mod commands;
 mod devices;
 mod filling;
 mod flags;
 mod law;
+mod listing;
 mod names;
 mod numbers;
 mod placed;
 mod port;
 mod questions;
+mod salvage_session;
+mod salvage_slot;
+mod salvaged;
+mod salvaging;
 mod serve;
 mod session;
 mod slot;

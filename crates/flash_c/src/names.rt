@@ -3,11 +3,8 @@ ghost use Rattle.std.specs.Prelude.{◌≡◌, ◌≤◌, ◌<◌, ◌+◌, ◌+
 ghost use Rattle.flash_c.specs.Filling.{filled, filled_number, names_bytes, names_number, names_filled};
 ghost use Rattle.flash_c.specs.Numbers.{no_room};
 
-use crate::numbers::{error_number, signed};
+use crate::numbers::{NO_ROOM, error_number, signed};
 use posix_calls::{Bytes, Errno, Reply};
-
-/// ERANGE: the buffer has no room for all names.
-const NO_ROOM: i64 = -34;
 
 /// How many bytes the names take with a zero after each, if these are no more than `room`.
 fn names_length(names: &[Bytes], room: usize) -> Option<usize>
@@ -25,7 +22,7 @@ fn names_length(names: &[Bytes], room: usize) -> Option<usize>
 }
 
 /// Copies a name to a place of the buffer, with a zero after it.
-fn copy_name(buffer: &mut [u8], at: usize, name: &[u8])
+pub(crate) fn copy_name(buffer: &mut [u8], at: usize, name: &[u8])
     requires { at + length name.now < length buffer.old }
     ensures { buffer.new ≡ take at buffer.old ++ (name.now ++ (0 ∷ drop (at + length name.now + 1) buffer.old)) }
 {

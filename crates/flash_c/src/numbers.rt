@@ -1,9 +1,16 @@
 // The numbers that the exports return.
 ghost use Rattle.std.specs.Prelude.{◌≡◌, ◌<ℤ◌, pos};
-ghost use Rattle.flash_c.specs.Numbers.{error_number, open_number, mount_number, format_number, signed, done_number, count_number};
+ghost use Rattle.flash_c.specs.Numbers.{error_number, open_number, mount_number, format_number, salvage_number, signed, done_number, count_number};
 
 use port_nand::OpenFault;
 use posix_calls::{Errno, FormatFault, MountFault, Reply};
+use salvage::SalvageFault;
+
+/// ERANGE: the buffer has no room for all names.
+pub(crate) const NO_ROOM: i64 = -34;
+
+/// ENODATA: a page of a file is lost.
+pub(crate) const LOST_PAGE: i64 = -61;
 
 /// The number of an error, by Linux.
 pub(crate) fn error_number(error: Errno) -> i32
@@ -68,6 +75,17 @@ pub(crate) fn format_number(fault: FormatFault) -> i32
         FormatFault::NoMemory => error_number(Errno::ENOMEM),
         FormatFault::Worn => error_number(Errno::ENOSPC),
         FormatFault::Gone => error_number(Errno::EIO),
+    }
+}
+
+/// Why a salvage returned nothing.
+pub(crate) fn salvage_number(fault: SalvageFault) -> i32
+    ensures number { result ≡ salvage_number fault }
+    ensures negative { result <ℤ pos 0 }
+{
+    match fault {
+        SalvageFault::NoMemory => error_number(Errno::ENOMEM),
+        SalvageFault::Gone => error_number(Errno::EIO),
     }
 }
 

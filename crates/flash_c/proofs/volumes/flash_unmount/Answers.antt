@@ -1,4 +1,4 @@
-use Rattle.std.proofs.Common.{◌≡◌, ◌∙◌, ℤ, true, false, ap, sym, subst, to_z, of_z, w32, rules}
+use Rattle.std.proofs.Common.{◌≡◌, ◌∙◌, ℤ, ap, sym, subst, to_z, of_z, w32, rules}
 use Rattle.std.proofs.lemmas.Int.{to_z-of_z}
 use Rattle.nand_model.specs.Calls.{Device}
 use Rattle.posix_calls.specs.declared.page_volume.PageVolume.{PageVolume}

@@ -1,0 +1,81 @@
+/* Shows what is left of a damaged volume in an image file: salvage IMAGE. A line for each object that is reached, with its bytes
+ * or names and how many are lost; then the objects that nothing names, and the lost pages.
+ */
+#include "file_nand.h"
+#include "flash_fs.h"
+
+#include <stdio.h>
+#include <stdlib.h>
+#include <string.h>
+
+static struct flash_salvage left;
+static struct file_nand nand;
+
+static void expect(int64_t code, const char *what)
+{
+    if (code >= 0)
+        return;
+    fprintf(stderr, "%s: error %lld\n", what, (long long)code);
+    exit(1);
+}
+
+/* How many bytes of a file are lost. A program that keeps the others has them here, page by page. */
+static long long lost_of(uint64_t file, int64_t size)
+{
+    static uint8_t bytes[4096];
+    int64_t lost = 0, page = nand.driver.page_bytes;
+    for (int64_t at = 0, count = 1; count > 0 && at < size; at += count) {
+        count = flash_fs_salvage_read(&left, file, (uint64_t)at, bytes, sizeof bytes);
+        if (count == FLASH_ELOST) {
+            count = page - at % page < size - at ? page - at % page : size - at;
+            lost += count;
+        }
+        expect(count, "a read");
+    }
+    return lost;
+}
+
+static void show(const char *path, uint64_t object, int depth)
+{
+    static uint8_t names[20][65536];
+    struct flash_salvaged info;
+    uint64_t lost = 0;
+    int code = flash_fs_salvage_stat(&left, object, &info);
+    if (code == FLASH_ENOENT || depth == 20) {
+        printf("its header is lost           %s\n", path);
+        return;
+    }
+    expect(code, path);
+    if (info.kind == FLASH_FILE) {
+        printf("%10llu bytes, %5lld lost %s\n", (unsigned long long)info.size, lost_of(object, (int64_t)info.size), path);
+        return;
+    }
+    int64_t size = flash_fs_salvage_list(&left, object, names[depth], sizeof names[depth], &lost);
+    expect(size, path);
+    printf("%10llu names, %5llu lost %s/\n", (unsigned long long)info.size, (unsigned long long)lost, path);
+    for (const uint8_t *at = names[depth]; at < names[depth] + size; at += 8 + strlen((const char *)at + 8) + 1) {
+        char below[4096];
+        uint64_t named = 0;
+        for (int i = 7; i >= 0; i--)
+            named = named << 8 | at[i];
+        snprintf(below, sizeof below, "%s/%s", path, (const char *)at + 8);
+        show(below, named, depth + 1);
+    }
+}
+
+int main(int count, char **words)
+{
+    static uint64_t orphans[1000];
+    static struct flash_place places[1000];
+    expect(count == 2 ? file_nand_open(&nand, words[1]) : FLASH_EINVAL, "salvage IMAGE");
+    expect(flash_fs_salvage_open(&left, &nand.driver), words[1]);
+    show("", 1, 0);
+    int64_t unnamed = flash_fs_salvage_orphans(&left, orphans, 1000), lost = flash_fs_salvage_lost(&left, places, 1000);
+    expect(unnamed, "the objects that nothing names");
+    for (int64_t i = 0; i < unnamed && i < 1000; i++)
+        show("(no name)", orphans[i], 0);
+    for (int64_t i = 0; i < lost && i < 1000; i++)
+        printf("lost page: block %u, page %u\n", places[i].block, places[i].page);
+    flash_fs_salvage_close(&left);
+    file_nand_close(&nand);
+}

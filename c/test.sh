@@ -139,7 +139,7 @@ left_of_image() {
     diff "$work/wanted" "$work/there" | grep '^[<>]' > "$work/changes"
     cat "$work/changes"
     [ "$(wc -l < "$work/changes")" -eq 6 ] && [ "$(grep -c '^> lost page: block' "$work/changes")" -eq 2 ] &&
-        grep -q '^> its header is lost  */logs/old/00$' "$work/changes" && grep -q '33000 bytes,  2048 lost /logs/old/11$' "$work/changes"
+        grep -q '^> *[0-9]*: its header is lost  */logs/old/00$' "$work/changes" && grep -q '33000 bytes,  2048 lost /logs/old/11$' "$work/changes"
 }
 
 # A file in another form, and one byte of it changed: FILE PLACE BYTE (octal).

@@ -1,12 +1,12 @@
-/* Shows what is left of a damaged volume in an image file: salvage IMAGE. A line for each object that is reached, with its bytes
- * or names and how many are lost; then the objects that nothing names, and the lost pages.
- */
+/* Shows what is left of a damaged volume in an image file, each object with its number, and what is lost: salvage IMAGE. */
 #include "file_nand.h"
 #include "flash_fs.h"
 
 #include <stdio.h>
 #include <stdlib.h>
 #include <string.h>
+
+enum { DEPTH = 20, MOST = 1000 };
 
 static struct flash_salvage left;
 static struct file_nand nand;
@@ -35,24 +35,23 @@ static long long lost_of(uint64_t file, int64_t size)
     return lost;
 }
 
-static void show(const char *path, uint64_t object, int depth)
+static void show(const char *path, unsigned long long object, int depth)
 {
-    static uint8_t names[20][65536];
+    static uint8_t names[DEPTH][65536];
     struct flash_salvaged info;
     uint64_t lost = 0;
     int code = flash_fs_salvage_stat(&left, object, &info);
-    if (code == FLASH_ENOENT || depth == 20) {
-        printf("its header is lost           %s\n", path);
+    if (code == FLASH_ENOENT)
+        printf("%5llu: its header is lost           %s\n", object, path);
+    else
+        expect(code, path);
+    if (code == 0 && info.kind == FLASH_FILE)
+        printf("%5llu: %10lld bytes, %5lld lost %s\n", object, (long long)info.size, lost_of(object, (int64_t)info.size), path);
+    if (code != 0 || info.kind == FLASH_FILE || depth == DEPTH)
         return;
-    }
-    expect(code, path);
-    if (info.kind == FLASH_FILE) {
-        printf("%10llu bytes, %5lld lost %s\n", (unsigned long long)info.size, lost_of(object, (int64_t)info.size), path);
-        return;
-    }
     int64_t size = flash_fs_salvage_list(&left, object, names[depth], sizeof names[depth], &lost);
     expect(size, path);
-    printf("%10llu names, %5llu lost %s/\n", (unsigned long long)info.size, (unsigned long long)lost, path);
+    printf("%5llu: %10llu names, %5llu lost %s/\n", object, (unsigned long long)info.size, (unsigned long long)lost, path);
     for (const uint8_t *at = names[depth]; at < names[depth] + size; at += 8 + strlen((const char *)at + 8) + 1) {
         char below[4096];
         uint64_t named = 0;
@@ -65,16 +64,16 @@ static void show(const char *path, uint64_t object, int depth)
 
 int main(int count, char **words)
 {
-    static uint64_t orphans[1000];
-    static struct flash_place places[1000];
+    static uint64_t orphans[MOST];
+    static struct flash_place places[MOST];
     expect(count == 2 ? file_nand_open(&nand, words[1]) : FLASH_EINVAL, "salvage IMAGE");
     expect(flash_fs_salvage_open(&left, &nand.driver), words[1]);
     show("", 1, 0);
-    int64_t unnamed = flash_fs_salvage_orphans(&left, orphans, 1000), lost = flash_fs_salvage_lost(&left, places, 1000);
+    int64_t unnamed = flash_fs_salvage_orphans(&left, orphans, MOST), lost = flash_fs_salvage_lost(&left, places, MOST);
     expect(unnamed, "the objects that nothing names");
-    for (int64_t i = 0; i < unnamed && i < 1000; i++)
-        show("(no name)", orphans[i], 0);
-    for (int64_t i = 0; i < lost && i < 1000; i++)
+    for (int64_t i = 0; i < unnamed && i < MOST; i++)
+        show("no name", orphans[i], 0);
+    for (int64_t i = 0; i < lost && i < MOST; i++)
         printf("lost page: block %u, page %u\n", places[i].block, places[i].page);
     flash_fs_salvage_close(&left);
     file_nand_close(&nand);

@@ -261,6 +261,49 @@ static void measure_files(uint32_t blocks, int files)
     ram_nand_free(&nand);
 }
 
+/* All questions to what is left of a volume. */
+static struct flash_salvage left;
+
+static void open_left(void) { code = flash_fs_salvage_open(&left, &nand.driver); }
+
+static void ask_left(void)
+{
+    struct flash_salvaged info;
+    uint64_t lost;
+    expect(flash_fs_salvage_list(&left, 1, bytes, sizeof bytes, &lost) > 0, "list");
+    expect(flash_fs_salvage_orphans(&left, NULL, 0) >= 0, "orphans");
+    for (uint64_t object = 1; object < 20; object++) {
+        expect((code = flash_fs_salvage_stat(&left, object, &info)) == 0, "stat");
+        int64_t got = flash_fs_salvage_read(&left, object, 0, bytes, sizeof bytes);
+        expect(got > 0 || got == FLASH_EISDIR || got == FLASH_ELOST, "read");
+    }
+}
+
+/* What a salvage of a volume takes of which a page is lost. */
+static void measure_salvage(uint32_t page_bytes, uint32_t block_pages, uint32_t blocks, uint32_t kept_for_bad)
+{
+    struct flash_space space;
+    spare = kept_for_bad;
+    percent = 80;
+    file_bytes = blocks < 64 ? 5000 : sizeof bytes;
+    deepest = 0;
+    expect(ram_nand_make(&nand, page_bytes, block_pages, blocks) == 0, "memory");
+    expect(flash_fs_format(&fs, &nand.driver, spare) == 0 && flash_fs_mount(&fs, &nand.driver) == 0, "a volume");
+    fill();
+    expect(flash_fs_space(&fs, &space) == 0, "space");
+    flash_fs_abandon(&fs);
+    ram_nand_lose(&nand, blocks / 4, 2);
+    ram_nand_power_up(&nand);
+    int mounts = flash_fs_mount(&fs, &nand.driver);
+    flash_fs_abandon(&fs);
+    size_t opening = peak_of(open_left), rest = memory.now, asking = peak_of(ask_left);
+    printf("| %u x %u x %u | %d | %llu | %zu | %zu | %zu | %zu |\n", blocks, block_pages, page_bytes, mounts,
+           (unsigned long long)(space.total - space.free), opening, rest, asking, deepest);
+    flash_fs_salvage_close(&left);
+    expect(memory.now == 0 && memory.blocks == 0, "memory is left");
+    ram_nand_free(&nand);
+}
+
 int main(void)
 {
     printf("| Volume | format, peak | mount of an empty one, peak | at rest | calls, peak | after them | units in use | mount 80 %% full, "
@@ -281,5 +324,10 @@ int main(void)
            "mount |\n|---|---|---|---|---|---|---|\n");
     measure_files(64, 1000);
     measure_files(1024, 10000);
+    printf("\n| Volume of which a page is lost | a mount returns | units in use | open of a salvage, peak | at rest | questions, peak | stack "
+           "|\n|---|---|---|---|---|---|---|\n");
+    measure_salvage(512, 32, 16, 2);
+    measure_salvage(2048, 64, 64, 2);
+    measure_salvage(2048, 64, 1024, 20);
     return 0;
 }

@@ -24,7 +24,7 @@ static struct {
     uint32_t next[BLOCKS]; /* by what was returned */
     uint8_t told_bad[BLOCKS];
     uint64_t calls, all_calls, told_lies;
-    bool gone;
+    bool gone, only_read;
 } nand;
 
 static void begins(uint32_t block, uint32_t page)
@@ -110,10 +110,16 @@ static int read_tag(void *context, uint32_t block, uint32_t page, uint8_t *tag)
     return read_page(context, block, page, NULL, tag);
 }
 
+static void changes(uint32_t block, uint32_t page)
+{
+    begins(block, page);
+    check(!nand.only_read, "a salvage that changes the flash");
+}
+
 static int program(void *context, uint32_t block, uint32_t page, const uint8_t *data, const uint8_t *tag)
 {
     (void)context;
-    begins(block, page);
+    changes(block, page);
     check(!nand.told_bad[block] && nand.next[block] == page, "a program out of order, or in a bad block");
     memcpy(nand.data[block][page], data, PAGE);
     memcpy(nand.tags[block][page], tag, driver.tag_bytes);
@@ -134,7 +140,7 @@ static int program(void *context, uint32_t block, uint32_t page, const uint8_t *
 static int erase(void *context, uint32_t block)
 {
     (void)context;
-    begins(block, 0);
+    changes(block, 0);
     bool lie = is_lie();
     for (uint32_t page = 0; page < PAGES; page++)
         if (!lie || drawn(&nand.draw, 2) == 0)
@@ -147,7 +153,7 @@ static int erase(void *context, uint32_t block)
 static int mark_bad(void *context, uint32_t block)
 {
     (void)context;
-    begins(block, 0);
+    changes(block, 0);
     int returned = is_lie() && nand.kind_of_lie != 1 ? returns(wild(), 0) : 0;
     nand.bad[block] = drawn(&nand.draw, 2) == 0 || returned == 0;
     if (returned == 0)
@@ -167,11 +173,36 @@ static void power_up(void)
         nand.next[block] = UINT32_MAX;
 }
 
+/* What is left by such a driver: headers and bytes, whatever they are. No list is asked for: a header may say billions of slots.
+ * Returns whether there was a salvage.
+ */
+static bool salvage(void)
+{
+    static struct flash_salvage left;
+    struct flash_salvaged info;
+    struct flash_place places[4];
+    uint8_t bytes[PAGE];
+    power_up();
+    nand.only_read = true;
+    bool opened = flash_fs_salvage_open(&left, &driver) == 0;
+    for (uint64_t object = 0; object < 20; object++)
+        for (int64_t at = 0, count = 1; count > 0 && at < 4 * PAGE; at += count) {
+            nand.calls = 0;
+            (void)flash_fs_salvage_stat(&left, object, &info);
+            count = flash_fs_salvage_read(&left, object, (uint64_t)at, bytes, sizeof bytes);
+            check(count <= PAGE && (opened || count == FLASH_EINVAL), "a read of a salvage");
+        }
+    check(opened == (flash_fs_salvage_lost(&left, places, 4) >= 0), "the lost pages of a salvage");
+    flash_fs_salvage_close(&left);
+    nand.only_read = false;
+    return opened;
+}
+
 int main(int count, char **words)
 {
     static const uint32_t often[] = {1, 2, 5, 20, 100, 400, 2000};
     uint64_t volumes = count > 1 ? strtoull(words[1], NULL, 10) : 2000, seed = count > 2 ? strtoull(words[2], NULL, 10) : 1;
-    uint64_t mounts = 0, refused = 0, done = 0, calls = 0;
+    uint64_t mounts = 0, refused = 0, done = 0, calls = 0, salvages = 0;
     for (uint64_t i = 0; i < volumes; i++) {
         memset(nand.kinds, FLASH_ERASED, sizeof nand.kinds);
         memset(nand.bad, 0, sizeof nand.bad);
@@ -204,9 +235,11 @@ int main(int count, char **words)
             check(flash_fs_unmount(&fs) == FLASH_EINVAL, "a second unmount");
             check(flash_fs_stopped(&fs) == FLASH_EINVAL && flash_fs_read_only(&fs) == FLASH_EINVAL, "questions after it");
         }
+        salvages += salvage();
     }
-    printf("  %llu volumes, %llu lies in %llu calls of the driver: %llu mounts and %llu refused, %llu of %llu calls done\n",
+    printf("  %llu volumes, %llu lies in %llu calls of the driver: %llu mounts and %llu refused, %llu of %llu calls done, %llu salvages\n",
            (unsigned long long)volumes, (unsigned long long)nand.told_lies, (unsigned long long)nand.all_calls,
-           (unsigned long long)mounts, (unsigned long long)refused, (unsigned long long)done, (unsigned long long)calls);
+           (unsigned long long)mounts, (unsigned long long)refused, (unsigned long long)done, (unsigned long long)calls,
+           (unsigned long long)salvages);
     return 0;
 }

@@ -92,7 +92,7 @@ const ALTERED: [(usize, Page, Found); 11] = [
         (4, 0, b"NLFS\x03\x01\0\0"),
         (
             Verdict::Newer(3),
-            Rule::HeaderNewer(3),
+            Rule::NoHeader(HeaderFault::Newer(3)),
             4,
             0,
             b"/d/g",
@@ -161,9 +161,9 @@ fn is_found(rt: &impl Abort, found: &Diagnosis, want: Found) {
     let Some(finding) = &found.finding else {
         panic!(rt; "no rule is broken");
     };
-    assert_eq!(rt; finding.rule, rule);
-    assert_eq!(rt; finding.object, object, "{rule:?}");
-    assert_eq!(rt; finding.chunk, chunk, "{rule:?}");
+    assert_eq!(rt; finding.broken.rule, rule);
+    assert_eq!(rt; finding.broken.key.object, object, "{rule:?}");
+    assert_eq!(rt; finding.broken.key.chunk, chunk, "{rule:?}");
     assert_eq!(rt; finding.path.as_slice(), path, "{rule:?}");
     let place = place.map(|page| Place { block: 0, page });
     assert_eq!(rt; found.place, place, "{rule:?}");

@@ -1,6 +1,6 @@
 -- Maps with the same pages are gone through in the same way, whatever they have of chunks that no tree looks up.
-use Rattle.std.specs.Prelude.{ℕ, ◌<◌, ◌≤◌, ◌+◌, ◌-◌, ◌^◌, List, length}
-use Rattle.std.proofs.Common.{inl, inr, arith}
+use Rattle.std.specs.Prelude.{ℕ, ◌<◌, ◌≤◌, ◌+◌, ◌-◌, ◌^◌, List, [], ◌∷◌, length}
+use Rattle.std.proofs.Common.{sym, subst, inl, inr, arith}
 use Rattle.std.proofs.lemmas.Option.{slice_get_within}
 use Rattle.nand_model.specs.declared.geometry.Geometry.{Geometry}
 use Rattle.page_tags.specs.Headers.{Fields, IsHeader}
@@ -8,13 +8,41 @@ use Rattle.page_tags.specs.Slots.{Entry}
 use Rattle.page_tags.specs.declared.header.HeaderFault.{HeaderFault}
 use Rattle.page_tags.specs.declared.header.HeaderFault.TheVariants as faults
 use Rattle.volume_terms.specs.Sizes.{Sizes, page_slots, root_number}
-use Rattle.flash_tree.specs.Tree.{IsPageSize, NewestMap, HasHeader, SlotIs}
-use Rattle.flash_tree.specs.Mount.{Wrong, HasNone, HasHeaderFault, HasChunks, LacksChunk, AreSlots, LacksSlots, Finding, Stops, Leads, LacksContent, Finds, with_new, ListEnd, GoesThrough, ends, stops, goes, sizes_of, IsVolume, IsNoVolume, HasWrongRoot, IsSlotIn, NamesTwice}
+use Rattle.flash_tree.specs.Tree.{IsPageSize, NewestMap, HasHeader, SlotIs, LooksUp}
+use Rattle.flash_tree.specs.Mount.{Wrong, HasNone, HasHeaderFault, HasChunks, LacksChunk, AreSlots, LacksSlots, Finding, Stops, Leads, LacksContent, Finds, with_new, ListEnd, Wholly, GoesThrough, ends, stops, goes, sizes_of, IsVolume, IsNoVolume, HasWrongRoot, IsSlotIn, NamesTwice}
+use Rattle.flash_tree.specs.declared.place.Key.{Key}
+use Rattle.tree_walk.specs.Broken.{Breaks, BreaksSlots, ComesTo, IsFirstBroken, IsSlotAt, comes_after, comes_here}
+use Rattle.tree_walk.specs.declared.broken.Broken.{Broken}
+use Rattle.tree_walk.specs.declared.broken.Rule.{Rule}
+use Rattle.tree_walk.specs.declared.broken.Rule.TheVariants as rules
 use Rattle.pages.specs.laws.Low.{first_low, present_low, place_low, slots_few}
 
 -- what the one has of the chunks that a tree may look up the other has too
 abbrev pub HasAll : NewestMap → NewestMap → Type 0
 HasAll m n = (o c : ℕ) (xs : List ℕ) → c < 2 ^ 32 → m o c xs → n o c xs
+
+-- a chunk that is looked up is one of those that a tree may look up
+looks_low : (z : Sizes) (f : Fields) (c : ℕ) → IsPageSize z.page_bytes → IsHeader z.page_bytes f → LooksUp z f c → c < 2 ^ 32
+looks_low z f c size valid (inl zero_is) = subst (λ k. k < 2 ^ 32) (sym zero_is) first_low
+looks_low z f c size valid (inr (inl (kind, from, present))) = present_low z.page_bytes size f c valid from present
+looks_low z f c size valid (inr (inr (kind, (i, lt, chunk)))) =
+    let few = slots_few z.page_bytes f valid kind in
+    subst (λ k. k < 2 ^ 32) (sym chunk) (place_low i (page_slots z) (omega (arith, lt, few)))
+
+-- so is one whose slots break a rule
+slot_low : (z : Sizes) (count chunk place i : ℕ) → count ≤ 2 ^ 32 - 1 → IsSlotAt z count chunk place i → chunk < 2 ^ 32
+slot_low z count chunk place i few at = subst (λ c. c < 2 ^ 32) (sym at.in_chunk) (place_low i (page_slots z) (let lt = at.within in omega (arith, lt, few)))
+
+-- and one that breaks any rule
+pub breaks_low : (z : Sizes) → IsPageSize z.page_bytes → (m : NewestMap) (key : Key) (rule : Rule) → Breaks z m key rule → key.chunk < 2 ^ 32
+breaks_low z size m key rules.HeaderMissing (chunk, none) = subst (λ c. c < 2 ^ 32) (sym chunk) first_low
+breaks_low z size m key (rules.NoHeader fault) (chunk, faulty) = subst (λ c. c < 2 ^ 32) (sym chunk) first_low
+breaks_low z size m key rules.RootIsFile (root, is) = subst (λ (k : Key). k.chunk < 2 ^ 32) (sym root) first_low
+breaks_low z size m key (rules.TooManySpare spare) (root, is) = subst (λ (k : Key). k.chunk < 2 ^ 32) (sym root) first_low
+breaks_low z size m key rules.ChunkMissing (none, (f, there, looks)) = looks_low z f key.chunk size there.1 looks
+breaks_low z size m key (rules.NoSlot place) (f, there, kind, (i, at, lacks)) = slot_low z f.length key.chunk place i (slots_few z.page_bytes f there.1 kind) at
+breaks_low z size m key (rules.NameTwice place) (f, there, kind, (i, at, e)) = slot_low z f.length key.chunk place i (slots_few z.page_bytes f there.1 kind) at
+breaks_low z size m key rules.DirectoryTwice (chunk, again) = subst (λ c. c < 2 ^ 32) (sym chunk) first_low
 
 module _ (m n : NewestMap) (to : HasAll m n) (back : HasAll n m) where
   none_too : (o c : ℕ) → c < 2 ^ 32 → HasNone m o c → HasNone n o c
@@ -98,6 +126,69 @@ module _ (m n : NewestMap) (to : HasAll m n) (back : HasAll n m) where
     other_leads = t.other_leads;
     apart = t.apart;
   }
+
+  -- a rule that is broken
+  breaks_slots_too : (z : Sizes) (count : ℕ) (key : Key) (rule : Rule) → count ≤ 2 ^ 32 - 1 → BreaksSlots z m count key rule → BreaksSlots z n count key rule
+  breaks_slots_too z count key rules.ChunkMissing few (none, (i, lt, chunk)) =
+      (none_too key.object key.chunk (subst (λ c. c < 2 ^ 32) (sym chunk) (place_low i (page_slots z) (omega (arith, lt, few)))) none, (i, lt, chunk))
+  breaks_slots_too z count key (rules.NoSlot place) few (i, at, lacks) = (
+    i,
+    at,
+    record {
+      page = lacks.page;
+      there = to key.object key.chunk lacks.page (subst (λ c. c < 2 ^ 32) (sym at.in_chunk) (place_low i (page_slots z) (let lt = at.within in omega (arith, lt, few)))) lacks.there;
+      none = λ entry is. lacks.none entry (slot_back z key.object i entry (let lt = at.within in omega (arith, lt, few)) is);
+    },
+  )
+  breaks_slots_too z count key (rules.NameTwice place) few (i, at, e) = (
+    i,
+    at,
+    record {
+      j = e.j;
+      earlier = e.earlier;
+      first = e.first;
+      second = e.second;
+      first_is = slot_too z key.object e.j e.first (let lt = at.within in let before = e.earlier in omega (arith, lt, before, few)) e.first_is;
+      second_is = slot_too z key.object i e.second (let lt = at.within in omega (arith, lt, few)) e.second_is;
+      same = e.same;
+    },
+  )
+  breaks_slots_too z count key rules.HeaderMissing few b = absurd b
+  breaks_slots_too z count key (rules.NoHeader fault) few b = absurd b
+  breaks_slots_too z count key rules.RootIsFile few b = absurd b
+  breaks_slots_too z count key (rules.TooManySpare spare) few b = absurd b
+  breaks_slots_too z count key rules.DirectoryTwice few b = absurd b
+
+  pub breaks_too : (z : Sizes) → IsPageSize z.page_bytes → (key : Key) (rule : Rule) → Breaks z m key rule → Breaks z n key rule
+  unfolding twice_too
+  breaks_too z size key rules.HeaderMissing (chunk, none) = (chunk, none_too key.object 0 first_low none)
+  breaks_too z size key (rules.NoHeader fault) (chunk, faulty) = (chunk, fault_too key.object fault faulty)
+  breaks_too z size key rules.RootIsFile (root, (f, there, kind)) = (root, (f, header_too z root_number f there, kind))
+  breaks_too z size key (rules.TooManySpare spare) (root, (f, there, kind, is, few)) = (root, (f, header_too z root_number f there, kind, is, few))
+  breaks_too z size key rules.ChunkMissing (none, (f, there, looks)) =
+      (none_too key.object key.chunk (looks_low z f key.chunk size there.1 looks) none, (f, header_too z key.object f there, looks))
+  breaks_too z size key (rules.NoSlot place) (f, there, kind, breaks) =
+      (f, header_too z key.object f there, kind, breaks_slots_too z f.length key (rules.NoSlot place) (slots_few z.page_bytes f there.1 kind) breaks)
+  breaks_too z size key (rules.NameTwice place) (f, there, kind, breaks) =
+      (f, header_too z key.object f there, kind, breaks_slots_too z f.length key (rules.NameTwice place) (slots_few z.page_bytes f there.1 kind) breaks)
+  breaks_too z size key rules.DirectoryTwice (chunk, again) = (
+    chunk,
+    record {
+      list = again.list;
+      through = through_too z (root_number ∷ []) 0 (Wholly again.list) size again.through;
+      twice = twice_too z again.list again.twice;
+      named = again.named;
+    },
+  )
+
+  comes_too : (z : Sizes) → IsPageSize z.page_bytes → (list : List ℕ) (k o : ℕ) → ComesTo z m list k o → ComesTo z n list k o
+  comes_too z size list k o (comes_here is) = comes_here is
+  comes_too z size list k o (comes_after before named is finds after) =
+      comes_after before named is (finds_too z before (Leads named) size finds) (comes_too z size (with_new list named) (k + 1) o after)
+
+  pub first_too : (z : Sizes) → IsPageSize z.page_bytes → (broken : Broken) → IsFirstBroken z m broken → IsFirstBroken z n broken
+  first_too z size broken (breaks, inl twice) = (breaks_too z size broken.key broken.rule breaks, inl twice)
+  first_too z size broken (breaks, inr comes) = (breaks_too z size broken.key broken.rule breaks, inr (comes_too z size (root_number ∷ []) 0 broken.key.object comes))
 
   -- the root
   pub no_volume_too : IsNoVolume m → IsNoVolume n

@@ -4,6 +4,7 @@ use Rattle.flash_tree.specs.Tree.{NewestMap}
 use Rattle.flash_tree.specs.Mount.{Wrong, IsNewer, IsDamaged, sizes_of, IsVolume, IsNoVolume, HasWrongRoot}
 use Rattle.nand_model.specs.declared.geometry.Geometry.{Geometry}
 use Rattle.pages.specs.State.{PagesState}
+use Rattle.tree_walk.specs.Broken.{wrong_of}
 use Rattle.tree_walk.specs.Trees.{IsWrongTree}
 use Rattle.tree_walk.specs.declared.fault.RootFault.{RootFault}
 use Rattle.tree_walk.specs.declared.fault.RootFault.TheVariants as roots
@@ -22,12 +23,16 @@ WhyNoTree g m roots.NotAVolume = IsNoVolume m
 WhyNoTree g m (roots.Newer format) = HasWrongTree g m (IsNewer format)
 WhyNoTree g m roots.Damaged = HasWrongTree g m IsDamaged
 
+-- what is wrong with a tree, as a fault of the root
+abbrev pub of_wrong : Wrong → RootFault
+of_wrong (IsNewer format) = roots.Newer format
+of_wrong IsDamaged = roots.Damaged
+
 -- the same reason
 abbrev pub of_walk : WalkFault → RootFault
 of_walk walks.NoMemory = roots.NoMemory
 of_walk walks.Device = roots.Device
-of_walk (walks.Newer format) = roots.Newer format
-of_walk walks.Damaged = roots.Damaged
+of_walk (walks.Broken broken) = of_wrong (wrong_of broken.rule)
 
 -- a device that is the reason has failed: it is gone, or it is not honest
 abbrev pub FailsTree : PagesState → RootFault → Type 0

@@ -1,5 +1,5 @@
 // What follows for a flash from a map of its newest pages. A function here does nothing: its clauses are the laws.
-ghost use Rattle.std.specs.Prelude.{◌≡◌, ◌↔◌, ◌<◌, ◌≤◌, ◌+◌, ℕ, Bool, true, false, None, Some, List, [], ◌∷◌};
+ghost use Rattle.std.specs.Prelude.{◌≡◌, ◌↔◌, ◌<◌, ◌≤◌, ◌+◌, ◌^◌, ℕ, Bool, true, false, None, Some, List, [], ◌∷◌};
 ghost use Rattle.nand_model.specs.Flash.{Flash, IsWithin, IsSized};
 ghost use Rattle.nand_model.specs.declared.geometry.Geometry.{Geometry};
 ghost use Rattle.volume_terms.specs.Sizes.{Sizes, IsSizes, capacity, root_number};
@@ -18,7 +18,11 @@ ghost use Rattle.chunk_index.specs.declared.form.KeptPage.{KeptPage};
 ghost use Rattle.chunk_index.specs.declared.index.Index.{Index};
 ghost use Rattle.chunk_index.specs.Free.{HasMarks};
 ghost use Rattle.chunk_index.specs.Maps.{KeptMap, kept_pages, CountsAgree, Retains};
+ghost use Rattle.flash_tree.specs.declared.place.Key.{Key};
+ghost use Rattle.tree_walk.specs.Broken.{Breaks, IsFirstBroken};
 ghost use Rattle.tree_walk.specs.Trees.{IsLookedUp, IsWrongTree};
+ghost use Rattle.tree_walk.specs.declared.broken.Broken.{Broken};
+ghost use Rattle.tree_walk.specs.declared.broken.Rule.{Rule};
 ghost use Rattle.mounting.specs.NewestMaps.{IsNewestMap};
 ghost use Rattle.mounting.specs.KeptTrees.{LieNewest, KeepsAll, KeepsOnlyTree};
 ghost use Rattle.mounting.specs.Footprints.{KeepsFootprint, IsFootprint};
@@ -27,7 +31,7 @@ use chunk_index::{blocks_without_kept_pages_are_free, the_counts_are_of_the_keys
 use flash_tree::a_flash_has_an_answer;
 
 /// What is wrong with a map of the newest pages of a flash is the flash's answer: there is no volume, the root's header
-/// is wrong, an object is, or two names lead to one directory.
+/// is wrong, an object is, or two names lead to one directory. A rule that the map breaks the flash breaks.
 pub fn a_map_of_the_newest_pages_answers()
     ensures no_volume { (g : Geometry) (flash : Flash) (m : PageMap) → IsNewestMap flash m → IsNoVolume (has m) → Answers g flash NotAVolume }
     ensures root { (g : Geometry) (flash : Flash) (m : PageMap) (wrong : Wrong) → IsNewestMap flash m → HasWrongRoot g (has m) wrong → Answers g flash (IsWrong wrong) }
@@ -37,6 +41,11 @@ pub fn a_map_of_the_newest_pages_answers()
         → GoesThrough (sizes_of g spare) (has m) (root_number ∷ []) 0 (Wholly list) → NamesTwice (sizes_of g spare) (has m) list → Answers g flash (IsWrong IsDamaged) }
     ensures tree { (g : Geometry) (flash : Flash) (m : PageMap) (spare : ℕ) (wrong : Wrong) → IsNewestMap flash m → IsVolume g (has m) spare
         → IsWrongTree (sizes_of g spare) (has m) wrong → Answers g flash (IsWrong wrong) }
+    ensures breaks { (g : Geometry) (flash : Flash) (m : PageMap) (spare : ℕ) (key : Key) (rule : Rule) → IsNewestMap flash m
+        → Breaks (sizes_of g spare) (has m) key rule → Breaks (sizes_of g spare) (HasNewest flash) key rule }
+    ensures low { (g : Geometry) (m : PageMap) (spare : ℕ) (key : Key) (rule : Rule) → Breaks (sizes_of g spare) (has m) key rule → key.chunk < 2 ^ 32 }
+    ensures first { (g : Geometry) (flash : Flash) (m : PageMap) (spare : ℕ) (broken : Broken) → IsNewestMap flash m
+        → IsFirstBroken (sizes_of g spare) (has m) broken → IsFirstBroken (sizes_of g spare) (HasNewest flash) broken }
 {}
 
 /// The sizes of a device with a volume's spare blocks are those that a volume can have.

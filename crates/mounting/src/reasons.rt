@@ -16,8 +16,10 @@ fn root_fault(fault: WalkFault) -> RootFault
     match fault {
         WalkFault::NoMemory => RootFault::NoMemory,
         WalkFault::Device => RootFault::Device,
-        WalkFault::Newer(format) => RootFault::Newer(format),
-        WalkFault::Damaged => RootFault::Damaged,
+        WalkFault::Broken(broken) => match broken.rule.newer() {
+            Some(format) => RootFault::Newer(format),
+            None => RootFault::Damaged,
+        },
     }
 }
 

@@ -196,7 +196,7 @@ fn mount_or_find<N: Nand + Drop>(alloc: Global, device: N) -> Result<Mounted, To
         }),
         Err((device, fault)) => {
             let damage = match fault {
-                MountFault::Damaged => find_damage(alloc, device)?,
+                MountFault::Damaged | MountFault::Newer(_) => Some(find_damage(alloc, device)?),
                 _ => None,
             };
             Ok(Mounted {

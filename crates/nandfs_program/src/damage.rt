@@ -3,10 +3,11 @@
 use crate::fault::ToolFault;
 use crate::listing::{shown_path, write_text};
 use nand_model::Nand;
+use page_tags::HeaderFault;
 use serde::Serialize;
 use std::alloc::{AllocError, Global};
 use std::io::Write;
-use volume_check::{Diagnosis, Rule, Verdict, diagnose};
+use volume_check::{Diagnosis, Rule, diagnose};
 use volume_terms::ROOT;
 
 /// The first rule of a tree that is broken, with the object, the chunk and the path that break it, and the place of the page, where
@@ -25,16 +26,18 @@ pub(crate) struct Damage {
 fn rule_text(alloc: Global, rule: Rule) -> Result<String, AllocError> {
     let text = match rule {
         Rule::HeaderMissing => "the object has no header",
-        Rule::HeaderNewer(_) => "the header is of a newer format",
+        Rule::NoHeader(HeaderFault::Newer(_)) => "the header is of a newer format",
         Rule::NoHeader(_) => "the page of chunk 0 is no header",
         Rule::RootIsFile => "the root is a file",
         Rule::TooManySpare(_) => "more blocks are spare than the device can have",
         Rule::ChunkMissing => "the chunk has no page",
-        Rule::Unreadable => "the page does not read as it was written",
-        Rule::NoSlot(place) => return format!(in alloc; "no slot is at byte {place}"),
-        Rule::NameTwice(place) => return format!(in alloc; "a name is there again at byte {place}"),
+        Rule::NoSlot(place) => return format!(in alloc; "slot {place} of the page is none"),
+        Rule::NameTwice(place) => {
+            return format!(in alloc;
+                "slot {place} of the page has a name that an earlier slot has"
+            );
+        }
         Rule::DirectoryTwice => "the directory is named again",
-        Rule::Unknown => "the object is not as the tree needs it",
     };
     String::from_str(alloc, text)
 }
@@ -54,29 +57,23 @@ fn want_of_room(alloc: Global) -> Result<Damage, AllocError> {
     })
 }
 
-/// The rule that is broken, where it was found, or the want of room for a tree that breaks none.
-fn damage_of(alloc: Global, found: &Diagnosis) -> Result<Option<Damage>, ToolFault> {
+/// The rule that is broken, or the want of room for a tree that breaks none.
+fn damage_of(alloc: Global, found: &Diagnosis) -> Result<Damage, ToolFault> {
     let Some(finding) = &found.finding else {
-        return match found.verdict {
-            Verdict::Whole => Ok(Some(want_of_room(alloc)?)),
-            _ => Ok(None),
-        };
+        return Ok(want_of_room(alloc)?);
     };
-    Ok(Some(Damage {
-        rule: rule_text(alloc, finding.rule)?,
-        object: finding.object,
-        chunk: finding.chunk,
+    Ok(Damage {
+        rule: rule_text(alloc, finding.broken.rule)?,
+        object: finding.broken.key.object,
+        chunk: finding.broken.key.chunk,
         path: shown_path(alloc, &finding.path)?,
         block: found.place.map(|place| place.block),
         page: found.place.map(|place| place.page),
-    }))
+    })
 }
 
-/// Finds what is damaged on a device whose mount answers so: the first rule of its tree that is broken, or that it has no room.
-pub(crate) fn find_damage<N: Nand + Drop>(
-    alloc: Global,
-    device: N,
-) -> Result<Option<Damage>, ToolFault> {
+/// Finds what is wrong on a device whose mount finds no sound volume: the first rule of its tree that is broken, or that it has no room.
+pub(crate) fn find_damage<N: Nand + Drop>(alloc: Global, device: N) -> Result<Damage, ToolFault> {
     let (_device, found) = diagnose(alloc, device);
     damage_of(alloc, &found?)
 }

@@ -11,6 +11,7 @@ use Rattle.flash_tree.specs.laws.Finding.{one_finding}
 use Rattle.flash_tree.specs.Mount.{Leads, Finds, GoesThrough, goes}
 use Rattle.volume_terms.specs.Sizes.{Sizes, root_number}
 use Rattle.volume_terms.specs.laws.List.{at_mapped, slice_get_there}
+use Rattle.tree_walk.specs.Broken.{ComesTo, comes_after}
 use Rattle.tree_walk.specs.Heads.{SaysHead}
 use Rattle.tree_walk.specs.Trees.{AreNamesOf}
 use Rattle.tree_walk.specs.Visits.{IsVisited}
@@ -40,6 +41,7 @@ once_one x (suc i) j o at at' = absurd cc
 pub begins_going : (z : Sizes) (m : NewestMap) (walk : WalkState) → Begins walk → IsGoing z m 0 walk
 begins_going z m walk b = record {
   so_far = λ end on. subst (λ l. GoesThrough z m l 0 end) b.objects on;
+  comes = λ o on. subst (λ l. ComesTo z m l 0 o) b.objects on;
   within = omega arith;
   begins = ap (λ l. slice_get l 0) b.objects;
   once = subst IsOnce (sym b.objects) (once_one root_number);
@@ -183,6 +185,7 @@ module _ (z : Sizes) (size : IsPageSize z.page_bytes) (m : NewestMap) (single : 
   pub goes_on : IsGoing z m (n + 1) new
   goes_on = record {
     so_far = λ end on. going.so_far end (goes o named at v.leads (subst (λ l. GoesThrough z m l (n + 1) end) t.objects on));
+    comes = λ x after. going.comes x (comes_after o named at v.leads (subst (λ l. ComesTo z m l (n + 1) x) t.objects after));
     within = omega (arith, slice_get_within new.objects.items n o here);
     begins = b.stays 0 root_number going.begins;
     once = b.once going.once;

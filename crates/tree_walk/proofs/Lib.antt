@@ -2,6 +2,7 @@ pub mod SlotSteps
 pub mod SlotPages
 pub mod HeadBits
 pub mod Telling
+pub mod Breaking
 pub mod Visiting
 pub mod Seeing
 pub mod Hashing
@@ -9,6 +10,7 @@ pub mod Putting
 pub mod Counting
 pub mod Going
 pub mod Twice
+pub mod Stopping
 pub mod Rooting
 pub mod Looking
 pub mod Elements

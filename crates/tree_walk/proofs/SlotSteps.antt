@@ -9,7 +9,6 @@ use Rattle.std.proofs.lemmas.Nat.{div-mul-add, mod-mul-add}
 use Rattle.page_tags.specs.Slots.{Entry, slot_bytes}
 use Rattle.flash_tree.specs.Slots.{IsTreeSlot}
 use Rattle.flash_tree.specs.Tree.{SlotIs}
-use Rattle.flash_tree.specs.Mount.{Wrong, LacksSlots}
 use Rattle.name_index.specs.Hashes.{fnv1a}
 use Rattle.pages.specs.Maps.{PageMap, has}
 use Rattle.posix_profile.specs.State.{Name, Entries}
@@ -17,7 +16,11 @@ use Rattle.posix_profile.specs.laws.Map.{get_here, get_there}
 use Rattle.volume_terms.specs.Sizes.{Sizes, page_slots}
 use Rattle.volume_terms.specs.laws.List.{get_push, push_before, push_last, same_or_not}
 use Rattle.posix_profile.specs.laws.Name.{name_same}
-use Rattle.tree_walk.specs.SlotLists.{TakesEntry, TakesNone, AreSlotNames, HasSlots, LacksOf}
+use Rattle.tree_walk.specs.Broken.{BreaksSlots, IsBrokenIn, IsNamedEarlier, IsNoSlot, IsSlotAt}
+use Rattle.tree_walk.specs.SlotLists.{TakesEntry, TakesNone, AreSlotNames, HasSlots}
+use Rattle.tree_walk.specs.declared.broken.Broken.{Broken}
+use Rattle.tree_walk.specs.declared.broken.Rule.TheVariants as rules
+use Rattle.tree_walk.specs.declared.directory.SlotPage.{SlotPage}
 use Rattle.tree_walk.specs.declared.directory.Slots.{Slots}
 
 -- a key has one page
@@ -98,11 +101,11 @@ module _ (z : Sizes) (m : PageMap) (d n : ℕ) (old : Slots) (h : HasSlots z m d
   }
 
   -- a slot of a name that was seen
-  pub name_twice : (total o : ℕ) → n < total → map.get old.names e.name ≡ Some o → LacksSlots z (has m) d total
-  name_twice total o less is =
+  pub name_twice : (o : ℕ) → map.get old.names e.name ≡ Some o → IsNamedEarlier z (has m) d n
+  name_twice o is =
       let s = h.names.only e.name o is in
       let early : s.0 < n = omega (arith, h.are.size, within h.slots s.0 s.1 s.2) in
-      inr (s.0, n, early, less, s.1, e, h.are.each s.0 s.1 s.2, slot, s.3)
+      record { j = s.0; earlier = early; first = s.1; second = e; first_is = h.are.each s.0 s.1 s.2; second_is = slot; same = s.3 }
     where
       within : (xs : List Entry) (i : ℕ) (x : Entry) → slice_get xs i ≡ Some x → i < length xs
       within [] i x is = absurd cc
@@ -118,31 +121,49 @@ module _ (z : Sizes) (m : PageMap) (d c : ℕ) where
       let place : (c * n + k) % n ≡ k = mod-mul-add c n k less in
       (page, subst (λ j. m d (1 + j) ≡ Some page) (sym chunk) is, valid, ap (λ j. take 272 (drop (272 * j) page)) place ∙ bytes)
 
-  -- bytes of a page that are no slot are none of the directory's
-  pub no_slot_of_page : (k : ℕ) (page : List ℕ) (total : ℕ) → k < page_slots z → c * page_slots z + k < total → m d (1 + c) ≡ Some page
-      → ((e : Entry) → IsTreeSlot e → take 272 (drop (272 * k) page) ≢ slot_bytes e) → LacksSlots z (has m) d total
-  no_slot_of_page k page total less within is none =
+  -- where a slot of the chunk's page is among those of the directory
+  pub is_slot_at : (total k : ℕ) → k < page_slots z → c * page_slots z + k < total → IsSlotAt z total (1 + c) k (c * page_slots z + k)
+  is_slot_at total k less within =
       let n : ℕ = page_slots z in
       let chunk : (c * n + k) / n ≡ c = div-mul-add c n k less in
       let place : (c * n + k) % n ≡ k = mod-mul-add c n k less in
-      inl (
-        c * n + k,
-        within,
-        λ e s.
+      record { within = within; in_chunk = ap (λ j. 1 + j) (sym chunk); at = sym place }
+
+  -- bytes of a page that are no slot are none of the directory's
+  pub no_slot_of_page : (k : ℕ) (page : List ℕ) → k < page_slots z → m d (1 + c) ≡ Some page
+      → ((e : Entry) → IsTreeSlot e → take 272 (drop (272 * k) page) ≢ slot_bytes e) → IsNoSlot z (has m) (record { object = d; chunk = 1 + c }) (c * page_slots z + k)
+  no_slot_of_page k page less is none =
+      let n : ℕ = page_slots z in
+      let chunk : (c * n + k) / n ≡ c = div-mul-add c n k less in
+      let place : (c * n + k) % n ≡ k = mod-mul-add c n k less in
+      record {
+        page = page;
+        there = is;
+        none = λ e s.
             let same : page ≡ s.0 = one_page m d (1 + c) page s.0 is (subst (λ j. m d (1 + j) ≡ Some s.0) chunk s.1) in
-            none e s.2 (ap (λ (xs : List ℕ). take 272 (drop (272 * k) xs)) same ∙ ap (λ j. take 272 (drop (272 * j) s.0)) (sym place) ∙ s.3),
-      )
+            none e s.2 (ap (λ (xs : List ℕ). take 272 (drop (272 * k) xs)) same ∙ ap (λ j. take 272 (drop (272 * j) s.0)) (sym place) ∙ s.3);
+      }
 
   -- where a chunk has no page, its first slot is missing
-  pub no_page : (total : ℕ) → 1 ≤ page_slots z → c * page_slots z < total → m d (1 + c) ≡ None → LacksSlots z (has m) d total
+  pub no_page : (total : ℕ) → 1 ≤ page_slots z → c * page_slots z < total → m d (1 + c) ≡ None → BreaksSlots z (has m) total (record { object = d; chunk = 1 + c }) rules.ChunkMissing
   no_page total some within is =
       let n : ℕ = page_slots z in
       let here : (c * n + 0) / n ≡ c = div-mul-add c n 0 (omega (arith, some)) in
-      inl (c * n + 0, omega (arith, within), λ e s. let two : None ≡ Some s.0 = sym is ∙ subst (λ j. m d (1 + j) ≡ Some s.0) here s.1 in absurd cc)
+      (λ page at. let two : None ≡ Some page = sym is ∙ at in cc, (c * n + 0, omega (arith, within), ap (λ j. 1 + j) (sym here)))
 
--- what is no slot, or has a name that was seen, makes the directory damaged
-pub taken_none : (z : Sizes) (m : PageMap) (d c k : ℕ) (page : List ℕ) (total : ℕ) (old : Slots) → k < page_slots z → c * page_slots z + k < total → m d (1 + c) ≡ Some page
-    → HasSlots z m d (c * page_slots z + k) old → (bytes : List ℕ) → bytes ≡ take 272 (drop (272 * k) page) → (wrong : Wrong) → TakesNone bytes old wrong → LacksOf z m d total wrong
-taken_none z m d c k page total old less within at h bytes is wrong (damaged, inl none) = (damaged, no_slot_of_page z m d c k page total less within at (λ e valid same. none e valid (is ∙ same)))
-taken_none z m d c k page total old less within at h bytes is wrong (damaged, inr (e, valid, same, (o, seen))) =
-    (damaged, name_twice z m d (c * page_slots z + k) old h e (slot_of_page z m d c k e page less at valid (sym is ∙ same)) total o within seen)
+-- what is no slot, or has a name that was seen, breaks a rule of the directory
+pub taken_none : (z : Sizes) (m : PageMap) (at : SlotPage) (k : ℕ) (page : List ℕ) (total : ℕ) (old : Slots) → k < page_slots z → at.number * page_slots z + k < total
+    → m at.directory (1 + at.number) ≡ Some page → HasSlots z m at.directory (at.number * page_slots z + k) old → (bytes : List ℕ) → bytes ≡ take 272 (drop (272 * k) page)
+    → (b : Broken) → TakesNone bytes at k old b → IsBrokenIn z m at.directory total b
+taken_none z m at k page total old less within there h bytes is b (inl (broken, none)) =
+    subst (IsBrokenIn z m at.directory total) (sym broken)
+    (refl, (at.number * page_slots z + k, is_slot_at z m at.directory at.number total k less within, no_slot_of_page z m at.directory at.number k page less there (λ e valid same. none e valid (is ∙ same))))
+taken_none z m at k page total old less within there h bytes is b (inr (broken, (e, valid, same, (o, seen)))) =
+    subst (IsBrokenIn z m at.directory total) (sym broken) (
+      refl,
+      (
+        at.number * page_slots z + k,
+        is_slot_at z m at.directory at.number total k less within,
+        name_twice z m at.directory (at.number * page_slots z + k) old h e (slot_of_page z m at.directory at.number k e page less there valid (sym is ∙ same)) o seen,
+      ),
+    )

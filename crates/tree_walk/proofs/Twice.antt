@@ -1,6 +1,6 @@
 -- Of a tree that was gone through wholly: a directory that was named again is named by two slots, and the other way round.
 use Rattle.std.specs.Prelude.{◌≡◌, ◌<◌, ℕ, List, [], ◌∷◌, length, slice_get, Some}
-use Rattle.std.proofs.Common.{sym, ◌∙◌, ap, subst, inl, inr, arith}
+use Rattle.std.proofs.Common.{refl, sym, ◌∙◌, ap, subst, inl, inr, arith}
 use Rattle.std.proofs.lemmas.Bool.{cases_order}
 use Rattle.std.proofs.lemmas.Option.{slice_get_within}
 use Rattle.page_tags.specs.Headers.{Fields}
@@ -11,6 +11,7 @@ use Rattle.flash_tree.specs.laws.OneTree.{one_slot}
 use Rattle.flash_tree.specs.Mount.{Leads, Finds, Wholly, GoesThrough, ends, IsSlotIn, NamesTwice}
 use Rattle.volume_terms.specs.Sizes.{Sizes, root_number}
 use Rattle.volume_terms.specs.laws.List.{at_mapped, mapped_at, slice_get_there}
+use Rattle.tree_walk.specs.Broken.{IsNamedAgain}
 use Rattle.tree_walk.specs.Walks.{IsNamedAt, IsNamedTwice, IsGoing, IsDirectoryAgain}
 use Rattle.tree_walk.specs.declared.walking.WalkState.{WalkState}
 
@@ -47,13 +48,13 @@ module _ (z : Sizes) (size : IsPageSize z.page_bytes) (m : NewestMap) (single : 
           let one : x.0 ≡ e = one_slot z size.most m single d i x.0 e (are.each i x.0 x.1) s.slot in
           ap (λ xs. slice_get xs i) objects ∙ mapped_at (λ (entry : Entry). entry.object) slots i e (x.1 ∙ ap Some one)
 
-  pub twice_names : (o : ℕ) → IsDirectoryAgain walk o → NamesTwice z m list
+  pub twice_names : (o : ℕ) → IsDirectoryAgain walk o → IsNamedAgain z m o
   twice_names o d =
       let w = (going.again o).0 d.again in
       let says = going.says o d.head d.has in
       let s = slot_in w.p w.i o w.first in
       let t = slot_in w.q w.j o w.second in
-      record {
+      let twice : NamesTwice z m list = record {
         named = o;
         fields = says.0;
         has = says.1;
@@ -72,7 +73,8 @@ module _ (z : Sizes) (size : IsPageSize z.page_bytes) (m : NewestMap) (single : 
           | inl lt ↦ inl (λ same. let one : w.p ≡ w.q = going.once w.p w.q w.second.object (w.first.listed ∙ ap Some same) w.second.listed in absurd (omega (arith, one, lt)))
           | inr places ↦ inr (λ same. absurd (omega (arith, same, places.1)))
         ];
-      }
+      } in
+      record { list = list; through = gone_through; twice = twice; named = refl }
 
   pub names_twice : NamesTwice z m list → (o : ℕ) × IsDirectoryAgain walk o
   names_twice t =

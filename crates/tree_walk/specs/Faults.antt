@@ -1,13 +1,12 @@
 -- Why pages show no volume or no tree.
 use Rattle.std.specs.Prelude.{◌≡◌, ◌<◌, true}
 use Rattle.pages.specs.State.{PagesState}
-use Rattle.page_tags.specs.declared.header.HeaderFault.{HeaderFault}
-use Rattle.page_tags.specs.declared.header.HeaderFault.TheVariants as headers
 use Rattle.volume_terms.specs.declared.fault.StoreFault.{StoreFault}
 use Rattle.volume_terms.specs.declared.fault.StoreFault.TheVariants as store_faults
 use Rattle.flash_tree.specs.Tree.{NewestMap}
-use Rattle.flash_tree.specs.Mount.{Wrong, IsNewer, IsDamaged, IsNoVolume, HasWrongRoot}
+use Rattle.flash_tree.specs.Mount.{IsNewer, IsDamaged, IsNoVolume, HasWrongRoot}
 use Rattle.nand_model.specs.declared.geometry.Geometry.{Geometry}
+use Rattle.tree_walk.specs.declared.broken.Broken.{Broken}
 use Rattle.tree_walk.specs.declared.fault.WalkFault.{WalkFault}
 use Rattle.tree_walk.specs.declared.fault.WalkFault.TheVariants as faults
 use Rattle.tree_walk.specs.declared.fault.RootFault.{RootFault}
@@ -19,28 +18,19 @@ of_store store_faults.NoMemory = faults.NoMemory
 of_store store_faults.Device = faults.Device
 of_store store_faults.Worn = faults.Device
 
--- a header's fault, as one of the walk
-abbrev pub of_header : HeaderFault → WalkFault
-of_header headers.Magic = faults.Damaged
-of_header (headers.Newer format) = faults.Newer format
-of_header headers.Kind = faults.Damaged
-of_header headers.Length = faults.Damaged
-of_header headers.Pad = faults.Damaged
-
--- each fault only where its cause is given: want of memory, what is wrong with the pages; the device has failed
-abbrev pub WalkFailsBy : Type 0 → (Wrong → Type 0) → PagesState → WalkFault → Type 0
+-- each fault only where its cause is given: want of memory, a rule that the pages break; the device has failed
+abbrev pub WalkFailsBy : Type 0 → (Broken → Type 0) → PagesState → WalkFault → Type 0
 WalkFailsBy memory amiss new faults.NoMemory = memory
 WalkFailsBy memory amiss new faults.Device = new.failed ≡ true
-WalkFailsBy memory amiss new (faults.Newer format) = amiss (IsNewer format)
-WalkFailsBy memory amiss new faults.Damaged = amiss IsDamaged
+WalkFailsBy memory amiss new (faults.Broken broken) = amiss broken
 
 -- a call that takes memory, where this is wrong with the pages
-abbrev pub TellsWrong : (Wrong → Type 0) → PagesState → WalkFault → Type 0
+abbrev pub TellsWrong : (Broken → Type 0) → PagesState → WalkFault → Type 0
 TellsWrong amiss new = WalkFailsBy (Unit {0}) amiss new
 
 -- and where nothing is known of them
 abbrev pub TellsWhy : PagesState → WalkFault → Type 0
-TellsWhy new = WalkFailsBy (Unit {0}) (λ wrong. Unit {0}) new
+TellsWhy new = WalkFailsBy (Unit {0}) (λ broken. Unit {0}) new
 
 -- what a fault says of the root's header: that there is none, or what is wrong with it
 abbrev pub TellsRoot : Geometry → NewestMap → RootFault → Type 0

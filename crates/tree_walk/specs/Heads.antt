@@ -6,8 +6,10 @@ use Rattle.page_tags.specs.declared.header.HeaderFault.{HeaderFault}
 use Rattle.page_tags.specs.declared.header.ObjectKind.{ObjectKind}
 use Rattle.page_tags.specs.declared.header.ObjectKind.TheVariants as kinds
 use Rattle.flash_tree.specs.Tree.{NewestMap, HasHeader}
-use Rattle.flash_tree.specs.Mount.{Wrong, wrong_by}
 use Rattle.volume_terms.specs.Sizes.{Sizes}
+use Rattle.tree_walk.specs.Broken.{header_of}
+use Rattle.tree_walk.specs.declared.broken.Broken.{Broken}
+use Rattle.tree_walk.specs.declared.broken.Rule.TheVariants as rules
 use Rattle.tree_walk.specs.declared.head.Head.{Head}
 
 -- the header says it, and the same of each chunk whether it is present
@@ -22,9 +24,9 @@ pub record IsHeadOf (head : Head) (f : Fields) : Type 0 where
 abbrev pub SaysHead : Sizes → NewestMap → ℕ → Head → Type 0
 SaysHead z m o head = (f : Fields) × HasHeader z m o f × IsHeadOf head f
 
--- the page is no header, for this reason
-abbrev pub IsNoHeader : List ℕ → Wrong → Type 0
-IsNoHeader page wrong = (fault : HeaderFault) × IsFirstFault page fault × (wrong ≡ wrong_by fault)
+-- the page of chunk 0 of the object is no header, for this reason
+abbrev pub IsNoHeader : List ℕ → ℕ → Broken → Type 0
+IsNoHeader page object broken = (fault : HeaderFault) × IsFirstFault page fault × (broken ≡ record { rule = rules.NoHeader fault; key = header_of object })
 
 -- whether a chunk behind the header is looked up: of a file where it is present, of a directory where it has slots
 abbrev pub kind_looks_up : (d : ℕ) → Head → ObjectKind → ℕ → Bool

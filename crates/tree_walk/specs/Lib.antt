@@ -1,3 +1,4 @@
+pub mod Broken
 pub mod Faults
 pub mod Roots
 pub mod Heads

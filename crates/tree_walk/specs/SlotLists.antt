@@ -1,14 +1,20 @@
 -- The slots of a directory that were gone through.
-use Rattle.std.specs.Prelude.{◌≡◌, ◌≢◌, ◌⊎◌, ℕ, List, [], ◌∷◌, ◌++◌, map as list_map, slice_get, Some, None}
+use Rattle.std.specs.Prelude.{◌≡◌, ◌≢◌, ◌⊎◌, ◌+◌, ℕ, List, [], ◌∷◌, ◌++◌, map as list_map, slice_get, Some, None}
 use Rattle.std.specs.FinMap as map
 use Rattle.page_tags.specs.Slots.{Entry, slot_bytes}
 use Rattle.flash_tree.specs.Slots.{IsTreeSlot}
-use Rattle.flash_tree.specs.Mount.{Wrong, IsDamaged, AreSlots, LacksSlots}
+use Rattle.flash_tree.specs.Mount.{AreSlots}
 use Rattle.pages.specs.Maps.{PageMap, has}
 use Rattle.posix_profile.specs.State.{Name, Entries}
 use Rattle.volume_terms.specs.Sizes.{Sizes}
 use Rattle.name_index.specs.Hashes.{fnv1a}
+use Rattle.tree_walk.specs.declared.broken.Broken.{Broken}
+use Rattle.tree_walk.specs.declared.broken.Rule.{Rule}
+use Rattle.tree_walk.specs.declared.broken.Rule.TheVariants as rules
+use Rattle.tree_walk.specs.declared.directory.SlotPage.{SlotPage}
 use Rattle.tree_walk.specs.declared.directory.Slots.{Slots}
+use Rattle.tree_walk.specs.declared.fault.WalkFault.{WalkFault}
+use Rattle.tree_walk.specs.declared.fault.WalkFault.TheVariants as faults
 
 -- the name was not seen before, and the slot's object is the next, as is the hash of the name
 pub record TakesEntry (entry : Entry) (old new : Slots) : Type 0 where
@@ -17,11 +23,18 @@ pub record TakesEntry (entry : Entry) (old new : Slots) : Type 0 where
   pub objects : new.objects.items ≡ old.objects.items ++ entry.object ∷ []
   pub hashes : new.hashes.items ≡ old.hashes.items ++ fnv1a entry.name ∷ []
 
--- the bytes are no slot, or that of a name that was seen
-abbrev pub TakesNone : List ℕ → Slots → Wrong → Type 0
-TakesNone bytes old wrong = (wrong ≡ IsDamaged)
-    × (((entry : Entry) → IsTreeSlot entry → bytes ≢ slot_bytes entry)
-    ⊎ ((entry : Entry) × IsTreeSlot entry × (bytes ≡ slot_bytes entry) × ((o : ℕ) × (map.get old.names entry.name ≡ Some o))))
+-- the page of a directory's slots breaks this rule
+abbrev pub broken_in : SlotPage → Rule → Broken
+broken_in at rule = record { rule = rule; key = record { object = at.directory; chunk = 1 + at.number } }
+
+abbrev pub broken_at : SlotPage → Rule → WalkFault
+broken_at at rule = faults.Broken (broken_in at rule)
+
+-- the bytes of the slot in this place of a page are no slot, or that of a name that was seen
+abbrev pub TakesNone : List ℕ → SlotPage → (place : ℕ) → Slots → Broken → Type 0
+TakesNone bytes at place old broken =
+    ((broken ≡ broken_in at (rules.NoSlot place)) × ((entry : Entry) → IsTreeSlot entry → bytes ≢ slot_bytes entry))
+    ⊎ ((broken ≡ broken_in at (rules.NameTwice place)) × ((entry : Entry) × IsTreeSlot entry × (bytes ≡ slot_bytes entry) × ((o : ℕ) × (map.get old.names entry.name ≡ Some o))))
 
 -- the names of the slots, and no others
 pub record AreSlotNames (slots : List Entry) (names : Entries) : Type 0 where
@@ -39,7 +52,3 @@ pub record HasSlots (z : Sizes) (m : PageMap) (d n : ℕ) (seen : Slots) : Type 
 -- these are the objects that a directory of so many slots names
 abbrev pub NamesFrom : Sizes → PageMap → ℕ → ℕ → List ℕ → Type 0
 NamesFrom z m d count objects = (slots : List Entry) × AreSlots z (has m) d count slots × (objects ≡ list_map (λ entry. entry.object) slots)
-
--- one of so many slots is no entry, or two have the same name: the directory is damaged
-abbrev pub LacksOf : Sizes → PageMap → ℕ → ℕ → Wrong → Type 0
-LacksOf z m d count wrong = (wrong ≡ IsDamaged) × LacksSlots z (has m) d count

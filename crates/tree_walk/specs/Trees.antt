@@ -7,8 +7,10 @@ use Rattle.page_tags.specs.Headers.{Fields}
 use Rattle.flash_tree.specs.Tree.{NewestMap, HasHeader, LooksUp}
 use Rattle.flash_tree.specs.Mount.{Wrong, IsDamaged, Leads, Finds, Wrongly, Wholly, GoesThrough, NamesTwice}
 use Rattle.volume_terms.specs.Sizes.{Sizes, root_number}
+use Rattle.tree_walk.specs.Broken.{IsFirstBroken, wrong_of}
 use Rattle.tree_walk.specs.Heads.{SaysHead, head_looks_up}
 use Rattle.tree_walk.specs.Visits.{told_pages}
+use Rattle.tree_walk.specs.declared.broken.Broken.{Broken}
 use Rattle.tree_walk.specs.declared.head.Head.{Head}
 use Rattle.tree_walk.specs.declared.tree.NamedObject.{NamedObject}
 use Rattle.tree_walk.specs.declared.tree.Tree.{Tree}
@@ -75,6 +77,10 @@ abbrev pub IsWrongTree : Sizes → NewestMap → Wrong → Type 0
 IsWrongTree z m wrong =
     GoesThrough z m (root_number ∷ []) 0 (Wrongly wrong)
     ⊎ ((wrong ≡ IsDamaged) × ((list : List ℕ) × GoesThrough z m (root_number ∷ []) 0 (Wholly list) × NamesTwice z m list))
+
+-- the rule is the first that is broken, which makes the tree wrong
+abbrev pub IsWrongBy : Sizes → NewestMap → Broken → Type 0
+IsWrongBy z m b = IsWrongTree z m (wrong_of b.rule) × IsFirstBroken z m b
 
 -- The tree of these pages was gone through wholly: no directory is named twice, and all is told that the tree keeps of them.
 pub record IsTreeThrough (z : Sizes) (m : NewestMap) (tree : Tree) : Type 0 where

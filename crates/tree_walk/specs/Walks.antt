@@ -8,9 +8,11 @@ use Rattle.page_tags.specs.declared.header.ObjectKind.TheVariants as kinds
 use Rattle.flash_tree.specs.Tree.{NewestMap}
 use Rattle.flash_tree.specs.Mount.{Leads, Finds, with_new, ListEnd, GoesThrough}
 use Rattle.volume_terms.specs.Sizes.{Sizes, root_number}
+use Rattle.tree_walk.specs.Broken.{ComesTo, StopsAt}
 use Rattle.tree_walk.specs.Heads.{SaysHead}
 use Rattle.tree_walk.specs.Trees.{AreNamesOf, named_in}
 use Rattle.tree_walk.specs.Visits.{told_pages}
+use Rattle.tree_walk.specs.declared.broken.Broken.{Broken}
 use Rattle.tree_walk.specs.declared.head.Head.{Head}
 use Rattle.tree_walk.specs.declared.object.Visited.{Visited}
 use Rattle.tree_walk.specs.declared.walking.WalkState.{WalkState}
@@ -99,6 +101,7 @@ pub record IsNamedTwice (z : Sizes) (m : NewestMap) (list : List ℕ) (n o : ℕ
 -- the objects before place n of the list were visited: each is there whole, and what they name is known
 pub record IsGoing (z : Sizes) (m : NewestMap) (n : ℕ) (walk : WalkState) : Type 0 where
   pub so_far : (end : ListEnd) → GoesThrough z m walk.objects.items n end → GoesThrough z m (root_number ∷ []) 0 end
+  pub comes : (o : ℕ) → ComesTo z m walk.objects.items n o → ComesTo z m (root_number ∷ []) 0 o
   pub within : n ≤ length walk.objects.items
   pub begins : slice_get walk.objects.items 0 ≡ Some root_number
   pub once : IsOnce walk.objects.items
@@ -118,3 +121,7 @@ pub record IsDirectoryAgain (walk : WalkState) (o : ℕ) : Type 0 where
   pub head : Head
   pub has : HasHead walk o head
   pub kind : head.kind ≡ kinds.Directory
+
+-- the object in this place of the list stops the walk, since it breaks the rule
+abbrev pub StopsOn : Sizes → NewestMap → WalkState → (place : ℕ) → Broken → Type 0
+StopsOn z m walk place b = (slice_get walk.objects.items place ≡ Some b.key.object) × StopsAt z m b.key.object b

@@ -10,8 +10,10 @@ ghost use Rattle.volume_terms.specs.Sizes.{Sizes, page_slots};
 ghost use Rattle.name_index.specs.Covering.{HasHashes};
 ghost use Rattle.tree_walk.specs.Faults.{TellsWhy, TellsWrong};
 ghost use Rattle.tree_walk.specs.Hashes.{Keeps};
-ghost use Rattle.tree_walk.specs.SlotLists.{TakesEntry, TakesNone, HasSlots, LacksOf, NamesFrom};
+ghost use Rattle.tree_walk.specs.Broken.{IsBrokenIn};
+ghost use Rattle.tree_walk.specs.SlotLists.{TakesEntry, TakesNone, HasSlots, NamesFrom, broken_at};
 
+use crate::broken::{Broken, Rule};
 use crate::fault::WalkFault;
 use crate::hashes::add_hashes;
 use flash_tree::{Key, decode_tree_slot};
@@ -59,7 +61,7 @@ pub(crate) fn read_slots<P: Pages>(
     ensures told { (P.state pages.old).sound ≡ true → (z : Sizes) → z.page_bytes ≡ (P.state pages.old).page_bytes
         → IfOk result (λ objects. NamesFrom z (P.state pages.old).present directory length objects.items) }
     ensures fault { (P.state pages.old).sound ≡ true → (z : Sizes) → z.page_bytes ≡ (P.state pages.old).page_bytes
-        → IfErr result (TellsWrong (LacksOf z (P.state pages.old).present directory length) (P.state pages.new)) }
+        → IfErr result (TellsWrong (IsBrokenIn z (P.state pages.old).present directory length) (P.state pages.new)) }
     ensures why { IfErr result (TellsWhy (P.state pages.new)) }
     ensures keeps { Keeps names.old names.new }
     ensures hashes { (P.state pages.old).sound ≡ true → (z : Sizes) → z.page_bytes ≡ (P.state pages.old).page_bytes
@@ -69,62 +71,94 @@ pub(crate) fn read_slots<P: Pages>(
     let mut seen = no_slots(alloc);
     for chunk in 0..length.div_ceil(slots) {
         let count = slots.min(length - chunk * slots);
-        take_chunk(alloc, pages, directory, chunk, count, &mut seen)?;
+        let at = SlotPage {
+            directory,
+            number: chunk,
+        };
+        take_chunk(alloc, pages, at, count, &mut seen)?;
     }
     add_hashes(names, directory, &seen.hashes, length as u32)?;
     Ok(seen.objects)
 }
 
-/// Goes through the first slots of a chunk of a directory's slots. A name that was seen already is `Damaged`.
+/// A page of a directory's slots, by its number among them from 0 on.
+#[derive(Clone, Copy)]
+struct SlotPage {
+    directory: u64,
+    number: u64,
+}
+
+impl SlotPage {
+    /// The key of the page.
+    fn key(self) -> Key
+        requires few { self.number < 2 ^ 32 }
+        ensures key { result ≡ record { object = self.directory; chunk = 1 + self.number } }
+    {
+        Key {
+            object: self.directory,
+            chunk: 1 + self.number,
+        }
+    }
+
+    /// The rule is broken by this page.
+    fn breaks(self, rule: Rule) -> WalkFault
+        requires few { self.number < 2 ^ 32 }
+        ensures broken { result ≡ broken_at self rule }
+    {
+        WalkFault::Broken(Broken {
+            rule,
+            key: self.key(),
+        })
+    }
+}
+
+/// Goes through the first slots of a page of a directory's slots. A name that was seen already breaks a rule.
 fn take_chunk<P: Pages>(
     alloc: Global,
     pages: &mut P,
-    directory: u64,
-    chunk: u64,
+    at: SlotPage,
     count: u64,
     seen: &mut Slots,
 ) -> Result<(), WalkFault>
     requires room { 272 * count ≤ (P.state pages.old).page_bytes }
-    requires few { chunk < 2 ^ 32 }
+    requires few { at.number < 2 ^ 32 }
     ensures finds { OnlyFinds (P.state pages.old) (P.state pages.new) }
     ensures asked { (P.state pages.new).asked ≤ (P.state pages.old).asked + 1 }
     ensures power { OnOk result (KeepsPower (P.state pages.old) (P.state pages.new)) }
     ensures told { (P.state pages.old).sound ≡ true → (z : Sizes) → z.page_bytes ≡ (P.state pages.old).page_bytes
-        → HasSlots z (P.state pages.old).present directory (chunk * page_slots z) seen.old
-        → OnOk result (HasSlots z (P.state pages.old).present directory (chunk * page_slots z + count) seen.new) }
+        → HasSlots z (P.state pages.old).present at.directory (at.number * page_slots z) seen.old
+        → OnOk result (HasSlots z (P.state pages.old).present at.directory (at.number * page_slots z + count) seen.new) }
     ensures fault { (P.state pages.old).sound ≡ true → (z : Sizes) (total : ℕ) → z.page_bytes ≡ (P.state pages.old).page_bytes
-        → 1 ≤ count → chunk * page_slots z + count ≤ total → HasSlots z (P.state pages.old).present directory (chunk * page_slots z) seen.old
-        → IfErr result (TellsWrong (LacksOf z (P.state pages.old).present directory total) (P.state pages.new)) }
+        → 1 ≤ count → at.number * page_slots z + count ≤ total → HasSlots z (P.state pages.old).present at.directory (at.number * page_slots z) seen.old
+        → IfErr result (TellsWrong (IsBrokenIn z (P.state pages.old).present at.directory total) (P.state pages.new)) }
     ensures why { IfErr result (TellsWhy (P.state pages.new)) }
 {
-    let key = Key {
-        object: directory,
-        chunk: 1 + chunk,
-    };
-    match pages.find(key)? {
-        Presence::Present => take_page(alloc, pages.page(), chunk, count, seen),
-        Presence::Absent => Err(WalkFault::Damaged),
+    match pages.find(at.key())? {
+        Presence::Present => take_page(alloc, pages.page(), at, count, seen),
+        Presence::Absent => Err(at.breaks(Rule::ChunkMissing)),
     }
 }
 
-/// Goes through the first slots of a page, which is of this chunk. A name that was seen already is `Damaged`.
+/// Goes through the first slots of a page of a directory's slots. A name that was seen already breaks a rule.
 fn take_page(
     alloc: Global,
     page: &[u8],
-    chunk: u64,
+    at: SlotPage,
     count: u64,
     seen: &mut Slots,
 ) -> Result<(), WalkFault>
     requires room { 272 * count ≤ length page.now }
     requires few { length page.now ≤ 4096 }
-    ensures told { (z : Sizes) (m : PageMap) (d : ℕ) → m d (1 + chunk) ≡ Some page.now → z.page_bytes ≡ length page.now → HasSlots z m d (chunk * page_slots z) seen.old
-        → OnOk result (HasSlots z m d (chunk * page_slots z + count) seen.new) }
-    ensures fault { (new : PagesState) (z : Sizes) (m : PageMap) (d total : ℕ) → m d (1 + chunk) ≡ Some page.now → z.page_bytes ≡ length page.now
-        → chunk * page_slots z + count ≤ total → HasSlots z m d (chunk * page_slots z) seen.old → IfErr result (TellsWrong (LacksOf z m d total) new) }
+    requires number { at.number < 2 ^ 32 }
+    ensures told { (z : Sizes) (m : PageMap) → m at.directory (1 + at.number) ≡ Some page.now → z.page_bytes ≡ length page.now
+        → HasSlots z m at.directory (at.number * page_slots z) seen.old → OnOk result (HasSlots z m at.directory (at.number * page_slots z + count) seen.new) }
+    ensures fault { (new : PagesState) (z : Sizes) (m : PageMap) (total : ℕ) → m at.directory (1 + at.number) ≡ Some page.now → z.page_bytes ≡ length page.now
+        → at.number * page_slots z + count ≤ total → HasSlots z m at.directory (at.number * page_slots z) seen.old
+        → IfErr result (TellsWrong (IsBrokenIn z m at.directory total) new) }
     ensures why { (new : PagesState) → IfErr result (TellsWhy new) }
 {
     for place in 0..count {
-        take_entry(alloc, slot_of(page, place), seen)?;
+        take_entry(alloc, slot_of(page, place), at, place, seen)?;
     }
     Ok(())
 }
@@ -140,18 +174,25 @@ fn slot_of(page: &[u8], place: u64) -> &[u8]
     &page[at..at + SLOT_BYTES]
 }
 
-/// Goes through the slot that these bytes are. A name that was seen already is `Damaged`.
-fn take_entry(alloc: Global, bytes: &[u8], seen: &mut Slots) -> Result<(), WalkFault>
-    requires { length bytes.now ≡ 272 }
+/// Goes through the slot that these bytes are, which is in this place of the page. A name that was seen already breaks a rule.
+fn take_entry(
+    alloc: Global,
+    bytes: &[u8],
+    at: SlotPage,
+    place: u64,
+    seen: &mut Slots,
+) -> Result<(), WalkFault>
+    requires size { length bytes.now ≡ 272 }
+    requires number { at.number < 2 ^ 32 }
     ensures told { OnOk result ((entry : Entry) × IsTreeSlot entry × (bytes.now ≡ slot_bytes entry) × TakesEntry entry seen.old seen.new) }
-    ensures fault { (new : PagesState) → IfErr result (TellsWrong (TakesNone bytes.now seen.old) new) }
+    ensures fault { (new : PagesState) → IfErr result (TellsWrong (TakesNone bytes.now at place seen.old) new) }
 {
     let Some(slot) = decode_tree_slot(bytes) else {
-        return Err(WalkFault::Damaged);
+        return Err(at.breaks(Rule::NoSlot(place)));
     };
     let led = seen.names.insert(slot.name.to_vec(alloc)?, slot.object)?;
     if led.is_some() {
-        return Err(WalkFault::Damaged);
+        return Err(at.breaks(Rule::NameTwice(place)));
     }
     seen.objects.push(slot.object)?;
     seen.hashes.push(name_hash(slot.name))?;

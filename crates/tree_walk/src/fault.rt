@@ -1,9 +1,9 @@
 // Why no volume or no tree is there.
 ghost use Rattle.std.specs.Prelude.{◌≡◌};
 ghost use Rattle.tree_walk.specs.declared.fault.WalkFault.TheVariants as faults;
-ghost use Rattle.tree_walk.specs.Faults.{of_header, of_store};
+ghost use Rattle.tree_walk.specs.Faults.{of_store};
 
-use page_tags::HeaderFault;
+use crate::broken::Broken;
 use std::alloc::{AllocError, AllocFailed};
 use volume_terms::StoreFault;
 
@@ -29,10 +29,8 @@ pub enum WalkFault {
     NoMemory,
     /// The device failed or is gone.
     Device,
-    /// The header of an object is of this newer format.
-    Newer(u8),
-    /// An object is missing or not whole, or two names lead to one directory.
-    Damaged,
+    /// This rule is broken by an object that is named: it is missing or not whole, or it is a directory that two names lead to.
+    Broken(Broken),
 }
 
 impl From<StoreFault> for WalkFault {
@@ -43,20 +41,6 @@ impl From<StoreFault> for WalkFault {
             StoreFault::NoMemory => WalkFault::NoMemory,
             StoreFault::Device => WalkFault::Device,
             StoreFault::Worn => WalkFault::Device,
-        }
-    }
-}
-
-impl From<HeaderFault> for WalkFault {
-    ghost from_gives = { λ fault e. e ≡ of_header fault };
-
-    fn from(fault: HeaderFault) -> WalkFault {
-        match fault {
-            HeaderFault::Newer(format) => WalkFault::Newer(format),
-            HeaderFault::Magic => WalkFault::Damaged,
-            HeaderFault::Kind => WalkFault::Damaged,
-            HeaderFault::Length => WalkFault::Damaged,
-            HeaderFault::Pad => WalkFault::Damaged,
         }
     }
 }

@@ -2,14 +2,15 @@
 ghost use Rattle.std.specs.Prelude.{◌≡◌, ◌↔◌, ◌<◌, ◌≤◌, ◌+◌, ◌^◌, true, IsTrue, OnOk, IfOk, IfErr, length};
 ghost use Rattle.page_tags.specs.Headers.{Fields, IsHeaderOf};
 ghost use Rattle.page_tags.specs.declared.header.ObjectKind.TheVariants as kinds;
-ghost use Rattle.flash_tree.specs.Mount.{Stops, Finds};
 ghost use Rattle.flash_tree.specs.Tree.{LooksUp};
 ghost use Rattle.pages.specs.Maps.{has};
 ghost use Rattle.pages.specs.State.{PagesState, OnlyFinds, KeepsPower};
 ghost use Rattle.volume_terms.specs.Sizes.{Sizes};
+ghost use Rattle.tree_walk.specs.Broken.{StopsAt};
 ghost use Rattle.tree_walk.specs.Faults.{TellsWhy, TellsWrong};
 ghost use Rattle.tree_walk.specs.Heads.{IsHeadOf, IsNoHeader, SaysHead, head_looks_up};
 
+use crate::broken::{Broken, Rule};
 use crate::fault::WalkFault;
 use flash_tree::Key;
 use page_tags::{ObjectKind, decode_header, is_present};
@@ -66,24 +67,36 @@ pub(crate) fn read_head<P: Pages>(
     ensures told { (P.state pages.old).sound ≡ true → (z : Sizes) → z.page_bytes ≡ (P.state pages.old).page_bytes
         → IfOk result (SaysHead z (has (P.state pages.old).present) object) }
     ensures stops { (P.state pages.old).sound ≡ true → (z : Sizes) → z.page_bytes ≡ (P.state pages.old).page_bytes
-        → IfErr result (TellsWrong (λ wrong. Finds z (has (P.state pages.old).present) object (Stops wrong)) (P.state pages.new)) }
+        → IfErr result (TellsWrong (StopsAt z (has (P.state pages.old).present) object) (P.state pages.new)) }
     ensures why { IfErr result (TellsWhy (P.state pages.new)) }
 {
-    match pages.find(Key { object, chunk: 0 })? {
-        Presence::Present => decode_head(alloc, pages.page()),
-        Presence::Absent => Err(WalkFault::Damaged),
+    let key = Key { object, chunk: 0 };
+    match pages.find(key)? {
+        Presence::Present => decode_head(alloc, pages.page(), object),
+        Presence::Absent => Err(WalkFault::Broken(Broken {
+            rule: Rule::HeaderMissing,
+            key,
+        })),
     }
 }
 
-/// What a page says as a header.
-fn decode_head(alloc: Global, page: &[u8]) -> Result<Head, WalkFault>
+/// What a page says as the header of an object.
+fn decode_head(alloc: Global, page: &[u8], object: u64) -> Result<Head, WalkFault>
     requires least { 32 ≤ length page.now }
     requires most { length page.now ≤ 4096 }
     ensures told { IfOk result (λ head. (f : Fields) × IsHeaderOf page.now f × IsHeadOf head f) }
     ensures few { IfOk result (λ head. length head.bits.items ≤ 4064) }
-    ensures fault { (new : PagesState) → IfErr result (TellsWrong (IsNoHeader page.now) new) }
+    ensures fault { (new : PagesState) → IfErr result (TellsWrong (IsNoHeader page.now object) new) }
 {
-    let header = decode_header(page)?;
+    let header = match decode_header(page) {
+        Ok(header) => header,
+        Err(fault) => {
+            return Err(WalkFault::Broken(Broken {
+                rule: Rule::NoHeader(fault),
+                key: Key { object, chunk: 0 },
+            }));
+        }
+    };
     let chunks = match header.kind {
         ObjectKind::File => header.length.div_ceil(page.len() as u64),
         ObjectKind::Directory => 0,

@@ -2,6 +2,7 @@
 //! its objects.
 #![tactic(auto)]
 
+mod broken;
 mod directory;
 mod fault;
 mod file;
@@ -18,6 +19,7 @@ mod units;
 mod volume;
 mod walking;
 
+pub use broken::{Broken, Rule};
 pub use fault::{RootFault, WalkFault};
 pub use head::Head;
 pub use law::the_headers_tell_the_keys;

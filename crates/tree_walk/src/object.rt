@@ -1,17 +1,19 @@
 // One object of the tree.
 ghost use Rattle.std.specs.Prelude.{◌≡◌, ◌≤◌, ◌+◌, OnOk, IfOk, IfErr};
-ghost use Rattle.flash_tree.specs.Mount.{Stops, Finds};
 ghost use Rattle.pages.specs.Maps.{has};
 ghost use Rattle.pages.specs.State.{OnlyFinds, KeepsPower};
 ghost use Rattle.volume_terms.specs.Sizes.{Sizes};
+ghost use Rattle.tree_walk.specs.Broken.{StopsAt};
 ghost use Rattle.tree_walk.specs.Faults.{TellsWhy, TellsWrong};
 ghost use Rattle.tree_walk.specs.Hashes.{Keeps, CoversHead};
 ghost use Rattle.tree_walk.specs.Visits.{IsSeen, IsVisited, slot_pages};
 
+use crate::broken::{Broken, Rule};
 use crate::directory::read_slots;
 use crate::fault::WalkFault;
-use crate::file::has_chunks;
+use crate::file::missing_chunk;
 use crate::head::{Head, read_head};
+use flash_tree::Key;
 use name_index::NameIndex;
 use page_tags::ObjectKind;
 use pages::KnownPages;
@@ -38,7 +40,7 @@ pub fn visit<P: KnownPages>(
     ensures power { OnOk result (KeepsPower (P.state pages.old) (P.state pages.new)) }
     ensures leads { (z : Sizes) → IsSeen z (P.state pages.old) → IfOk result (IsVisited z (has (P.state pages.old).present) object) }
     ensures stops { (z : Sizes) → IsSeen z (P.state pages.old)
-        → IfErr result (TellsWrong (λ wrong. Finds z (has (P.state pages.old).present) object (Stops wrong)) (P.state pages.new)) }
+        → IfErr result (TellsWrong (StopsAt z (has (P.state pages.old).present) object) (P.state pages.new)) }
     ensures why { IfErr result (TellsWhy (P.state pages.new)) }
     ensures keeps { Keeps names.old names.new }
     ensures hashes { (z : Sizes) → IsSeen z (P.state pages.old)
@@ -47,8 +49,11 @@ pub fn visit<P: KnownPages>(
     let head = read_head(alloc, pages, object)?;
     match head.kind {
         ObjectKind::File => {
-            if !has_chunks(pages, object, &head.bits) {
-                return Err(WalkFault::Damaged);
+            if let Some(chunk) = missing_chunk(pages, object, &head.bits) {
+                return Err(WalkFault::Broken(Broken {
+                    rule: Rule::ChunkMissing,
+                    key: Key { object, chunk },
+                }));
             }
             Ok(Visited {
                 head,

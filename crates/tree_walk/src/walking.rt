@@ -1,21 +1,22 @@
 // The objects of a tree, one after the other.
-ghost use Rattle.std.specs.Prelude.{◌≡◌, ◌<◌, ◌≤◌, ◌+◌, ℕ, [], ◌∷◌, ◌++◌, true, false, Some, IfOk, IfErr, OnOk, length, slice_get};
+ghost use Rattle.std.specs.Prelude.{◌≡◌, ◌<◌, ◌≤◌, ◌+◌, ℕ, [], ◌∷◌, ◌++◌, true, false, IfOk, IfErr, IfSome, IfNone, OnOk, length};
 ghost use Rattle.page_tags.specs.declared.header.ObjectKind.TheVariants as kinds;
-ghost use Rattle.flash_tree.specs.Mount.{Stops, Finds};
 ghost use Rattle.pages.specs.Maps.{has};
 ghost use Rattle.pages.specs.State.{OnlyFinds, KeepsPower};
 ghost use Rattle.volume_terms.specs.Sizes.{Sizes};
 ghost use Rattle.tree_walk.specs.Faults.{TellsWhy, TellsWrong};
 ghost use Rattle.tree_walk.specs.Hashes.{CoversHeads, CoversTree};
 ghost use Rattle.tree_walk.specs.Visits.{IsSeen};
-ghost use Rattle.tree_walk.specs.Trees.{IsTreeThrough, IsWrongTree, named_in, page_size, tree_pages};
-ghost use Rattle.tree_walk.specs.Walks.{Begins, HasAgain, HasHead, IsGoing, IsDirectoryAgain, Knows, Puts, Visits, pages_before};
+ghost use Rattle.tree_walk.specs.Trees.{IsTreeThrough, IsWrongBy, named_in, page_size, tree_pages};
+ghost use Rattle.tree_walk.specs.Walks.{Begins, HasAgain, HasHead, IsGoing, IsDirectoryAgain, Knows, Puts, StopsOn, Visits, pages_before};
 ghost use Rattle.tree_walk.specs.declared.fault.WalkFault.TheVariants as faults;
 
+use crate::broken::{Broken, Rule};
 use crate::fault::WalkFault;
 use crate::head::Head;
 use crate::object::{Visited, visit};
 use crate::tree::{NamedObject, Tree};
+use flash_tree::Key;
 use name_index::NameIndex;
 use page_tags::ObjectKind;
 use pages::KnownPages;
@@ -36,7 +37,7 @@ pub fn walk<P: KnownPages>(
     ensures tree { (z : Sizes) → IsSeen z (P.state pages.old) → IfOk result (IsTreeThrough z (has (P.state pages.old).present)) }
     ensures size { IfOk result (λ tree. page_size tree ≡ (P.state pages.old).page_bytes) }
     ensures fault { (z : Sizes) → IsSeen z (P.state pages.old)
-        → IfErr result (TellsWrong (IsWrongTree z (has (P.state pages.old).present)) (P.state pages.new)) }
+        → IfErr result (TellsWrong (IsWrongBy z (has (P.state pages.old).present)) (P.state pages.new)) }
     ensures why { IfErr result (TellsWhy (P.state pages.new)) }
     ensures hashes { (z : Sizes) → IsSeen z (P.state pages.old) → IfOk result (CoversTree names.new z (P.state pages.old).present) }
 {
@@ -46,8 +47,11 @@ pub fn walk<P: KnownPages>(
         walk.step(alloc, pages, place, names)?;
         place += 1;
     }
-    if walk.names_directory_again() {
-        return Err(WalkFault::Damaged);
+    if let Some(object) = walk.directory_again() {
+        return Err(WalkFault::Broken(Broken {
+            rule: Rule::DirectoryTwice,
+            key: Key { object, chunk: 0 },
+        }));
     }
     Ok(Tree {
         page_bytes: pages.page_bytes(),
@@ -112,7 +116,7 @@ impl WalkState {
         ensures goes { (z : Sizes) → IsSeen z (P.state pages.old) → IsGoing z (has (P.state pages.old).present) place self.old
             → OnOk result (IsGoing z (has (P.state pages.old).present) (place + 1) self.new) }
         ensures stops { (z : Sizes) → IsSeen z (P.state pages.old)
-            → IfErr result (TellsWrong (λ wrong. (o : ℕ) × (slice_get self.old.objects.items place ≡ Some o) × Finds z (has (P.state pages.old).present) o (Stops wrong)) (P.state pages.new)) }
+            → IfErr result (TellsWrong (StopsOn z (has (P.state pages.old).present) self.old place) (P.state pages.new)) }
         ensures asked { (z : Sizes) → IsSeen z (P.state pages.old) → IsGoing z (has (P.state pages.old).present) place self.old
             → OnOk result ((P.state pages.new).asked + pages_before z self.old place ≤ (P.state pages.old).asked + pages_before z self.new (place + 1)) }
         ensures why { IfErr result (TellsWhy (P.state pages.new)) }
@@ -163,18 +167,18 @@ impl WalkState {
         Ok(())
     }
 
-    /// Whether an object that was named again is a directory.
-    fn names_directory_again(&self) -> bool
-        ensures is { result ≡ true → (o : ℕ) × IsDirectoryAgain self.now o }
-        ensures not { result ≡ false → (o : ℕ) → IsDirectoryAgain self.now o → ⊥ }
+    /// The first directory that was named again.
+    fn directory_again(&self) -> Option<u64>
+        ensures is { IfSome result (IsDirectoryAgain self.now) }
+        ensures not { IfNone result ((o : ℕ) → IsDirectoryAgain self.now o → ⊥) }
     {
         for place in 0..self.objects.len() {
             let object = self.objects[place];
             if self.is_directory_again(object) {
-                return true;
+                return Some(object);
             }
         }
-        false
+        None
     }
 
     /// Whether an object was named again and is a directory.

@@ -1,1 +1,4 @@
 pub mod Saying
+pub mod Firsts
+pub mod Roots
+pub mod OnFlash

@@ -1,6 +1,6 @@
 -- From the pages that an index keeps to the flash.
-use Rattle.std.specs.Prelude.{◌≡◌, ℕ, Bool, true, false, ◌||◌, not, [], ◌∷◌}
-use Rattle.std.proofs.Common.{sym, subst, inl, inr}
+use Rattle.std.specs.Prelude.{◌≡◌, ℕ, IfOk, Result, Ok, Err, Bool, true, false, ◌||◌, not, [], ◌∷◌}
+use Rattle.std.proofs.Common.{refl, sym, subst, inl, inr}
 use Rattle.nand_model.specs.Flash.{Flash, IsWithin, IsSized}
 use Rattle.nand_model.specs.Calls.{Device}
 use Rattle.nand_model.specs.Changes.{OnlyReads}
@@ -19,6 +19,7 @@ use Rattle.tree_walk.specs.Trees.{IsWrongTree, objects_listed}
 use Rattle.mounting.specs.NewestMaps.{IsNewestMap}
 use Rattle.mounting.specs.TreeAnswers.{HasWrongTree}
 use Rattle.volume_check.specs.Verdicts.{TellsVerdict, SaysOfFlash}
+use Rattle.volume_check.specs.declared.finding.Diagnosis.{Diagnosis}
 use Rattle.volume_check.specs.declared.verdict.Verdict.{Verdict}
 use Rattle.volume_check.specs.declared.verdict.Verdict.TheVariants as verdicts
 
@@ -54,8 +55,19 @@ newest_map a b d x y reads honest same index newest =
     subst (λ (z : Index). IsNewestMap a.flash (kept_data z d.flash)) (sym index) (subst (λ (e : Device). IsNewestMap a.flash (kept_data x e.flash)) (sym same)
     (subst (λ (f : Flash). IsNewestMap f (kept_data x b.flash)) (same_flash a b reads honest) newest))
 
+-- and it is one of the flash before them
+pub newest_map_here : (a b : Device) (x y : Index) → OnlyReads a b → a.honest ≡ true → y ≡ x → IsNewestMap b.flash (kept_data x b.flash) → IsNewestMap a.flash (kept_data y a.flash)
+newest_map_here a b x y reads honest index newest =
+    subst (λ (z : Index). IsNewestMap a.flash (kept_data z a.flash)) (sym index) (subst (λ (f : Flash). IsNewestMap f (kept_data x f)) (same_flash a b reads honest) newest)
+
 -- an honest device that has power has not failed
-pub not_lost : (gone honest : Bool) → gone ≡ false → honest ≡ true → (gone || not honest) ≡ true → ⊥
-not_lost true honest power is failed = absurd cc
-not_lost false true power is failed = absurd cc
-not_lost false false power is failed = absurd cc
+pub not_honest : (gone honest : Bool) → gone ≡ false → (gone || not honest) ≡ true → honest ≡ false
+not_honest true honest power failed = absurd cc
+not_honest false true power failed = absurd cc
+not_honest false false power failed = refl
+
+-- a verdict that is given says it
+pub verdict_says : {E : Type 0} (g : Geometry) (flash : Flash) (v : Verdict) → SaysOfFlash g flash v → (result : Result Diagnosis E) → IfOk result (λ d. d.verdict ≡ v)
+    → IfOk result (λ d. SaysOfFlash g flash d.verdict)
+verdict_says g flash v told (Err e) is = tt
+verdict_says g flash v told (Ok d) is = subst (SaysOfFlash g flash) (sym is) told

@@ -1,6 +1,7 @@
 -- Why a check is not made.
 use Rattle.std.specs.Prelude.{◌≡◌, true, false}
 use Rattle.nand_model.specs.Calls.{Device}
+use Rattle.pages.specs.State.{PagesState}
 use Rattle.page_store.specs.declared.opening.OpenFault.{OpenFault}
 use Rattle.page_store.specs.declared.opening.OpenFault.TheVariants as opens
 use Rattle.volume_check.specs.declared.fault.CheckFault.{CheckFault}
@@ -17,3 +18,14 @@ abbrev pub WhyNotChecked : Device → CheckFault → Type 0
 WhyNotChecked device faults.NoMemory = Unit {0}
 WhyNotChecked device faults.Gone = device.gone ≡ true
 WhyNotChecked device faults.Lost = device.honest ≡ false
+
+-- the device has power, and has failed: it did not give back what it was told
+pub record LosesPages (new : PagesState) : Type 0 where
+  pub failed : new.failed ≡ true
+  pub power : new.device.gone ≡ false
+
+-- Why nothing is said of pages: memory was refused; the device is gone; it did not give back what it was told.
+abbrev pub WhyNoVerdict : PagesState → CheckFault → Type 0
+WhyNoVerdict new faults.NoMemory = Unit {0}
+WhyNoVerdict new faults.Gone = new.device.gone ≡ true
+WhyNoVerdict new faults.Lost = LosesPages new

@@ -2,16 +2,15 @@
 #![tactic(auto)]
 
 mod device;
-mod examine;
 mod fault;
 mod finding;
 mod path;
-mod slots;
+mod root;
+mod search;
 mod verdict;
-mod walk;
 
 pub use device::diagnose;
 pub use fault::CheckFault;
-pub use finding::{Diagnosis, Finding, Place, Rule};
-pub use verdict::{Verdict, tree_verdict};
-pub use walk::find_fault;
+pub use finding::{Diagnosis, Finding, Place};
+pub use tree_walk::{Broken, Rule};
+pub use verdict::Verdict;

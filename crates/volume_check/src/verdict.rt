@@ -1,19 +1,10 @@
 // What is said of a tree.
-ghost use Rattle.std.specs.Prelude.{◌≡◌, ◌⊎◌, true, IfOk, IfErr, OnOk};
-ghost use Rattle.pages.specs.Maps.{has};
-ghost use Rattle.pages.specs.State.{OnlyFinds};
-ghost use Rattle.mounting.specs.TreeAnswers.{WhyNoTree, FailsTree};
-ghost use Rattle.volume_check.specs.Faults.{WhyNotChecked};
-ghost use Rattle.volume_check.specs.Trees.{HasWholeTree};
-ghost use Rattle.volume_check.specs.Verdicts.{TellsVerdict, LosesPages};
+ghost use Rattle.std.specs.Prelude.{◌≡◌};
+ghost use Rattle.volume_check.specs.Verdicts.{is_no_header, verdict_of, verdict_of_broken};
 
-use crate::fault::CheckFault;
-use mounting::first_fault;
-use name_index::NameIndex;
-use nand_model::Geometry;
-use pages::KnownPages;
-use std::alloc::Global;
-use tree_walk::{RootFault, spare_of, walk};
+use page_tags::HeaderFault;
+use tree_walk::{Broken, Rule};
+use volume_terms::ROOT;
 
 /// What is said of a tree.
 #[derive(Clone, Copy, Debug, PartialEq, Eq)]
@@ -24,58 +15,39 @@ pub enum Verdict {
     NotAVolume,
     /// A header is of this newer format.
     Newer(u8),
-    /// The root's header, an object or the names of directories are wrong, or a page does not read.
+    /// The root's header, an object or the names of directories are wrong.
     Damaged,
 }
 
-/// Goes through the tree of a volume on a device of these sizes.
-fn go_through<P: KnownPages>(
-    alloc: Global,
-    pages: &mut P,
-    geometry: Geometry,
-) -> Result<(), RootFault>
-    ensures finds { OnlyFinds (P.state pages.old) (P.state pages.new) }
-    ensures whole { (P.state pages.old).sound ≡ true → geometry.bytes ≡ (P.state pages.old).page_bytes
-        → OnOk result (HasWholeTree geometry (has (P.state pages.old).present)) }
-    ensures fault { (P.state pages.old).sound ≡ true → geometry.bytes ≡ (P.state pages.old).page_bytes
-        → IfErr result (WhyNoTree geometry (has (P.state pages.old).present)) }
-    ensures why { IfErr result (FailsTree (P.state pages.new)) }
+/// What is said of a tree whose first broken rule is this one, if any.
+pub(crate) fn verdict_of(found: Option<Broken>) -> Verdict
+    ensures { result ≡ verdict_of found }
 {
-    let mut names = NameIndex::new(alloc);
-    match walk(alloc, pages, &mut names) {
-        Ok(tree) => match spare_of(&tree, geometry) {
-            Some(_) => Ok(()),
-            None => Err(RootFault::Damaged),
-        },
-        Err(fault) => Err(first_fault(pages, geometry, fault)),
+    match found {
+        Some(broken) => verdict_of_broken(broken),
+        None => Verdict::Whole,
     }
 }
 
-/// What is said of the tree of a volume on a device of these sizes.
-///
-/// Errors: NoMemory, Gone.
-pub fn tree_verdict<P: KnownPages>(
-    alloc: Global,
-    pages: &mut P,
-    geometry: Geometry,
-) -> Result<Verdict, CheckFault>
-    ensures finds { OnlyFinds (P.state pages.old) (P.state pages.new) }
-    ensures fault { IfErr result (WhyNotChecked (P.state pages.new).device) }
-    ensures told { (P.state pages.old).sound ≡ true → geometry.bytes ≡ (P.state pages.old).page_bytes
-        → IfOk result (λ verdict. TellsVerdict geometry (has (P.state pages.old).present) verdict ⊎ LosesPages (P.state pages.new)) }
+/// What is said of a tree whose first broken rule is this one.
+fn verdict_of_broken(broken: Broken) -> Verdict
+    ensures { result ≡ verdict_of_broken broken }
 {
-    match go_through(alloc, pages, geometry) {
-        Ok(()) => Ok(Verdict::Whole),
-        Err(RootFault::NotAVolume) => Ok(Verdict::NotAVolume),
-        Err(RootFault::Newer(format)) => Ok(Verdict::Newer(format)),
-        Err(RootFault::Damaged) => Ok(Verdict::Damaged),
-        Err(RootFault::NoMemory) => Err(CheckFault::NoMemory),
-        Err(RootFault::Device) => {
-            if pages.has_power() {
-                Ok(Verdict::Damaged)
-            } else {
-                Err(CheckFault::Gone)
-            }
-        }
+    if broken.key.object == ROOT && is_no_header(broken.rule) {
+        return Verdict::NotAVolume;
     }
+    match broken.rule.newer() {
+        Some(format) => Verdict::Newer(format),
+        None => Verdict::Damaged,
+    }
+}
+
+/// Whether nothing is there that could be a header.
+fn is_no_header(rule: Rule) -> bool
+    ensures { result ≡ is_no_header rule }
+{
+    matches!(
+        rule,
+        Rule::HeaderMissing | Rule::NoHeader(HeaderFault::Magic)
+    )
 }

@@ -2,7 +2,7 @@ use Rattle.std.proofs.Common.{ℕ, sym, ◌∙◌, subst, inl}
 use Rattle.flash_tree.specs.Mount.{IsVolume, sizes_of}
 use Rattle.pages.specs.Maps.{PageMap, has}
 use Rattle.mounting.specs.TreeAnswers.{WhyNoTree, of_walk}
-use Rattle.mounting.specs.laws.TreeAnswers.{wrong_below}
+use Rattle.mounting.specs.laws.TreeAnswers.{walk_fails, wrong_below}
 use Rattle.mounting.proofs.tree.find_tree.Goals as goal
 
 pub returns-in-Some-clause-asked : goal.returns-in-Some-clause-asked
@@ -35,3 +35,6 @@ returns-in-Err-clause-fault g c = λ sound size.
     (λ spare volume. wrong_below geometry (has p.present) spare c.in-Err.fault q volume (c.in-Err.ensures.fault (sizes_of geometry spare) (record { sound = sound; size = size }))) in
     subst (λ (m : PageMap). WhyNoTree geometry (has m) c.first_fault.result) finds.present
     (c.first_fault.ensures.reason (finds.sound ∙ sound) (size ∙ sym finds.page_bytes) below)
+
+pub returns-in-Err-clause-why : goal.returns-in-Err-clause-why
+returns-in-Err-clause-why g c = c.first_fault.ensures.device (walk_fails c.in-Err.fault (g.P.Pages.state c.walk.new.pages) c.in-Err.ensures.why)

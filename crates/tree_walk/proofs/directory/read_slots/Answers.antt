@@ -7,7 +7,8 @@ use Rattle.pages.specs.State.{PagesState}
 use Rattle.pages.specs.laws.State.{finds_none, finds_on}
 use Rattle.tree_walk.proofs.Telling.{tells_as}
 use Rattle.tree_walk.specs.Hashes.{HoldsEach}
-use Rattle.tree_walk.specs.SlotLists.{HasSlots, LacksOf}
+use Rattle.tree_walk.specs.Broken.{IsBrokenIn}
+use Rattle.tree_walk.specs.SlotLists.{HasSlots}
 use Rattle.tree_walk.proofs.Hashing.{has_hashes}
 use Rattle.tree_walk.proofs.SlotSteps.{no_slots}
 use Rattle.tree_walk.proofs.SlotPages.{IsChunk, is_chunk, all_chunks}
@@ -68,8 +69,8 @@ returns-in_err-take_chunk-clause-fault g c = λ sound z size.
     let first = subst (λ (m : PageMap). HasSlots z m c.args.directory (c.loop-chunk.chunk * page_slots z) c.loop-chunk.seen) (sym finds.present)
     (subst (λ k. HasSlots z old.present c.args.directory k c.loop-chunk.seen) is.start (c.loop-chunk.invariant.slots sound z size)) in
     let p = err_from_is_err_and c.from_residual.result c.from_residual.ensures.1 in
-    rw (p.1, p.2) (tells_as (LacksOf z (g.P.Pages.state c.loop-chunk.pages).present c.args.directory c.args.length) (LacksOf z old.present c.args.directory c.args.length)
-    (λ wrong lacks. subst (λ (m : PageMap). LacksOf z m c.args.directory c.args.length wrong) finds.present lacks) (g.P.Pages.state c.take_chunk.new.pages) _
+    rw (p.1, p.2) (tells_as (IsBrokenIn z (g.P.Pages.state c.loop-chunk.pages).present c.args.directory c.args.length) (IsBrokenIn z old.present c.args.directory c.args.length)
+    (λ broken lacks. subst (λ (m : PageMap). IsBrokenIn z m c.args.directory c.args.length broken) finds.present lacks) (g.P.Pages.state c.take_chunk.new.pages) _
     (c.in_err-take_chunk.ensures.fault (finds.sound ∙ sound) z c.args.length (size ∙ sym finds.page_bytes) is.some is.most first))
 
 pub returns-clause-asked : goal.returns-clause-asked

@@ -1,7 +1,10 @@
-use Rattle.std.proofs.Common.{◌≡◌, ◌≤◌, ◌+◌, ◌∙◌, None, Some, refl, sym, ap, arith}
+use Rattle.std.proofs.Common.{◌≡◌, ◌≤◌, ◌+◌, ◌∙◌, None, Some, refl, sym, ap, subst, arith}
 use Rattle.volume_terms.specs.Sizes.{page_slots}
 use Rattle.volume_terms.specs.laws.Rounding.{slots_fit}
 use Rattle.pages.specs.State.{PagesState}
+use Rattle.flash_tree.specs.declared.place.Key.{Key}
+use Rattle.tree_walk.specs.Broken.{IsBrokenIn}
+use Rattle.tree_walk.specs.Faults.{TellsWrong}
 use Rattle.tree_walk.proofs.SlotSteps.{no_page}
 use Rattle.tree_walk.proofs.directory.take_chunk.Goals as goal
 
@@ -9,8 +12,10 @@ pub returns-in-Present-clause-fault : goal.returns-in-Present-clause-fault
 returns-in-Present-clause-fault g c = λ sound z total size some within first.
     let old : PagesState = g.P.Pages.state c.args.pages.now in
     let found = rw c.in-Present.is at c.in_ok-find.ensures.page sound in
-    let page : old.present c.args.directory (1 + c.args.chunk) ≡ Some c.page.result.now = found ∙ ap Some (sym c.page.ensures.bytes) in
-    c.take_page.ensures.fault (g.P.Pages.state c.find.new.self) z old.present c.args.directory total page (size ∙ sym c.find.ensures.finds.page_bytes ∙ sym c.page.ensures.size) within first
+    let at = c.args.at in
+    let page : old.present at.directory (1 + at.number) ≡ Some c.page.result.now =
+    subst (λ (k : Key). old.present k.object k.chunk ≡ Some c.page.result.now) c.key.ensures.key (found ∙ ap Some (sym c.page.ensures.bytes)) in
+    c.take_page.ensures.fault (g.P.Pages.state c.find.new.self) z old.present total page (size ∙ sym c.find.ensures.finds.page_bytes ∙ sym c.page.ensures.size) within first
 
 pub returns-in-Present-clause-why : goal.returns-in-Present-clause-why
 returns-in-Present-clause-why g c = c.take_page.ensures.why (g.P.Pages.state c.find.new.self)
@@ -18,6 +23,8 @@ returns-in-Present-clause-why g c = c.take_page.ensures.why (g.P.Pages.state c.f
 pub returns-in-Absent-clause-fault : goal.returns-in-Absent-clause-fault
 returns-in-Absent-clause-fault g c = λ sound z total size some within first.
     let old : PagesState = g.P.Pages.state c.args.pages.now in
-    let absent : old.present c.args.directory (1 + c.args.chunk) ≡ None = rw c.in-Absent.is at c.in_ok-find.ensures.page sound in
+    let at = c.args.at in
+    let absent : old.present at.directory (1 + at.number) ≡ None = subst (λ (k : Key). old.present k.object k.chunk ≡ None) c.key.ensures.key (rw c.in-Absent.is at c.in_ok-find.ensures.page sound) in
     let fits : c.args.count ≤ page_slots z = slots_fit z.page_bytes old.page_bytes c.args.count size c.requires.room in
-    (refl, no_page z old.present c.args.directory c.args.chunk total (omega (arith, fits, some)) (omega (arith, within, some)) absent)
+    subst (TellsWrong (IsBrokenIn z old.present at.directory total) (g.P.Pages.state c.find.new.self)) (sym c.breaks.ensures.broken)
+    (refl, no_page z old.present at.directory at.number total (omega (arith, fits, some)) (omega (arith, within, some)) absent)

@@ -5,5 +5,5 @@ use Rattle.tree_walk.specs.SlotLists.{HasSlots}
 use Rattle.tree_walk.proofs.directory.take_page.Given as goal
 
 abbrev pub invariant-loop-place : goal.invariant-loop-place
-invariant-loop-place l = (z : Sizes) (m : PageMap) (d : ℕ) → m d (1 + l.chunk) ≡ Some l.page → z.page_bytes ≡ length l.page → HasSlots z m d (l.chunk * page_slots z) l.fn.seen
-    → HasSlots z m d (l.chunk * page_slots z + l.place) l.seen
+invariant-loop-place l = (z : Sizes) (m : PageMap) → m l.at.directory (1 + l.at.number) ≡ Some l.page → z.page_bytes ≡ length l.page → HasSlots z m l.at.directory (l.at.number * page_slots z) l.fn.seen
+    → HasSlots z m l.at.directory (l.at.number * page_slots z + l.place) l.seen

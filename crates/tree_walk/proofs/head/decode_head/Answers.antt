@@ -9,9 +9,9 @@ use Rattle.tree_walk.proofs.head.decode_head.Goals.{in-File, in-Directory}
 
 pub returns-clause-told : goal.returns-clause-told
 returns-clause-told c =
-    let f : Fields = fields_of c.in_ok-header.header in
+    let f : Fields = fields_of c.in-Ok.header in
     let page : List ℕ = c.args.page.now in
-    let found = c.in_ok-header.ensures.found in
+    let found = c.in-Ok.ensures.found in
     let bits : c.in_ok-to_vec.field-0.items ≡ take c.min-kept.result f.bits = search rules in
     let last : c.match-header.chunks ≡ last_chunk (length page) f.kind f.length = elim c.match-header.branch [
       | in-File w ↦ let is : f.kind ≡ kinds.File = search rules in w.chunks-is ∙ w.div_ceil-chunks.ensures ∙ ap (λ k. last_chunk (length page) k f.length) (sym is)

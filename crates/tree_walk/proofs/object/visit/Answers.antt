@@ -1,11 +1,12 @@
 use Rattle.std.proofs.Common.{◌≡◌, ◌∙◌, List, ℕ, true, false, IsSome, IsNone, sym, ap, subst, rules}
 use Rattle.std.proofs.lemmas.Result.{err_from_is_err_and}
 use Rattle.page_tags.specs.Headers.{is_present}
-use Rattle.flash_tree.specs.Mount.{Stops, Leads, Finds}
+use Rattle.flash_tree.specs.Mount.{Leads, Finds}
 use Rattle.name_index.specs.Covering.{HasHashes}
 use Rattle.pages.specs.Maps.{PageMap, has}
 use Rattle.pages.specs.State.{PagesState}
-use Rattle.tree_walk.specs.SlotLists.{NamesFrom, LacksOf}
+use Rattle.tree_walk.specs.Broken.{IsBrokenIn, StopsAt}
+use Rattle.tree_walk.specs.SlotLists.{NamesFrom}
 use Rattle.tree_walk.proofs.Telling.{tells_as}
 use Rattle.tree_walk.proofs.Visiting.{file_there, file_lacks, directory_there, directory_lacks}
 use Rattle.tree_walk.proofs.object.visit.Goals as goal
@@ -15,13 +16,13 @@ returns-in_err-head-clause-stops g c = λ z seen.
     let p = err_from_is_err_and c.from_residual.result c.from_residual.ensures.1 in
     rw (p.1, p.2) (c.in_err-head.ensures.stops seen.sound z seen.size)
 
-pub returns-then-not-has_chunks-clause-stops : goal.returns-then-not-has_chunks-clause-stops
-returns-then-not-has_chunks-clause-stops g c = λ z seen.
-    let off : c.has_chunks.result ≡ false = search rules in
+pub returns-in-Some-clause-stops : goal.returns-in-Some-clause-stops
+returns-in-Some-clause-stops g c = λ z seen.
+    let old : PagesState = g.P.Pages.state c.args.pages.now in
     let finds = c.read_head.ensures.finds in
-    let lacks = c.has_chunks.ensures.lacks (finds.sound ∙ seen.sound) off in
-    file_lacks z (g.P.Pages.state c.args.pages.now) c.args.object c.in_ok-head.head (c.in_ok-head.ensures.told seen.sound z seen.size) c.in-File.is
-    (lacks.0, lacks.1, ap (λ (bs : List ℕ). is_present bs lacks.0) (sym c.deref.ensures.value) ∙ lacks.2, subst (λ (m : PageMap). IsNone (m c.args.object lacks.0)) finds.present lacks.3)
+    let lacks = c.in-Some.ensures.lacks (finds.sound ∙ seen.sound) in
+    file_lacks z old c.args.object c.in_ok-head.head (c.in_ok-head.ensures.told seen.sound z seen.size) c.in-File.is c.in-Some.chunk lacks.0
+    (ap (λ (bs : List ℕ). is_present bs c.in-Some.chunk) (sym c.deref.ensures.value) ∙ lacks.1) (subst (λ (m : PageMap). IsNone (m c.args.object c.in-Some.chunk)) finds.present lacks.2)
 
 pub returns-in_err-named-in-Directory-clause-stops : goal.returns-in_err-named-in-Directory-clause-stops
 returns-in_err-named-in-Directory-clause-stops g c = λ z seen.
@@ -30,20 +31,19 @@ returns-in_err-named-in-Directory-clause-stops g c = λ z seen.
     let finds = c.read_head.ensures.finds in
     let says = c.in_ok-head.ensures.told seen.sound z seen.size in
     let p = err_from_is_err_and c.from_residual-in_err-named-in-Directory.result c.from_residual-in_err-named-in-Directory.ensures.1 in
-    rw (p.1, p.2) (tells_as (LacksOf z mid.present c.args.object c.in_ok-head.head.length) (λ wrong. Finds z (has old.present) c.args.object (Stops wrong))
-    (λ wrong lacks. directory_lacks z old c.args.object c.in_ok-head.head says c.in-Directory.is wrong
-    (subst (λ (m : PageMap). LacksOf z m c.args.object c.in_ok-head.head.length wrong) finds.present lacks))
+    rw (p.1, p.2) (tells_as (IsBrokenIn z mid.present c.args.object c.in_ok-head.head.length) (StopsAt z (has old.present) c.args.object)
+    (λ broken lacks. directory_lacks z old c.args.object c.in_ok-head.head says c.in-Directory.is broken
+    (subst (λ (m : PageMap). IsBrokenIn z m c.args.object c.in_ok-head.head.length broken) finds.present lacks))
     (g.P.Pages.state c.read_slots.new.pages) _ (c.in_err-named-in-Directory.ensures.fault (finds.sound ∙ seen.sound) z (seen.size ∙ sym finds.page_bytes)))
 
-pub returns-else-not-has_chunks-clause-leads : goal.returns-else-not-has_chunks-clause-leads
-returns-else-not-has_chunks-clause-leads g c = λ z seen.
+pub returns-in_default-clause-leads : goal.returns-in_default-clause-leads
+returns-in_default-clause-leads g c = λ z seen.
     let old : PagesState = g.P.Pages.state c.args.pages.now in
     let finds = c.read_head.ensures.finds in
-    let on : c.has_chunks.result ≡ true = search rules in
     let says = c.in_ok-head.ensures.told seen.sound z seen.size in
     let leads = file_there z old c.args.object c.in_ok-head.head says c.in-File.is
     (λ n from present. subst (λ (m : PageMap). IsSome (m c.args.object n)) finds.present
-    (c.has_chunks.ensures.all (finds.sound ∙ seen.sound) on n from (ap (λ (bs : List ℕ). is_present bs n) c.deref.ensures.value ∙ present))) in
+    (c.in_default.ensures.all (finds.sound ∙ seen.sound) n from (ap (λ (bs : List ℕ). is_present bs n) c.deref.ensures.value ∙ present))) in
     record { head = says; leads = subst (λ (xs : List ℕ). Finds z (has old.present) c.args.object (Leads xs)) (sym c.new.ensures.items) leads }
 
 pub returns-in_ok-named-in-Directory-clause-leads : goal.returns-in_ok-named-in-Directory-clause-leads

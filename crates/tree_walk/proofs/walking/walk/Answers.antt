@@ -3,17 +3,18 @@ use Rattle.std.proofs.lemmas.Result.{err_from_is_err_and}
 use Rattle.std.specs.Prelude.{sum_by}
 use Rattle.std.proofs.lemmas.List.{take_all}
 use Rattle.std.proofs.lemmas.Option.{slice_get_within}
-use Rattle.flash_tree.specs.Mount.{Wrong, Wrongly, stops, Stops, Finds}
 use Rattle.pages.specs.Maps.{PageMap, has}
 use Rattle.pages.specs.State.{PagesState}
 use Rattle.pages.specs.laws.State.{finds_none, finds_on}
-use Rattle.tree_walk.specs.Trees.{AreNamesOf, IsWrongTree}
+use Rattle.tree_walk.specs.Trees.{AreNamesOf, IsWrongBy}
+use Rattle.tree_walk.specs.declared.broken.Broken.{Broken}
 use Rattle.tree_walk.specs.Hashes.{CoversHeads}
 use Rattle.tree_walk.specs.Visits.{told_pages}
-use Rattle.tree_walk.specs.Walks.{IsGoing}
+use Rattle.tree_walk.specs.Walks.{IsGoing, StopsOn}
 use Rattle.tree_walk.proofs.Going.{begins_going}
 use Rattle.tree_walk.proofs.Seeing.{page_size, single, still_seen}
 use Rattle.tree_walk.proofs.Telling.{tells_as, lacks_memory}
+use Rattle.tree_walk.proofs.Stopping.{wrong_by_stop}
 use Rattle.tree_walk.proofs.Twice.{gone_through, twice_names, names_twice}
 use Rattle.tree_walk.proofs.walking.walk.Goals as goal
 
@@ -63,42 +64,33 @@ pub returns-in_err-step-clause-fault : goal.returns-in_err-step-clause-fault
 returns-in_err-step-clause-fault g c = λ z seen.
     let old : PagesState = g.P.Pages.state c.args.pages.now in
     let now : PagesState = g.P.Pages.state c.loop-place.pages in
-    let list = c.loop-place.walk.objects.items in
     let finds = c.loop-place.invariant.finds in
     let going = c.loop-place.invariant.going z seen in
     let p = err_from_is_err_and c.from_residual-in_err-step.result c.from_residual-in_err-step.ensures.1 in
-    rw (p.1, p.2) (tells_as (λ wrong. (o : ℕ) × (slice_get list c.loop-place.place ≡ Some o) × Finds z (has now.present) o (Stops wrong)) (IsWrongTree z (has old.present))
-    (λ wrong (o, at, found). inl (going.so_far (Wrongly wrong) (stops o wrong at (subst (λ (m : PageMap). Finds z (has m) o (Stops wrong)) finds.present found))))
+    rw (p.1, p.2) (tells_as (StopsOn z (has now.present) c.loop-place.walk c.loop-place.place) (IsWrongBy z (has old.present))
+    (λ b stop. wrong_by_stop z (has old.present) c.loop-place.place c.loop-place.walk going b (subst (λ (m : PageMap). StopsOn z (has m) c.loop-place.walk c.loop-place.place b) finds.present stop))
     (g.P.Pages.state c.step.new.pages) _ (c.in_err-step.ensures.stops z (still_seen z old now finds seen)))
 
 pub returns-in_err-walk-clause-fault : goal.returns-in_err-walk-clause-fault
 returns-in_err-walk-clause-fault g c = λ z seen.
     let p = err_from_is_err_and c.from_residual.result c.from_residual.ensures.1 in
-    rw (p.1, p.2) (lacks_memory (IsWrongTree z (has (g.P.Pages.state c.args.pages.now).present)) (g.P.Pages.state c.args.pages.now) _ c.in_err-walk.ensures.why)
+    rw (p.1, p.2) (lacks_memory (IsWrongBy z (has (g.P.Pages.state c.args.pages.now).present)) (g.P.Pages.state c.args.pages.now) _ c.in_err-walk.ensures.why)
 
 pub returns-in_err-walk-clause-why : goal.returns-in_err-walk-clause-why
 returns-in_err-walk-clause-why g c =
     let p = err_from_is_err_and c.from_residual.result c.from_residual.ensures.1 in
-    rw (p.1, p.2) (lacks_memory (λ (wrong : Wrong). Unit {0}) (g.P.Pages.state c.args.pages.now) _ c.in_err-walk.ensures.why)
+    rw (p.1, p.2) (lacks_memory (λ (broken : Broken). Unit {0}) (g.P.Pages.state c.args.pages.now) _ c.in_err-walk.ensures.why)
 
-pub returns-then-names_directory_again-clause-fault : goal.returns-then-names_directory_again-clause-fault
-returns-then-names_directory_again-clause-fault g c = λ z seen.
+pub returns-in-Some-clause-fault : goal.returns-in-Some-clause-fault
+returns-in-Some-clause-fault g c = λ z seen.
     let old : PagesState = g.P.Pages.state c.args.pages.now in
     let walk = c.loop-place.walk in
     let going = c.loop-place.invariant.going z seen in
     let sized = g.met.P.Pages.sized c.args.pages.now in
     let size = page_size z old sized.0 sized.1 seen in
     let all : length walk.objects.items ≡ c.loop-place.place = omega (arith, going.within, c.loop-place-test.false, c.len.ensures) in
-    let on : c.names_directory_again.result ≡ true = search rules in
-    let d = c.names_directory_again.ensures.is on in
-    inr (
-      refl,
-      (
-        walk.objects.items,
-        gone_through z size (has old.present) (single old.present) c.loop-place.place walk going all,
-        twice_names z size (has old.present) (single old.present) c.loop-place.place walk going all d.0 d.1,
-      ),
-    )
+    let again = twice_names z size (has old.present) (single old.present) c.loop-place.place walk going all c.in-Some.object c.in-Some.ensures.is in
+    (inr (refl, (again.list, again.through, again.twice)), ((refl, again), inl refl))
 
 pub returns-clause-tree : goal.returns-clause-tree
 returns-clause-tree g c = λ z seen.
@@ -108,12 +100,11 @@ returns-clause-tree g c = λ z seen.
     let sized = g.met.P.Pages.sized c.args.pages.now in
     let size = page_size z old sized.0 sized.1 seen in
     let all : length walk.objects.items ≡ c.loop-place.place = omega (arith, going.within, c.loop-place-test.false, c.len.ensures) in
-    let off : c.names_directory_again.result ≡ false = search rules in
     record {
       through = gone_through z size (has old.present) (single old.present) c.loop-place.place walk going all;
       once = λ twice.
           let d = names_twice z size (has old.present) (single old.present) c.loop-place.place walk going all twice in
-          c.names_directory_again.ensures.not off d.0 d.1;
+          c.in_default.ensures.not d.0 d.1;
       heads = record {
         each = λ i o is. going.heads i o (omega (arith, all, slice_get_within walk.objects.items i o is)) is;
         only = λ o head there. let w = going.only o head there in (w.0, w.2);

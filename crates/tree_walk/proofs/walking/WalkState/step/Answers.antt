@@ -1,11 +1,12 @@
-use Rattle.std.proofs.Common.{◌≡◌, ◌≤◌, ◌+◌, ◌∙◌, ℕ, Some, slice_get, sym, ap, arith}
+use Rattle.std.proofs.Common.{◌≡◌, ◌≤◌, ◌+◌, ◌∙◌, ℕ, Some, slice_get, refl, sym, ap, subst, arith}
 use Rattle.std.proofs.lemmas.Option.{slice_get-get_or}
 use Rattle.std.proofs.lemmas.Result.{err_from_is_err_and}
 use Rattle.flash_tree.specs.Mount.{Stops, Finds}
 use Rattle.pages.specs.Maps.{has}
 use Rattle.pages.specs.State.{PagesState}
 use Rattle.tree_walk.specs.Hashes.{CoversHeads}
-use Rattle.tree_walk.specs.Walks.{Visits, Knows, IsGoing, pages_before}
+use Rattle.tree_walk.specs.Broken.{StopsAt, wrong_of}
+use Rattle.tree_walk.specs.Walks.{Visits, Knows, IsGoing, StopsOn, pages_before}
 use Rattle.tree_walk.proofs.Counting.{pages_more}
 use Rattle.tree_walk.proofs.Going.{goes_on}
 use Rattle.tree_walk.proofs.Hashing.{covers_visited}
@@ -20,8 +21,8 @@ returns-in_err-visited-clause-stops g c = λ z seen.
     let object : ℕ = c.index-object.result.now in
     let at : slice_get list c.args.place ≡ Some object = slice_get-get_or list c.args.place object c.requires.within ∙ ap Some (sym c.index-object.ensures) in
     let p = err_from_is_err_and c.from_residual.result c.from_residual.ensures.1 in
-    rw (p.1, p.2) (tells_as (λ wrong. Finds z (has old.present) object (Stops wrong)) (λ wrong. (o : ℕ) × (slice_get list c.args.place ≡ Some o) × Finds z (has old.present) o (Stops wrong))
-    (λ wrong finds. (object, at, finds)) (g.P.Pages.state c.visit.new.pages) _ (c.in_err-visited.ensures.stops z seen))
+    rw (p.1, p.2) (tells_as (StopsAt z (has old.present) object) (StopsOn z (has old.present) c.args.self.now c.args.place)
+    (λ b stops. (at ∙ ap Some (sym stops.0), (refl, stops.1, subst (λ o. Finds z (has old.present) o (Stops (wrong_of b.rule))) (sym stops.0) stops.2))) (g.P.Pages.state c.visit.new.pages) _ (c.in_err-visited.ensures.stops z seen))
 
 pub returns-clause-knows : goal.returns-clause-knows
 returns-clause-knows g c = when_done (Visits c.index-object.result.now c.in_ok-visited.visited c.args.self.now c.take.new.self) (Knows c.take.new.self) c.take.result (λ t. t.knows) c.take.ensures.takes
@@ -51,10 +52,10 @@ returns-clause-asked g c = λ z seen going.
     (λ t. let more = pages_more z c.args.place object was visited c.take.new.self going.once at t in omega (arith, more, few)) c.take.ensures.takes
 
 pub returns-clause-stops : goal.returns-clause-stops
-returns-clause-stops g c = λ z seen. result_lacks_memory (λ wrong. (o : ℕ) × (slice_get c.args.self.now.objects.items c.args.place ≡ Some o) × Finds z (has (g.P.Pages.state c.args.pages.now).present) o (Stops wrong)) (g.P.Pages.state c.visit.new.pages) c.take.result c.take.ensures.why
+returns-clause-stops g c = λ z seen. result_lacks_memory (StopsOn z (has (g.P.Pages.state c.args.pages.now).present) c.args.self.now c.args.place) (g.P.Pages.state c.visit.new.pages) c.take.result c.take.ensures.why
 
 pub returns-clause-why : goal.returns-clause-why
-returns-clause-why g c = result_lacks_memory (λ wrong. Unit {0}) (g.P.Pages.state c.visit.new.pages) c.take.result c.take.ensures.why
+returns-clause-why g c = result_lacks_memory (λ broken. Unit {0}) (g.P.Pages.state c.visit.new.pages) c.take.result c.take.ensures.why
 
 pub returns-clause-hashes : goal.returns-clause-hashes
 returns-clause-hashes g c = λ z seen covered.

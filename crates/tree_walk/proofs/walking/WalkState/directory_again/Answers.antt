@@ -2,15 +2,15 @@ use Rattle.std.proofs.Common.{◌≡◌, ◌<◌, ◌∙◌, ℕ, Some, slice_ge
 use Rattle.std.proofs.lemmas.Bool.{cases_eq}
 use Rattle.std.proofs.lemmas.Option.{slice_get-get_or, slice_get_within}
 use Rattle.tree_walk.specs.Walks.{HasAgain, HasHead}
-use Rattle.tree_walk.proofs.walking.WalkState.names_directory_again.Goals as goal
+use Rattle.tree_walk.proofs.walking.WalkState.directory_again.Goals as goal
 
 pub returns-then-is_directory_again-clause-is : goal.returns-then-is_directory_again-clause-is
-returns-then-is_directory_again-clause-is c = λ on.
+returns-then-is_directory_again-clause-is c =
     let list = c.args.self.now.objects.items in
     let object : ℕ = c.index-object.result.now in
     let at : slice_get list c.loop-place.place ≡ Some object = slice_get-get_or list c.loop-place.place object (omega (arith, c.loop-place-test.true, c.len-place-end.ensures)) ∙ ap Some (sym c.index-object.ensures) in
     let d = c.is_directory_again.ensures.is c.if-is_directory_again.true in
-    (object, record { known = (c.loop-place.place, at); again = d.1; head = d.0; has = d.2; kind = d.3 })
+    record { known = (c.loop-place.place, at); again = d.1; head = d.0; has = d.2; kind = d.3 }
 
 pub loop-place-preserved : goal.loop-place-preserved
 loop-place-preserved c = λ i o head lt is has there kind.
@@ -26,7 +26,7 @@ loop-place-preserved c = λ i o head lt is has there kind.
     ]
 
 pub returns-clause-not : goal.returns-clause-not
-returns-clause-not c = λ off o d.
+returns-clause-not c = λ o d.
     let list = c.args.self.now.objects.items in
     let within : d.known.0 < c.loop-place.place = omega (arith, slice_get_within list d.known.0 o d.known.1, c.loop-place-test.false, c.len-place-end.ensures) in
     c.loop-place.invariant d.known.0 o d.head within d.known.1 d.again d.has d.kind

@@ -2,10 +2,10 @@ use Rattle.std.proofs.Common.{◌≡◌, ◌+◌, ◌-◌, ◌*◌, ◌∙◌, t
 use Rattle.std.proofs.lemmas.Bool.{cases_lt}
 use Rattle.page_tags.specs.Headers.{is_present}
 use Rattle.page_tags.specs.laws.Bit.{is_present_past}
-use Rattle.tree_walk.proofs.file.has_chunks.Goals as goal
+use Rattle.tree_walk.proofs.file.missing_chunk.Goals as goal
 
 pub returns-clause-all : goal.returns-clause-all
-returns-clause-all g c = λ sound yes' chunk from present.
+returns-clause-all g c = λ sound chunk from present.
     let bits = c.args.bits.now in
     let one : 1 + (chunk - 1) ≡ chunk = omega (arith, from) in
     elim (cases_lt (chunk - 1) (8 * length bits)) [

@@ -1,6 +1,6 @@
 use Rattle.std.proofs.Common.{◌≡◌, ◌<◌, ◌+◌, ℕ, true, IsSome}
 use Rattle.page_tags.specs.Headers.{is_present}
-use Rattle.tree_walk.proofs.file.has_chunks.Given as goal
+use Rattle.tree_walk.proofs.file.missing_chunk.Given as goal
 
 abbrev pub invariant-loop-place : goal.invariant-loop-place
 invariant-loop-place g l =

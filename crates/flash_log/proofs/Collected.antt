@@ -1,5 +1,6 @@
 -- What stands where a block is collected.
-use Rattle.std.proofs.Common.{◌≡◌, ◌≤◌, ℕ, ◌+◌, ◌*◌, Result, Ok, refl, ap, sym, ◌∙◌, arith}
+use Rattle.std.proofs.Common.{◌≡◌, ◌≢◌, ◌≤◌, ℕ, ◌+◌, ◌*◌, Some, Result, Ok, Err, refl, ap, sym, ◌∙◌, arith, inl, inr}
+use Rattle.std.proofs.lemmas.Bool.{cases_eq}
 use Rattle.nand_model.specs.Calls.{Device}
 use Rattle.block_state.specs.Kept.{bad_count, unkept_count, free_count}
 use Rattle.block_state.specs.Table.{Table}
@@ -14,18 +15,40 @@ use Rattle.flash_log.specs.declared.moving.Moved.TheVariants as places
 use Rattle.flash_log.specs.laws.Bills.{pays_on}
 use Rattle.nand_model.specs.declared.geometry.Geometry.{Geometry}
 use Rattle.flash_log.specs.Moving.{MovesOut, LiesIn, LiesOpen}
+use Rattle.flash_log.specs.Retiring.{IsRetired, RetireEnds}
 use Rattle.flash_log.specs.Standing.{Stands}
 use Rattle.flash_log.specs.laws.Turns.{moves_out_on}
-use Rattle.flash_log.specs.RoomMaking.{IsCollected}
+use Rattle.flash_log.specs.RoomMaking.{IsCollected, CollectEnds}
 
 -- the copies are trusted
-pub collected_open : (v w spare : ℕ) (d : Device) (t u : Table) (y : Index) → 1 ≤ (t.entry v).kept → LiesOpen v w t u → bad_count u ≤ spare → Stands spare d u y → IsCollected v spare t u
-collected_open v w spare d t u y some lies few stands =
+pub collected_open : (v w spare : ℕ) (d : Device) (t u : Table) (y : Index) → 1 ≤ (t.entry v).kept → LiesOpen v w t u → (u.entry v).kept ≡ 0 → bad_count u ≤ spare → Stands spare d u y
+    → IsCollected v spare t u
+collected_open v w spare d t u y some lies left few stands =
     let there = lies.lies.there in
     let same : free_count u ≡ unkept_count u = free_where_held u w lies.open_block (omega (arith, there, some)) in
-    record { opened = (w, lies.open_block, lies.next); few = few; free = omega (arith, same, stands.tables.unkept) }
+    record { opened = (w, lies.open_block, lies.next); left = inl left; few = few; free = omega (arith, same, stands.tables.unkept) }
 
--- their block is retired
+-- their block is retired, and what was in it is moved, perhaps into the first
+pub collected_retired : (v w spare : ℕ) (t u s : Table) → 1 ≤ (t.entry v).kept → LiesIn v w t u → (u.entry v).kept ≡ 0 → IsRetired w spare u s → IsCollected v spare t s
+collected_retired v w spare t u s some lies left out =
+    let away = out.moved (let there = lies.there in omega (arith, there, some)) in
+    record {
+      opened = (away.0, away.1.open_block, away.1.next ∙ lies.there);
+      left = elim (cases_eq v away.0) [
+        | inl e ↦ inr (away.1.open_block ∙ ap Some (sym e))
+        | inr ne ↦ inl (away.1.lies.elsewhere v apart ne ∙ left)
+      ];
+      few = out.few;
+      free = out.free;
+    } where
+      apart : v ≢ w
+      apart e = let same : (t.entry v).kept ≡ (t.entry w).kept = ap (λ b. (t.entry b).kept) e in omega (arith, same, some, lies.was)
+
+pub ends_retired : (v w spare : ℕ) (d : Device) (t u s : Table) (result : Result (Unit {0}) MoveFault) → 1 ≤ (t.entry v).kept → LiesIn v w t u → (u.entry v).kept ≡ 0 → RetireEnds w spare d u s result
+    → CollectEnds v spare d t s result
+ends_retired v w spare d t u s (Ok done) some lies left ends = (collected_retired v w spare t u s some lies left ends.0, ends.1)
+ends_retired v w spare d t u s (Err fault) some lies left ends = ends
+
 pub out_retired : (v w spare : ℕ) (d : Device) (t u : Table) (x y z : Index) → ((b : ℕ) → kept_in x b ≡ 0 → HoldsNone (kept_pages x) b)
     → Stands spare d t x → LiesIn v w t u → MovesOut v x y → MovesOut w y z → MovesOut v x z
 out_retired v w spare d t u x y z law stands lies first then = moves_out_on v w x y z (law w (sym (stands.tables.counts.counts w) ∙ lies.was)) first then

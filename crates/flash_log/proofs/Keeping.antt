@@ -28,13 +28,16 @@ module _ (t u : Table) (kept : (b : ℕ) → (u.entry b).kept ≡ (t.entry b).ke
     | inr power ↦ then o d p bytes (still p.block some) (stays power o d p some at) (first o d p bytes some at has)
   ]
 
-  pub newest_on : (copies : List CopyOf) (f g h : Flash) (r : Result Copied MoveFault) → KeepsKeptAt t f g → NewestAfterCopies copies u g h r → NewestAfterCopies copies t f h r
-  newest_on copies f g h (Ok (ends.Into target)) first then = record {
-    copied = then.copied;
-    others = λ o c p some apart at. then.others o c p (still p.block some) apart (first o c p some at);
+  pub newest_on : t.next_group ≤ u.next_group → (copies : List CopyOf) (f g h : Flash) (r : Result Copied MoveFault) → KeepsKeptAt t f g → NewestAfterCopies copies u g h r → NewestAfterCopies copies t f h r
+  newest_on rises copies f g h (Ok (ends.Into target)) first then = record {
+    made = record {
+      copied = then.made.copied;
+      others = λ o c p some apart at. then.made.others o c p (still p.block some) apart (first o c p some at);
+    };
+    numbered = λ i x s at newest. let above = then.numbered i x s at newest in omega (arith, rises, above);
   }
-  newest_on copies f g h (Ok ends.Marked) first then = kept_on f g h first then
-  newest_on copies f g h (Err fault) first then = kept_on f g h first then
+  newest_on rises copies f g h (Ok ends.Marked) first then = kept_on f g h first then
+  newest_on rises copies f g h (Err fault) first then = kept_on f g h first then
 
   pub apart_on : u.geometry ≡ t.geometry → (copies : List CopyOf) (f g : Flash) (d : Device) → KeepsKeptAt t f g → StayOrLieApart copies u g d → StayOrLieApart copies t f d
   apart_on geometry copies f g d first (inl stays) = inl (kept_on f g d.flash first stays)
@@ -82,6 +85,6 @@ module _ (copies : List CopyOf) (a b : LogState) (keeps : KeepsCounts a.device b
   pages_on c r then = record {
     keeps = keeps_on a.device b.device c.device a.table b.table c.table keeps then.keeps;
     stored = λ honest. data_on a.table b.table keeps.kept a.device b.device c.device then.keeps.lasts (λ _. kept honest) (stored honest) (then.stored (keeps.lasts.honest ∙ honest));
-    newest = λ honest power. newest_on a.table b.table keeps.kept copies a.device.flash b.device.flash c.device.flash r (kept honest) (then.newest (keeps.lasts.honest ∙ honest) power);
+    newest = λ honest power. newest_on a.table b.table keeps.kept keeps.numbers.numbers.groups_rise copies a.device.flash b.device.flash c.device.flash r (kept honest) (then.newest (keeps.lasts.honest ∙ honest) power);
     apart = λ honest. apart_on a.table b.table keeps.kept keeps.geometry copies a.device.flash b.device.flash c.device (kept honest) (then.apart (keeps.lasts.honest ∙ honest));
   }

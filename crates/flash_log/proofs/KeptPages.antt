@@ -133,6 +133,15 @@ module _ (copies : List CopyOf) where
           others = λ o c p some apart at. kept_stays old new o c p at (stays_apart o c p apart at);
         }
 
+        -- the group of the copies has its number
+        pub numbered_copies : (i : ℕ) (x : CopyOf) (s : Spot) → slice_get copies i ≡ Some x → IsNewest new x.name.key.object x.name.key.chunk s → g.number ≡ s.tag.group
+        numbered_copies i x s at newest =
+            let o : ℕ = x.name.key.object in
+            let c : ℕ = x.name.key.chunk in
+            let named = shows.named o c i (names_once o c i x at (refl, refl)) in
+            let same : spot_at g (copy_name copies) i ≡ s = one_spot new o c (spot_at g (copy_name copies) i) s named.newest newest in
+            ap (λ (z : Spot). z.tag.group) same
+
         pub data_copied : KeepsDataAt t old new
         data_copied o c p bytes some at has = elim (listed_or_not copies o c) [
           | inr apart ↦ data_stays old new o c p bytes at has (stays_apart o c p apart at)

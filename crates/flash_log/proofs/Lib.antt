@@ -7,6 +7,7 @@ pub mod Told
 pub mod Moves
 pub mod Listing
 pub mod Marked
+pub mod Refreshed
 pub mod Retired
 pub mod RetireTurns
 pub mod Passing

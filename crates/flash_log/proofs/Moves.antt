@@ -13,6 +13,7 @@ use Rattle.block_state.specs.laws.Counting.{sum_below-changed, sum_below-zero, s
 use Rattle.block_state.specs.laws.Kept.{unkept_if, kept_if, unkept_same}
 use Rattle.chunk_index.specs.declared.index.Index.{Index}
 use Rattle.chunk_index.specs.Maps.{kept_pages, CountsAgree}
+use Rattle.flash_tree.specs.Newest.{IsNewest}
 use Rattle.flash_tree.specs.Numbering.{AreBelow}
 use Rattle.transactions.specs.Ready.{IsReady}
 use Rattle.transactions.specs.laws.Handing.{hands_same}
@@ -20,12 +21,13 @@ use Rattle.transactions.specs.Sources.{IsPageName}
 use Rattle.transactions.specs.declared.source.PageName.{PageName}
 use Rattle.flash_tree.specs.Slots.{check_object}
 use Rattle.transactions.specs.declared.copies.CopyOf.{CopyOf}
-use Rattle.flash_log.specs.Copying.{KeepsCounts, KeepsDataAt, MayBeCopied, AreCopied, IsCopyOf, IsTarget, OpenAfter, copy_in}
+use Rattle.flash_log.specs.Copying.{KeepsCounts, KeepsDataAt, MayBeCopied, AreWritten, IsCopyOf, IsTarget, OpenAfter, copy_in}
 use Rattle.flash_log.specs.Lists.{IsListed, kept_by}
 use Rattle.flash_log.specs.Bills.{Pays, PaysTarget, bill_of}
 use Rattle.flash_log.specs.declared.fault.MoveFault.{MoveFault}
 use Rattle.flash_log.specs.declared.moving.Moved.{Moved}
 use Rattle.flash_log.specs.Moving.{MovesOut, IsKeptIn, LiesIn, LiesOpen, IsLeft}
+use Rattle.flash_log.specs.Refreshing.{FillsAnew}
 use Rattle.flash_log.specs.Standing.{IsKeptAt, MayLie, AreHeld, Stands, KeepsFree}
 use Rattle.flash_log.specs.Steps.{Step}
 use Rattle.flash_log.specs.Telling.{Tells}
@@ -88,7 +90,7 @@ may_be_copied spare v d t x copies ready stands listed =
 module _ (spare v : ℕ) (target : Target) (d0 d1 : Device) (t0 t1 t2 : Table) (x y : Index) (copies : List CopyOf) (listed : IsListed v t0 x copies) (held : AreHeld t0 x)
     (keeps : KeepsCounts d0 d1 t0 t1) (stands : Stands spare d0 t0 x) (is : IsTarget (length copies) target t0 t1)
     (tells : Tells v target.block (length copies) copies x y t1 t2) (agree : CountsAgree t2 y)
-    (newest : d0.honest ≡ true → d1.gone ≡ false → AreCopied target.block copies t0 d0.flash d1.flash) where
+    (newest : d0.honest ≡ true → d1.gone ≡ false → AreWritten target.block copies t0 d0.flash d1.flash) where
   pub apart : v ≢ target.block
   apart e = let same : (t0.entry v).kept ≡ (t0.entry target.block).kept = ap (λ b. (t0.entry b).kept) e in omega (arith, same, listed.some, is.unkept)
 
@@ -202,7 +204,7 @@ module _ (spare v : ℕ) (target : Target) (d0 d1 : Device) (t0 t1 t2 : Table) (
     };
     newest = λ honest power o c p at.
         let was : d0.honest ≡ true = sym keeps.lasts.honest ∙ honest in
-        let all = newest was power in
+        let all = (newest was power).made in
         elim (listed_or_not copies o c) [
           | inl (i, z, there, of) ↦
               let both : Some p ≡ Some (copy_in target.block i z) = sym at ∙ told o c i z there of in
@@ -251,6 +253,17 @@ module _ (spare v : ℕ) (target : Target) (d0 d1 : Device) (t0 t1 t2 : Table) (
       sym (ap (λ q. kept_pages x q c) of.0) ∙ ap (kept_pages x z.name.key.object) (sym of.1) ∙ listed.lists.kept j z there,
       listed.lists.here j z there,
     )
+
+  -- what lies in a block that had nothing was copied now
+  pub fills_anew : FillsAnew (log_of d0 t0) (log_of d1 t2) y
+  fills_anew b none honest power o c p s at here last = elim (listed_or_not copies o c) [
+    | inl (i, z, there, of) ↦
+        (newest honest power).numbered i z s there (subst (λ q. IsNewest d1.flash q z.name.key.chunk s) (sym of.0) (subst (λ l. IsNewest d1.flash o l s) (sym of.1) last))
+    | inr apart' ↦
+        let some = held o c p (sym (tells.index.kept_elsewhere o c (λ j z lt there of. apart' j z there of)) ∙ at) in
+        let same : (t0.entry p.block).kept ≡ (t0.entry b).kept = ap (λ k. (t0.entry k).kept) here in
+        absurd (omega (arith, some, same, none))
+  ]
 
   -- the table is ready still, since only counts changed
   ready_told : IsReady d1 t1 → IsReady d1 t2

@@ -12,18 +12,22 @@ use Rattle.chunk_index.specs.Maps.{kept_pages}
 use Rattle.transactions.specs.Checking.{LogState, log_of}
 use Rattle.flash_log.specs.Bills.{Pays, PaysOut, bill_of}
 use Rattle.flash_log.specs.Moving.{MovesOut, LiesIn, IsAway}
+use Rattle.flash_log.specs.Refreshing.{FillsAnew}
 use Rattle.flash_log.specs.Retiring.{IsOut, IsRetired, RetireEnds, open_failures}
+use Rattle.flash_log.specs.Standing.{AreHeld}
 use Rattle.flash_log.specs.Steps.{Step}
 use Rattle.flash_log.specs.declared.fault.MoveFault.{MoveFault}
 use Rattle.flash_log.specs.laws.Bills.{pays_on}
 use Rattle.flash_log.specs.laws.Steps.{step_on}
 use Rattle.flash_log.specs.laws.Turns.{moves_out_on}
+use Rattle.flash_log.proofs.Refreshed.{fills_next}
 
 -- What holds after some of the blocks.
 pub record Retiring (spare v : ℕ) (old new : LogState) (x y : Index) (suspect : Option ℕ) : Type 0 where
   pub step : Step spare old new x y
   pub moved : MovesOut v x y
   pub pays : PaysOut old new (Ok suspect)
+  pub anew : FillsAnew old new y
   pub out : IsOut v spare old.table new.table suspect
   pub power : new.device.gone ≡ false
 
@@ -90,11 +94,12 @@ module _ (spare v w : ℕ) (d0 d : Device) (t0 t : Table) (x0 x : Index) (r : Re
     unkept_on None (k, l) = l.lies.elsewhere v not_first (λ e. let two : true ≡ false = sym later ∙ ap (λ b. (t'.entry b).bad) e ∙ l.lies.good in cc) ∙ r.out.unkept
     unkept_on (Some k) (l, closed) = l.elsewhere v not_first (λ e. let two : true ≡ false = sym later ∙ ap (λ b. (t'.entry b).bad) e ∙ l.good in cc) ∙ r.out.unkept
 
-    pub retiring_next : MovesOut w x x' → PaysOut (log_of d t) (log_of d' t') (Ok suspect) → d'.gone ≡ false → Retiring spare v (log_of d0 t0) (log_of d' t') x0 x' suspect
-    retiring_next moved pays power = record {
+    pub retiring_next : MovesOut w x x' → PaysOut (log_of d t) (log_of d' t') (Ok suspect) → AreHeld t' x' → FillsAnew (log_of d t) (log_of d' t') x' → d'.gone ≡ false → Retiring spare v (log_of d0 t0) (log_of d' t') x0 x' suspect
+    retiring_next moved pays held anew power = record {
       step = step_next d' t' x' step;
       moved = moved_next x' none moved;
       pays = pays_next (open_failures (Ok suspect)) d' t' (Ok suspect) pays;
+      anew = fills_next spare v w (log_of d0 t0) (log_of d t) (log_of d' t') x0 x x' r.step some lies held out.unkept anew;
       out = record {
         bad = later;
         unkept = unkept_on suspect (out.moved there_some);

@@ -27,7 +27,7 @@ use Rattle.transactions.specs.declared.group.Placed.{Placed}
 use Rattle.transactions.specs.declared.group.GroupFault.{GroupFault}
 use Rattle.transactions.specs.declared.group.GroupFault.TheVariants as groups
 use Rattle.flash_log.specs.Bills.{PaysOneBlock, PaysWriting}
-use Rattle.flash_log.specs.Copying.{IsFresh, MayBeCopied, KeepsKeptAt, KeepsDataAt, AreCopied, StayOrLieApart, NewestAfterCopies, CopiesPages, CopiesEnd, left_open, most_changes, most_written}
+use Rattle.flash_log.specs.Copying.{IsFresh, MayBeCopied, KeepsKeptAt, KeepsDataAt, AreWritten, StayOrLieApart, NewestAfterCopies, CopiesPages, CopiesEnd, left_open, most_changes, most_written}
 use Rattle.flash_log.specs.Passing.{Passes}
 use Rattle.flash_log.specs.Taking.{Takes, CostsATake}
 use Rattle.flash_log.specs.declared.copying.Copied.{Copied}
@@ -38,7 +38,7 @@ use Rattle.flash_log.specs.laws.Costs.{costs_taken, each_more}
 use Rattle.flash_log.specs.laws.Keeping.{keeps_passes, keeps_same, limits_ends, same_closed, same_ends}
 use Rattle.flash_log.proofs.Passing.{passes_marked}
 use Rattle.flash_log.specs.laws.KeptPages.{kept_where, data_where}
-use Rattle.flash_log.proofs.KeptPages.{is_of_copies, are_copied, data_copied}
+use Rattle.flash_log.proofs.KeptPages.{is_of_copies, are_copied, data_copied, numbered_copies}
 
 module _ (copies : List CopyOf) (w : ℕ) (d0 d1 : Device) (t : Table) (fresh : IsFresh w d0 t) (may : MayBeCopied d0 t copies) (honest : d0.honest ≡ true) (grows : Grows d0.flash d1.flash) where
   after : (r : Result Placed GroupFault) → GroupsAfter (next_group t (length copies) w) (copy_name copies) (copy_bytes copies d0.flash) d0.flash d1.flash r
@@ -66,8 +66,13 @@ module _ (copies : List CopyOf) (w : ℕ) (d0 d1 : Device) (t : Table) (fresh : 
   data_written r groups = data_by r (after r groups)
 
   -- and where it is done they are copied
-  pub copies_written : (placed : Placed) → GroupsAfter (next_group t (length copies) w) (copy_name copies) (copy_bytes copies d0.flash) d0.flash d1.flash (Ok placed) → AreCopied w copies t d0.flash d1.flash
-  copies_written placed groups = are_copied copies may.once (next_group t (length copies) w) refl d0.flash (may.newest honest fresh.power) d1.flash t w refl fresh.next (after (Ok placed) groups)
+  pub copies_written : (placed : Placed) → GroupsAfter (next_group t (length copies) w) (copy_name copies) (copy_bytes copies d0.flash) d0.flash d1.flash (Ok placed) → AreWritten w copies t d0.flash d1.flash
+  copies_written placed groups = record {
+    made = are_copied copies may.once (next_group t (length copies) w) refl d0.flash (may.newest honest fresh.power) d1.flash t w refl fresh.next (after (Ok placed) groups);
+    numbered = λ i x s at newest.
+        let number : t.next_group ≡ s.tag.group = numbered_copies copies may.once (next_group t (length copies) w) refl d0.flash (may.newest honest fresh.power) d1.flash t w refl fresh.next (after (Ok placed) groups) i x s at newest in
+        omega (arith, number);
+  }
 
   apart_by : IsReady d0 t → d1.flash.bad ≡ d0.flash.bad → (r : Result Placed GroupFault)
       → NewestAfter (next_group t (length copies) w) (copy_name copies) (copy_bytes copies d0.flash) d0.flash d1.flash r → StayOrLieApart copies t d0.flash d1

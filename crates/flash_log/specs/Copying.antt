@@ -10,6 +10,7 @@ use Rattle.transactions.specs.Checking.{LogState}
 use Rattle.transactions.specs.Copying.{CanCopy, copy_name}
 use Rattle.transactions.specs.Naming.{AreOrdinary}
 use Rattle.transactions.specs.Handing.{HandsOut}
+use Rattle.flash_tree.specs.Newest.{Spot, IsNewest}
 use Rattle.flash_tree.specs.Numbering.{AreBelow}
 use Rattle.transactions.specs.Ready.{IsReady}
 use Rattle.transactions.specs.declared.copies.CopyOf.{CopyOf}
@@ -72,9 +73,14 @@ pub record AreCopied (w : ℕ) (copies : List CopyOf) (t : Table) (old new : Fla
   pub others : (o c : ℕ) (p : KeptPage) → 1 ≤ (t.entry p.block).kept → ((i : ℕ) (x : CopyOf) → slice_get copies i ≡ Some x → IsCopyOf x o c → ⊥)
       → IsKeptAt old o c p → IsKeptAt new o c p
 
+-- and they are in a group whose number was not handed out before
+pub record AreWritten (w : ℕ) (copies : List CopyOf) (t : Table) (old new : Flash) : Type 0 where
+  pub made : AreCopied w copies t old new
+  pub numbered : (i : ℕ) (x : CopyOf) (s : Spot) → slice_get copies i ≡ Some x → IsNewest new x.name.key.object x.name.key.chunk s → t.next_group ≤ s.tag.group
+
 -- what is newest on an honest device that has power, after the copies were made or not
 abbrev pub NewestAfterCopies : List CopyOf → Table → Flash → Flash → Result Copied MoveFault → Type 0
-NewestAfterCopies copies t old new (Ok (ends.Into target)) = AreCopied target.block copies t old new
+NewestAfterCopies copies t old new (Ok (ends.Into target)) = AreWritten target.block copies t old new
 NewestAfterCopies copies t old new (Ok ends.Marked) = KeepsKeptAt t old new
 NewestAfterCopies copies t old new (Err fault) = KeepsKeptAt t old new
 

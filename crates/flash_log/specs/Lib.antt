@@ -13,6 +13,7 @@ pub mod Bills
 pub mod LogOf
 pub mod RoomFaults
 pub mod RoomMaking
+pub mod Refreshing
 pub mod CheckpointListing
 pub mod CheckpointSource
 pub mod CheckpointDue

@@ -37,10 +37,11 @@ HasMore t spare = 1 + spare < unkept_count t + bad_count t
 abbrev pub MovesFewest : (spare : ℕ) → Table → Index → Index → Type 0
 MovesFewest spare t x x' = (x' ≡ x) ⊎ (IsScarce t spare × ((v : ℕ) × IsFewest t t.geometry.blocks v × MovesOut v x x'))
 
--- What was kept in block v lies in the open block, to which nothing else was written. No more blocks are bad than there
--- are to spare, and blocks enough are free.
+-- What was kept in block v lies in the open block, to which nothing else was written, and v keeps nothing, or it is that block. No more
+-- blocks are bad than there are to spare, and blocks enough are free.
 pub record IsCollected (v spare : ℕ) (old new : Table) : Type 0 where
   pub opened : (w : ℕ) × (new.open_block ≡ Some w) × ((new.entry w).next ≡ (old.entry v).kept)
+  pub left : ((new.entry v).kept ≡ 0) ⊎ (new.open_block ≡ Some v)
   pub few : bad_count new ≤ spare
   pub free : HasFreeBlocks new spare
 

@@ -1,9 +1,10 @@
 // The collection of a block.
-ghost use Rattle.std.specs.Prelude.{◌≡◌, ◌<◌, ◌≤◌, false};
+ghost use Rattle.std.specs.Prelude.{◌≡◌, ◌<◌, ◌≤◌, false, OnOk};
 ghost use Rattle.block_state.specs.TableOf.{table};
 ghost use Rattle.flash_log.specs.Bills.{PaysCollection};
 ghost use Rattle.flash_log.specs.LogOf.{HasReserve, Moves, log_state};
 ghost use Rattle.flash_log.specs.Moving.{MovesOut};
+ghost use Rattle.flash_log.specs.Refreshing.{IsWrittenAnew};
 ghost use Rattle.flash_log.specs.RoomMaking.{CollectEnds};
 
 use crate::fault::MoveFault;
@@ -24,6 +25,7 @@ impl<N: Nand> Log<N> {
         ensures step { Moves self.old self.new }
         ensures out { MovesOut block self.old.index self.new.index }
         ensures pays { PaysCollection block (log_state self.old) (log_state self.new) result }
+        ensures anew { OnOk result (IsWrittenAnew block (log_state self.old) (log_state self.new) self.new.index) }
         ensures ends { CollectEnds block self.old.spare (N.state self.new.device) (table self.old.blocks) (table self.new.blocks) result }
     {
         the_counts_are_of_the_keys();

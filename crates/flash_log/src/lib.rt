@@ -14,6 +14,7 @@ mod fault;
 mod law;
 mod log;
 mod moving;
+mod refresh;
 mod retirement;
 mod room;
 mod room_fault;

@@ -6,6 +6,7 @@ ghost use Rattle.transactions.specs.Checking.{log_of};
 ghost use Rattle.flash_log.specs.Bills.{PaysCopies, PaysMove};
 ghost use Rattle.flash_log.specs.Lists.{IsListed};
 ghost use Rattle.flash_log.specs.Moving.{MoveEnds, MovesOut};
+ghost use Rattle.flash_log.specs.Refreshing.{FillsAnew};
 ghost use Rattle.flash_log.specs.Steps.{CanWrite, Step};
 
 use crate::copying::copy_listed;
@@ -42,6 +43,8 @@ fn move_listed<N: Nand>(
     ensures out { (v : ℕ) → IsListed v (table blocks.old) index.old copies.now → MovesOut v index.old index.new }
     ensures pays { PaysCopies (length copies.now) (log_of (N.state device.old) (table blocks.old)) (log_of (N.state device.new) (table blocks.new)) result }
     ensures few { OnOk result (bad_count (table blocks.new) ≤ spare) }
+    // What is committed now in a block that had nothing was written in this call.
+    ensures anew { OnOk result (FillsAnew (log_of (N.state device.old) (table blocks.old)) (log_of (N.state device.new) (table blocks.new)) index.new) }
     ensures ends { (v : ℕ) → IsListed v (table blocks.old) index.old copies.now
         → MoveEnds v spare (N.state device.new) (table blocks.old) (table blocks.new) result }
 {
@@ -70,6 +73,8 @@ impl<N: Nand> Log<N> {
         ensures out { MovesOut block self.old.index self.new.index }
         ensures pays { PaysMove block (log_state self.old) (log_state self.new) result }
         ensures few { OnOk result (HasReserve self.new) }
+        // What is committed now in a block that had nothing was written in this call.
+        ensures anew { OnOk result (FillsAnew (log_state self.old) (log_state self.new) self.new.index) }
         ensures ends { MoveEnds block self.old.spare (N.state self.new.device) (table self.old.blocks) (table self.new.blocks) result }
     {
         self.room.list(&self.index, block);

@@ -1,5 +1,5 @@
 // The retirement of a block.
-ghost use Rattle.std.specs.Prelude.{◌≡◌, ◌≢◌, ◌<◌, ◌≤◌, ◌+◌, true, false, Some, None, Ok, Result, IfErr, IfOk};
+ghost use Rattle.std.specs.Prelude.{◌≡◌, ◌≢◌, ◌<◌, ◌≤◌, ◌+◌, true, false, Some, None, Ok, Result, IfErr, IfOk, OnOk};
 ghost use Rattle.nand_model.specs.Calls.{Marks};
 ghost use Rattle.nand_model.specs.declared.nand.Gone.{Gone};
 ghost use Rattle.flash_tree.specs.Keeping.{KeepsElsewhere};
@@ -10,6 +10,7 @@ ghost use Rattle.transactions.specs.Opening.{MayLose};
 ghost use Rattle.transactions.specs.Ready.{IsReady};
 ghost use Rattle.flash_log.specs.Bills.{PaysEmptying, PaysOut, PaysRetirement};
 ghost use Rattle.flash_log.specs.Moving.{MovesOut};
+ghost use Rattle.flash_log.specs.Refreshing.{FillsAnew};
 ghost use Rattle.flash_log.specs.Retiring.{EmptyEnds, MarkedEnds, OneEnds, RetireEnds, WhyNotMarked};
 
 use crate::fault::MoveFault;
@@ -64,8 +65,11 @@ impl<N: Nand> Log<N> {
         ensures pays { PaysEmptying (log_state self.old) (log_state self.new) result }
         // Nothing is moved out of a block that is empty.
         ensures nothing { ((table self.old.blocks).entry block).kept ≡ 0 → (N.state self.new.device ≡ N.state self.old.device) × (result ≡ Ok None) }
+        // What is committed now in a block that had nothing was written in this call.
+        ensures anew { OnOk result (FillsAnew (log_state self.old) (log_state self.new) self.new.index) }
         ensures ends { EmptyEnds block self.old.spare (N.state self.new.device) (table self.old.blocks) (table self.new.blocks) result }
     {
+        the_counts_are_of_the_keys();
         if self.blocks.entry(block).kept == 0 {
             return Ok(None);
         }
@@ -88,6 +92,8 @@ impl<N: Nand> Log<N> {
         ensures pays { PaysOut (log_state self.old) (log_state self.new) result }
         ensures empty { ((table self.old.blocks).entry block).kept ≡ 0 → ((N.state self.new.device).changes ≤ (N.state self.old.device).changes + 1) × IfOk result (λ suspect. suspect ≡ None) }
         ensures needs_none { ((table self.old.blocks).entry block).kept ≡ 0 → IfErr result (WhyNotMarked self.old.spare (N.state self.new.device) (table self.new.blocks)) }
+        // What is committed now in a block that had nothing was written in this call.
+        ensures anew { OnOk result (FillsAnew (log_state self.old) (log_state self.new) self.new.index) }
         ensures ends { OneEnds block self.old.spare (N.state self.new.device) (table self.old.blocks) (table self.new.blocks) result }
     {
         the_counts_are_of_the_keys();
@@ -110,6 +116,8 @@ impl<N: Nand> Log<N> {
         ensures pays { PaysRetirement (log_state self.old) (log_state self.new) result }
         ensures empty { ((table self.old.blocks).entry block).kept ≡ 0 → (N.state self.new.device).changes ≤ (N.state self.old.device).changes + 1 }
         ensures needs_none { ((table self.old.blocks).entry block).kept ≡ 0 → IfErr result (WhyNotMarked self.old.spare (N.state self.new.device) (table self.new.blocks)) }
+        // What is committed now in a block that had nothing was written in this call.
+        ensures anew { OnOk result (FillsAnew (log_state self.old) (log_state self.new) self.new.index) }
         ensures ends { RetireEnds block self.old.spare (N.state self.new.device) (table self.old.blocks) (table self.new.blocks) result }
     {
         the_counts_are_of_the_keys();
@@ -136,6 +144,8 @@ impl<N: Nand> Log<N> {
         ensures empty { ((table self.old.blocks).entry block).kept ≡ 0 → (N.state self.new.device).changes ≤ (N.state self.old.device).changes + 1 }
         // An empty block needs no number.
         ensures needs_none { ((table self.old.blocks).entry block).kept ≡ 0 → IfErr result (WhyNotMarked self.old.spare (N.state self.new.device) (table self.new.blocks)) }
+        // What is committed now in a block that had nothing was written in this call.
+        ensures anew { OnOk result (FillsAnew (log_state self.old) (log_state self.new) self.new.index) }
         ensures ends { RetireEnds block self.old.spare (N.state self.new.device) (table self.old.blocks) (table self.new.blocks) result }
     {
         self.blocks.close();

@@ -7,7 +7,7 @@ use Rattle.block_state.specs.TableOf.{table}
 use Rattle.flash_log.specs.laws.FreeBlocks.{free_copied}
 use Rattle.flash_log.specs.laws.Moves.{are_held, moves_out_none, stands_kept}
 use Rattle.flash_log.specs.laws.Steps.{step_kept}
-use Rattle.flash_log.proofs.Moves.{none_noted, may_be_copied, same_bads, step_moved, moves_out, pays_moved, is_left, lies_in, lies_open, is_closed}
+use Rattle.flash_log.proofs.Moves.{none_noted, fills_anew, may_be_copied, same_bads, step_moved, moves_out, pays_moved, is_left, lies_in, lies_open, is_closed}
 use Rattle.flash_log.proofs.moving.move_listed.Goals as goal
 
 pub copy_listed-requires-clause-copies : goal.copy_listed-requires-clause-copies
@@ -88,6 +88,7 @@ returns-then-suspect g c =
           moves_out c.args.spare v target d0 d1 t0 t1 t2 x y c.args.copies.now listed held copied.pages.keeps c.requires.can.stands copied.ends.0 told agree copied.pages.newest;
       pays = pays_moved c.args.spare v target d0 d1 t0 t1 t2 x y c.args.copies.now listed held copied.pages.keeps c.requires.can.stands copied.ends.0 told agree copied.pages.newest 1 _ (ap (λ (s : Bool). if s then 1 else 0) c.if-suspect.true) copied.pays;
       few = let same = same_bads c.args.spare v target d0 d1 t0 t1 t2 x y c.args.copies.now listed held copied.pages.keeps c.requires.can.stands copied.ends.0 told agree copied.pages.newest in omega (arith, same, copied.few);
+      anew = fills_anew c.args.spare v target d0 d1 t0 t1 t2 x y c.args.copies.now listed held copied.pages.keeps c.requires.can.stands copied.ends.0 told agree copied.pages.newest;
       ends = λ v listed.
           let told = c.tell_copies.ensures.tells v listed.lists (unlike v target.block t0 listed.some copied.ends.0.unkept) in (
             is_left c.args.spare v target d0 d1 t0 t1 t2 x y c.args.copies.now listed held copied.pages.keeps c.requires.can.stands copied.ends.0 told agree copied.pages.newest,
@@ -120,6 +121,7 @@ returns g c =
           moves_out c.args.spare v target d0 d1 t0 t1 t2 x y c.args.copies.now listed held copied.pages.keeps c.requires.can.stands copied.ends.0 told agree copied.pages.newest;
       pays = pays_moved c.args.spare v target d0 d1 t0 t1 t2 x y c.args.copies.now listed held copied.pages.keeps c.requires.can.stands copied.ends.0 told agree copied.pages.newest 0 _ (ap (λ (s : Bool). if s then 1 else 0) c.if-suspect.false) copied.pays;
       few = let same = same_bads c.args.spare v target d0 d1 t0 t1 t2 x y c.args.copies.now listed held copied.pages.keeps c.requires.can.stands copied.ends.0 told agree copied.pages.newest in omega (arith, same, copied.few);
+      anew = fills_anew c.args.spare v target d0 d1 t0 t1 t2 x y c.args.copies.now listed held copied.pages.keeps c.requires.can.stands copied.ends.0 told agree copied.pages.newest;
       ends = λ v listed.
           let told = c.tell_copies.ensures.tells v listed.lists (unlike v target.block t0 listed.some copied.ends.0.unkept) in (
             is_left c.args.spare v target d0 d1 t0 t1 t2 x y c.args.copies.now listed held copied.pages.keeps c.requires.can.stands copied.ends.0 told agree copied.pages.newest,

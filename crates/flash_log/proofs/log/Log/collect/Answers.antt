@@ -1,9 +1,12 @@
 use Rattle.std.proofs.Common.{arith}
-use Rattle.std.proofs.lemmas.Result.{err_from_is_err_and}
+use Rattle.std.proofs.lemmas.Result.{err_from_is_err_and, on_ok_weaker}
+use Rattle.block_state.specs.Table.{Table}
 use Rattle.block_state.specs.TableOf.{table}
 use Rattle.transactions.specs.Checking.{log_of}
+use Rattle.flash_log.specs.laws.Moves.{are_held}
 use Rattle.flash_log.specs.laws.Steps.{step_on}
-use Rattle.flash_log.proofs.Collected.{collected_open, out_retired, pays_retired}
+use Rattle.flash_log.proofs.Collected.{collected_open, ends_retired, out_retired, pays_retired}
+use Rattle.flash_log.proofs.Refreshed.{anew_after, anew_none}
 use Rattle.flash_log.proofs.log.Log.collect.Goals as goal
 
 pub returns-in_err-move_kept-clause-pays : goal.returns-in_err-move_kept-clause-pays
@@ -23,7 +26,7 @@ returns-in-Trusted-clause-ends g c =
     let reserve = moved.few in
     let same = c.move_kept.ensures.spare in (
       collected_open c.args.block moved.ends.1.0 c.args.self.now.spare (g.N.Nand.state c.move_kept.new.self.device) (table c.args.self.now.blocks) (table c.move_kept.new.self.blocks) c.move_kept.new.self.index c.requires.some
-          moved.ends.1.1 (omega (arith, reserve, same)) moved.step.stands,
+          moved.ends.1.1 moved.ends.0.unkept (omega (arith, reserve, same)) moved.step.stands,
       moved.ends.2,
     )
 
@@ -50,3 +53,25 @@ returns-in-Suspect-clause-pays g c =
     let moved = rw c.in-Suspect.is at c.in_ok-move_kept.ensures in
     pays_retired c.args.block c.in-Suspect.copies (g.N.Nand.state c.args.self.now.device) (g.N.Nand.state c.move_kept.new.self.device) (g.N.Nand.state c.retire.new.self.device)
     (table c.args.self.now.blocks) (table c.move_kept.new.self.blocks) (table c.retire.new.self.blocks) c.retire.result moved.step.lasts.geometry moved.pays (rw c.move_kept.ensures.spare at c.retire.ensures).pays
+
+pub returns-in-Suspect-clause-ends : goal.returns-in-Suspect-clause-ends
+returns-in-Suspect-clause-ends g c =
+    let moved = rw c.in-Suspect.is at c.in_ok-move_kept.ensures in
+    ends_retired c.args.block c.in-Suspect.copies c.args.self.now.spare (g.N.Nand.state c.retire.new.self.device) (table c.args.self.now.blocks) (table c.move_kept.new.self.blocks)
+    (table c.retire.new.self.blocks) c.retire.result c.requires.some moved.ends.1.0 moved.ends.0.unkept (rw c.move_kept.ensures.spare at c.retire.ensures).ends
+
+pub returns-in-Trusted-clause-anew : goal.returns-in-Trusted-clause-anew
+returns-in-Trusted-clause-anew g c =
+    let moved = rw c.in-Trusted.is at c.in_ok-move_kept.ensures in
+    let y = c.move_kept.new.self.index in
+    let t : Table = table c.move_kept.new.self.blocks in
+    anew_none c.args.block (log_of (g.N.Nand.state c.args.self.now.device) (table c.args.self.now.blocks)) (log_of (g.N.Nand.state c.move_kept.new.self.device) t) y
+    (are_held t y (c.the_counts_are_of_the_keys.ensures.none y) moved.step.stands.tables.counts) moved.ends.0.unkept
+
+pub returns-in-Suspect-clause-anew : goal.returns-in-Suspect-clause-anew
+returns-in-Suspect-clause-anew g c =
+    let moved = rw c.in-Suspect.is at c.in_ok-move_kept.ensures in
+    on_ok_weaker c.retire.result
+    (λ fills. anew_after c.args.self.now.spare c.args.block (log_of (g.N.Nand.state c.args.self.now.device) (table c.args.self.now.blocks)) (log_of (g.N.Nand.state c.move_kept.new.self.device) (table c.move_kept.new.self.blocks))
+    (log_of (g.N.Nand.state c.retire.new.self.device) (table c.retire.new.self.blocks)) c.args.self.now.index c.move_kept.new.self.index c.retire.new.self.index moved.step moved.ends.0.unkept fills)
+    (rw c.move_kept.ensures.spare at c.retire.ensures).anew

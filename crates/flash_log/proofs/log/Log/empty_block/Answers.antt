@@ -5,8 +5,9 @@ use Rattle.block_state.specs.TableOf.{table}
 use Rattle.transactions.specs.Checking.{log_of}
 use Rattle.flash_log.specs.laws.Bills.{pays_none}
 use Rattle.flash_log.specs.laws.Costs.{costs_kept}
-use Rattle.flash_log.specs.laws.Moves.{moves_out_none}
+use Rattle.flash_log.specs.laws.Moves.{are_held, moves_out_none}
 use Rattle.flash_log.specs.laws.Steps.{step_none}
+use Rattle.flash_log.proofs.Refreshed.{fills_none}
 use Rattle.flash_log.proofs.log.Log.empty_block.Goals as goal
 
 pub returns-then-entry-eq0-clause-step : goal.returns-then-entry-eq0-clause-step
@@ -14,6 +15,13 @@ returns-then-entry-eq0-clause-step g c = step_none c.args.self.now.spare (g.N.Na
 
 pub returns-then-entry-eq0-clause-out : goal.returns-then-entry-eq0-clause-out
 returns-then-entry-eq0-clause-out g c = moves_out_none c.args.block c.args.self.now.index
+
+pub returns-then-entry-eq0-clause-anew : goal.returns-then-entry-eq0-clause-anew
+returns-then-entry-eq0-clause-anew g c =
+    let d : Device = g.N.Nand.state c.args.self.now.device in
+    let t : Table = table c.args.self.now.blocks in
+    let x = c.args.self.now.index in
+    fills_none (log_of d t) x (are_held t x (c.the_counts_are_of_the_keys.ensures.none x) c.args.self.now.stands.tables.counts)
 
 pub returns-then-entry-eq0-clause-pays : goal.returns-then-entry-eq0-clause-pays
 returns-then-entry-eq0-clause-pays g c = pays_none _ _ (log_of (g.N.Nand.state c.args.self.now.device) (table c.args.self.now.blocks)) _

@@ -9,6 +9,7 @@ use Rattle.flash_log.specs.laws.Steps.{step_closed, step_on}
 use Rattle.flash_log.specs.laws.Turns.{stands_closed}
 use Rattle.transactions.specs.Ready.{IsReady}
 use Rattle.transactions.specs.laws.Ready.{ready_closed}
+use Rattle.flash_log.proofs.Refreshed.{fills_closed}
 use Rattle.flash_log.proofs.RetireTurns.{ends_closed}
 use Rattle.flash_log.specs.Retiring.{RetireEnds}
 use Rattle.flash_log.proofs.log.Log.retire.Goals as goal
@@ -54,6 +55,13 @@ returns-clause-pays g c =
       answers = on_ok_weaker c.retire_all.result (λ then. omega (arith, same, then)) pays.answers;
       reads = pays.reads;
     }
+
+pub returns-clause-anew : goal.returns-clause-anew
+returns-clause-anew g c =
+    let d : Device = g.N.Nand.state c.args.self.now.device in
+    let t : Table = table c.args.self.now.blocks in
+    let u : Table = table c.close.new.self in
+    on_ok_weaker c.retire_all.result (λ fills. fills_closed d (g.N.Nand.state c.retire_all.new.self.device) t u (table c.retire_all.new.self.blocks) c.retire_all.new.self.index c.close.ensures fills) c.retire_all.ensures.anew
 
 pub returns-clause-ends : goal.returns-clause-ends
 returns-clause-ends g c =

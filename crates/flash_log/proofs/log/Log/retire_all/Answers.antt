@@ -7,6 +7,7 @@ use Rattle.chunk_index.specs.Kept.{HoldsNone}
 use Rattle.chunk_index.specs.Maps.{kept_pages}
 use Rattle.transactions.specs.Checking.{log_of}
 use Rattle.flash_tree.specs.laws.Truth.{none_after}
+use Rattle.flash_log.specs.laws.Moves.{are_held}
 use Rattle.flash_log.proofs.RetireTurns.{Retiring, next_unkept, step_next, moved_next, pays_next, retiring_next, retired_all, some_none}
 use Rattle.flash_log.proofs.log.Log.retire_all.Goals as goal
 
@@ -21,7 +22,7 @@ loop-suspect-init g c =
     let e = c.in_ok-suspect.ensures in
     record {
       spare = e.spare;
-      retiring = record { step = e.step; moved = e.out; pays = e.pays; out = e.ends.0; power = e.ends.1 };
+      retiring = record { step = e.step; moved = e.out; pays = e.pays; anew = e.anew; out = e.ends.0; power = e.ends.1 };
       empty = e.empty;
     }
 
@@ -90,7 +91,7 @@ loop-suspect-preserved g c =
     let e = rw c.loop-suspect.invariant.spare at c.in_ok-suspect-2.ensures in
     record {
       spare = e.spare;
-      retiring = retiring_next c.args.self.now.spare c.args.block w d0 d t0 t x0 x r d' t' y c.in_ok-suspect-2.suspect none e.step e.ends.0 e.out e.pays e.ends.1;
+      retiring = retiring_next c.args.self.now.spare c.args.block w d0 d t0 t x0 x r d' t' y c.in_ok-suspect-2.suspect none e.step e.ends.0 e.out e.pays (are_held t' y (c.the_counts_are_of_the_keys.ensures.none y) e.step.stands.tables.counts) e.anew e.ends.1;
       empty = λ kept. absurd (some_none w (sym c.in-Some.is ∙ (c.loop-suspect.invariant.empty kept).1));
     }
 
@@ -99,6 +100,12 @@ returns-clause-pays g c =
     let r = subst (Retiring c.args.self.now.spare c.args.block (log_of (g.N.Nand.state c.args.self.now.device) (table c.args.self.now.blocks)) (log_of (g.N.Nand.state c.loop-suspect.self.device) (table c.loop-suspect.self.blocks)) c.args.self.now.index c.loop-suspect.self.index)
     c.in_default.is c.loop-suspect.invariant.retiring in
     record { costs = r.pays.costs; marks = r.pays.marks; answers = r.pays.answers; reads = r.pays.reads }
+
+pub returns-clause-anew : goal.returns-clause-anew
+returns-clause-anew g c =
+    let r = subst (Retiring c.args.self.now.spare c.args.block (log_of (g.N.Nand.state c.args.self.now.device) (table c.args.self.now.blocks)) (log_of (g.N.Nand.state c.loop-suspect.self.device) (table c.loop-suspect.self.blocks)) c.args.self.now.index c.loop-suspect.self.index)
+    c.in_default.is c.loop-suspect.invariant.retiring in
+    r.anew
 
 pub returns-clause-ends : goal.returns-clause-ends
 returns-clause-ends g c =

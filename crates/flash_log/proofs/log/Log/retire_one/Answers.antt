@@ -7,6 +7,8 @@ use Rattle.block_state.specs.TableOf.{table}
 use Rattle.flash_tree.specs.laws.Truth.{none_after}
 use Rattle.flash_log.specs.Room.{IsRoomFor}
 use Rattle.flash_log.specs.Standing.{Stands}
+use Rattle.flash_log.specs.laws.Moves.{are_held}
+use Rattle.flash_log.proofs.Refreshed.{fills_marked}
 use Rattle.flash_log.proofs.Retired.{step_marked, pays_out, pays_unmarked, out}
 use Rattle.flash_log.proofs.log.Log.retire_one.Goals as goal
 
@@ -111,6 +113,20 @@ returns-clause-ends g c =
     let within : c.args.block < t1.geometry.blocks = subst (λ (z : Geometry). c.args.block < z.blocks) (sym c.args.self.now.ready.geometry) c.requires.block in
     let ends = c.in_ok-mark_emptied.ensures.ends in
     (out c.args.self.now.spare c.args.block d1 d2 d3 t1 t2 t3 c.args.self.now.index y m.marks.0 e.step (c.the_counts_are_of_the_keys.ensures.none y) within e.ends.left.unkept m.marks.1 m.ready m.notes m.newest m.numbers c.in_ok-suspect.suspect e.ends ends.0 ends.1, ends.2)
+
+pub returns-clause-anew : goal.returns-clause-anew
+returns-clause-anew g c =
+    let d1 : Device = g.N.Nand.state c.args.self.now.device in
+    let d2 : Device = g.N.Nand.state c.empty_block.new.self.device in
+    let d3 : Device = g.N.Nand.state c.mark_emptied.new.device in
+    let t1 : Table = table c.args.self.now.blocks in
+    let t2 : Table = table c.empty_block.new.self.blocks in
+    let t3 : Table = table c.mark_emptied.new.blocks in
+    let y = c.empty_block.new.self.index in
+    let e = c.in_ok-suspect.ensures in
+    let m = c.mark_emptied.ensures in
+    fills_marked c.args.self.now.spare c.args.block d1 d2 d3 t1 t2 t3 y e.step.lasts m.marks.1.lasts e.step.stands
+    (are_held t2 y (c.the_counts_are_of_the_keys.ensures.none y) e.step.stands.tables.counts) e.ends.left.unkept m.newest e.anew
 
 pub mark_emptied-requires-clause-first : goal.mark_emptied-requires-clause-first
 mark_emptied-requires-clause-first g c = inl (none_after _ _ _ _ c.in_ok-suspect.ensures.step.numbers.truth c.requires.none)

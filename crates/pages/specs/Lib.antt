@@ -2,6 +2,7 @@ pub mod Maps
 pub mod Changes
 pub mod State
 pub mod Stores
+pub mod Refreshing
 pub mod Faults
 pub mod Afterwards
 pub mod Memory

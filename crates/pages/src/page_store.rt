@@ -4,6 +4,7 @@ ghost use Rattle.nand_model.specs.Counts.{ReadsFew, ReadsFor, unfinished};
 ghost use Rattle.pages.specs.Changes.{AreApart, AreSized, AreOfTrees};
 ghost use Rattle.pages.specs.Maps.{changed, without_cuts};
 ghost use Rattle.pages.specs.State.{KeepsPower};
+ghost use Rattle.pages.specs.Refreshing.{Refreshes};
 ghost use Rattle.pages.specs.Stores.{SamePages, GoesOn, KeptAs, KeepsEither, StaysSame, CostsACommit, CommitsNothing, AreNear, ChangeFailsBy, CommitFailsBy, bad_on};
 ghost use Rattle.volume_terms.specs.declared.fault.StoreFault.TheVariants as faults;
 
@@ -72,6 +73,11 @@ pub trait PageStore: Pages {
         ensures memory { IsErrOf result faults.NoMemory → ⊥ }
         ensures stops { IfErr result (λ fault. (Self.state self.new).sound ≡ false) }
         ensures fault { (Self.state self.old).sound ≡ true → IfErr result (CommitFailsBy (Self.state self.old) (Self.state self.new)) };
+
+    /// Moves the pages that are kept in a block into another, as a garbage collection does, so that the old ones are not needed any
+    /// more. What is present and what is kept stay. It takes no memory. Of a block that keeps none it makes no call of the device.
+    fn refresh(&mut self, block: u32) -> Result<(), StoreFault>
+        ensures { Refreshes block (Self.state self.old) (Self.state self.new) result };
 
     /// A sound store has failed only where its device is gone.
     ghost lost: { (pages : Self) → (Self.state pages).sound ≡ true → (Self.state pages).failed ≡ true → (Self.state pages).device.gone ≡ true };

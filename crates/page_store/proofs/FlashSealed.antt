@@ -1,10 +1,9 @@
 -- Pages that are only read are given up as they are.
-use Rattle.std.specs.Prelude.{◌≡◌, ℕ, Bool, Result, Ok}
+use Rattle.std.specs.Prelude.{◌≡◌, ℕ, Bool, Ok}
 use Rattle.std.proofs.Common.{refl, sym, inl}
 use Rattle.nand_model.specs.Calls.{Device}
 use Rattle.flash_tree.specs.Newest.{Numbers}
 use Rattle.pages.specs.State.{PagesState}
-use Rattle.volume_terms.specs.declared.fault.StoreFault.{StoreFault}
 use Rattle.page_store.specs.Sealing.{IsSealed}
 use Rattle.page_store.specs.laws.Sealing.{ends_going}
 use Rattle.page_store.specs.ReadOnly.{IsWorn, HasGreatest, IsCarrying, only_read}

@@ -1,18 +1,21 @@
 -- A device that is only read keeps what it has.
-use Rattle.std.specs.Prelude.{◌≡◌, ◌<◌, ◌+◌, ℕ, Bool, true, false, count_by}
+use Rattle.std.specs.Prelude.{◌≡◌, ◌⊎◌, ◌<◌, ◌≤◌, ◌+◌, ◌*◌, ℕ, Bool, true, false, count_by}
 use Rattle.std.specs.List.{range_with_len}
-use Rattle.std.proofs.Common.{refl, arith}
+use Rattle.std.proofs.Common.{refl, arith, inl, inr}
+use Rattle.std.proofs.lemmas.Bool.{cases_lt}
+use Rattle.nand_model.specs.Calls.{Device}
 use Rattle.nand_model.specs.Flash.{Flash}
 use Rattle.nand_model.specs.laws.Calls.{lasts_here}
 use Rattle.nand_model.specs.declared.geometry.Geometry.{Geometry}
-use Rattle.volume_terms.specs.Sizes.{number_limit}
+use Rattle.volume_terms.specs.Sizes.{number_end, number_limit}
 use Rattle.flash_tree.specs.Newest.{Numbers}
 use Rattle.flash_tree.specs.Mount.{bad_blocks}
 use Rattle.flash_tree.specs.FreeBlocks.{LeavesFree}
 use Rattle.flash_tree.specs.laws.Truth.{true_same}
 use Rattle.transactions.specs.laws.Handing.{below_greater}
 use Rattle.pages.specs.State.{PagesState}
-use Rattle.pages.specs.Stores.{GoesOn, HasPage, HasNumbersLeft, KeptAs}
+use Rattle.pages.specs.Refreshing.{CostsAMove}
+use Rattle.pages.specs.Stores.{GoesOn, HasPage, HasNumbersLeft, KeptAs, bad_on}
 use Rattle.page_store.specs.ReadOnly.{IsWorn, HasGreatest, IsCarrying, only_read}
 
 -- where more blocks are bad than there are to spare, none has to be free
@@ -64,3 +67,20 @@ goes_on p n spare most was is = record {
   limits = λ honest left. left;
   truth = true_same p.device p.checkpoint p.checkpoint refl;
 }
+
+-- on a worn device a number is missing, or too many blocks are bad
+pub worn_told : (d : Device) (n : Numbers) (spare : ℕ) → IsWorn d n spare → (number_end ≤ n.group + 1) ⊎ (number_end ≤ n.seq + 1) ⊎ (spare < bad_on d)
+worn_told d n spare worn = elim (cases_lt n.group number_end) [
+  | inr group ↦ inl (omega (arith, group))
+  | inl group ↦ elim (cases_lt n.seq number_end) [
+    | inr seq ↦ inr (inl (omega (arith, seq)))
+    | inl seq ↦ inr (inr (worn group seq))
+  ]
+]
+
+-- nothing is moved
+pub costs_nothing : (p : PagesState) → CostsAMove p p
+costs_nothing p =
+    let each : ℕ = p.device.geometry.pages + 2 in
+    let one : each * (p.device.failures + 0) ≡ each * p.device.failures = omega arith in
+    omega (arith, one)

@@ -12,6 +12,7 @@ pub mod Freeing
 pub mod Grouping
 pub mod Settling
 pub mod Turning
+pub mod Refreshed
 pub mod GroupWritten
 pub mod Costing
 pub mod Staying

@@ -43,14 +43,14 @@ use Rattle.page_store.proofs.Following.{buffers_moved, presents_moved, carries_k
 -- ---- keys
 
 -- kept keys that were moved are kept
-kept_moved : (x y : Index) → MovesKept x y → (o c : ℕ) → IsKept (kept_pages x) o c → IsKept (kept_pages y) o c
+pub kept_moved : (x y : Index) → MovesKept x y → (o c : ℕ) → IsKept (kept_pages x) o c → IsKept (kept_pages y) o c
 kept_moved x y moves o c (p, is) = let m = moves.moved o c p is in (m.at, m.is)
 
 leaves_as_kept : (spare : ℕ) (d : Device) (x y : Index) → MovesKept x y → LeavesFree d.geometry d.flash spare (IsKept (kept_pages y)) → LeavesFree d.geometry d.flash spare (IsKept (kept_pages x))
 leaves_as_kept spare d x y moves leaves = leaves_fewer d.geometry d.flash spare (IsKept (kept_pages y)) (IsKept (kept_pages x)) (kept_moved x y moves) leaves
 
 -- a key with the data of a kept page is kept
-data_kept : (x : Index) (f : Flash) (o c : ℕ) → HasPage (kept_data x f) o c → IsKept (kept_pages x) o c
+pub data_kept : (x : Index) (f : Flash) (o c : ℕ) → HasPage (kept_data x f) o c → IsKept (kept_pages x) o c
 data_kept x f o c (xs, has) = go (kept_pages x o c) refl where
   go : (m : Option KeptPage) → kept_pages x o c ≡ m → IsKept (kept_pages x) o c
   go None none = let two : None ≡ Some xs = sym (ap (option_and_then (data_at f)) none) ∙ has in absurd cc

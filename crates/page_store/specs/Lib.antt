@@ -5,6 +5,7 @@ pub mod StoreState
 pub mod StateOf
 pub mod Caching
 pub mod Changing
+pub mod Refreshing
 pub mod Counts
 pub mod Sealing
 pub mod Buffered

@@ -129,4 +129,11 @@ impl<N: Nand> PageStore for FlashPages<N> {
             FlashPages::ReadOnly(pages) => PageStore::commit(pages),
         }
     }
+
+    fn refresh(&mut self, block: u32) -> Result<(), StoreFault> {
+        match self {
+            FlashPages::Store(store) => PageStore::refresh(store, block),
+            FlashPages::ReadOnly(pages) => PageStore::refresh(pages, block),
+        }
+    }
 }

@@ -25,6 +25,7 @@ mod opening;
 mod page_names;
 mod read_only;
 mod reading;
+mod refreshing;
 mod sealing;
 mod slot;
 mod store;

@@ -126,4 +126,9 @@ impl<N: Nand> PageStore for ReadOnlyPages<N> {
         self.check_unchanged()?;
         Ok(())
     }
+
+    fn refresh(&mut self, _block: u32) -> Result<(), StoreFault> {
+        self.refused_change = true;
+        Err(StoreFault::Worn)
+    }
 }

@@ -33,4 +33,9 @@ impl<N: Nand> PageStore for Store<N> {
         the_counts_add_up_to_the_kept_keys();
         self.write_out()
     }
+
+    fn refresh(&mut self, block: u32) -> Result<(), StoreFault> {
+        the_counts_are_of_the_keys();
+        self.refresh_block(block)
+    }
 }

@@ -1,10 +1,9 @@
 -- Names that are dropped from an index.
-use Rattle.std.specs.Prelude.{◌≡◌, ◌≢◌, ◌⊎◌, ◌<◌, ℕ, [], ◌∷◌, Option, Some, None, Result, Ok, Err, OnOk, IfOk, IfSome}
-use Rattle.std.proofs.Common.{refl, sym, ◌∙◌, ap, subst, inl, inr, arith}
+use Rattle.std.specs.Prelude.{◌≡◌, ◌≢◌, ◌⊎◌, ℕ, [], ◌∷◌, Option, Some, None, IfSome}
+use Rattle.std.proofs.Common.{sym, ◌∙◌, ap, subst, inl, inr, arith}
 use Rattle.std.proofs.lemmas.Bool.{cases_eq}
 use Rattle.std.specs.Cmp.{nat_cmp_total}
 use Rattle.std.specs.FinMap as map
-use Rattle.page_tags.specs.Slots.{Entry}
 use Rattle.flash_tree.specs.Tree.{SlotIs}
 use Rattle.name_index.specs.Hashes.{fnv1a}
 use Rattle.name_index.specs.Names.{DropsName, DropsDirectory}
@@ -12,7 +11,6 @@ use Rattle.name_index.specs.declared.index.NameIndex.{NameIndex}
 use Rattle.volume_terms.specs.Sizes.{Sizes}
 use Rattle.posix_profile.specs.State.{Objects, Dir, IsDirectory, entries_of}
 use Rattle.posix_profile.specs.laws.Map.{remove_cases}
-use Rattle.object_store.specs.Changes.{without}
 use Rattle.object_store.specs.declared.change.ObjectChange.{ObjectChange}
 use Rattle.object_store.specs.declared.change.ObjectChange.TheVariants as changes
 use Rattle.pages.specs.Maps.{PageMap, has, without_cuts, changed}

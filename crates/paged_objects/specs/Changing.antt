@@ -7,7 +7,7 @@ use Rattle.name_index.specs.Hashes.{fnv1a}
 use Rattle.volume_terms.specs.Sizes.{Sizes}
 use Rattle.volume_terms.specs.declared.fault.StoreFault.{StoreFault}
 use Rattle.volume_terms.specs.declared.fault.StoreFault.TheVariants as faults
-use Rattle.posix_profile.specs.State.{Name, Objects, IsDirectory}
+use Rattle.posix_profile.specs.State.{Objects, IsDirectory}
 use Rattle.object_store.specs.declared.change.ObjectChange.{ObjectChange}
 use Rattle.object_store.specs.declared.change.ObjectChange.TheVariants as changes
 use Rattle.object_store.specs.Told.{Tells}

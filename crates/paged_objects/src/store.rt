@@ -6,6 +6,7 @@ ghost use Rattle.posix_profile.specs.State.{Objects};
 ghost use Rattle.posix_profile.specs.WellFormed.{IsForest};
 ghost use Rattle.object_store.specs.Facts.{bytes_of};
 ghost use Rattle.object_store.specs.Told.{table_sizes, Tells};
+ghost use Rattle.pages.specs.Refreshing.{Refreshes};
 
 use crate::changing::{forget, make};
 use crate::fault::fault_of;
@@ -57,6 +58,15 @@ impl<P: PageStore> PagedObjects<P> {
         ensures { P.state result.now ≡ P.state (pages_of self.now) }
     {
         &self.pages
+    }
+
+    /// Moves the pages that are kept in a block into another, so that the old ones are not needed any more. The objects stay.
+    pub fn refresh(&mut self, block: u32) -> Result<(), StoreFault>
+        ensures pages { Refreshes block (P.state (pages_of self.old)) (P.state (pages_of self.new)) result }
+        ensures table { table_of self.new ≡ table_of self.old }
+        ensures names { names_of self.new ≡ names_of self.old }
+    {
+        self.pages.refresh(block)
     }
 
     /// The pages alone. What was not committed is not on their device.

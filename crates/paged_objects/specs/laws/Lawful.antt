@@ -7,7 +7,7 @@ use Rattle.posix_profile.specs.State.{Objects}
 use Rattle.posix_profile.specs.Charge.{charge}
 use Rattle.object_store.specs.Stores.{IsLawful, settled}
 use Rattle.object_store.specs.TableFacts.{IsTold}
-use Rattle.object_store.specs.Told.{table_sizes, Tells, TellsTheSame}
+use Rattle.object_store.specs.Told.{Tells, TellsTheSame}
 use Rattle.object_store.specs.declared.table.ObjectTable.{ObjectTable}
 use Rattle.pages.specs.State.{PagesState}
 use Rattle.directories.specs.Hashing.{HoldsMore}

@@ -7,7 +7,7 @@ use Rattle.posix_profile.specs.Changes.{new_number}
 use Rattle.object_store.specs.Told.{table_sizes, Tells, LedBefore}
 use Rattle.pages.specs.State.{PagesState}
 use Rattle.paged_objects.specs.Ending.{EndsPages}
-use Rattle.paged_objects.specs.Known.{ObjectsState, state_with, HasNamed}
+use Rattle.paged_objects.specs.Known.{ObjectsState, state_with}
 use Rattle.paged_objects.specs.laws.Going.{finds_stay, stays_here, stays_goes, goes_here, goes_on}
 use Rattle.paged_objects.specs.laws.Showing.{turns_after}
 use Rattle.paged_objects.specs.laws.Lawful.{tells_on}

@@ -1,5 +1,5 @@
 -- What a volume is.
-use Rattle.std.specs.Prelude.{Bool}
+use Rattle.std.specs.Prelude.{Bool, true}
 use Rattle.posix_profile.specs.State.{Handles}
 use Rattle.command_plans.specs.Tables.{handles_in}
 use Rattle.object_commands.specs.declared.volume.Volume.{Volume}
@@ -16,6 +16,14 @@ handles_of v = handles_in v.table
 abbrev pub is_read_only : {S : Type 0} → Volume S → Bool
 is_read_only v = v.read_only
 
+-- the volume over this store
+abbrev pub with_store : {S : Type 0} → Volume S → S → Volume S
+with_store v store = record v { store = store }
+
 -- it answers EIO to each command
 abbrev pub is_stopped : {S : Type 0} → Volume S → Bool
 is_stopped v = v.stopped
+
+-- the same volume, which answers EIO to each command
+abbrev pub with_stop : {S : Type 0} → Volume S → Volume S
+with_stop v = record v { stopped = true }

@@ -1,5 +1,6 @@
 // A volume over any store of objects.
 ghost use Rattle.std.specs.Prelude.{◌≡◌, ◌⊎◌, ◌≤◌, ℕ, true, false, length, Err, IfOk, IfErr, OnOk, FitsSigned};
+ghost use Rattle.std.specs.Borrow.{Lends, sem};
 ghost use Rattle.std.specs.Int.{w64};
 ghost use Rattle.std.specs.FinMap as map;
 ghost use Rattle.std.specs.List.{list_any};
@@ -136,7 +137,8 @@ pub struct Volume<S> {
 
 impl<S: ObjectStore> Volume<S> {
     ghost use Rattle.command_plans.specs.Tables.{handles_in};
-    ghost use Rattle.object_commands.specs.Volumes.{store_of, handles_of, is_read_only, is_stopped};
+    ghost use Rattle.object_commands.specs.Volumes.{store_of, handles_of, is_read_only, is_stopped, with_stop, with_store};
+    ghost use Rattle.object_commands.specs.contracts.volume.Volume.{the_row};
     ghost use Rattle.object_commands.specs.Serving.{IsServed, StaysAsItWas, is_refusal};
     ghost use Rattle.object_commands.specs.Endings.{IsAt, CommandEnds, StaysReading, TellsRefusal};
     ghost use Rattle.object_commands.specs.Reads.{LeavesRest, asked_of, read_reply, reading};
@@ -189,6 +191,21 @@ impl<S: ObjectStore> Volume<S> {
         ensures { result.now ≡ store_of self.now }
     {
         &self.store
+    }
+
+    /// Lends its store. Its caller leaves the objects as they are, or stops the volume.
+    pub fn store_mut(&mut self) -> &mut S
+        ensures store { result.now ≡ store_of self.old }
+        ensures* writes_back { sem 𝓛 (Lends (the_row S.row) S.row self.entry result (with_store self.old)) }
+    {
+        &mut self.store
+    }
+
+    /// Stops it: it answers EIO to each command from now on.
+    pub fn stop(&mut self)
+        ensures { self.new ≡ with_stop self.old }
+    {
+        self.stopped = true;
     }
 
     /// Gives its store back.

@@ -1,21 +1,18 @@
 -- The kept pages of objects that all have names are those of the tree.
-use Rattle.std.specs.Prelude.{◌≡◌, ◌<◌, ◌≤◌, ◌+◌, ◌-◌, ◌*◌, ◌/◌, ℕ, zero, suc, true, false, List, [], ◌∷◌, length, Option, Some, None, is_some, slice_get, ◌⊎◌, Result, Ok, Err}
-use Rattle.std.specs.Cmp.Lexicographic.{slice_cmp, nat_list_cmp_total}
-use Rattle.std.specs.Ordering.{nat_cmp}
+use Rattle.std.specs.Prelude.{◌≡◌, ◌<◌, ◌≤◌, ◌-◌, ◌*◌, ◌/◌, ℕ, true, List, Option, Some, None, ◌⊎◌, Result, Ok, Err}
 use Rattle.std.specs.FinMap as map
 use Rattle.std.specs.Int.{div_ceil}
 use Rattle.std.proofs.Common.{refl, sym, ◌∙◌, ap, subst, inl, inr, arith}
 use Rattle.std.proofs.Math.Nat.{mul-div_cancel}
-use Rattle.std.proofs.lemmas.Bool.{cases_Bool, cases_lt, cond-false}
+use Rattle.std.proofs.lemmas.Bool.{cases_Bool, cases_lt}
 use Rattle.nand_model.specs.Flash.{Flash}
 use Rattle.page_tags.specs.Headers.{is_present}
-use Rattle.page_tags.specs.Slots.{Entry}
 use Rattle.volume_terms.specs.Sizes.{Sizes, IsSizes, page_slots}
 use Rattle.volume_terms.specs.laws.Rounding.{part_begins}
 use Rattle.posix_profile.specs.State.{Entries, Object, File, Dir, Objects}
 use Rattle.object_store.specs.Stores.{settled}
 use Rattle.flash_tree.specs.Newest.{HasNewest}
-use Rattle.flash_tree.specs.Tree.{LooksUp, InFootprint, slot_pairs}
+use Rattle.flash_tree.specs.Tree.{LooksUp, InFootprint}
 use Rattle.flash_tree.specs.laws.SlotCounts.{entries_len}
 use Rattle.pages.specs.Maps.{PageMap}
 use Rattle.pages.specs.State.{PagesState}

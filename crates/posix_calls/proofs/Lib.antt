@@ -3,5 +3,6 @@ mod Unmounting
 pub mod Answered
 mod Calls
 pub mod Called
+pub mod Refreshed
 pub mod Closed
 pub mod Exact

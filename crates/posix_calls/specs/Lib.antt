@@ -7,4 +7,5 @@ pub mod Answering
 pub mod PageVolumes
 pub mod Running
 pub mod Calls
+pub mod Refreshing
 pub mod Closing

@@ -39,6 +39,7 @@ impl<P: PageStore> PageVolume<P> {
     ghost use Rattle.object_commands.specs.Describing.{Describes};
     ghost use Rattle.object_commands.specs.Reads.{LeavesRest, asked_of, read_reply, reading};
     ghost use Rattle.posix_calls.specs.Calls.{IsCalled};
+    ghost use Rattle.posix_calls.specs.Refreshing.{IsRefreshed};
     ghost use Rattle.posix_calls.specs.Closing.{CanWrite, KeepsOnly};
     ghost use Rattle.posix_calls.specs.Running.{RunsPages};
 
@@ -77,6 +78,28 @@ impl<P: PageStore> PageVolume<P> {
         ensures called { IsCalled P.state self.old (reading fd (asked_of buffer.old)) (read_reply buffer.new result) self.new }
     {
         self.volume.read_into(fd, buffer)
+    }
+
+    /// Moves what is committed in a block of the device into another, so that the old pages are not needed any more; all else stays.
+    /// A volume that is stopped returns EIO, and a read-only one EROFS. Another one is stopped by EIO, where the device failed or nothing
+    /// is left to write with.
+    pub fn refresh(&mut self, block: u32) -> Result<(), Errno>
+        ensures { IsRefreshed P.state block self.old result self.new }
+    {
+        if self.volume.stopped() {
+            return Err(Errno::EIO);
+        }
+        if self.volume.read_only() {
+            return Err(Errno::EROFS);
+        }
+        let refreshed = self.volume.store_mut().refresh(block);
+        match refreshed {
+            Ok(()) => Ok(()),
+            Err(_) => {
+                self.volume.stop();
+                Err(Errno::EIO)
+            }
+        }
     }
 
     /// Does the commands in turn and adds their replies at the end of the vector. Where a reply finds no room its command

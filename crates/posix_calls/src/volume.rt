@@ -32,6 +32,7 @@ impl<N: Nand> Volume<N> {
     ghost use Rattle.page_store.specs.FlashSealing.{IsDueOf, check_pages_of};
     ghost use Rattle.posix_calls.specs.Calls.{IsCalled, VolumeGoesOn};
     ghost use Rattle.posix_calls.specs.Describing.{IsDescribed};
+    ghost use Rattle.posix_calls.specs.Refreshing.{IsRefreshed};
     ghost use Rattle.posix_calls.specs.Endings.{IsUnmounted, LeavesCheckpoint, LiesOn};
     ghost use Rattle.posix_calls.specs.Volumes.{over_pages};
 
@@ -57,6 +58,17 @@ impl<N: Nand> Volume<N> {
         ensures { IsCalled ⟦<FlashPages<TrustedNand<N>> as Pages>⟧.state (over_pages self.old) stamped.now result (over_pages self.new) }
     {
         self.ask(&stamped.asked())
+    }
+
+    /// Moves what is committed in a block of the device into another, so that the old pages are not needed any more; all else stays. It
+    /// is for a block whose pages are read with many errors, between any two calls, as when nothing else is to be done.
+    ///
+    /// A volume that is stopped returns EIO, and a read-only one EROFS. Another one is stopped by EIO, where the device failed or nothing
+    /// is left to write with.
+    pub fn refresh(&mut self, block: u32) -> Result<(), Errno>
+        ensures { IsRefreshed ⟦<FlashPages<TrustedNand<N>> as Pages>⟧.state block (over_pages self.old) result (over_pages self.new) }
+    {
+        self.volume.refresh(block)
     }
 
     /// Does the commands in turn and adds their replies at the end of the vector. Where a reply finds no room its command

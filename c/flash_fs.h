@@ -74,8 +74,10 @@ enum {
 #define FLASH_TAG_BYTES 48
 #define FLASH_PACKED_TAG_BYTES 24
 
-/* What a read returns. */
-enum { FLASH_ERASED = 0, FLASH_WRITTEN = 1, FLASH_UNCORRECTABLE = 2 };
+/* What a read returns. FLASH_WRITTEN_WEAK is FLASH_WRITTEN in all that is said of it, of a page with so many corrected errors that
+ * it is better moved before it is lost: flash_fs_refresh moves it. A driver need not know of it.
+ */
+enum { FLASH_ERASED = 0, FLASH_WRITTEN = 1, FLASH_UNCORRECTABLE = 2, FLASH_WRITTEN_WEAK = 3 };
 /* What a program, an erase and a mark return; a mark only the first. */
 enum { FLASH_DONE = 0, FLASH_FAILED = 1 };
 
@@ -101,7 +103,8 @@ enum { FLASH_DONE = 0, FLASH_FAILED = 1 };
  *     the same each time;
  *   - after an erase that returned FLASH_DONE each page of the block reads FLASH_ERASED; after one that failed or was cut
  *     each page reads as before, as FLASH_ERASED or as FLASH_UNCORRECTABLE, and the same each time;
- *   - read_tag and read_page of a page return the same number and the same tag: a tag is not enough for FLASH_WRITTEN;
+ *   - read_tag and read_page of a page return the same number, weak or not, and the same tag: a tag is not enough for
+ *     FLASH_WRITTEN;
  *   - no call changes another page or block than its own;
  *   - a mark stays for ever; one that was cut is there or not, and the same each time;
  *   - a call is done when it returns; it does not leave by longjmp and calls no function of this header.
@@ -305,6 +308,16 @@ int flash_fs_fsync(struct flash_fs *fs, int fd);
 
 /* The same, without a descriptor. */
 int flash_fs_sync(struct flash_fs *fs);
+
+/* ---- Weak pages ---- */
+
+/* Moves on what is committed in one block of which a read returned FLASH_WRITTEN_WEAK since the mount, as a garbage collection
+ * does: its old pages are not needed any more. All else is as before, wherever power goes: the tree, what was not synced, the
+ * descriptors, the space. Returns how many such blocks are noted still, so that it is called when there is nothing else to do,
+ * until it returns 0. It costs an erase and at most block_pages reads and programs, and nothing where the block has nothing
+ * committed or none is noted. At most 32 blocks are noted; of others a later read reports it again.
+ */
+int flash_fs_refresh(struct flash_fs *fs);
 
 /* ---- What is left of a damaged volume ---- */
 

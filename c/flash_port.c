@@ -67,6 +67,7 @@ int flash_stat(struct flash_slot *slot, const uint8_t *path, size_t length, stru
 int flash_fstat(struct flash_slot *slot, uint32_t fd, struct flash_info *info);
 int64_t flash_list(struct flash_slot *slot, const uint8_t *path, size_t length, uint8_t *buffer, size_t size);
 int flash_space(struct flash_slot *slot, struct flash_space *space);
+int flash_refresh(struct flash_slot *slot, uint32_t block);
 size_t flash_salvage_slot_bytes(void);
 int flash_salvage_open(struct flash_slot *slot, struct flash_port port);
 void flash_salvage_close(struct flash_slot *slot);
@@ -87,25 +88,29 @@ enum operation { SIZES, IS_MARKED, READ_TAG, READ_PAGE, LAST_TAG, NEXT_TAG, PROG
 
 enum { SIZES_BYTES = 16 };
 
+enum { WEAK_BLOCKS = 32 };
+
 /* A device that the library asks for by a stream. */
 struct device {
     const struct flash_driver *driver;
     int stream;
     uint8_t tag[FLASH_TAG_BYTES]; /* that of the page that was read last, or that is programmed next */
+    uint32_t weak_count;
+    uint16_t weak[WEAK_BLOCKS]; /* blocks of which a page was weak, each once, in the order in which they were found */
 };
 
 /* What is inside of a struct flash_fs. */
 struct volume {
     struct flash_slot slot;
     struct device device;
-    _Alignas(16) uint8_t session[FLASH_FS_BYTES - 128];
+    _Alignas(16) uint8_t session[FLASH_FS_BYTES - 144];
 };
 
 /* What is inside of a struct flash_salvage. */
 struct salvage {
     struct flash_slot slot;
     struct device device;
-    _Alignas(16) uint8_t session[FLASH_SALVAGE_BYTES - 128];
+    _Alignas(16) uint8_t session[FLASH_SALVAGE_BYTES - 144];
 };
 
 static_assert(sizeof(struct volume) <= sizeof(struct flash_fs), "a volume is larger than FLASH_FS_BYTES");
@@ -165,6 +170,7 @@ static int open_stream(struct device *device, const struct flash_driver *driver)
             device->driver = driver;
             device->stream = FIRST_STREAM + i;
             memset(device->tag, 0, sizeof device->tag);
+            device->weak_count = 0;
             return 0;
         }
     return FLASH_EMFILE;
@@ -217,6 +223,24 @@ static int64_t checked(int returned, size_t size)
     return returned >= 0 && returned <= FLASH_UNCORRECTABLE && (size_t)returned <= size ? returned : -1;
 }
 
+static void note_weak(struct device *device, uint32_t block)
+{
+    for (uint32_t i = 0; i < device->weak_count; i++)
+        if (device->weak[i] == block)
+            return;
+    if (device->weak_count < WEAK_BLOCKS)
+        device->weak[device->weak_count++] = (uint16_t)block;
+}
+
+/* To the library a weak page is a written one. */
+static int noted(struct device *device, int returned, uint32_t block)
+{
+    if (returned != FLASH_WRITTEN_WEAK)
+        return returned;
+    note_weak(device, block);
+    return FLASH_WRITTEN;
+}
+
 /* A page and a tag are read by the driver to where the library wants them. */
 int64_t flash_port_read(int stream, void *bytes, size_t size, int64_t offset)
 {
@@ -239,11 +263,14 @@ int64_t flash_port_read(int stream, void *bytes, size_t size, int64_t offset)
     case READ_TAG:
         if (size != tag_bytes_of(driver))
             return -1;
-        return checked(driver->read_tag(driver->context, block_at(offset), page_at(offset), answer), size);
+        return checked(
+            noted(device, driver->read_tag(driver->context, block_at(offset), page_at(offset), answer), block_at(offset)), size);
     case READ_PAGE:
         if (size != driver->page_bytes)
             return -1;
-        return checked(driver->read_page(driver->context, block_at(offset), page_at(offset), answer, device->tag), size);
+        return checked(
+            noted(device, driver->read_page(driver->context, block_at(offset), page_at(offset), answer, device->tag), block_at(offset)),
+            size);
     case LAST_TAG:
         if (size != tag_bytes_of(driver))
             return -1;
@@ -433,6 +460,23 @@ int flash_fs_fsync(struct flash_fs *fs, int fd)
 int flash_fs_sync(struct flash_fs *fs)
 {
     return flash_sync(slot_of(fs));
+}
+
+/* The block is taken off the list once it was moved: the move reads its weak pages. */
+int flash_fs_refresh(struct flash_fs *fs)
+{
+    struct flash_slot *slot = slot_of(fs);
+    struct device *device = &volume_of(fs)->device;
+    if (!slot->full)
+        return FLASH_EINVAL;
+    if (device->weak_count == 0)
+        return 0;
+    int code = flash_refresh(slot, device->weak[0]);
+    if (code < 0)
+        return code;
+    device->weak_count--;
+    memmove(device->weak, device->weak + 1, device->weak_count * sizeof *device->weak);
+    return (int)device->weak_count;
 }
 
 /* ---- Salvages */

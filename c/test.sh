@@ -242,6 +242,7 @@ builds() {
         build test_cuts test/test_cuts.c $HARNESS "$LIBRARY" &&
         build test_torn test/test_torn.c test/sessions.c $CODED test/commands.c test/model.c "$LIBRARY" &&
         build test_lies test/test_lies.c $HARNESS "$LIBRARY" &&
+        build test_weak test/test_weak.c $HARNESS "$LIBRARY" &&
         build test_memory test/test_memory.c test/refused_memory.c $HARNESS "$LIBRARY" &&
         build test_salvage test/test_salvage.c test/refused_memory.c $HARNESS "$LIBRARY" &&
         build make_image test/make_image.c test/commands.c test/model.c drivers/file_nand.c "$LIBRARY" &&
@@ -282,6 +283,7 @@ run "pages and blocks that cuts leave torn" "$OUT/test_torn" $torn
 run "drivers that lie" "$OUT/test_lies" 500
 run "memory that is refused, many mounts, several volumes" "$OUT/test_memory" 60
 run "what is left of damaged volumes" "$OUT/test_salvage"
+run "weak pages, which are moved on" "$OUT/test_weak"
 run "the example hello" "$OUT/hello"
 run "the example power_loss" "$OUT/power_loss"
 run "an image that C made, shown by C" image_of_c

@@ -85,6 +85,10 @@ static void look(struct state *state, uint32_t index, uint32_t page, enum promis
     uint8_t tag_alone[FLASH_TAG_BYTES];
     int kind = driver->read_page(driver->context, block, page, state->data, state->tag);
     int kind_alone = driver->read_tag(driver->context, block, page, tag_alone);
+    if (kind == FLASH_WRITTEN_WEAK)
+        kind = FLASH_WRITTEN;
+    if (kind_alone == FLASH_WRITTEN_WEAK)
+        kind_alone = FLASH_WRITTEN;
     if (kind < 0 || kind > FLASH_UNCORRECTABLE) {
         falls_short(state, CALLS, "read_page of block %u page %u returned %d", block, page, kind);
         return;

@@ -75,13 +75,14 @@ static int read_page(void *context, uint32_t block, uint32_t page, uint8_t *data
     int result = ioctl(nand->device, MEMREAD, &request);
     if (result < 0 && errno == EBADMSG)
         return FLASH_UNCORRECTABLE;
-    if (result < 0 && errno != EUCLEAN) /* EUCLEAN: so many errors were corrected that the page is better moved */
+    bool weak = result < 0 && errno == EUCLEAN; /* so many errors were corrected that the page is better moved */
+    if (result < 0 && !weak)
         return lost(nand);
     if (request.ecc_stats.uncorrectable_errors > 0)
         return FLASH_UNCORRECTABLE;
     int kind = page_code_read(&nand->code, data, spare, tag, &corrected);
     nand->corrected_reads += corrected > 0 || request.ecc_stats.corrected_bitflips > 0;
-    return kind;
+    return weak && kind == FLASH_WRITTEN ? FLASH_WRITTEN_WEAK : kind;
 }
 
 /* The whole page is read: the kernel corrects no errors where only the spare area is, and a page whose data is not readable

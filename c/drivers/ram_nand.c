@@ -73,9 +73,13 @@ static int read_kind(struct ram_nand *nand, uint32_t block, uint32_t page, uint8
     if (is_cut(nand))
         return -1;
     size_t place = place_of(nand, block, page);
-    if (nand->kinds[place] == FLASH_WRITTEN)
-        memcpy(tag, nand->tags + place * FLASH_TAG_BYTES, tag_bytes_of(nand));
-    return nand->kinds[place];
+    if (nand->kinds[place] != FLASH_WRITTEN)
+        return nand->kinds[place];
+    nand->reads[block]++;
+    if (nand->lost_after != 0 && nand->reads[block] >= nand->lost_after)
+        return nand->kinds[place] = FLASH_UNCORRECTABLE;
+    memcpy(tag, nand->tags + place * FLASH_TAG_BYTES, tag_bytes_of(nand));
+    return nand->weak_after != 0 && nand->reads[block] >= nand->weak_after ? FLASH_WRITTEN_WEAK : FLASH_WRITTEN;
 }
 
 static int read_tag(void *context, uint32_t block, uint32_t page, uint8_t *tag)
@@ -91,7 +95,7 @@ static int read_page(void *context, uint32_t block, uint32_t page, uint8_t *data
         return -1;
     int kind = read_kind(nand, block, page, tag);
     size_t bytes = nand->driver.page_bytes;
-    if (kind == FLASH_WRITTEN)
+    if (kind == FLASH_WRITTEN || kind == FLASH_WRITTEN_WEAK)
         memcpy(data, nand->data + place_of(nand, block, page) * bytes, bytes);
     return kind;
 }
@@ -135,6 +139,7 @@ static int erase(void *context, uint32_t block)
             nand->kinds[place_of(nand, block, page)] = fate == RAM_NAND_AFTER ? FLASH_ERASED : FLASH_UNCORRECTABLE;
     }
     nand->next[block] = ends ? UINT32_MAX : 0;
+    nand->reads[block] = 0;
     return cut ? -1 : ends ? FLASH_FAILED : FLASH_DONE;
 }
 
@@ -161,8 +166,10 @@ int ram_nand_make(struct ram_nand *nand, uint32_t page_bytes, uint32_t block_pag
         .data = calloc(pages, page_bytes),
         .marked = calloc(blocks, 1),
         .next = calloc(blocks, sizeof *nand->next),
+        .reads = calloc(blocks, sizeof *nand->reads),
     };
-    if (nand->kinds == NULL || nand->tags == NULL || nand->data == NULL || nand->marked == NULL || nand->next == NULL) {
+    if (nand->kinds == NULL || nand->tags == NULL || nand->data == NULL || nand->marked == NULL || nand->next == NULL ||
+        nand->reads == NULL) {
         ram_nand_free(nand);
         return FLASH_ENOMEM;
     }
@@ -177,6 +184,7 @@ void ram_nand_free(struct ram_nand *nand)
     free(nand->data);
     free(nand->marked);
     free(nand->next);
+    free(nand->reads);
     *nand = (struct ram_nand){0};
 }
 
@@ -202,5 +210,6 @@ void ram_nand_copy(struct ram_nand *to, const struct ram_nand *from)
     memcpy(to->tags, from->tags, pages * FLASH_TAG_BYTES);
     memcpy(to->data, from->data, pages * from->driver.page_bytes);
     memcpy(to->marked, from->marked, from->driver.blocks);
+    memcpy(to->reads, from->reads, from->driver.blocks * sizeof *to->reads);
     ram_nand_power_up(to);
 }

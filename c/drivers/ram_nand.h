@@ -44,6 +44,11 @@ struct ram_nand {
      * that may be programmed next (block_pages and more: none). */
     uint8_t *kinds, *tags, *data, *marked;
     uint32_t *next;
+
+    /* How it ages: how often written pages of each block were read since its erase; from how many reads on these are weak, and
+     * from how many on the one that is read is lost (0: never).
+     */
+    uint32_t *reads, weak_after, lost_after;
 };
 
 /* Makes a flash whose pages are erased and whose blocks are good. Returns 0, or FLASH_ENOMEM. It keeps tags of FLASH_TAG_BYTES, or

@@ -43,7 +43,8 @@ enum {
 };
 
 /* The status feature. */
-enum { STATUS = 0xc0, BUSY = 0x01, ERASE_FAILED = 0x04, PROGRAM_FAILED = 0x08, ECC_MASK = 0x30, ECC_UNCORRECTABLE = 0x20 };
+enum { STATUS = 0xc0, BUSY = 0x01, ERASE_FAILED = 0x04, PROGRAM_FAILED = 0x08, ECC_MASK = 0x30, ECC_UNCORRECTABLE = 0x20,
+       ECC_WEAK = 0x30 /* as many errors as are corrected, or nearly */ };
 
 /* ---- What the board has to do. */
 
@@ -117,7 +118,8 @@ static int load(uint32_t block, uint32_t page)
     int status = wait(1);
     if (status < 0)
         return -1;
-    return (status & ECC_MASK) == ECC_UNCORRECTABLE ? FLASH_UNCORRECTABLE : FLASH_WRITTEN;
+    int ecc = status & ECC_MASK;
+    return ecc == ECC_UNCORRECTABLE ? FLASH_UNCORRECTABLE : ecc == ECC_WEAK ? FLASH_WRITTEN_WEAK : FLASH_WRITTEN;
 }
 
 /* The mark of the first page, read as it is. A block that the maker marked and one that mark_bad marked look alike. */
@@ -138,7 +140,7 @@ static int read_page(void *context, uint32_t block, uint32_t page, uint8_t *data
     if (corrected < 0 || !take_bytes(0, data, PAGE_BYTES) || !take_bytes(PAGE_BYTES, spare, SPARE_BYTES))
         return -1;
     int kind = page_code_read(&code, data, spare, tag, NULL);
-    return corrected == FLASH_UNCORRECTABLE && kind == FLASH_WRITTEN ? FLASH_UNCORRECTABLE : kind;
+    return kind == FLASH_WRITTEN ? corrected : kind;
 }
 
 /* The whole page is read: a tag alone does not say whether the data is what was programmed with it. */

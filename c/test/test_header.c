@@ -29,7 +29,7 @@ static_assert(FLASH_ELOST == -ENODATA, "ELOST");
 static_assert(FLASH_EDAMAGED == -EILSEQ, "EDAMAGED");
 static_assert(FLASH_ENEWER == -EOPNOTSUPP, "ENEWER");
 
-static_assert(FLASH_ERASED == 0 && FLASH_WRITTEN == 1 && FLASH_UNCORRECTABLE == 2, "what a read returns");
+static_assert(FLASH_ERASED == 0 && FLASH_WRITTEN == 1 && FLASH_UNCORRECTABLE == 2 && FLASH_WRITTEN_WEAK == 3, "what a read returns");
 static_assert(FLASH_DONE == 0 && FLASH_FAILED == 1, "what a change returns");
 static_assert(FLASH_TAG_BYTES == 48, "the tag");
 static_assert(FLASH_FILE == 1 && FLASH_DIRECTORY == 2, "kinds");

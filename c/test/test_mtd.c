@@ -327,7 +327,7 @@ static void answers(void)
     program_a_page();
     check(reads() == FLASH_WRITTEN && nand.corrected_reads == 0, "a page");
     kernel.next_read = EUCLEAN;
-    check(nand.driver.read_page(&nand, 1, 0, data_there, tag_there) == FLASH_WRITTEN && nand.corrected_reads == 1,
+    check(nand.driver.read_page(&nand, 1, 0, data_there, tag_there) == FLASH_WRITTEN_WEAK && nand.corrected_reads == 1,
           "corrected errors");
     kernel.next_read = EBADMSG;
     check(nand.driver.read_page(&nand, 1, 0, data_there, tag_there) == FLASH_UNCORRECTABLE, "errors that cannot be corrected");

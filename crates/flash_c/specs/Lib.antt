@@ -6,6 +6,7 @@ pub mod Lending
 pub mod Numbers
 pub mod Placed
 pub mod Questions
+pub mod Refreshing
 pub mod SalvageHeld
 pub mod SalvageLending
 pub mod SalvageSlots

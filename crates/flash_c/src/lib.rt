@@ -18,6 +18,7 @@ mod numbers;
 mod placed;
 mod port;
 mod questions;
+mod refreshing;
 mod salvage_session;
 mod salvage_slot;
 mod salvaged;

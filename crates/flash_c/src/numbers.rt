@@ -1,6 +1,7 @@
 // The numbers that the exports return.
 ghost use Rattle.std.specs.Prelude.{◌≡◌, ◌<ℤ◌, pos};
 ghost use Rattle.flash_c.specs.Numbers.{error_number, open_number, mount_number, format_number, salvage_number, signed, done_number, count_number};
+ghost use Rattle.flash_c.specs.Refreshing.{result_number};
 
 use port_nand::OpenFault;
 use posix_calls::{Errno, FormatFault, MountFault, Reply};
@@ -121,5 +122,15 @@ pub(crate) fn count_number(reply: &Reply) -> i64
         Reply::At(offset) => signed(*offset),
         Reply::Error(error) => i64::from(error_number(*error)),
         _ => i64::from(error_number(Errno::EIO)),
+    }
+}
+
+/// The number of a call that only succeeds or fails.
+pub(crate) fn result_number(done: Result<(), Errno>) -> i32
+    ensures { result ≡ result_number done }
+{
+    match done {
+        Ok(()) => 0,
+        Err(error) => error_number(error),
     }
 }

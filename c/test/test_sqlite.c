@@ -1,7 +1,10 @@
 /* SQLite on a volume, with power that goes at drawn calls of the device: after each mount the database passes its integrity check
  * and has each transaction whose commit returned, and at most one more.
  *
- *   test_sqlite [LIVES_OF_EACH_MODE] [SEED]
+ * And a database on a flash whose pages weaken with each read of their block and are lost after some thousands: blocks that are
+ * weak are refreshed between transactions, and nothing is lost.
+ *
+ *   test_sqlite [LIVES_OF_EACH_MODE] [SEED] [TRANSACTIONS_ON_WEAK_PAGES]
  */
 #include "commands.h"
 #include "ram_nand.h"
@@ -146,6 +149,46 @@ static void sort_beside_what_was_left(void)
     ram_nand_free(&nand);
 }
 
+static void weaken(uint64_t transactions, uint64_t seed)
+{
+    struct draw draw = {seed};
+    uint64_t refreshed = 0;
+    check(ram_nand_make(&nand, 2048, 64, 64) == 0 && flash_fs_format(&fs, &nand.driver, 2) == 0, "memory");
+    check(flash_fs_mount(&fs, &nand.driver) == 0 && flash_sqlite_register(&fs) == SQLITE_OK, "a volume");
+    sqlite3 *database = open_database("truncate");
+    check(database != NULL && run(database, "create table rows (id integer primary key, data blob);"
+                                            "create table counts (transactions integer);"
+                                            "insert into counts values (0);"
+                                            "create table read_only (id integer primary key, text);"
+                                            "insert into read_only with recursive n(i) as (select 1 union all select i + 1 from n limit"
+                                            " 1000) select i, printf('%0900d', i) from n") == SQLITE_OK,
+          "weak pages: the tables");
+    nand.weak_after = 300;
+    nand.lost_after = 3000;
+    for (uint64_t i = 1; i <= transactions; i++) {
+        check(transact(database, (int64_t)i, &draw) == SQLITE_OK, "weak pages: transaction %llu", (unsigned long long)i);
+        for (int turn = 0; turn < 5; turn++) {
+            char text[80];
+            snprintf(text, sizeof text, "select text from read_only where id = %u", 1 + drawn(&draw, 1000));
+            check(number(database, text) > 0, "weak pages: %s, after transaction %llu", text, (unsigned long long)i);
+        }
+        uint64_t erases = nand.counts.erases;
+        int left = i % 10 == 0 ? flash_fs_refresh(&fs) : 0;
+        while (left > 0)
+            left = flash_fs_refresh(&fs);
+        check(left == 0, "weak pages: a refresh returned %d", left);
+        refreshed += nand.counts.erases - erases;
+    }
+    check(is_sound(database) && number(database, "select transactions from counts") == (int64_t)transactions &&
+              number(database, "select count(*) from read_only where text = printf('%0900d', id)") == 1000,
+          "weak pages: a row is lost");
+    check(refreshed > 0, "weak pages: no block was refreshed");
+    check(sqlite3_close(database) == SQLITE_OK && flash_fs_unmount(&fs) == 0 && nand.misuse == NULL, "weak pages: the end");
+    printf("  weak pages: %llu transactions, %llu blocks refreshed, of %llu erases\n", (unsigned long long)transactions,
+           (unsigned long long)refreshed, (unsigned long long)nand.counts.erases);
+    ram_nand_free(&nand);
+}
+
 int main(int count, char **words)
 {
     sort_beside_what_was_left(); /* first: the names are counted */
@@ -153,5 +196,6 @@ int main(int count, char **words)
     uint64_t lives = count > 1 ? strtoull(words[1], NULL, 10) : 100, seed = count > 2 ? strtoull(words[2], NULL, 10) : 1;
     for (size_t i = 0; i < sizeof modes / sizeof *modes; i++)
         live(modes[i], lives, seed * 100 + i);
+    weaken(count > 3 ? strtoull(words[3], NULL, 10) : 5000, seed);
     return 0;
 }

@@ -104,7 +104,7 @@ static void moves_on(void)
     ram_nand_free(&nand);
 }
 
-/* More blocks than are noted: the others are noted when they are read again. */
+/* A mount notes blocks as well, at most 32, and forgets those that were noted before it. */
 static void notes_again(void)
 {
     make_volume();
@@ -142,6 +142,7 @@ static void is_cut(bool fails)
                 nand.cut_at = at;
             int code = refresh_all();
             ended = nand.calls < at;
+            nand.cut_at = nand.fail_at[0] = 0;
             check(fails || ended ? code > 0 : code == FLASH_EIO, "a refresh returns %d", code);
             if (code == FLASH_EIO)
                 check(flash_fs_stopped(&fs) == 1, "the volume is stopped");

@@ -18,6 +18,8 @@ mod moved;
 #[cfg(test)]
 mod moves;
 #[cfg(test)]
+mod refreshes;
+#[cfg(test)]
 mod retirements;
 #[cfg(test)]
 mod same;

@@ -50,6 +50,11 @@ fn written(rt: &impl Abort, alloc: Global, groups: &[Laid]) -> MemNand {
     volume.into_nand()
 }
 
+/// Block 2 keeps the pages of objects 1, 2 and 3, and older ones of objects 2 and 3.
+pub(crate) fn five_pages(rt: &impl Abort, alloc: Global) -> MemNand {
+    written(rt, alloc, &[group_in(2, 1, 3, 10), group_in(2, 2, 2, 20)])
+}
+
 /// Block 2 keeps the pages of objects 1, 2 and 3, and an older one of object 2; block 5 those of objects 4 and 5.
 pub(crate) fn flash(rt: &impl Abort, alloc: Global) -> MemNand {
     written(

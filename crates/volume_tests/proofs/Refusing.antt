@@ -1,12 +1,14 @@
 -- What a call leaves of pages that refuse memory.
-use Rattle.std.specs.Prelude.{◌≤◌, ◌+◌, ℕ}
+use Rattle.std.specs.Prelude.{◌≡◌, ◌≤◌, ◌+◌, ℕ, true, false, Result, Ok, Err, IfErr}
 use Rattle.std.proofs.Common.{refl, arith}
 use Rattle.nand_model.specs.Flash.{Flash}
 use Rattle.nand_model.specs.laws.Calls.{lasts_here}
 use Rattle.flash_tree.specs.laws.Truth.{true_same}
 use Rattle.flash_tree.specs.Numbering.{AreBelow}
 use Rattle.pages.specs.State.{PagesState}
+use Rattle.pages.specs.Refreshing.{Refreshes}
 use Rattle.pages.specs.Stores.{GoesOn}
+use Rattle.volume_terms.specs.declared.fault.StoreFault.{StoreFault}
 use Rattle.volume_tests.specs.Refusing.{refusing}
 
 -- a call of the pages inside
@@ -52,4 +54,22 @@ goes_nowhere a b p told = record {
   marks = omega arith;
   limits = λ honest left. left;
   truth = true_same p.device p.checkpoint p.checkpoint refl;
+}
+
+-- a refresh
+stops_always : (result : Result (Unit {0}) StoreFault) → IfErr result (λ fault. false ≡ false)
+stops_always (Ok done) = tt
+stops_always (Err fault) = refl
+
+pub refreshes : (told block : ℕ) (p q : PagesState) (result : Result (Unit {0}) StoreFault) → Refreshes block p q result → Refreshes block (refusing told p) (refusing told q) result
+refreshes told block p q result x = record {
+  goes_on = goes_on told told p q (omega arith) x.goes_on;
+  commits = x.commits;
+  buffered = x.buffered;
+  lent = x.lent;
+  power = x.power;
+  stops = stops_always result;
+  costs = x.costs;
+  reads = x.reads;
+  ends = λ sound. let two : false ≡ true = sound in absurd cc;
 }

@@ -31,6 +31,8 @@ mod losses;
 #[cfg(test)]
 mod numbers;
 #[cfg(test)]
+mod refreshes;
+#[cfg(test)]
 mod refusals;
 #[cfg(test)]
 mod refused;

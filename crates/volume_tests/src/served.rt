@@ -3,7 +3,7 @@
 use line_shell::{Serve, shell};
 use nand_model::MemNand;
 use plain_volume::Answers;
-use posix_calls::{MountFault, Reply, Stamped, Volume};
+use posix_calls::{Errno, MountFault, Reply, Stamped, Volume};
 use std::alloc::{AllocError, Global};
 use std::process::Abort;
 
@@ -80,6 +80,11 @@ impl Served {
         replies: &mut Vec<Reply>,
     ) -> Result<(), AllocError> {
         self.volume.run(commands, replies)
+    }
+
+    /// Refreshes a block.
+    pub(crate) fn refresh(&mut self, block: u32) -> Result<(), Errno> {
+        self.volume.refresh(block)
     }
 
     /// Gives the device back without a call.

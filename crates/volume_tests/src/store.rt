@@ -104,4 +104,8 @@ impl<P: PageStore> PageStore for RefusingPages<P> {
     fn commit(&mut self) -> Result<(), StoreFault> {
         self.inner.commit()
     }
+
+    fn refresh(&mut self, block: u32) -> Result<(), StoreFault> {
+        self.inner.refresh(block)
+    }
 }

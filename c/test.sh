@@ -16,8 +16,8 @@ CXX=${CXX:-g++}
 NM=${NM:-nm}
 RUN=${RUN:-}
 TARGET=${TARGET:-}
-cuts=300 pages=1000000 torn=200
-[ -z "$RUN" ] || cuts=100 pages=50000 torn=30 # a processor that is made by a program takes eight times as long
+cuts=300 pages=1000000 torn=200 every=1
+[ -z "$RUN" ] || cuts=100 pages=50000 torn=30 every=20 # a processor that is made by a program takes eight times as long
 [ "${1:-}" != quick ] || pages=50000 torn=30
 FLAGS="-std=c11 -Wall -Wextra -Wpedantic -Werror -O2 -g -I. -Idrivers -Iexamples"
 passed=0 failed=0 skipped=0
@@ -245,6 +245,7 @@ builds() {
         build test_weak test/test_weak.c $HARNESS "$LIBRARY" &&
         build test_memory test/test_memory.c test/refused_memory.c $HARNESS "$LIBRARY" &&
         build test_salvage test/test_salvage.c test/refused_memory.c $HARNESS "$LIBRARY" &&
+        build test_salvage_files test/test_salvage_files.c $HARNESS "$LIBRARY" &&
         build make_image test/make_image.c test/commands.c test/model.c drivers/file_nand.c "$LIBRARY" &&
         rm -f "$OUT/flash-raw" && make -s OUT="$OUT" CC="$CC" CFLAGS="-O2 -g -Werror" flash-raw && wrap "$OUT/flash-raw" &&
         build list examples/list.c drivers/file_nand.c "$LIBRARY" &&
@@ -283,6 +284,7 @@ run "pages and blocks that cuts leave torn" "$OUT/test_torn" $torn
 run "drivers that lie" "$OUT/test_lies" 500
 run "memory that is refused, many mounts, several volumes" "$OUT/test_memory" 60
 run "what is left of damaged volumes" "$OUT/test_salvage"
+run "what is left of 200 files" "$OUT/test_salvage_files" $every
 run "weak pages, which are moved on" "$OUT/test_weak"
 run "the example hello" "$OUT/hello"
 run "the example power_loss" "$OUT/power_loss"
@@ -330,13 +332,16 @@ elif [ "${1:-}" != quick ]; then
         }
         run "compiled with the sanitizer" eval 'sanitized test_model flash_malloc.c && sanitized test_lies flash_malloc.c &&
             sanitized test_cuts flash_malloc.c && sanitized test_memory test/refused_memory.c &&
-            sanitized test_salvage test/refused_memory.c && sanitized test_drivers flash_malloc.c &&
+            sanitized test_salvage test/refused_memory.c && sanitized test_salvage_files flash_malloc.c &&
+            sanitized test_weak flash_malloc.c && sanitized test_drivers flash_malloc.c &&
             sanitized test_page_code flash_malloc.c'
         run "sanitizer: drawn calls" "$OUT/test_model_sanitized" 1000 3
         run "sanitizer: drivers that lie" "$OUT/test_lies_sanitized" 100 3
         run "sanitizer: power that goes" "$OUT/test_cuts_sanitized" 50 3
         run "sanitizer: memory that is refused" "$OUT/test_memory_sanitized" 20 3
         run "sanitizer: what is left of damaged volumes" "$OUT/test_salvage_sanitized"
+        run "sanitizer: what is left of 200 files" "$OUT/test_salvage_files_sanitized" 10 30
+        run "sanitizer: weak pages" "$OUT/test_weak_sanitized"
         run "sanitizer: the envelope of a page" "$OUT/test_page_code_sanitized" 20000 3
         run "sanitizer: the drivers" "$OUT/test_drivers_sanitized" "$work"
     else

@@ -52,7 +52,7 @@ static int returns(int number, int most)
 /* A number that a driver may return, or one that none may. */
 static int wild(void)
 {
-    static const int numbers[] = {0, 0, 1, 1, 1, 1, 2, 2, 3, 256, 257, -1, INT32_MAX, INT32_MIN};
+    static const int numbers[] = {0, 0, 1, 1, 1, 1, 2, 2, 3, 4, 257, -1, INT32_MAX, INT32_MIN};
     return numbers[drawn(&nand.draw, drawn(&nand.draw, 4) == 0 ? 14 : 8)];
 }
 
@@ -102,7 +102,7 @@ static int read_page(void *context, uint32_t block, uint32_t page, uint8_t *data
         spoil(tag, driver.tag_bytes);
     if (data != NULL)
         spoil(data, PAGE);
-    return nand.kind_of_lie == 1 ? nand.kinds[block][page] : returns(wild(), FLASH_UNCORRECTABLE);
+    return nand.kind_of_lie == 1 ? nand.kinds[block][page] : returns(wild(), FLASH_WRITTEN_WEAK);
 }
 
 static int read_tag(void *context, uint32_t block, uint32_t page, uint8_t *tag)

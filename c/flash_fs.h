@@ -74,8 +74,8 @@ enum {
 #define FLASH_TAG_BYTES 48
 #define FLASH_PACKED_TAG_BYTES 24
 
-/* What a read returns. FLASH_WRITTEN_WEAK is FLASH_WRITTEN in all that is said of it, of a page with so many corrected errors that
- * it is better moved before it is lost: flash_fs_refresh moves it. A driver need not know of it.
+/* What a read returns. FLASH_WRITTEN_WEAK is FLASH_WRITTEN in all that is said of it, of a page with so many corrected errors
+ * that it is better moved before it is lost: flash_fs_refresh moves it. A driver need not know of it.
  */
 enum { FLASH_ERASED = 0, FLASH_WRITTEN = 1, FLASH_UNCORRECTABLE = 2, FLASH_WRITTEN_WEAK = 3 };
 /* What a program, an erase and a mark return; a mark only the first. */
@@ -314,8 +314,9 @@ int flash_fs_sync(struct flash_fs *fs);
 /* Moves on what is committed in one block of which a read returned FLASH_WRITTEN_WEAK since the mount, as a garbage collection
  * does: its old pages are not needed any more. All else is as before, wherever power goes: the tree, what was not synced, the
  * descriptors, the space. Returns how many such blocks are noted still, so that it is called when there is nothing else to do,
- * until it returns 0. It costs an erase and at most block_pages reads and programs, and nothing where the block has nothing
- * committed or none is noted. At most 32 blocks are noted; of others a later read reports it again.
+ * until it returns 0. It costs an erase and at most block_pages reads and programs, for each failure as many again and two
+ * more, and nothing where the block has nothing committed or none is noted. At most 32 blocks are noted; of others a later read
+ * reports it again.
  */
 int flash_fs_refresh(struct flash_fs *fs);
 

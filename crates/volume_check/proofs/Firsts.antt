@@ -20,7 +20,7 @@ use Rattle.tree_walk.specs.declared.broken.Broken.{Broken}
 use Rattle.tree_walk.specs.declared.broken.Rule.{Rule}
 use Rattle.tree_walk.specs.declared.broken.Rule.TheVariants as rules
 use Rattle.volume_check.specs.Found.{RootBreaks}
-use Rattle.volume_check.specs.Verdicts.{TellsVerdict, is_magic, is_no_header, verdict_of_broken, verdict_of_wrong}
+use Rattle.volume_check.specs.Verdicts.{TellsVerdict, lacks_magic, is_no_header, verdict_of_broken, verdict_of_wrong}
 use Rattle.volume_check.specs.declared.verdict.Verdict.TheVariants as verdicts
 
 module _ (g : Geometry) (m : NewestMap) where

@@ -31,17 +31,17 @@ verdict_of_wrong (IsNewer format) = verdicts.Newer format
 verdict_of_wrong IsDamaged = verdicts.Damaged
 
 -- the page has no magic number of a header
-abbrev pub is_magic : HeaderFault → Bool
-is_magic headers.Magic = true
-is_magic (headers.Newer format) = false
-is_magic headers.Kind = false
-is_magic headers.Length = false
-is_magic headers.Pad = false
+abbrev pub lacks_magic : HeaderFault → Bool
+lacks_magic headers.Magic = true
+lacks_magic (headers.Newer format) = false
+lacks_magic headers.Kind = false
+lacks_magic headers.Length = false
+lacks_magic headers.Pad = false
 
 -- nothing is there that could be a header
 abbrev pub is_no_header : Rule → Bool
 is_no_header rules.HeaderMissing = true
-is_no_header (rules.NoHeader fault) = is_magic fault
+is_no_header (rules.NoHeader fault) = lacks_magic fault
 is_no_header rules.RootIsFile = false
 is_no_header (rules.TooManySpare spare) = false
 is_no_header rules.ChunkMissing = false

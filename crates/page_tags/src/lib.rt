@@ -1,5 +1,5 @@
-//! The bytes of the formats: a tag, a header, a slot, the head and an entry of a checkpoint and of a block summary. No
-//! call takes memory.
+//! The bytes of the formats: a tag, a header, a slot, the head of a checkpoint and of a block summary, and an
+//! entry of either. No call takes memory.
 #![tactic(auto)]
 
 mod check;
@@ -8,7 +8,6 @@ mod law;
 mod numbers;
 mod presence;
 mod slot;
-mod summary_entry;
 mod summary_head;
 mod tag;
 mod zeros;
@@ -25,6 +24,5 @@ pub use law::{
 };
 pub use presence::{is_present, set_present};
 pub use slot::{Slot, decode_slot, encode_slot};
-pub use summary_entry::{SummaryEntry, decode_summary_entry, encode_summary_entry};
 pub use summary_head::{SummaryHead, decode_summary_head, encode_summary_head};
 pub use tag::Tag;

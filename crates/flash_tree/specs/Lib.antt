@@ -9,6 +9,8 @@ pub mod Truth
 pub mod Mount
 pub mod FreeBlocks
 pub mod Sound
+pub mod Summaries
+pub mod Summarizing
 pub mod Checkpoints
 pub mod Fading
 pub mod laws

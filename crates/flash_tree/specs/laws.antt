@@ -2,6 +2,7 @@ pub mod Added
 pub mod Checking
 pub mod Counting
 pub mod Fading
+pub mod Findable
 pub mod Finding
 pub mod Free
 pub mod Newest
@@ -12,9 +13,11 @@ pub mod Order
 pub mod Pairs
 pub mod Part
 pub mod Place
+pub mod SameSummary
 pub mod Shown
 pub mod Slot
 pub mod SlotCounts
+pub mod Summarizing
 pub mod Telling
 pub mod Tree
 pub mod TreeSlot

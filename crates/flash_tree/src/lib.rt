@@ -5,6 +5,7 @@ mod law;
 mod marks;
 mod place;
 mod slot;
+mod summaries;
 mod tag;
 mod truth;
 
@@ -20,6 +21,13 @@ pub use law::{
 pub use marks::count_bad;
 pub use place::{Found, FreshPage, Key, TagNumbers};
 pub use slot::{CHECK_OBJECT, CHUNK_END, decode_tree_slot};
+pub use summaries::{
+    a_block_that_fades_leaves_keys_findable, a_flash_without_tags_is_summarized,
+    a_group_keeps_a_flash_summarized, a_mark_keeps_a_flash_summarized,
+    a_summary_leaves_keys_findable, an_erase_of_the_first_keeps_a_flash_summarized,
+    the_lowest_block_goes_first, the_pages_of_a_group_are_findable,
+    the_same_groups_leave_keys_findable, trees_and_checkpoints_add_no_summary,
+};
 pub use tag::tag_at;
 pub use truth::{
     a_block_that_fades_leaves_a_flash_true, a_true_flash_has_one_checkpoint,

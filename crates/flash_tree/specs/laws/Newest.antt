@@ -110,13 +110,13 @@ pub stays_on : (f g h : Flash) (o c : ℕ) (s : Spot) → StaysNewest f g o c s 
 stays_on f g h o c s first then = record { newest = then.newest; page = then.page ∙ first.page }
 
 module _ (b : ℕ) (old new : Flash) (loses : Loses b old new) where
-  has_before : (k l : ℕ) (t : Tag) → HasTag new k l t → HasTag old k l t
+  pub has_before : (k l : ℕ) (t : Tag) → HasTag new k l t → HasTag old k l t
   has_before k l t has = elim (cases_eq k b) [
     | inr ne ↦ tag_stays new old k l t (sym (loses.other_pages k l ne)) has
     | inl e ↦ subst (λ n. HasTag old n l t) (sym e) (loses.tags l t (subst (λ n. HasTag new n l t) e has))
   ]
 
-  group_before : (g : Group) → IsGroup new g → IsGroup old g
+  pub group_before : (g : Group) → IsGroup new g → IsGroup old g
   group_before g whole = record {
     good = elim (cases_eq g.block b) [
       | inr ne ↦ sym (loses.other_marks g.block ne) ∙ whole.good

@@ -1,4 +1,4 @@
--- What calls in turn keep of checkpoints.
+-- What calls in turn keep of checkpoints and summaries.
 use Rattle.std.specs.Prelude.{◌≡◌, ℕ, Option, Some, None}
 use Rattle.std.proofs.Common.{refl, sym, ◌∙◌, subst}
 use Rattle.nand_model.specs.Flash.{Flash}
@@ -6,6 +6,7 @@ use Rattle.nand_model.specs.Calls.{Device, Lasts}
 use Rattle.nand_model.specs.Changes.{OnlyReads}
 use Rattle.nand_model.specs.declared.geometry.Geometry.{Geometry}
 use Rattle.flash_tree.specs.Checkpoints.{IsChecked}
+use Rattle.flash_tree.specs.Summaries.{AreSummariesRight}
 use Rattle.flash_tree.specs.Truth.{KeepsTrue}
 use Rattle.flash_tree.specs.laws.Place.{same_flash}
 
@@ -14,11 +15,12 @@ pub true_on : (a b c : Device) (x y z : Option ℕ) → Lasts a b → KeepsTrue 
 true_on a b c x y z lasts first after = record {
   noted = λ k is. first.noted k (after.noted k is);
   checked = λ honest is. after.checked (lasts.honest ∙ honest) (first.checked honest is);
+  summaries = λ honest right. after.summaries (lasts.honest ∙ honest) (first.summaries honest right);
 }
 
 -- no call
 pub true_same : (d : Device) (x y : Option ℕ) → y ≡ x → KeepsTrue d d x y
-true_same d x y same = record { noted = λ k is. sym same ∙ is; checked = λ honest is. subst (IsChecked d.geometry d.flash) (sym same) is }
+true_same d x y same = record { noted = λ k is. sym same ∙ is; checked = λ honest is. subst (IsChecked d.geometry d.flash) (sym same) is; summaries = λ honest right. right }
 
 -- where no block was noted none is
 pub none_after : (old new : Device) (x y : Option ℕ) → KeepsTrue old new x y → x ≡ None → y ≡ None
@@ -34,4 +36,6 @@ true_read old new x y reads same = record {
   checked = λ honest is.
       subst (λ (g : Geometry). IsChecked g new.flash y) (sym reads.lasts.geometry) (subst (λ (f : Flash). IsChecked old.geometry f y) (sym (same_flash old new reads honest))
       (subst (IsChecked old.geometry old.flash) (sym same) is));
+  summaries = λ honest right.
+      subst (λ (g : Geometry). AreSummariesRight g new.flash) (sym reads.lasts.geometry) (subst (AreSummariesRight old.geometry) (sym (same_flash old new reads honest)) right);
 }

@@ -1,0 +1,5 @@
+use Rattle.flash_tree.specs.laws.Summarizing.{summarized_mark}
+use Rattle.flash_tree.proofs.summaries.a_mark_keeps_a_flash_summarized.Goals as goal
+
+pub returns : goal.returns
+returns c = summarized_mark

@@ -1,0 +1,5 @@
+pub mod EntryLists
+pub mod ContentBytes
+pub mod PageRows
+pub mod ReadCount
+pub mod WholeSummary

@@ -1,8 +1,7 @@
 -- Where the whole checkpoint of a flash lies.
-use Rattle.std.specs.Prelude.{◌≡◌, ◌≢◌, ◌<◌, ◌≤◌, ℕ, ◌+◌, ◌*◌, true, false, length, Option, Some, None, Result, Ok, Err, IfOk, IfSome, IfNone}
+use Rattle.std.specs.Prelude.{◌≡◌, ◌≢◌, ◌<◌, ◌≤◌, ℕ, ◌+◌, true, Option, Some, None, IfSome, IfNone}
 use Rattle.std.proofs.Common.{refl, sym, ◌∙◌, ap, subst, inl, inr, arith}
 use Rattle.std.proofs.lemmas.Bool.{cases_eq, cases_lt}
-use Rattle.volume_terms.specs.Rounding.{ceiling}
 use Rattle.nand_model.specs.Flash.{Flash, IsWithin}
 use Rattle.nand_model.specs.Calls.{Device}
 use Rattle.nand_model.specs.Changes.{OnlyReads}
@@ -14,11 +13,10 @@ use Rattle.flash_tree.specs.laws.Newest.{one_tag}
 use Rattle.flash_tree.specs.laws.Place.{tag_placed}
 use Rattle.flash_tree.specs.laws.Checking.{first_tag}
 use Rattle.flash_tree.specs.Checkpoints.{Checkpoint, check_tag, IsWhole, IsTrueFlash}
-use Rattle.mount_scan.specs.declared.fault.ScanFault.{ScanFault}
 use Rattle.mount_scan.specs.declared.found_checkpoint.FoundCheckpoint.{FoundCheckpoint}
 use Rattle.mount_scan.specs.declared.checkpoint_candidate.Candidate.{Candidate}
-use Rattle.mount_scan.specs.FoundCheckpoint.{HasForm, IsWholeOn, HasNoneWhole, ReadsFew, checkpoint_of}
-use Rattle.mount_scan.specs.CheckpointCandidates.{IsCandidate, IsGreatestBelow, IsOf, LiesFirst, MayBegin, FirstsBelow}
+use Rattle.mount_scan.specs.FoundCheckpoint.{HasNoneWhole, ReadsFew, checkpoint_of}
+use Rattle.mount_scan.specs.CheckpointCandidates.{IsGreatestBelow, IsOf, LiesFirst}
 use Rattle.mount_scan.specs.CheckpointBlocks.{begun, IsNone, HasNoneAt, pages_of}
 use Rattle.mount_scan.proofs.ReadCount.{back_honest}
 

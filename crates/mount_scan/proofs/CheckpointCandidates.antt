@@ -1,5 +1,5 @@
 -- Which of the blocks that were looked at a checkpoint may begin with.
-use Rattle.std.specs.Prelude.{◌≡◌, ◌<◌, ◌≤◌, ℕ, ◌+◌, true, false, List, [], ◌∷◌, ◌++◌, length, slice_get, Option, Some, None, Result, Ok, Err, IfOk, IfSome}
+use Rattle.std.specs.Prelude.{◌≡◌, ◌<◌, ◌≤◌, ℕ, ◌+◌, true, false, List, [], ◌∷◌, ◌++◌, length, Option, Some, None, Result, Ok, Err, IfOk, IfSome}
 use Rattle.std.proofs.Common.{refl, sym, ◌∙◌, ap, subst, inl, inr, arith, length-append}
 use Rattle.std.proofs.lemmas.Bool.{cases_eq, cases_lt}
 use Rattle.volume_terms.specs.laws.List.{get_push}
@@ -9,7 +9,6 @@ use Rattle.nand_model.specs.Changes.{OnlyReads}
 use Rattle.nand_model.specs.declared.geometry.Geometry.{Geometry}
 use Rattle.nand_model.specs.declared.nand.Gone.{Gone}
 use Rattle.page_tags.specs.declared.tag.Tag.{Tag}
-use Rattle.flash_tree.specs.Groups.{HasTag}
 use Rattle.flash_tree.specs.Places.{TagIs}
 use Rattle.flash_tree.specs.laws.Newest.{one_tag}
 use Rattle.mount_scan.specs.FoundCheckpoint.{IsFirstSeq, AreFirstSeqs}

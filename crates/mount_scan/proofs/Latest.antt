@@ -29,7 +29,7 @@ none_in f has = absurd (omega (arith, has.1))
 
 -- ---- copies
 
-counted_copy : (flash : Flash) (x : Found) (f : PageCopy) → copy_of x ≡ f → Holds flash x.tag.object x.tag.chunk (spot_of x) → IsCountedCopy flash f
+pub counted_copy : (flash : Flash) (x : Found) (f : PageCopy) → copy_of x ≡ f → Holds flash x.tag.object x.tag.chunk (spot_of x) → IsCountedCopy flash f
 counted_copy flash x f same holds = subst (IsCountedCopy flash) same (record { spot = spot_of x; holds = holds; copied = refl })
 
 -- ---- one block
@@ -80,7 +80,7 @@ copy_low : (x : Found) (f : PageCopy) → FitsCopy x → copy_of x ≡ f → f.c
 copy_low x f fits same = subst (λ (y : PageCopy). y.chunk < 2 ^ 32) same fits.0
 
 -- each place of a device fits
-place_fits : (g : Geometry) (x : Found) → x.tag.chunk < 2 ^ 32 → x.block < g.blocks → x.page < g.pages → FitsCopy x
+pub place_fits : (g : Geometry) (x : Found) → x.tag.chunk < 2 ^ 32 → x.block < g.blocks → x.page < g.pages → FitsCopy x
 place_fits g x low block page =
     let blocks = g.most_blocks in
     let pages = g.most_pages in

@@ -14,3 +14,9 @@ pub mod CheckpointCandidates
 pub mod ReadCount
 pub mod ReadPages
 pub mod BestCandidate
+pub mod NotedFirsts
+pub mod NamedPages
+pub mod SummaryRest
+pub mod SummaryFinds
+pub mod OneSummary
+pub mod FewPages

@@ -1,6 +1,6 @@
 -- The newest pages in a map.
-use Rattle.std.specs.Prelude.{◌≡◌, ◌⊎◌, ◌<◌, ℕ, ◌+◌, Bool, true, false, List, [], ◌∷◌, ◌++◌, Option, Some, None, IsSome, Contains, length, take}
-use Rattle.std.specs.BTreeMap.{get, IsEmpty, Updates, is_at}
+use Rattle.std.specs.Prelude.{◌≡◌, ◌⊎◌, ◌<◌, ℕ, Bool, true, false, List, [], ◌∷◌, ◌++◌, Option, Some, None, IsSome, Contains}
+use Rattle.std.specs.BTreeMap.{IsEmpty, Updates, is_at}
 use Rattle.std.specs.Cmp.{Equal-is}
 use Rattle.std.specs.Map.{lookup}
 use Rattle.std.specs.Ordering.{nat_cmp}
@@ -15,7 +15,7 @@ use Rattle.flash_tree.specs.laws.Newest.{one_spot}
 use Rattle.flash_tree.specs.declared.place.Found.{Found}
 use Rattle.flash_tree.specs.Places.{spot_of}
 use Rattle.mount_scan.specs.Scanned.{TellsCounted}
-use Rattle.mount_scan.specs.NewestMap.{KeyMap, key_cmp, page_of, AreLatestOf, HasEachNewest, ReportsNewest}
+use Rattle.mount_scan.specs.NewestMap.{KeyMap, key_cmp, page_of, AreLatestOf, ReportsNewest}
 use Rattle.mount_scan.specs.laws.Scan.{found_of, listed_spot}
 
 -- two pages of one key in a map are one

@@ -7,10 +7,10 @@ use Rattle.page_tags.specs.declared.tag.Tag.{Tag}
 use Rattle.flash_tree.specs.Groups.{HasTag}
 use Rattle.flash_tree.specs.Newest.{Numbers, AreGreatest}
 use Rattle.flash_tree.specs.laws.Place.{tag_placed}
-use Rattle.mount_scan.specs.Blocks.{AreTags, numbers_in, AreAtMost, AreRaisedBy, AreGreatestBelow}
+use Rattle.mount_scan.specs.Blocks.{AreTags, numbers_in, AreAtMost, AreRaisedBy, AreGreatestBelow, RaisesBy}
 use Rattle.mount_scan.proofs.Tagged.{tag_told}
 
-at_most_on : (a b c : Numbers) → AreAtMost a b → AreAtMost b c → AreAtMost a c
+pub at_most_on : (a b c : Numbers) → AreAtMost a b → AreAtMost b c → AreAtMost a c
 at_most_on a b c first then = record { version = omega (arith, first.version, then.version); group = omega (arith, first.group, then.group); seq = omega (arith, first.seq, then.seq) }
 
 -- a page with no tag raises nothing
@@ -59,6 +59,15 @@ greatest_block f b pages blocks tags n m within len told good raised is = record
   least = λ k above. raised.least k
       (is.least k (λ j l t lt. above j l t (omega (arith, lt))))
       (λ l t lt at. above b l t (omega arith) good (told l (Some t) at));
+}
+
+-- and any numbers to those of the block too
+pub raises_block : (f : Flash) (b pages blocks : ℕ) (tags : List (Option Tag)) (n m : Numbers) → IsWithin pages blocks f → length tags ≡ pages → AreTags f b tags → f.bad b ≡ false
+    → AreRaisedBy tags (length tags) n m → RaisesBy f b n m
+raises_block f b pages blocks tags n m within len told good raised = record {
+  keeps = raised.keeps;
+  above = λ _ l t has. raised.above l t (omega (arith, (tag_placed pages blocks f b l t within has).1, len)) (tag_told f b pages blocks tags within len told l t has);
+  least = λ k keeps above. raised.least k keeps (λ l t lt at. above good l t (told l (Some t) at));
 }
 
 module _ (f : Flash) where

@@ -1,6 +1,7 @@
 -- How many pages were read, and what stays as they are.
-use Rattle.std.specs.Prelude.{◌≡◌, ℕ, ◌+◌, ◌≤◌, Bool, true, false, Result, Ok, Err, Option, Some, None, IfSome}
+use Rattle.std.specs.Prelude.{◌≡◌, ℕ, ◌+◌, ◌*◌, ◌<◌, ◌≤◌, true, false, Ok, Err}
 use Rattle.std.proofs.Common.{sym, ◌∙◌, ap, subst, arith}
+use Rattle.std.proofs.Math.Nat.{mul-le-mul_left}
 use Rattle.nand_model.specs.Flash.{Flash}
 use Rattle.nand_model.specs.Calls.{Device}
 use Rattle.nand_model.specs.declared.geometry.Geometry.{Geometry}
@@ -49,6 +50,28 @@ ends_so T U p q n a b c e read le next = record {
 -- all were
 pub ends_well : {T : Type 0} (p n : ℕ) (a b : Device) (done : T) → HasRead p a b → p ≤ n → ReadsAtMost n a b (Ok done)
 ends_well p n a b done read le = record { only = read.only; most = omega (arith, read.most, le); gone = read.power }
+
+-- ---- the pages of a block for each of some blocks
+
+pub read_zero : (pages : ℕ) (a : Device) → HasRead (pages * 0) a a
+read_zero pages a = record { only = only_reads_here a; most = omega arith; power = λ is. is }
+
+same_pages : (a b : Device) → OnlyReads a b → b.geometry.pages ≡ a.geometry.pages
+same_pages a b only = ap (λ (g : Geometry). g.pages) only.lasts.geometry
+
+pub read_pages : {T : Type 0} (k : ℕ) (a b c : Device) (done : T) → HasRead (a.geometry.pages * k) a b → ReadsAtMost b.geometry.pages b c (Ok done) → HasRead (a.geometry.pages * (k + 1)) a c
+read_pages k a b c done read next =
+    let pages = same_pages a b read.only in
+    let more : a.geometry.pages * k + a.geometry.pages ≡ a.geometry.pages * (k + 1) = grind arith in
+    read_on (a.geometry.pages * k) b.geometry.pages (a.geometry.pages * (k + 1)) a b c done read next (omega (arith, pages, more))
+
+pub ends_pages : (T U : Type 0) (k n : ℕ) (a b c : Device) (e : ScanFault) → k < n → HasRead (a.geometry.pages * k) a b → ReadsAtMost {T = T} b.geometry.pages b c (Err e)
+    → ReadsAtMost {T = U} (a.geometry.pages * n) a c (Err e)
+ends_pages T U k n a b c e lt read next =
+    let pages = same_pages a b read.only in
+    let more : a.geometry.pages * k + a.geometry.pages ≡ a.geometry.pages * (k + 1) = grind arith in
+    let le : a.geometry.pages * (k + 1) ≤ a.geometry.pages * n = mul-le-mul_left a.geometry.pages (omega (arith, lt)) in
+    ends_so T U (a.geometry.pages * k) b.geometry.pages (a.geometry.pages * n) a b c e read (omega (arith, pages, more, le)) next
 
 -- ---- what holds of an honest device stays
 

@@ -1,8 +1,7 @@
 -- The pages of a candidate, read one after the other.
 use mathlib.Core.Logic.{∥∥₁_elim}
-use Rattle.std.specs.Prelude.{◌≡◌, ◌≢◌, ◌<◌, ◌≤◌, ℕ, ◌+◌, ◌-◌, ◌*◌, ◌/◌, ◌^◌, min, true, false, List, [], length, Option, Some, None, IfSome, IfNone}
+use Rattle.std.specs.Prelude.{◌≡◌, ◌≢◌, ◌<◌, ◌≤◌, ℕ, ◌+◌, ◌*◌, ◌/◌, min, true, List, length, Option, Some, None, IfSome, IfNone}
 use Rattle.std.proofs.Common.{refl, sym, ◌∙◌, ap, subst, inl, inr, arith}
-use Rattle.std.proofs.Math.Nat.{mul-le-mul}
 use Rattle.std.proofs.lemmas.Bool.{cases_eq}
 use Rattle.std.specs.Int.{div_ceil}
 use Rattle.volume_terms.specs.Rounding.{ceiling}
@@ -12,18 +11,17 @@ use Rattle.nand_model.specs.Flash.{Flash, Written}
 use Rattle.nand_model.specs.Calls.{Device}
 use Rattle.nand_model.specs.Changes.{OnlyReads}
 use Rattle.nand_model.specs.declared.geometry.Geometry.{Geometry}
-use Rattle.page_tags.specs.declared.tag.Tag.{Tag}
 use Rattle.page_tags.specs.declared.check.CheckEntry.{CheckEntry}
 use Rattle.page_tags.specs.Tags.{tag_bytes, IsTag}
 use Rattle.page_tags.specs.Checks.{check_page}
-use Rattle.flash_tree.specs.Checkpoints.{IsWhole, check_tag}
-use Rattle.mount_scan.specs.CheckpointParts.{AreEntries, BeginsWith, Takes, Refuses}
+use Rattle.flash_tree.specs.Checkpoints.{IsWhole}
+use Rattle.mount_scan.specs.CheckpointParts.{AreEntries, Takes, Refuses}
 use Rattle.mount_scan.specs.CheckpointPages.{IsPageSize, entries_below, TakesFirst, RefusesFirst}
 use Rattle.mount_scan.specs.FoundCheckpoint.{HasForm, IsWholeOn}
 use Rattle.mount_scan.specs.CheckpointCandidates.{IsCandidate}
 use Rattle.mount_scan.specs.CheckpointBlocks.{page_tag, begun, HasPage, HasBegun, IsNone, IsBegun, IsTagged}
 use Rattle.mount_scan.specs.declared.checkpoint_candidate.Candidate.{Candidate}
-use Rattle.mount_scan.proofs.CheckpointPages.{few_entries, number_of_first}
+use Rattle.mount_scan.proofs.CheckpointPages.{number_of_first}
 use Rattle.mount_scan.proofs.ReadCount.{on_honest, back_honest}
 
 -- a page of a device is parts of 32 bytes

@@ -1,5 +1,5 @@
 -- What is known of a flash whose lower blocks were scanned.
-use Rattle.std.specs.Prelude.{◌≡◌, ◌↔◌, ◌<◌, ◌≤◌, ℕ, true, false, List, Option, Some, slice_get, Contains}
+use Rattle.std.specs.Prelude.{◌≡◌, ◌↔◌, ◌<◌, ◌≤◌, ℕ, max, true, false, List, Option, Some, slice_get, Contains}
 use Rattle.std.specs.List.{AllPairs}
 use Rattle.nand_model.specs.Flash.{Flash}
 use Rattle.nand_model.specs.Calls.{Device}
@@ -36,6 +36,12 @@ pub record AreAtMost (m n : Numbers) : Type 0 where
   pub group : m.group ≤ n.group
   pub seq : m.seq ≤ n.seq
 
+-- each number is the greater of its old one and that of the tag
+pub record IsRaisedTo (t : Tag) (old new : Numbers) : Type 0 where
+  pub version : new.version ≡ max old.version t.version
+  pub group : new.group ≡ max old.group t.group
+  pub seq : new.seq ≡ max old.seq t.seq
+
 -- the least numbers that are at least these and those of the first p tags
 pub record AreRaisedBy (tags : List (Option Tag)) (p : ℕ) (old new : Numbers) : Type 0 where
   pub keeps : AreAtMost old new
@@ -50,3 +56,9 @@ AreAboveBelow flash b n = (k l : ℕ) (t : Tag) → k < b → flash.bad k ≡ fa
 pub record AreGreatestBelow (flash : Flash) (b : ℕ) (n : Numbers) : Type 0 where
   pub above : AreAboveBelow flash b n
   pub least : (m : Numbers) → AreAboveBelow flash b m → AreAtMost n m
+
+-- the least numbers that are at least these and those of all tags of a good block
+pub record RaisesBy (flash : Flash) (b : ℕ) (old new : Numbers) : Type 0 where
+  pub keeps : AreAtMost old new
+  pub above : flash.bad b ≡ false → (l : ℕ) (t : Tag) → HasTag flash b l t → AreAtMost (numbers_in t) new
+  pub least : (m : Numbers) → AreAtMost old m → (flash.bad b ≡ false → (l : ℕ) (t : Tag) → HasTag flash b l t → AreAtMost (numbers_in t) m) → AreAtMost new m

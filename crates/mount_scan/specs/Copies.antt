@@ -1,5 +1,6 @@
 -- The copies of pages that a scan lists.
-use Rattle.std.specs.Prelude.{◌<◌, ◌^◌}
+use Rattle.std.specs.Prelude.{◌<◌, ℕ, ◌^◌, List, map}
+use Rattle.page_tags.specs.declared.check.CheckEntry.{CheckEntry}
 use Rattle.flash_tree.specs.Newest.{Spot}
 use Rattle.flash_tree.specs.Places.{spot_of, ComesBefore}
 use Rattle.flash_tree.specs.declared.place.Found.{Found}
@@ -24,3 +25,11 @@ spot_of_copy f = record { block = f.block; page = f.page; tag = record { index =
 -- the key of one copy comes before that of another
 abbrev pub IsKeyBefore : PageCopy → PageCopy → Type 0
 IsKeyBefore f g = ComesBefore f.object f.chunk g.object g.chunk
+
+-- the page that an entry of a summary names, with what its tag is known to be: its index, count and group are 0 here
+abbrev pub page_named : (seq : ℕ) → CheckEntry → Found
+page_named seq e = record { block = e.block; page = e.page; tag = record { index = 0; count = 0; object = e.object; chunk = e.chunk; version = e.version; group = 0; seq = seq } }
+
+-- the pages that some entries name
+abbrev pub pages_named : (seq : ℕ) → List CheckEntry → List Found
+pages_named seq entries = map (page_named seq) entries

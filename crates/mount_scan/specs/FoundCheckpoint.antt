@@ -4,7 +4,6 @@ use Rattle.volume_terms.specs.Rounding.{ceiling}
 use Rattle.nand_model.specs.Flash.{Flash}
 use Rattle.nand_model.specs.Calls.{Device}
 use Rattle.nand_model.specs.Changes.{OnlyReads}
-use Rattle.nand_model.specs.declared.geometry.Geometry.{Geometry}
 use Rattle.page_tags.specs.declared.tag.Tag.{Tag}
 use Rattle.page_tags.specs.Tags.{IsTag}
 use Rattle.page_tags.specs.Checks.{IsCheckEntry, IsEntryBefore}

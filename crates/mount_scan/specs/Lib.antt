@@ -13,3 +13,8 @@ pub mod CheckpointPages
 pub mod FoundCheckpoint
 pub mod CheckpointCandidates
 pub mod CheckpointBlocks
+pub mod FirstPages
+pub mod Summarized
+pub mod SummaryScan
+pub mod Faults
+pub mod FewReads

@@ -3,3 +3,4 @@ pub mod Keys
 pub mod Order
 pub mod Listed
 pub mod CheckpointReads
+pub mod Summarized

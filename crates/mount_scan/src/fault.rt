@@ -1,7 +1,9 @@
 // Why a scan ends.
 ghost use Rattle.std.specs.Prelude.{◌≡◌};
+ghost use Rattle.mount_scan.specs.Faults.{of_summary};
 ghost use Rattle.mount_scan.specs.declared.fault.ScanFault.TheVariants as faults;
 
+use block_summaries::SummaryFault;
 use nand_model::Gone;
 use std::alloc::{AllocError, AllocFailed};
 
@@ -34,5 +36,16 @@ impl From<Gone> for ScanFault {
 
     fn from(_e: Gone) -> ScanFault {
         ScanFault::Gone
+    }
+}
+
+impl From<SummaryFault> for ScanFault {
+    ghost from_gives = { λ fault e. e ≡ of_summary fault };
+
+    fn from(fault: SummaryFault) -> ScanFault {
+        match fault {
+            SummaryFault::NoMemory => ScanFault::NoMemory,
+            SummaryFault::Gone => ScanFault::Gone,
+        }
     }
 }

@@ -1,11 +1,13 @@
 // The pages that were found.
 ghost use Rattle.std.specs.Prelude.{◌≡◌, ◌<◌, ℕ, [], ◌∷◌, Some, IfOk, OnOk, length, slice_get, Contains};
 ghost use Rattle.mount_scan.specs.Keys.{Thins, ThinsFound, AreLatest};
+ghost use Rattle.mount_scan.specs.Copies.{page_named, pages_named};
 ghost use Rattle.mount_scan.specs.Buckets.{reversed, bucket_of, pages_of, AreApart};
 
 use crate::bucket::Bucket;
 use crate::page_copy::PageCopy;
 use flash_tree::{Found, Key};
+use page_tags::{CheckEntry, Tag};
 use std::alloc::{AllocError, Global};
 use std::mem;
 
@@ -47,6 +49,25 @@ fn bucket_of(key: Key) -> usize
     }
 }
 
+/// The page that an entry of a summary names, with what its tag is known to be.
+fn page_named(entry: &CheckEntry, seq: u64) -> Found
+    ensures { result ≡ page_named seq entry.now }
+{
+    Found {
+        block: entry.block,
+        page: entry.page,
+        tag: Tag {
+            index: 0,
+            count: 0,
+            object: entry.object,
+            chunk: entry.chunk,
+            version: entry.version,
+            group: 0,
+            seq,
+        },
+    }
+}
+
 impl FoundPages {
     ghost use Rattle.mount_scan.specs.Listed.{listed, bucket_at, AreOthersSame};
 
@@ -78,6 +99,19 @@ impl FoundPages {
     {
         for page in found {
             if let Some(copy) = PageCopy::of(page) {
+                self.add(copy)?;
+            }
+        }
+        Ok(())
+    }
+
+    /// Adds the pages that the entries of a summary name, but none of a chunk that no tree looks up. The block that they lie in was
+    /// allocated with this number.
+    pub(crate) fn add_named(&mut self, entries: &[CheckEntry], seq: u64) -> Result<(), AllocError>
+        ensures { OnOk result (ThinsFound (pages_named seq entries.now) (listed self.old) (listed self.new)) }
+    {
+        for entry in entries {
+            if let Some(copy) = PageCopy::of(&page_named(entry, seq)) {
                 self.add(copy)?;
             }
         }

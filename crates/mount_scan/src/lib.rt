@@ -1,5 +1,5 @@
-//! What a mount reads of tags: which pages are valid, which of them is the newest of its key, and the greatest numbers; or the
-//! whole checkpoint.
+//! What a mount reads of tags: which pages are valid, which of them is the newest of its key, and the greatest numbers, by all tags
+//! or by the summaries of blocks; or the whole checkpoint.
 #![tactic(auto)]
 
 mod answer;
@@ -11,6 +11,7 @@ mod checkpoint_page;
 mod checkpoint_part;
 mod checkpoint_search;
 mod fault;
+mod first_page;
 mod found_checkpoint;
 mod found_pages;
 mod group;
@@ -19,6 +20,8 @@ mod law;
 mod newest;
 mod page_copy;
 mod raise;
+mod summary_pages;
+mod summary_scan;
 mod whole;
 
 pub use answer::{NewestScan, Scan};
@@ -31,4 +34,5 @@ pub use law::{
     a_found_page_has_the_newest_data, a_page_is_found_for_each_key, each_key_stands_once,
 };
 pub use page_copy::PageCopy;
+pub use summary_scan::scan_summaries;
 pub use whole::{scan, scan_newest};

@@ -2,10 +2,21 @@
 ghost use Rattle.std.specs.Prelude.{◌+◌, ◌<◌, length};
 ghost use Rattle.flash_tree.specs.Newest.{Numbers};
 ghost use Rattle.flash_tree.specs.Places.{numbers_of};
-ghost use Rattle.mount_scan.specs.Blocks.{AreRaisedBy};
+ghost use Rattle.mount_scan.specs.Blocks.{IsRaisedTo, AreRaisedBy};
 
 use flash_tree::TagNumbers;
 use page_tags::Tag;
+
+/// The numbers, raised to those of a tag.
+pub(crate) fn raised_to(numbers: TagNumbers, tag: &Tag) -> TagNumbers
+    ensures { IsRaisedTo tag.now (numbers_of numbers) (numbers_of result) }
+{
+    TagNumbers {
+        version: numbers.version.max(tag.version),
+        group: numbers.group.max(tag.group),
+        seq: numbers.seq.max(tag.seq),
+    }
+}
 
 /// The numbers, raised to those of one more tag.
 fn raised_at(numbers: TagNumbers, tags: &[Option<Tag>], i: usize) -> TagNumbers
@@ -15,11 +26,7 @@ fn raised_at(numbers: TagNumbers, tags: &[Option<Tag>], i: usize) -> TagNumbers
     let Some(tag) = tags[i] else {
         return numbers;
     };
-    TagNumbers {
-        version: numbers.version.max(tag.version),
-        group: numbers.group.max(tag.group),
-        seq: numbers.seq.max(tag.seq),
-    }
+    raised_to(numbers, &tag)
 }
 
 /// The numbers, raised to those of all tags.

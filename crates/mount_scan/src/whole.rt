@@ -3,8 +3,8 @@ ghost use Rattle.std.specs.Prelude.{◌≡◌, ◌+◌, ◌<◌, [], true, IfOk,
 ghost use Rattle.flash_tree.specs.Newest.{AreGreatest};
 ghost use Rattle.flash_tree.specs.Places.{numbers_of};
 ghost use Rattle.mount_scan.specs.Scanned.{TellsCounted, TellsNewest, ReadsEach, good_pages};
-ghost use Rattle.mount_scan.specs.Blocks.{TellsBelow, AreGreatestBelow};
-ghost use Rattle.mount_scan.specs.Latest.{TellsBlock, HasLatestBelow};
+ghost use Rattle.mount_scan.specs.Blocks.{TellsBelow, AreGreatestBelow, RaisesBy};
+ghost use Rattle.mount_scan.specs.Latest.{TellsBlock, AddsBlock, HasLatestBelow};
 ghost use Rattle.mount_scan.specs.NewestMap.{ReportsNewest};
 ghost use Rattle.mount_scan.specs.Listed.{listed};
 
@@ -22,9 +22,9 @@ use std::alloc::Global;
 
 /// What stands in the blocks that were read.
 #[derive(Drop)]
-struct Seen {
-    counted: Vec<Found>,
-    numbers: TagNumbers,
+pub(crate) struct Seen {
+    pub counted: Vec<Found>,
+    pub numbers: TagNumbers,
 }
 
 impl Seen {
@@ -33,13 +33,24 @@ impl Seen {
         ensures counted { result.counted.items ≡ [] }
         ensures numbers { numbers_of result.numbers ≡ record { version = 0; group = 0; seq = 0 } }
     {
-        Seen {
-            counted: Vec::new(alloc),
-            numbers: TagNumbers {
+        Seen::with(
+            alloc,
+            TagNumbers {
                 version: 0,
                 group: 0,
                 seq: 0,
             },
+        )
+    }
+
+    /// Tags with these greatest numbers were read.
+    pub(crate) fn with(alloc: Global, numbers: TagNumbers) -> Seen
+        ensures counted { result.counted.items ≡ [] }
+        ensures numbers { result.numbers ≡ numbers }
+    {
+        Seen {
+            counted: Vec::new(alloc),
+            numbers,
         }
     }
 }
@@ -58,6 +69,7 @@ fn scan_block<N: Nand>(
     ensures alone { seen.old.counted.items ≡ [] → OnOk result (TellsBlock (N.state device.old) block seen.new.counted.items) }
     ensures numbers { (N.state device.old).honest ≡ true → AreGreatestBelow (N.state device.old).flash block (numbers_of seen.old.numbers)
         → OnOk result (AreGreatestBelow (N.state device.old).flash (block + 1) (numbers_of seen.new.numbers)) }
+    ensures raised { (N.state device.old).honest ≡ true → OnOk result (RaisesBy (N.state device.old).flash block (numbers_of seen.old.numbers) (numbers_of seen.new.numbers)) }
 {
     if device.is_bad(block) {
         return Ok(());
@@ -83,7 +95,7 @@ fn scan_blocks<N: Nand>(alloc: Global, device: &mut N) -> Result<Seen, ScanFault
 }
 
 /// Adds the pages of a block to those that were found. Its tags are read into `tags`, and its pages into `seen`.
-fn find_block<N: Nand>(
+pub(crate) fn find_block<N: Nand>(
     device: &mut N,
     block: u32,
     tags: &mut Vec<Option<Tag>>,
@@ -96,6 +108,8 @@ fn find_block<N: Nand>(
         → OnOk result (HasLatestBelow (N.state device.old) (block + 1) (listed found.new)) }
     ensures numbers { (N.state device.old).honest ≡ true → AreGreatestBelow (N.state device.old).flash block (numbers_of seen.old.numbers)
         → OnOk result (AreGreatestBelow (N.state device.old).flash (block + 1) (numbers_of seen.new.numbers)) }
+    ensures adds { OnOk result (AddsBlock (N.state device.old) block (listed found.old) (listed found.new)) }
+    ensures raised { (N.state device.old).honest ≡ true → OnOk result (RaisesBy (N.state device.old).flash block (numbers_of seen.old.numbers) (numbers_of seen.new.numbers)) }
 {
     seen.counted.clear();
     scan_block(device, block, tags, seen)?;

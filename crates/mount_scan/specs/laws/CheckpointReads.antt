@@ -1,5 +1,5 @@
 -- What was found of a device is so still after more reads of it.
-use Rattle.std.specs.Prelude.{◌≡◌, ◌<◌, ◌≤◌, ℕ, Bool, true, false, List, length, ◌+◌, ◌*◌}
+use Rattle.std.specs.Prelude.{◌≡◌, ◌<◌, ◌≤◌, ℕ, Bool, true, List, length, ◌+◌, ◌*◌}
 use Rattle.std.proofs.Common.{sym, ◌∙◌, ap, subst}
 use Rattle.volume_terms.specs.Rounding.{ceiling}
 use Rattle.nand_model.specs.Calls.{Device}

@@ -1,4 +1,4 @@
-use Rattle.std.proofs.Common.{◌∙◌, ap, ◌++◌, ◌∷◌, [], List, ℕ}
+use Rattle.std.proofs.Common.{◌∙◌, ap, ◌++◌, ◌∷◌, []}
 use Rattle.mount_scan.proofs.CheckpointCandidates.{firsts_more}
 use Rattle.mount_scan.proofs.checkpoint_candidate.add_first.Goals as goal
 

@@ -1,6 +1,3 @@
-use Rattle.std.proofs.Common.{◌≡◌, ◌+◌, false, IsTrue}
-use Rattle.page_tags.specs.Checks.{check_page}
-use Rattle.mount_scan.specs.CheckpointParts.{Takes, Refuses}
 use Rattle.mount_scan.proofs.CheckpointPages.{done_as, takes_later, refuses_later}
 use Rattle.mount_scan.proofs.checkpoint_page.take_next.Goals as goal
 

@@ -1,4 +1,4 @@
-use Rattle.std.proofs.Common.{◌≡◌, ◌+◌, ◌-◌, min, List, length, Some, slice_get, sym, ap, subst, ◌∙◌, arith, replicate}
+use Rattle.std.proofs.Common.{◌≡◌, ◌+◌, ◌-◌, min, List, length, Some, slice_get, sym, subst, ◌∙◌, arith, replicate}
 use Rattle.std.proofs.lemmas.Bool.{false≢true}
 use Rattle.std.proofs.lemmas.Bool.Decides.{Decides-eqb}
 use Rattle.std.proofs.lemmas.Slice.Eq.{slice_eq-Decides}
@@ -6,7 +6,7 @@ use Rattle.std.proofs.lemmas.Option.{slice_get_within}
 use Rattle.page_tags.specs.Checks.{IsEntryBefore}
 use Rattle.page_tags.specs.declared.check.CheckEntry.{CheckEntry}
 use Rattle.mount_scan.specs.CheckpointParts.{AreEntries, Takes, IsLast, entry_part}
-use Rattle.mount_scan.proofs.CheckpointParts.{more, zeros_past, bytes_at, before_at, entries_more, last_more, takes_more, takes_none, entry_of_part}
+use Rattle.mount_scan.proofs.CheckpointParts.{more, zeros_past, before_at, entries_more, takes_more, takes_none, entry_of_part}
 use Rattle.mount_scan.proofs.checkpoint_part.take_part.Goals as goal
 
 pub returns-then-place-n-clause-yes : goal.returns-then-place-n-clause-yes

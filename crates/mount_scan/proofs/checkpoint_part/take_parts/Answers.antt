@@ -1,6 +1,5 @@
-use Rattle.std.proofs.Common.{◌≡◌, ◌+◌, ◌-◌, ◌*◌, ◌/◌, min, ℕ, List, length, take, drop, sym, ap, subst, ◌∙◌, arith}
-use Rattle.page_tags.specs.declared.check.CheckEntry.{CheckEntry}
-use Rattle.mount_scan.specs.CheckpointParts.{AreEntries, ArePartsFrom, Takes, entry_part}
+use Rattle.std.proofs.Common.{◌≡◌, ◌+◌, ◌-◌, ◌*◌, ◌/◌, ℕ, List, length, take, drop, sym, ap, ◌∙◌, arith}
+use Rattle.mount_scan.specs.CheckpointParts.{entry_part}
 use Rattle.mount_scan.proofs.CheckpointParts.{part_of, length-part, takes_start, takes_next, takes_row}
 use Rattle.mount_scan.proofs.checkpoint_part.take_parts.Goals as goal
 

@@ -1,5 +1,4 @@
-use Rattle.std.proofs.Common.{◌≡◌, ◌↔◌, ◌<◌, ◌+◌, ◌*◌, min, ℕ, List, take, drop}
-use Rattle.page_tags.specs.declared.check.CheckEntry.{CheckEntry}
+use Rattle.std.proofs.Common.{◌≡◌, ◌<◌, ◌+◌, ◌*◌, ℕ, take, drop}
 use Rattle.mount_scan.specs.CheckpointParts.{Takes, entry_part}
 use Rattle.mount_scan.proofs.checkpoint_part.take_parts.Given as goal
 

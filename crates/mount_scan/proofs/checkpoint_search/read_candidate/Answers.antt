@@ -1,4 +1,4 @@
-use Rattle.std.proofs.Common.{◌≡◌, ◌<◌, ap, arith}
+use Rattle.std.proofs.Common.{ap, arith}
 use Rattle.nand_model.specs.declared.geometry.Geometry.{Geometry}
 use Rattle.mount_scan.proofs.BestCandidate.{none_version, none_room, none_pages}
 use Rattle.mount_scan.proofs.checkpoint_search.read_candidate.Goals.{then-tag-via-then-tag, then-tag-via-else-tag+then-tag-pages}

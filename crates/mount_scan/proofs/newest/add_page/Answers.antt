@@ -1,5 +1,5 @@
-use Rattle.std.specs.Prelude.{◌≡◌, Option, Some, None}
-use Rattle.std.proofs.Common.{sym, ◌∙◌, subst, refl}
+use Rattle.std.specs.Prelude.{◌≡◌, Some, None}
+use Rattle.std.proofs.Common.{sym, ◌∙◌, subst}
 use Rattle.flash_tree.specs.Newest.{IsAfter}
 use Rattle.flash_tree.specs.Places.{spot_of}
 use Rattle.flash_tree.specs.declared.place.Found.{Found}

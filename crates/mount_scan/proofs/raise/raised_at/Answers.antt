@@ -11,4 +11,4 @@ returns-in_default c = λ first is.
 pub returns : goal.returns
 returns c = λ first is.
     raised_more _ c.args.i c.in-Some.tag first (numbers_of c.args.numbers) _ (slice_get-get_or c.args.tags.now c.args.i _ c.requires ∙ ap Some c.in-Some.is)
-    c.max.ensures c.max-2.ensures c.max-3.ensures is
+    c.raised_to.ensures.version c.raised_to.ensures.group c.raised_to.ensures.seq is

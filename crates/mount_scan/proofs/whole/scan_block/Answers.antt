@@ -5,7 +5,7 @@ use Rattle.mount_scan.specs.Runs.{AddsCounted}
 use Rattle.mount_scan.specs.Blocks.{AreRaisedBy}
 use Rattle.mount_scan.proofs.Tagged.{tells_bad, tells_block}
 use Rattle.mount_scan.proofs.Latest.{one_block, no_block}
-use Rattle.mount_scan.proofs.Raised.{greatest_bad, greatest_block}
+use Rattle.mount_scan.proofs.Raised.{greatest_bad, greatest_block, raises_block}
 use Rattle.mount_scan.proofs.whole.scan_block.Goals as goal
 
 pub returns-then-is_bad-clause-counted : goal.returns-then-is_bad-clause-counted
@@ -37,3 +37,10 @@ returns-clause-alone g c = λ empty.
     one_block (g.N.Nand.state c.args.device.now) c.args.block _ (g.met.N.Nand.within c.args.device.now) c.in_ok-read_tags.ensures.len c.in_ok-read_tags.ensures.tags _ _
     (sym c.if-is_bad.ensures)
     (subst (λ xs. AddsCounted c.args.block xs (length xs) c.args.seen.now.counted.items c.add_counted.new.counted.items) c.deref-2.ensures.value c.in_ok-add_counted.ensures) empty
+
+pub returns-clause-raised : goal.returns-clause-raised
+returns-clause-raised g c = λ honest.
+    let old : Device = g.N.Nand.state c.args.device.now in
+    raises_block old.flash c.args.block old.geometry.pages old.geometry.blocks _ (numbers_of c.args.seen.now.numbers) (numbers_of c.raised_by-seen.result) (g.met.N.Nand.within c.args.device.now)
+    c.in_ok-read_tags.ensures.len (c.in_ok-read_tags.ensures.tags honest) (sym c.if-is_bad.ensures)
+    (subst (λ xs. AreRaisedBy xs (length xs) (numbers_of c.args.seen.now.numbers) (numbers_of c.raised_by-seen.result)) c.deref.ensures.value c.raised_by-seen.ensures)

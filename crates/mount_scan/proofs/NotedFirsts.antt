@@ -1,0 +1,110 @@
+-- What is noted of the first pages of blocks.
+use Rattle.std.specs.Prelude.{◌≡◌, ℕ, ◌+◌, true, List, [], ◌∷◌, ◌++◌, length, slice_get, Some}
+use Rattle.std.proofs.Common.{sym, ◌∙◌, ap, subst, inl, inr, arith, length-append}
+use Rattle.std.proofs.lemmas.Bool.{cases_eq, false≢true}
+use Rattle.volume_terms.specs.laws.List.{get_push}
+use Rattle.nand_model.specs.Flash.{Flash}
+use Rattle.nand_model.specs.Calls.{Device}
+use Rattle.nand_model.specs.Changes.{OnlyReads}
+use Rattle.page_tags.specs.declared.tag.Tag.{Tag}
+use Rattle.flash_tree.specs.Newest.{Numbers}
+use Rattle.flash_tree.specs.Places.{numbers_of}
+use Rattle.flash_tree.specs.laws.Newest.{one_tag}
+use Rattle.flash_tree.specs.laws.Place.{no_tag}
+use Rattle.mount_scan.specs.Blocks.{numbers_in, AreAtMost}
+use Rattle.mount_scan.specs.FirstPages.{BeginsWithTag, IsFirstRead, IsGoodRead, IsFirstPage, IsGoodFirst, IsRaisedToRead, AreFirstPages, AreGoodFirsts, AreNoneAbove, FirstPagesBelow}
+use Rattle.mount_scan.specs.declared.first_page.FirstRead.{FirstRead}
+use Rattle.mount_scan.specs.declared.first_page.FirstRead.TheVariants as reads
+use Rattle.mount_scan.specs.declared.first_page.FirstPage.{FirstPage}
+use Rattle.mount_scan.specs.declared.first_page.FirstPages.{FirstPages}
+use Rattle.mount_scan.proofs.Raised.{at_most_on}
+use Rattle.mount_scan.proofs.ReadCount.{back_honest}
+
+-- ---- one block
+
+good_back : (d a : Device) (b : ℕ) (read : FirstRead) → OnlyReads d a → IsGoodRead a b read → IsGoodRead d b read
+good_back d a b reads.Bad only is = is
+good_back d a b reads.Erased only is = is
+good_back d a b reads.Untagged only is = is
+good_back d a b (reads.Tagged t) only is = (is.0, ap (λ f. f b) (sym only.bad) ∙ is.1)
+
+same_numbers : (m n : Numbers) → n ≡ m → AreAtMost m n
+same_numbers m n same = record {
+  version = omega (arith, ap (λ (x : Numbers). x.version) same);
+  group = omega (arith, ap (λ (x : Numbers). x.group) same);
+  seq = omega (arith, ap (λ (x : Numbers). x.seq) same);
+}
+
+-- no number falls
+raised_keeps : (read : FirstRead) (m n : Numbers) → IsRaisedToRead read m n → AreAtMost m n
+raised_keeps reads.Bad m n is = same_numbers m n is
+raised_keeps reads.Erased m n is = same_numbers m n is
+raised_keeps reads.Untagged m n is = same_numbers m n is
+raised_keeps (reads.Tagged t) m n is = record { version = omega (arith, is.version); group = omega (arith, is.group); seq = omega (arith, is.seq) }
+
+-- and the block's first tag has none above
+raised_above : (flash : Flash) (b : ℕ) (read : FirstRead) (m n : Numbers) (t : Tag) → IsFirstRead flash b read → IsRaisedToRead read m n → BeginsWithTag flash b t → AreAtMost (numbers_in t) n
+raised_above flash b reads.Bad m n t first is has = absurd (false≢true (sym has.0 ∙ first))
+raised_above flash b reads.Erased m n t first is has = absurd (no_tag flash b 0 t first.1 has.1)
+raised_above flash b reads.Untagged m n t first is has = absurd (first.2 t has.1)
+raised_above flash b (reads.Tagged u) m n t first is has =
+    let same : u ≡ t = one_tag flash b 0 u t first.1 has.1 in
+    record {
+      version = omega (arith, is.version, ap (λ (v : Tag). v.version) same);
+      group = omega (arith, is.group, ap (λ (v : Tag). v.group) same);
+      seq = omega (arith, is.seq, ap (λ (v : Tag). v.seq) same);
+    }
+
+-- and they are not raised further
+raised_least : (flash : Flash) (b : ℕ) (read : FirstRead) (m n : Numbers) → IsFirstRead flash b read → IsRaisedToRead read m n → AreNoneAbove flash m → AreNoneAbove flash n
+raised_least flash b reads.Bad m n first is least = subst (AreNoneAbove flash) (sym is) least
+raised_least flash b reads.Erased m n first is least = subst (AreNoneAbove flash) (sym is) least
+raised_least flash b reads.Untagged m n first is least = subst (AreNoneAbove flash) (sym is) least
+raised_least flash b (reads.Tagged u) m n first is least = λ k above.
+    let were = least k above in
+    let this = above b 0 u first.0 first.1 in
+    record { version = omega (arith, is.version, were.version, this.0); group = omega (arith, is.group, were.group, this.1); seq = omega (arith, is.seq, were.seq, this.2) }
+
+-- ---- block after block
+
+pub firsts_none : (device : Device) (firsts : FirstPages) → firsts.pages.items ≡ [] → numbers_of firsts.numbers ≡ record { version = 0; group = 0; seq = 0 } → FirstPagesBelow device 0 firsts
+firsts_none device firsts empty zeros = record {
+  noted = record {
+    len = ap (λ (xs : List FirstPage). length xs) empty;
+    good = subst (AreGoodFirsts device) (sym empty) (λ b first at. absurd cc);
+    noted = λ honest. subst (AreFirstPages device.flash) (sym empty) (λ b first at. absurd cc);
+  };
+  above = λ honest k t lt. absurd (omega (arith, lt));
+  least = λ honest m above. record {
+    version = omega (arith, ap (λ (x : Numbers). x.version) zeros);
+    group = omega (arith, ap (λ (x : Numbers). x.group) zeros);
+    seq = omega (arith, ap (λ (x : Numbers). x.seq) zeros);
+  };
+}
+
+-- one more page is noted
+noted_more : (P : ℕ → FirstPage → Type 0) (b : ℕ) (pages : List FirstPage) (page : FirstPage) → length pages ≡ b → ((k : ℕ) (first : FirstPage) → slice_get pages k ≡ Some first → P k first) → P b page
+    → (k : ℕ) (first : FirstPage) → slice_get (pages ++ page ∷ []) k ≡ Some first → P k first
+noted_more P b pages page len were is k first at = elim (get_push pages page k first at) [
+  | inl before ↦ were k first before.1
+  | inr last ↦ let here : b ≡ k = sym len ∙ sym last.0 in subst (λ x. P x first) here (subst (P b) (sym last.1) is)
+]
+
+pub firsts_more :
+    (d a : Device) (b : ℕ) (old new : FirstPages) (read : FirstRead) (page : FirstPage) → OnlyReads d a → new.pages.items ≡ old.pages.items ++ page ∷ [] → IsGoodRead a b read
+    → (a.honest ≡ true → IsFirstRead a.flash b read) → ((flash : Flash) (k : ℕ) → IsFirstRead flash k read → IsFirstPage flash k page) → ((e : Device) (k : ℕ) → IsGoodRead e k read → IsGoodFirst e k page)
+    → IsRaisedToRead read (numbers_of old.numbers) (numbers_of new.numbers) → FirstPagesBelow d b old → FirstPagesBelow d (b + 1) new
+firsts_more d a b old new read page only pages good is noted keeps raised were = record {
+  noted = record {
+    len = ap (λ (xs : List FirstPage). length xs) pages ∙ omega (arith, length-append old.pages.items (page ∷ []), were.noted.len);
+    good = subst (AreGoodFirsts d) (sym pages) (noted_more (IsGoodFirst d) b old.pages.items page were.noted.len were.noted.good (keeps d b (good_back d a b read only good)));
+    noted = λ honest. subst (AreFirstPages d.flash) (sym pages) (noted_more (IsFirstPage d.flash) b old.pages.items page were.noted.len (were.noted.noted honest) (noted d.flash b (read_is honest)));
+  };
+  above = λ honest k t lt has. elim (cases_eq k b) [
+    | inr ne ↦ at_most_on (numbers_in t) (numbers_of old.numbers) (numbers_of new.numbers) (were.above honest k t (omega (arith, lt, ne)) has) (raised_keeps read (numbers_of old.numbers) (numbers_of new.numbers) raised)
+    | inl here ↦ raised_above d.flash b read (numbers_of old.numbers) (numbers_of new.numbers) t (read_is honest) raised (subst (λ j. BeginsWithTag d.flash j t) here has)
+  ];
+  least = λ honest. raised_least d.flash b read (numbers_of old.numbers) (numbers_of new.numbers) (read_is honest) raised (were.least honest);
+} where
+  read_is : d.honest ≡ true → IsFirstRead d.flash b read
+  read_is = back_honest (λ g flash. IsFirstRead flash b read) d a only is

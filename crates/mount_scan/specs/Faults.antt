@@ -1,0 +1,10 @@
+-- Why a scan ends.
+use Rattle.block_summaries.specs.declared.fault.SummaryFault.{SummaryFault}
+use Rattle.block_summaries.specs.declared.fault.SummaryFault.TheVariants as summaries
+use Rattle.mount_scan.specs.declared.fault.ScanFault.{ScanFault}
+use Rattle.mount_scan.specs.declared.fault.ScanFault.TheVariants as faults
+
+-- what a fault of a summary is to a scan
+abbrev pub of_summary : SummaryFault → ScanFault
+of_summary summaries.NoMemory = faults.NoMemory
+of_summary summaries.Gone = faults.Gone

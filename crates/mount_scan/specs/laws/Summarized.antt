@@ -1,0 +1,26 @@
+-- Many keys that can be found.
+use Rattle.std.specs.Prelude.{ℕ, List}
+use Rattle.std.proofs.Common.{refl, sym, subst}
+use Rattle.nand_model.specs.Flash.{Flash}
+use Rattle.nand_model.specs.Calls.{Device}
+use Rattle.nand_model.specs.declared.geometry.Geometry.{Geometry}
+use Rattle.flash_tree.specs.Summaries.{AreFindable}
+use Rattle.mount_scan.specs.declared.page_copy.PageCopy.{PageCopy}
+use Rattle.mount_scan.specs.Summarized.{HasSummarizedFlash, FindsEach, FindsNeeded, IsKey}
+
+-- of keys that can be found each can
+one_findable : (g : Geometry) (flash : Flash) (keys : ℕ → ℕ → Type 0) (o c : ℕ) → AreFindable g flash keys → keys o c → AreFindable g flash (IsKey o c)
+one_findable g flash keys o c are key = record {
+  ordinary = λ k l is. are.ordinary k l (moved k l is);
+  there = λ k l is. are.there k l (moved k l is);
+  latest = λ s e p whole matches has is. are.latest s e p whole matches has (moved e.object e.chunk is);
+  in_order = λ k l i p is. are.in_order k l i p (moved k l is);
+} where
+  moved : (k l : ℕ) → IsKey o c k l → keys k l
+  moved k l is = subst (λ n. keys k n) (sym is.1) (subst (λ n. keys n c) (sym is.0) key)
+
+-- what is found of each key that can be found is found of them all
+pub finds_each : (device : Device) (keys : ℕ → ℕ → Type 0) (list : List PageCopy) → FindsNeeded device list → HasSummarizedFlash device → AreFindable device.geometry device.flash keys
+    → FindsEach device.flash keys list
+finds_each device keys list finds summarized are o c s key low newest =
+    finds.found summarized o c (one_findable device.geometry device.flash keys o c are key) o c s (refl, refl) low newest

@@ -59,13 +59,18 @@ abbrev pub HoldsFewer : Table → ℕ → Option ℕ → Type 0
 HoldsFewer t b None = ((t.entry b).bad ≡ false) × (1 ≤ (t.entry b).kept)
 HoldsFewer t b (Some k) = ((t.entry b).bad ≡ false) × (1 ≤ (t.entry b).kept) × IsFewer t b k
 
--- Among the first n blocks the free one whose turn it is: none that is free was taken longer ago, and of those taken as
--- long ago, which are those never taken, it is the first.
+-- when a block is allocated: one in which nothing was programmed since it was erased goes before all others, and of these the one that was
+-- allocated longest ago
+abbrev pub turn_of : BlockEntry → ℕ
+turn_of e = if nat_eq e.next 0 then 0 else e.seq
+
+-- Among the first n blocks the free one whose turn it is: no turn of one that is free comes before, and of those that come at once it is
+-- the first.
 pub record IsNextFree (t : Table) (n b : ℕ) : Type 0 where
   pub within : b < n
   pub free : is_free t b ≡ true
-  pub oldest : (k : ℕ) → k < n → is_free t k ≡ true → (t.entry b).seq ≤ (t.entry k).seq
-  pub lowest : (k : ℕ) → k < n → is_free t k ≡ true → (t.entry k).seq ≡ (t.entry b).seq → b ≤ k
+  pub oldest : (k : ℕ) → k < n → is_free t k ≡ true → turn_of (t.entry b) ≤ turn_of (t.entry k)
+  pub lowest : (k : ℕ) → k < n → is_free t k ≡ true → turn_of (t.entry k) ≡ turn_of (t.entry b) → b ≤ k
 
 -- Among the first n blocks the one to be allocated next: the block of the checkpoint where that is free, so that no group
 -- is written while a checkpoint is whole, and else the one whose turn it is.
@@ -79,10 +84,10 @@ pub record IsNextTaken (t : Table) (n b : ℕ) : Type 0 where
 abbrev pub NoneFree : Table → ℕ → Type 0
 NoneFree t n = (b : ℕ) → b < n → is_free t b ≡ false
 
--- a free block, that was taken longer ago than another where there is one
+-- a free block, whose turn comes before that of another where there is one
 abbrev pub GoesBefore : Table → ℕ → Option ℕ → Type 0
 GoesBefore t b None = is_free t b ≡ true
-GoesBefore t b (Some k) = (is_free t b ≡ true) × ((t.entry b).seq < (t.entry k).seq)
+GoesBefore t b (Some k) = (is_free t b ≡ true) × (turn_of (t.entry b) < turn_of (t.entry k))
 
 -- The open block is good and on the device, and its next page is at most the number of its pages.
 pub record MayOpen (geometry : Geometry) (entries : List BlockEntry) (o : ℕ) : Type 0 where

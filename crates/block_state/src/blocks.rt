@@ -15,8 +15,20 @@ pub struct BlockEntry {
     pub kept: u32,
     /// The number that it got when it was last taken, 0 if it was not.
     pub seq: u64,
-    /// The page that is written next, while the block is open.
+    /// How many of its pages were programmed since it was erased, as far as is known: while the block is open, the page that is
+    /// written next.
     pub next: u32,
+}
+
+impl BlockEntry {
+    ghost use Rattle.block_state.specs.Table.{turn_of};
+
+    /// When it is allocated: the least goes first. A block in which nothing was programmed since it was erased goes before all others.
+    pub(crate) fn turn(&self) -> u64
+        ensures { result ≡ turn_of self.now }
+    {
+        if self.next == 0 { 0 } else { self.seq }
+    }
 }
 
 /// The numbers that are handed out next.
@@ -171,15 +183,19 @@ impl Blocks {
         self.entries[block as usize] = BlockEntry { bad: true, ..entry };
     }
 
-    /// Notes the number that a block got when it was last taken, as its pages tell.
+    /// Notes the number that a block got when it was last allocated, as its pages have it: something was programmed in it.
     #[tactic(auto, using(crate::specs::laws::Table::whole_set))]
-    pub fn note_seq(&mut self, block: u32, seq: u64)
+    pub fn note_written(&mut self, block: u32, seq: u64)
         requires block { block < (table self.old).geometry.blocks }
         requires below { seq < (table self.old).next_seq }
-        ensures { SetsEntry block (record ((table self.old).entry block) { seq = seq }) (table self.old) (table self.new) }
+        ensures { SetsEntry block (record ((table self.old).entry block) { seq = seq; next = (table self.old).geometry.pages }) (table self.old) (table self.new) }
     {
         let entry = self.entry(block);
-        self.entries[block as usize] = BlockEntry { seq, ..entry };
+        self.entries[block as usize] = BlockEntry {
+            seq,
+            next: self.geometry.pages(),
+            ..entry
+        };
     }
 
     /// Notes that one more page of a block is kept.

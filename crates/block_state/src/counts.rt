@@ -79,8 +79,8 @@ impl Blocks {
         }
     }
 
-    /// The free block to be taken next, in one pass over the blocks: the one that was taken longest ago, so that all take
-    /// their turn. Blocks that were never taken go first, in their order.
+    /// The free block to be allocated next, in one pass over the blocks: the one that was allocated longest ago, so that all take
+    /// their turn. Blocks in which nothing was programmed since they were erased go first, in their order.
     pub fn next_free(&self) -> Option<u32>
         ensures found { IfSome result (λ block. IsNextFree (table self.now) (table self.now).geometry.blocks block) }
         ensures none { IfNone result (NoneFree (table self.now) (table self.now).geometry.blocks) }
@@ -116,7 +116,7 @@ impl Blocks {
         }
         match next {
             None => true,
-            Some(other) => self.entry(block).seq < self.entry(other).seq,
+            Some(other) => self.entry(block).turn() < self.entry(other).turn(),
         }
     }
 }

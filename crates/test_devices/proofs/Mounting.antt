@@ -19,7 +19,7 @@ use Rattle.chunk_index.specs.Counts.{Recounts}
 use Rattle.chunk_index.specs.Maps.{kept_pages, CountsAgree}
 use Rattle.chunk_index.specs.Newest.{IsFoundOf, Indexes, page_of}
 use Rattle.flash_tree.specs.Numbering.{AreBelow}
-use Rattle.transactions.specs.Ready.{IsOpenOn, IsReady}
+use Rattle.transactions.specs.Ready.{IsOpenOn, IsReady, IsWrittenInOrder}
 use Rattle.mount_scan.specs.Scanned.{TellsNewest, AreCopiesPlaced, IsNewestCopy, AreNewest}
 use Rattle.flash_log.specs.Standing.{IsKeptAt, MayLie, IsWithinLimits}
 use Rattle.test_devices.specs.Scanned.{IsScanned}
@@ -157,6 +157,9 @@ ready_counted d before after t u counts ready = record {
         next = was.next ∙ ap Some (sym (counts.next o));
         pages = subst (λ n. n ≤ d.geometry.pages) (sym (counts.next o)) was.pages;
         seq = (subst (λ n. 1 ≤ n) (sym (counts.seq o)) was.seq.0, omega (arith, was.seq, counts.seq o, counts.next_seq));
+        in_order = λ honest.
+            subst (λ n. IsWrittenInOrder d.flash o n (u.entry o).seq) (sym (counts.next o))
+            (subst (λ s. IsWrittenInOrder d.flash o (t.entry o).next s) (sym (counts.seq o)) (was.in_order honest));
       };
   waits = λ c is. let was = ready.waits c (sym counts.checkpoint ∙ is) in record { within = was.within; good = was.good; closed = counts.open_block ∙ was.closed };
   numbers = (subst (λ n. 1 ≤ n) (sym counts.next_group) ready.numbers.0, subst (λ n. 1 ≤ n) (sym counts.next_seq) ready.numbers.1);

@@ -114,6 +114,13 @@ module _ (old mid new : Device) (g : Group) (name : ℕ → PageName) (bytes byt
         let was = so_far.named h k less in
         (same_block h _ apart ∙ was.0, was.1)
 
+    -- no page is written before those in front of it
+    in_turn : old.honest ≡ true → (n k : ℕ) → k < n → new.flash.page g.block (g.start + n) ≢ Erased → IsAsked g name bytes k (new.flash.page g.block (g.start + k))
+    in_turn h n k less written = elim (cases_lt i n) [
+      | inl behind ↦ absurd (written (later h n behind))
+      | inr upto ↦ earlier h k (omega (arith, less, upto))
+    ]
+
     -- the pages of the group, by what is known of page i
     inside : old.honest ≡ true → IsAsked g name bytes i (new.flash.page g.block (g.start + i)) ⊎ IsNothing (new.flash.page g.block (g.start + i))
         → (k : ℕ) → k < g.size → IsAsked g name bytes k (new.flash.page g.block (g.start + k)) ⊎ IsNothing (new.flash.page g.block (g.start + k))
@@ -155,6 +162,7 @@ module _ (old mid new : Device) (g : Group) (name : ℕ → PageName) (bytes byt
           outside = outside erased same_block h (omega arith);
           inside = inside erased same_block h (elim (one.page (mid_honest h)) [ inl is ↦ inl (asked_same h _ is) | inr lost ↦ inr lost ]);
         };
+        order = in_turn erased same_block;
         all = λ h. lacks_leaves fault (lacks h);
         still = still_yet one.still one.lasts;
       }
@@ -185,6 +193,7 @@ module _ (old mid new : Device) (g : Group) (name : ℕ → PageName) (bytes byt
           outside = outside erased same_block h (omega arith);
           inside = inside erased same_block h (left h result (one.page (mid_honest h)));
         };
+        order = in_turn erased same_block;
         all = λ h. leaves h result (one.page (mid_honest h)) (all_there erased same_block h end);
         still = still_yet one.still one.lasts;
       }

@@ -1,12 +1,15 @@
 -- What holds after a group.
-use Rattle.std.proofs.Common.{◌≡◌, ◌≢◌, ◌+◌, ◌-◌, ◌<◌, ◌≤◌, if◌then◌else◌, ℕ, Bool, true, false, List, Option, Some, None, Ok, Err, Result, refl, sym, ◌∙◌, ap, subst, arith, inl, inr}
+use Rattle.std.proofs.Common.{◌≡◌, ◌≢◌, ◌⊎◌, ◌+◌, ◌-◌, ◌<◌, ◌≤◌, if◌then◌else◌, ℕ, Bool, true, false, List, Option, Some, None, Ok, Err, Result, refl, sym, ◌∙◌, ap, subst, arith, inl, inr}
 use Rattle.std.specs.Option.{option_map_or}
-use Rattle.std.proofs.lemmas.Bool.{cases_eq}
-use Rattle.nand_model.specs.Flash.{Erased}
+use Rattle.std.proofs.lemmas.Bool.{cases_eq, cases_lt}
+use Rattle.nand_model.specs.Flash.{Erased, IsClean, Written}
 use Rattle.nand_model.specs.Calls.{Device, Lasts}
 use Rattle.nand_model.specs.Changes.{Grows}
 use Rattle.nand_model.specs.declared.geometry.Geometry.{Geometry}
 use Rattle.block_state.specs.declared.blocks.BlockEntry.{BlockEntry}
+use Rattle.page_tags.specs.declared.tag.Tag.{Tag}
+use Rattle.page_tags.specs.Tags.{tag_bytes}
+use Rattle.flash_tree.specs.Groups.{AllThere, Group, HasTag}
 use Rattle.block_state.specs.Table.{Table, room}
 use Rattle.transactions.specs.declared.source.PageName.{PageName}
 use Rattle.transactions.specs.declared.place.GroupPlace.{GroupPlace}
@@ -15,18 +18,21 @@ use Rattle.transactions.specs.declared.group.GroupFault.TheVariants as faults
 use Rattle.transactions.specs.declared.page.LastPage.{LastPage}
 use Rattle.transactions.specs.declared.page.LastPage.TheVariants as lasts
 use Rattle.flash_tree.specs.Numbering.{AreBelow}
-use Rattle.transactions.specs.Ready.{IsOpenOn, IsReady, IsPlaceIn}
+use Rattle.transactions.specs.Ready.{IsOpenOn, IsReady, IsPlaceIn, IsWrittenInOrder}
 use Rattle.transactions.specs.Handing.{HandsNumbers}
+use Rattle.flash_tree.specs.Summaries.{AreSummariesRight, BeginsSummary}
+use Rattle.flash_tree.specs.Summarizing.{WritesIn}
+use Rattle.flash_tree.specs.laws.Summarizing.{right_none}
 use Rattle.flash_tree.specs.Truth.{KeepsTrue}
 use Rattle.flash_tree.specs.laws.Truth.{true_same}
 use Rattle.transactions.specs.laws.Handing.{below_greater}
 use Rattle.transactions.specs.laws.Ready.{none_waits}
-use Rattle.transactions.specs.laws.Truth.{true_ordinary, ordinary_after}
-use Rattle.transactions.specs.Naming.{AreOrdinary}
-use Rattle.transactions.specs.Written.{WritesAll, AllEnds, LastNext, TableAfter, MayWrite, group_at, stays_open, is_suspect}
+use Rattle.transactions.specs.laws.Truth.{true_ordinary, ordinary_after, none_summarized}
+use Rattle.transactions.specs.Naming.{AreOrdinary, BeginsOther}
+use Rattle.transactions.specs.Written.{WritesAll, AllEnds, AllLeaves, LastNext, TableAfter, MayWrite, group_at, tag_in, stays_open, is_suspect}
 use Rattle.transactions.specs.declared.group.Placed.{Placed}
-use Rattle.transactions.specs.Groups.{next_group, AddsPages, GroupsAfter, GroupEnds, OkTable, TableEnds, TakesPages, Stays, BelowAfter}
-use Rattle.transactions.proofs.GroupLaws.{IsFresh, is_added, is_not_added, wrote_grows, below_after}
+use Rattle.transactions.specs.Groups.{next_group, AddsPages, GroupsAfter, GroupEnds, OkTable, TableEnds, TakesPages, Stays, BelowAfter, WritesOpen}
+use Rattle.transactions.proofs.GroupLaws.{IsFresh, is_added, is_not_added, wrote_grows, below_after, written_tag, tag_kept, tag_not_erased, tag_not_lost}
 
 -- the table with the group number handed out
 abbrev pub numbered : Table → Table
@@ -37,6 +43,26 @@ after_numbers : (block count : ℕ) (open_still : Bool) (t t' : Table) → Table
     → (t'.next_group ≡ t.next_group) × (t'.next_seq ≡ t.next_seq) × (t'.checkpoint ≡ t.checkpoint)
 after_numbers block count true t t' (sets, still, noted, seq) = (sets.next_group, seq, noted)
 after_numbers block count false t t' is = (ap (λ (x : Table). x.next_group) is, ap (λ (x : Table). x.next_seq) is, ap (λ (x : Table). x.checkpoint) is)
+
+-- where nothing is written
+pub nothing_written : (d : Device) (t : Table) → IsReady d t → IsClean d.flash → d.honest ≡ true → WritesOpen t d.flash d.flash
+nothing_written d t ready clean h = record {
+  grows = λ k l not. refl;
+  within = λ o is.
+      let opens = ready.open_block o is in
+      let ordered = opens.in_order h in
+      record {
+        grows = λ k l not. refl;
+        bads = refl;
+        elsewhere = λ k l ne. refl;
+        own = ordered.own;
+        begun = λ l u has blank. elim (cases_eq (t.entry o).next 0) [
+          | inr some ↦ ordered.written 0 (omega (arith, some)) blank
+          | inl none ↦ tag_not_erased d.flash _ _ _ has (clean o (t.entry o).next l opens.next (omega (arith, none)))
+        ];
+        below = let seq : t.next_seq ≡ 1 + (t.entry o).seq = omega (arith, opens.seq) in subst (AreBelow d.flash t.next_group) seq (ready.below h);
+      };
+}
 
 module _ (old : Device) (t : Table) (count : ℕ) (place : GroupPlace) (ready : IsReady old t) (at : IsPlaceIn t count place) where
   open_now : IsOpenOn old t place.block
@@ -99,9 +125,102 @@ module _ (old : Device) (t : Table) (count : ℕ) (place : GroupPlace) (ready : 
         let of_block : place.seq ≡ (t.entry o).seq = at.seq ∙ ap (λ b. (t.entry b).seq) same in
         below_greater new.flash (t.next_group + 1) seq _ _ (omega arith) (omega arith) (below_seq h seq (omega (arith, of_block, lt)) below)
 
+    -- a tag of the block was there before, or is that of a page of the group
+    tag_place : old.honest ≡ true → (l : ℕ) (u : Tag) → HasTag new.flash place.block l u
+        → ((l < place.first) × HasTag old.flash place.block l u) ⊎ ((i : ℕ) × (i < place.count) × (l ≡ place.first + i) × (u ≡ tag_in (group_at place) name i))
+    tag_place h l u has = elim (cases_lt l place.first) [
+      | inl before ↦ inl (before, tag_kept new.flash old.flash _ _ _ has (sym ((all.wrote h).outside l (inl before))))
+      | inr from ↦ elim (cases_lt l (place.first + place.count)) [
+        | inr after ↦ absurd (tag_not_erased new.flash _ _ _ has ((all.wrote h).outside l (inr after) ∙ erased h l from))
+        | inl within ↦
+            let i : ℕ = l - place.first in
+            let same : l ≡ place.first + i = omega arith in
+            let has' : HasTag new.flash place.block (place.first + i) u = subst (λ n. HasTag new.flash place.block n u) same has in
+            inr (
+              i,
+              omega (arith, within, from),
+              same,
+              elim ((all.wrote h).inside i (omega (arith, within, from))) [
+                | inl is ↦ written_tag new.flash _ _ u _ (bytes i) has' is.0 is.1
+                | inr lost ↦ absurd (elim lost [ inl is ↦ tag_not_erased new.flash _ _ _ has' is | inr is ↦ tag_not_lost new.flash _ _ _ has' is ])
+              ],
+            )
+      ]
+    ]
+
+    -- each tag of the block has its seq
+    own_seq : old.honest ≡ true → (l : ℕ) (u : Tag) → HasTag new.flash place.block l u → u.seq ≡ place.seq
+    own_seq h l u has = elim (tag_place h l u has) [
+      | inl was ↦ (open_now.in_order h).own l u was.1 ∙ sym at.seq
+      | inr is ↦ ap (λ (x : Tag). x.seq) is.3
+    ]
+
+    -- the block has no tag without its first page
+    begun : old.honest ≡ true → (l : ℕ) (u : Tag) → HasTag new.flash place.block l u → new.flash.page place.block 0 ≢ Erased
+    begun h l u has blank = elim (cases_eq place.first 0) [
+      | inr some_before ↦ (open_now.in_order h).written 0 (omega (arith, some_before, at.first)) (sym ((all.wrote h).outside 0 (inl (omega (arith, some_before)))) ∙ blank)
+      | inl zero ↦ elim (tag_place h l u has) [
+        | inl was ↦ let before = was.0 in omega (arith, before, zero)
+        | inr is ↦ elim (cases_eq is.0 0) [
+          | inl none ↦
+              let l_is = is.2 in
+              let here : l ≡ 0 = omega (arith, l_is, none, zero) in
+              tag_not_erased new.flash _ _ _ has (ap (new.flash.page place.block) here ∙ blank)
+          | inr later ↦
+              let has' : HasTag new.flash place.block (place.first + is.0) u = subst (λ n. HasTag new.flash place.block n u) is.2 has in
+              let asked = (all.order h is.0 0 (omega (arith, later)) (tag_not_erased new.flash _ _ _ has')).0 in
+              let here : place.first + 0 ≡ 0 = omega (arith, zero) in
+              let two : Written (bytes 0) (tag_bytes (tag_in (group_at place) name 0)) ≡ Erased = sym asked ∙ ap (new.flash.page place.block) here ∙ blank in
+              cc
+        ]
+      ]
+    ]
+
+    -- only pages of the open block are written
+    writes_in : old.honest ≡ true → WritesIn place.block place.group place.seq old.flash new.flash
+    writes_in h = record {
+      grows = group_grows h;
+      bads = all.bad;
+      elsewhere = λ k l ne. (all.wrote h).others k l ne;
+      own = own_seq h;
+      begun = begun h;
+      below =
+          let seq : t.next_seq ≡ 1 + place.seq = open_now.seq.1 ∙ omega (arith, at.seq) in
+          subst (λ n. AreBelow old.flash n (1 + place.seq)) (sym at.group) (subst (AreBelow old.flash t.next_group) seq (ready.below h));
+    }
+
+    pub group_writes : old.honest ≡ true → WritesOpen t old.flash new.flash
+    group_writes h = record {
+      grows = group_grows h;
+      within = λ o is. subst (λ (x : Group). WritesIn x.block x.number x.seq old.flash new.flash) (group_is o is) (writes_in h);
+    }
+
+    -- where the group does not begin as a summary, each summary stays right
+    pub group_right : (h : old.honest ≡ true) (placed : Result Placed GroupFault) → GroupsAfter (group_at place) name bytes old.flash new.flash placed → BeginsOther (name 0)
+        → AreSummariesRight old.geometry old.flash → AreSummariesRight new.geometry new.flash
+    group_right h placed groups other right =
+        subst (λ (g : Geometry). AreSummariesRight g new.flash) (sym all.lasts.geometry)
+        (right_none place.block place.group place.seq old.flash new.flash (writes_in h) old.geometry
+        (none_summarized (group_at place) name bytes old.flash new.flash (omega (arith, some)) other placed groups) right)
+
+    -- once all pages of the group are there, the block is written in order up to them
+    in_order_after : old.honest ≡ true → AllThere (group_at place) (tag_in (group_at place) name) bytes new.flash
+        → IsWrittenInOrder new.flash place.block ((t.entry place.block).next + place.count) (t.entry place.block).seq
+    in_order_after h there = record { written = written; own = λ l u has. own_seq h l u has ∙ at.seq } where
+      written : (l : ℕ) → l < (t.entry place.block).next + place.count → new.flash.page place.block l ≢ Erased
+      written l lt is = elim (cases_lt l place.first) [
+        | inl before ↦ (open_now.in_order h).written l (omega (arith, at.first, before)) (sym ((all.wrote h).outside l (inl before)) ∙ is)
+        | inr from ↦
+            let i : ℕ = l - place.first in
+            let same : place.first + i ≡ l = omega arith in
+            let page = (there i (omega (arith, at.first, lt))).0 in
+            let two : Written (bytes i) (tag_bytes (tag_in (group_at place) name i)) ≡ Erased = sym page ∙ ap (new.flash.page place.block) same ∙ is in
+            cc
+      ]
+
     -- the table is ready again, whichever way it ended
     pub ready_after : (t' : Table) → TableAfter place.block place.count (stays_open result) (numbered t) t' → IsReady new t'
-    ready_after t' after = go result all.next after where
+    ready_after t' after = go result all.next all.all after where
       next_here : (next : Option ℕ) → next ≡ Some (place.first + place.count - 1 + 1) → next ≡ Some ((t.entry place.block).next + place.count)
       next_here next is = let same : place.first + place.count - 1 + 1 ≡ (t.entry place.block).next + place.count = omega (arith, some, at.first) in is ∙ ap Some same
 
@@ -116,10 +235,11 @@ module _ (old : Device) (t : Table) (count : ℕ) (place : GroupPlace) (ready : 
       })
 
       go : (result : Result LastPage GroupFault) → LastNext (place.first + place.count - 1) result (new.flash.next place.block)
+          → (old.honest ≡ true → AllLeaves (group_at place) name bytes new.flash result)
           → TableAfter place.block place.count (stays_open result) (numbered t) t' → IsReady new t'
-      go (Ok lasts.Suspect) next is = closed_ready is
-      go (Err fault) next is = closed_ready is
-      go (Ok lasts.Done) next after =
+      go (Ok lasts.Suspect) next there is = closed_ready is
+      go (Err fault) next there is = closed_ready is
+      go (Ok lasts.Done) next there after =
           let parts : TableAfter place.block place.count true (numbered t) t' = after in
           let sets = parts.0 in
           let still = parts.1 in
@@ -140,8 +260,11 @@ module _ (old : Device) (t : Table) (count : ℕ) (place : GroupPlace) (ready : 
                   next = next_here _ next ∙ ap (λ (x : BlockEntry). Some x.next) (sym sets.here);
                   pages = subst (λ (x : BlockEntry). x.next ≤ new.geometry.pages) (sym sets.here)
                       (subst (λ (g : Geometry). (t.entry place.block).next + place.count ≤ g.pages) (ready.geometry ∙ sym all.lasts.geometry) (omega (arith, at.pages, at.first, at.count_is)));
-                  seq = subst (λ n. (1 ≤ (t'.entry place.block).seq) × ((t'.entry place.block).seq < n)) (sym seq)
-                      (subst (λ (x : BlockEntry). (1 ≤ x.seq) × (x.seq < t.next_seq)) (sym sets.here) open_now.seq);
+                  seq = subst (λ n. (1 ≤ (t'.entry place.block).seq) × (n ≡ (t'.entry place.block).seq + 1)) (sym seq)
+                      (subst (λ (x : BlockEntry). (1 ≤ x.seq) × (t.next_seq ≡ x.seq + 1)) (sym sets.here) open_now.seq);
+                  in_order = λ honest.
+                      let h : old.honest ≡ true = sym all.lasts.honest ∙ honest in
+                      subst (λ (x : BlockEntry). IsWrittenInOrder new.flash place.block x.next x.seq) (sym sets.here) (in_order_after h (there h));
                 });
             waits = λ c is. let two : None ≡ Some c = sym none_now ∙ sym noted ∙ is in absurd cc;
             numbers = (subst (λ n. 1 ≤ n) (sym sets.next_group) (omega (arith, ready.numbers)), subst (λ n. 1 ≤ n) (sym seq) ready.numbers.1);
@@ -272,8 +395,9 @@ module _ (d e : Device) (t u : Table) (count : ℕ) (name : ℕ → PageName) (b
 
   -- a group of other objects keeps the checkpoints right
   pub group_true : (d.honest ≡ true → (o : ℕ) → t.open_block ≡ Some o → GroupsAfter (next_group t count o) name bytes d.flash e.flash result)
-      → (d.honest ≡ true → Grows d.flash e.flash) → e.flash.bad ≡ d.flash.bad → (d.honest ≡ true → AreOrdinary count name) → KeepsTrue d e t.checkpoint u.checkpoint
-  group_true groups grows bads ordinary = go t.open_block refl where
+      → (d.honest ≡ true → Grows d.flash e.flash) → e.flash.bad ≡ d.flash.bad → (d.honest ≡ true → AreOrdinary count name)
+      → (d.honest ≡ true → BeginsOther (name 0) → AreSummariesRight d.geometry d.flash → AreSummariesRight e.geometry e.flash) → KeepsTrue d e t.checkpoint u.checkpoint
+  group_true groups grows bads ordinary right = go t.open_block refl where
     go : (x : Option ℕ) → t.open_block ≡ x → KeepsTrue d e t.checkpoint u.checkpoint
     go None is =
         let same = nothing is in
@@ -281,3 +405,4 @@ module _ (d e : Device) (t u : Table) (count : ℕ) (name : ℕ → PageName) (b
     go (Some o) is =
         true_ordinary d e t u lasts (none_waits d t o ready is) (ends_noted count t u result table)
         (λ honest. ordinary_after (next_group t count o) name bytes d.flash e.flash (grows honest) bads (omega (arith, some)) (ordinary honest) result (groups honest o is))
+        (λ honest. right honest (λ object chunk. ordinary honest 0 (omega (arith, some)) object))

@@ -3,7 +3,6 @@ use Rattle.std.specs.Prelude.{◌≡◌, ◌≢◌, ◌↔◌, ◌<◌, ◌≤�
 use Rattle.volume_terms.specs.Rounding.{ceiling}
 use Rattle.nand_model.specs.Flash.{Flash}
 use Rattle.nand_model.specs.Calls.{Device}
-use Rattle.nand_model.specs.Changes.{Grows}
 use Rattle.nand_model.specs.Counts.{ReadsFew}
 use Rattle.nand_model.specs.declared.geometry.Geometry.{Geometry}
 use Rattle.page_tags.specs.Checks.{IsCheckEntry, IsEntryBefore, check_page}
@@ -16,8 +15,9 @@ use Rattle.transactions.specs.declared.source.PageSource.{Ghosts}
 use Rattle.transactions.specs.declared.group.Placed.{Placed}
 use Rattle.transactions.specs.declared.group.GroupFault.{GroupFault}
 use Rattle.transactions.specs.declared.group.GroupFault.TheVariants as faults
-use Rattle.transactions.specs.Groups.{next_group, TellsGroup, GroupsAfter, GroupEnds, TableEnds, Stays}
+use Rattle.transactions.specs.Groups.{next_group, TellsGroup, GroupsAfter, GroupEnds, TableEnds, Stays, WritesOpen}
 use Rattle.transactions.specs.Handing.{HandsNumbers}
+use Rattle.transactions.specs.Naming.{KeepsRight}
 use Rattle.transactions.specs.Written.{unwritten}
 
 -- A device, and what is known of its blocks.
@@ -45,7 +45,7 @@ pub record WritesCheckpoint {T : Type 0} (pages : Ghosts T) (source : T) (d : De
   pub fresh : AreBelow d.flash t.next_group (t.entry block).seq
 
 -- What the writing of a group does, whichever its pages: what each part says is the clause of this name of `write_group`, but the
--- numbers alone of what is handed out.
+-- numbers alone of what is handed out. Where the group does not begin as a summary, each summary stays right.
 pub record WritesGroup {T : Type 0} (pages : Ghosts T) (source : T) (old new : LogState) (result : Result Placed GroupFault) : Type 0 where
   pub no_room : IsErrOf result faults.NoRoom ↔ (room old.table < pages.count source)
   pub ends : GroupEnds old.device new.device (pages.count source) result
@@ -53,11 +53,12 @@ pub record WritesGroup {T : Type 0} (pages : Ghosts T) (source : T) (old new : L
   pub placed : (o : ℕ) → old.table.open_block ≡ Some o → IfOk result (λ placed. TellsGroup (next_group old.table (pages.count source) o) placed)
   pub groups : old.device.honest ≡ true → (o : ℕ) → old.table.open_block ≡ Some o
       → GroupsAfter (next_group old.table (pages.count source) o) (pages.name source old.table.next_group) (pages.bytes source old.device.flash) old.device.flash new.device.flash result
-  pub grows : old.device.honest ≡ true → Grows old.device.flash new.device.flash
+  pub writes : old.device.honest ≡ true → WritesOpen old.table old.device.flash new.device.flash
   pub stays : Stays old.table old.device new.device
   pub quiet : pages.quiet source → new.device.reads + old.device.failures ≤ old.device.reads + new.device.failures
   pub reads : ReadsFew (unwritten result) old.device new.device
   pub numbers : HandsNumbers old.device new.device old.table new.table
+  pub summaries : KeepsRight (pages.count source) (pages.name source old.table.next_group) old.device new.device
 
 -- Which block may have a whole checkpoint once one was written in block b, each being right: b after Ok, and after a cut, where it may
 -- not be whole; none after NoRoom, a failure or a loss.

@@ -4,6 +4,8 @@ use Rattle.nand_model.specs.Flash.{Flash}
 use Rattle.nand_model.specs.Calls.{Device}
 use Rattle.flash_tree.specs.Groups.{Group, SameGroups, AddsGroup, AllThere}
 use Rattle.flash_tree.specs.Numbering.{AreBelow}
+use Rattle.flash_tree.specs.Summarizing.{WritesIn}
+use Rattle.nand_model.specs.Changes.{Grows}
 use Rattle.block_state.specs.Table.{Table}
 use Rattle.transactions.specs.declared.source.PageName.{PageName}
 use Rattle.transactions.specs.declared.group.Placed.{Placed}
@@ -82,3 +84,9 @@ pub record Stays (t : Table) (old new : Device) : Type 0 where
 -- group and below any number above the block's, if they had before.
 abbrev pub BelowAfter : Table → ℕ → Flash → Flash → Type 0
 BelowAfter t o old new = (seq : ℕ) → (t.entry o).seq < seq → AreBelow old t.next_group seq → AreBelow new (1 + t.next_group) seq
+
+-- Only erased pages are other than they were, and these lie in the open block, in which each tag has the block's seq and none is without the
+-- first page.
+pub record WritesOpen (t : Table) (old new : Flash) : Type 0 where
+  pub grows : Grows old new
+  pub within : (o : ℕ) → t.open_block ≡ Some o → WritesIn o t.next_group (t.entry o).seq old new

@@ -1,18 +1,28 @@
 -- What holds of a device and its table while groups are written.
-use Rattle.std.specs.Prelude.{◌≡◌, ◌<◌, ◌≤◌, ℕ, ◌+◌, true, false, Some, None}
+use Rattle.std.specs.Prelude.{◌≡◌, ◌≢◌, ◌<◌, ◌≤◌, ℕ, ◌+◌, true, false, Some, None}
+use Rattle.nand_model.specs.Flash.{Flash, Erased}
 use Rattle.nand_model.specs.Calls.{Device}
+use Rattle.page_tags.specs.declared.tag.Tag.{Tag}
+use Rattle.flash_tree.specs.Groups.{HasTag}
 use Rattle.flash_tree.specs.Numbering.{AreBelow}
 use Rattle.block_state.specs.Table.{Table}
 use Rattle.transactions.specs.declared.place.GroupPlace.{GroupPlace}
 
--- The open block can be written: it is good, its next page is the device's, so that all pages from there on are erased,
--- and its number was handed out.
+-- The pages of block o before its next one were programmed in order since it was erased: none is erased, and each tag in the block has
+-- the block's seq.
+pub record IsWrittenInOrder (flash : Flash) (o next seq : ℕ) : Type 0 where
+  pub written : (l : ℕ) → l < next → flash.page o l ≢ Erased
+  pub own : (l : ℕ) (u : Tag) → HasTag flash o l u → u.seq ≡ seq
+
+-- The open block can be written: it is good, its next page is the device's, so that all pages from there on are erased, its number was
+-- the last that was handed out, and on an honest device those before are written in order.
 pub record IsOpenOn (device : Device) (t : Table) (o : ℕ) : Type 0 where
   pub within : o < device.geometry.blocks
   pub good : device.flash.bad o ≡ false
   pub next : device.flash.next o ≡ Some (t.entry o).next
   pub pages : (t.entry o).next ≤ device.geometry.pages
-  pub seq : (1 ≤ (t.entry o).seq) × ((t.entry o).seq < t.next_seq)
+  pub seq : (1 ≤ (t.entry o).seq) × (t.next_seq ≡ (t.entry o).seq + 1)
+  pub in_order : device.honest ≡ true → IsWrittenInOrder device.flash o (t.entry o).next (t.entry o).seq
 
 -- The block that may have a whole checkpoint is a good one of the device, and no block is open: nothing is programmed while
 -- a checkpoint is whole.

@@ -163,7 +163,8 @@ AllLeaves g name bytes flash (Err faults.Failed) = OneLacks g name bytes flash
 AllLeaves g name bytes flash (Err faults.Lost) = AllThere g (tag_in g name) bytes flash ⊎ OneLacks g name bytes flash
 AllLeaves g name bytes flash (Err faults.Gone) = AllThere g (tag_in g name) bytes flash ⊎ OneLacks g name bytes flash
 
--- what the writing of all pages of a group does: where no change was counted no page is other
+-- what the writing of all pages of a group does: no page is written before those in front of it, and where no change was counted no page
+-- is other
 pub record WritesAll (old new : Device) (g : Group) (name : ℕ → PageName) (bytes : ℕ → List ℕ) (result : Result LastPage GroupFault) : Type 0 where
   pub lasts : Lasts old new
   pub ends : AllEnds old new g.size result
@@ -173,6 +174,7 @@ pub record WritesAll (old new : Device) (g : Group) (name : ℕ → PageName) (b
   pub next : LastNext (g.start + g.size - 1) result (new.flash.next g.block)
   pub other_nexts : (k : ℕ) → k ≢ g.block → new.flash.next k ≡ old.flash.next k
   pub wrote : old.honest ≡ true → Wrote g name bytes old.flash new.flash
+  pub order : old.honest ≡ true → (i k : ℕ) → k < i → new.flash.page g.block (g.start + i) ≢ Erased → IsAsked g name bytes k (new.flash.page g.block (g.start + k))
   pub all : old.honest ≡ true → AllLeaves g name bytes new.flash result
   pub still : old.honest ≡ true → new.changes ≡ old.changes → (k l : ℕ) → new.flash.page k l ≡ old.flash.page k l
 

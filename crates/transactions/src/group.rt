@@ -2,14 +2,13 @@
 ghost use Rattle.std.specs.Prelude.{◌≡◌, ◌↔◌, ◌<◌, ◌≤◌, ◌+◌, ◌^◌, ℕ, length, true, IfOk, Some, IsErrOf};
 ghost use Rattle.volume_terms.specs.Sizes.{number_end};
 ghost use Rattle.nand_model.specs.Calls.{Lasts};
-ghost use Rattle.nand_model.specs.Changes.{Grows};
 ghost use Rattle.nand_model.specs.Counts.{ReadsFew};
 ghost use Rattle.block_state.specs.Table.{room};
 ghost use Rattle.block_state.specs.TableOf.{table};
 ghost use Rattle.transactions.specs.Ready.{IsReady};
 ghost use Rattle.transactions.specs.Handing.{HandsNumbers, HandsOut};
-ghost use Rattle.transactions.specs.Naming.{AreOrdinary};
-ghost use Rattle.transactions.specs.Groups.{next_group, TellsGroup, GroupsAfter, GroupEnds, TableEnds, Stays, BelowAfter};
+ghost use Rattle.transactions.specs.Naming.{AreOrdinary, KeepsRight};
+ghost use Rattle.transactions.specs.Groups.{next_group, TellsGroup, GroupsAfter, GroupEnds, TableEnds, Stays, BelowAfter, WritesOpen};
 ghost use Rattle.transactions.specs.Written.{unwritten};
 
 use crate::page::write_pages;
@@ -67,7 +66,7 @@ pub fn write_group<N: Nand, S: PageSource>(
     ensures groups { (N.state device.old).honest ≡ true → (o : ℕ) → (table blocks.old).open_block ≡ Some o
         → GroupsAfter (next_group (table blocks.old) (S.count source.now) o) (S.name source.now (table blocks.old).next_group)
         (S.bytes source.now (N.state device.old).flash) (N.state device.old).flash (N.state device.new).flash result }
-    ensures grows { (N.state device.old).honest ≡ true → Grows (N.state device.old).flash (N.state device.new).flash }
+    ensures writes { (N.state device.old).honest ≡ true → WritesOpen (table blocks.old) (N.state device.old).flash (N.state device.new).flash }
     ensures stays { Stays (table blocks.old) (N.state device.old) (N.state device.new) }
     // For pages in memory none is read, but a last one that is said to fail.
     ensures quiet { S.quiet source.now → (N.state device.new).reads + (N.state device.old).failures ≤ (N.state device.old).reads + (N.state device.new).failures }
@@ -99,7 +98,7 @@ pub(crate) fn write_any<N: Nand, S: PageSource>(
     ensures groups { (N.state device.old).honest ≡ true → (o : ℕ) → (table blocks.old).open_block ≡ Some o
         → GroupsAfter (next_group (table blocks.old) (S.count source.now) o) (S.name source.now (table blocks.old).next_group)
         (S.bytes source.now (N.state device.old).flash) (N.state device.old).flash (N.state device.new).flash result }
-    ensures grows { (N.state device.old).honest ≡ true → Grows (N.state device.old).flash (N.state device.new).flash }
+    ensures writes { (N.state device.old).honest ≡ true → WritesOpen (table blocks.old) (N.state device.old).flash (N.state device.new).flash }
     ensures stays { Stays (table blocks.old) (N.state device.old) (N.state device.new) }
     ensures quiet { S.quiet source.now → (N.state device.new).reads + (N.state device.old).failures ≤ (N.state device.old).reads + (N.state device.new).failures }
     ensures reads { ReadsFew (unwritten result) (N.state device.old) (N.state device.new) }
@@ -107,6 +106,7 @@ pub(crate) fn write_any<N: Nand, S: PageSource>(
     ensures below { (N.state device.old).honest ≡ true → (o : ℕ) → (table blocks.old).open_block ≡ Some o
         → BelowAfter (table blocks.old) o (N.state device.old).flash (N.state device.new).flash }
     ensures numbers { HandsNumbers (N.state device.old) (N.state device.new) (table blocks.old) (table blocks.new) }
+    ensures summaries { KeepsRight (S.count source.now) (S.name source.now (table blocks.old).next_group) (N.state device.old) (N.state device.new) }
 {
     let count = source.count();
     let Some(place) = take_place(blocks, count) else {

@@ -2,13 +2,14 @@
 use Rattle.std.specs.Prelude.{◌≡◌, ◌≢◌, ◌<◌, ◌≤◌, ℕ, ◌+◌, max, true, false, None, Some, Option, Result, if◌then◌else◌}
 use Rattle.std.proofs.Common.{refl, sym, ◌∙◌, ap, subst, inl, inr, arith}
 use Rattle.std.proofs.lemmas.Bool.{cases_Bool, cases_eq, cases_lt}
-use Rattle.nand_model.specs.Flash.{Flash, IsWithin}
+use Rattle.nand_model.specs.Flash.{Flash, Erased, Written, IsWithin}
 use Rattle.nand_model.specs.Calls.{Device, Erases, Marks}
 use Rattle.nand_model.specs.Changes.{Shrinks, OnlyReads, PowersUp}
 use Rattle.nand_model.specs.laws.Changes.{shrinks-erase}
 use Rattle.nand_model.specs.declared.geometry.Geometry.{Geometry}
 use Rattle.nand_model.specs.declared.nand.EraseFault.{EraseFault}
 use Rattle.nand_model.specs.declared.nand.Gone.{Gone}
+use Rattle.page_tags.specs.Tags.{tag_bytes}
 use Rattle.flash_tree.specs.Groups.{HasTag}
 use Rattle.flash_tree.specs.Keeping.{Loses}
 use Rattle.flash_tree.specs.Newest.{Numbers, AreAbove}
@@ -20,7 +21,7 @@ use Rattle.block_state.specs.Counting.{how_many}
 use Rattle.block_state.specs.Kept.{bad_count}
 use Rattle.block_state.specs.Table.{Table, blank, is_bad, other_than}
 use Rattle.flash_tree.specs.Numbering.{AreBelow}
-use Rattle.transactions.specs.Ready.{IsOpenOn, IsWaiting, IsReady}
+use Rattle.transactions.specs.Ready.{IsOpenOn, IsWaiting, IsReady, IsWrittenInOrder}
 use Rattle.transactions.specs.Opening.{Opens}
 use Rattle.transactions.specs.Marking.{IsMarked, MarksNoted, NotesMark}
 
@@ -56,6 +57,20 @@ waits_on old new t u c waits was is sizes mark closed =
     let waited = waits c was in
     record { within = subst (λ (g : Geometry). c < g.blocks) (sym sizes) waited.within; good = mark ∙ waited.good; closed = closed waited.closed }
 
+-- a block whose pages are as they were is written in order still
+in_order_same : (f h : Flash) (o next seq : ℕ) → ((l : ℕ) → h.page o l ≡ f.page o l) → IsWrittenInOrder f o next seq → IsWrittenInOrder h o next seq
+in_order_same f h o next seq same is = record {
+  written = λ l lt erased. is.written l lt (sym (same l) ∙ erased);
+  own = λ l u has. is.own l u (record { bytes = has.bytes; page = sym (same l) ∙ has.page; valid = has.valid });
+}
+
+-- a block that was erased wholly is written in order: nothing is
+in_order_erased : (f : Flash) (o seq : ℕ) → ((l : ℕ) → f.page o l ≡ Erased) → IsWrittenInOrder f o 0 seq
+in_order_erased f o seq erased = record {
+  written = λ l lt is. omega (arith, lt);
+  own = λ l u has. let two : Written has.bytes (tag_bytes u) ≡ Erased = sym has.page ∙ erased l in absurd cc;
+}
+
 -- an erase of a block that is not open, however it ends
 pub ready_erased : (b : ℕ) (old new : Device) (t : Table) (result : Result (Unit {0}) EraseFault) → IsReady old t → t.open_block ≢ Some b → Erases b old new result → IsReady new t
 ready_erased b old new t result ready closed does = record {
@@ -69,6 +84,9 @@ ready_erased b old new t result ready closed does = record {
         next = does.other_nexts o (λ same. closed (is ∙ ap Some same)) ∙ was.next;
         pages = subst (λ (g : Geometry). (t.entry o).next ≤ g.pages) (sym does.lasts.geometry) was.pages;
         seq = was.seq;
+        in_order = λ honest.
+            let h : old.honest ≡ true = sym does.lasts.honest ∙ honest in
+            in_order_same old.flash new.flash o _ _ (λ l. does.other_blocks h o l (λ same. closed (is ∙ ap Some same))) (was.in_order h);
       };
   waits = λ c is. waits_on old new t t c ready.waits is is does.lasts.geometry (ap (λ f. f c) does.bad) (λ none. none);
   numbers = ready.numbers;
@@ -78,8 +96,9 @@ ready_erased b old new t result ready closed does = record {
 }
 
 -- the block that was erased is opened
-pub ready_opened : (b : ℕ) (d : Device) (t t' : Table) → IsReady d t → b < d.geometry.blocks → d.flash.bad b ≡ false → d.flash.next b ≡ Some 0 → Opens b t t' → IsReady d t'
-ready_opened b d t t' ready lt good next opens = record {
+pub ready_opened : (b : ℕ) (d : Device) (t t' : Table) → IsReady d t → b < d.geometry.blocks → d.flash.bad b ≡ false → d.flash.next b ≡ Some 0
+    → (d.honest ≡ true → (l : ℕ) → d.flash.page b l ≡ Erased) → Opens b t t' → IsReady d t'
+ready_opened b d t t' ready lt good next erased opens = record {
   geometry = opens.sets.geometry ∙ ready.geometry;
   marks = λ k. elim (cases_eq k b) [
     | inl e ↦ ap (λ n. (t'.entry n).bad) e ∙ ap (λ (x : BlockEntry). x.bad) opens.sets.here ∙ ap (λ n. (t.entry n).bad) (sym e) ∙ ready.marks k
@@ -93,7 +112,8 @@ ready_opened b d t t' ready lt good next opens = record {
         good = good;
         next = next ∙ ap (λ (x : BlockEntry). Some x.next) (sym opens.sets.here);
         pages = subst (λ (x : BlockEntry). x.next ≤ d.geometry.pages) (sym opens.sets.here) (omega arith);
-        seq = subst (λ (x : BlockEntry). (1 ≤ x.seq) × (x.seq < t'.next_seq)) (sym opens.sets.here) (ready.numbers.1, omega (arith, opens.next_seq));
+        seq = subst (λ (x : BlockEntry). (1 ≤ x.seq) × (t'.next_seq ≡ x.seq + 1)) (sym opens.sets.here) (ready.numbers.1, opens.next_seq);
+        in_order = λ honest. subst (λ (x : BlockEntry). IsWrittenInOrder d.flash b x.next x.seq) (sym opens.sets.here) (in_order_erased d.flash b t.next_seq (erased honest));
       });
   waits = λ c is. let two : None ≡ Some c = sym opens.checkpoint ∙ is in absurd cc;
   numbers = (subst (λ n. 1 ≤ n) (sym opens.sets.next_group) ready.numbers.0, omega (arith, opens.next_seq));
@@ -115,6 +135,9 @@ ready_read old new t ready reads = record {
         next = ap (λ f. f o) reads.next ∙ was.next;
         pages = subst (λ (g : Geometry). (t.entry o).next ≤ g.pages) (sym reads.lasts.geometry) was.pages;
         seq = was.seq;
+        in_order = λ honest.
+            let h : old.honest ≡ true = sym reads.lasts.honest ∙ honest in
+            in_order_same old.flash new.flash o _ _ (λ l. ap (λ f. f o l) (reads.page h)) (was.in_order h);
       };
   waits = λ c is. waits_on old new t t c ready.waits is is reads.lasts.geometry (ap (λ f. f c) reads.bad) (λ none. none);
   numbers = ready.numbers;
@@ -151,7 +174,11 @@ ready_marked b old new t t' result ready closed does notes = record {
         good = does.other_bads o ne ∙ was.good;
         next = ap (λ f. f o) does.next ∙ was.next ∙ ap (λ (x : BlockEntry). Some x.next) (sym same);
         pages = subst (λ (x : BlockEntry). x.next ≤ new.geometry.pages) (sym same) (subst (λ (g : Geometry). (t.entry o).next ≤ g.pages) (sym does.lasts.geometry) was.pages);
-        seq = subst (λ n. (1 ≤ (t'.entry o).seq) × ((t'.entry o).seq < n)) (sym notes.next_seq) (subst (λ (x : BlockEntry). (1 ≤ x.seq) × (x.seq < t.next_seq)) (sym same) was.seq);
+        seq = subst (λ n. (1 ≤ (t'.entry o).seq) × (n ≡ (t'.entry o).seq + 1)) (sym notes.next_seq) (subst (λ (x : BlockEntry). (1 ≤ x.seq) × (t.next_seq ≡ x.seq + 1)) (sym same) was.seq);
+        in_order = λ honest.
+            let h : old.honest ≡ true = sym does.lasts.honest ∙ honest in
+            subst (λ (x : BlockEntry). IsWrittenInOrder new.flash o x.next x.seq) (sym same)
+            (in_order_same old.flash new.flash o _ _ (λ l. ap (λ f. f o l) (does.page h)) (was.in_order h));
       };
   waits = λ c is.
       let still : t.checkpoint ≡ Some c = noted c is in

@@ -1,4 +1,4 @@
--- What keeps the checkpoints of a device right.
+-- What keeps the checkpoints and summaries of a device right.
 use Rattle.std.specs.Prelude.{◌≡◌, ◌≢◌, ◌<◌, ℕ, true, if◌then◌else◌, List, Option, Some, None, Result, Ok, Err}
 use Rattle.std.proofs.Common.{sym, ◌∙◌, ap, subst, inl, inr, arith}
 use Rattle.std.proofs.lemmas.Bool.{cases_Bool}
@@ -18,6 +18,9 @@ use Rattle.flash_tree.specs.Slots.{check_object}
 use Rattle.flash_tree.specs.laws.Checking.{none_faded, checked_faded, none_left, ordinary_added}
 use Rattle.flash_tree.specs.laws.Fading.{fades_erase, fades_mark}
 use Rattle.flash_tree.specs.laws.Newest.{one_tag}
+use Rattle.flash_tree.specs.laws.Summarizing.{right_faded}
+use Rattle.flash_tree.specs.Summaries.{AreSummariesRight, BeginsSummary}
+use Rattle.flash_tree.specs.Summarizing.{AddsNoSummary}
 use Rattle.block_state.specs.Table.{Table, other_than}
 use Rattle.block_state.specs.laws.Checkpoint.{other_than_it}
 use Rattle.transactions.specs.declared.source.PageName.{PageName}
@@ -27,7 +30,7 @@ use Rattle.transactions.specs.declared.group.GroupFault.TheVariants as faults
 use Rattle.transactions.specs.Groups.{AddsPages, GroupsAfter}
 use Rattle.flash_tree.specs.Truth.{KeepsTrue}
 use Rattle.transactions.specs.Marking.{NotesMark}
-use Rattle.transactions.specs.Naming.{AreOrdinary}
+use Rattle.transactions.specs.Naming.{AreOrdinary, BeginsOther}
 use Rattle.transactions.specs.Opening.{MayLose}
 use Rattle.transactions.specs.Written.{tag_in}
 
@@ -42,9 +45,13 @@ pub true_noted : (a b : Device) (t u v : Table) → v.checkpoint ≡ u.checkpoin
 true_noted a b t u v same keeps = record {
   noted = λ k is. keeps.noted k (sym same ∙ is);
   checked = λ honest is. subst (IsChecked b.geometry b.flash) (sym same) (keeps.checked honest is);
+  summaries = keeps.summaries;
 }
 
 module _ (b : ℕ) (old new : Device) (t u : Table) (lasts : Lasts old new) (first : MayLose b t) (fades : old.honest ≡ true → Fades b old.flash new.flash) where
+  right_left : old.honest ≡ true → AreSummariesRight old.geometry old.flash → AreSummariesRight new.geometry new.flash
+  right_left honest right = subst (λ (g : Geometry). AreSummariesRight g new.flash) (sym lasts.geometry) (right_faded old.geometry b old.flash new.flash (fades honest) right)
+
   -- a block fades that may have the checkpoint
   pub true_faded : u.checkpoint ≡ t.checkpoint → KeepsTrue old new t.checkpoint u.checkpoint
   true_faded same = record {
@@ -53,6 +60,7 @@ module _ (b : ℕ) (old new : Device) (t u : Table) (lasts : Lasts old new) (fir
       | inl none ↦ moved _ _ _ None _ lasts.geometry (same ∙ none) (none_faded old.geometry b old.flash new.flash (fades honest) (subst (IsChecked old.geometry old.flash) none is))
       | inr here ↦ moved _ _ _ (Some b) _ lasts.geometry (same ∙ here) (checked_faded old.geometry b old.flash new.flash (fades honest) (subst (IsChecked old.geometry old.flash) here is))
     ];
+    summaries = right_left;
   }
 
   -- and nothing is written in it any more, or it is bad
@@ -63,6 +71,7 @@ module _ (b : ℕ) (old new : Device) (t u : Table) (lasts : Lasts old new) (fir
       | inl none ↦ moved _ _ _ None _ lasts.geometry empty (none_faded old.geometry b old.flash new.flash (fades honest) (subst (IsChecked old.geometry old.flash) none is))
       | inr here ↦ moved _ _ _ None _ lasts.geometry empty (none_left old.geometry b old.flash new.flash (fades honest) (nothing honest) (subst (IsChecked old.geometry old.flash) here is))
     ];
+    summaries = right_left;
   }
 
 -- an erase, which notes nothing
@@ -110,10 +119,32 @@ module _ (g : Group) (name : ℕ → PageName) (bytes : ℕ → List ℕ) (old n
   ordinary_after (Err faults.Gone) (inl same) = record { grows = grows; bads = bads; groups = inl same }
   ordinary_after (Err faults.Gone) (inr adds) = added adds
 
+module _ (g : Group) (name : ℕ → PageName) (bytes : ℕ → List ℕ) (old new : Flash) (some : 0 < g.size) (other : BeginsOther (name 0)) where
+  other_first : AddsPages g name bytes old new → (t : Tag) → HasTag new g.block g.start t → BeginsSummary t → ⊥
+  other_first adds t has begins =
+      let there = adds.pages 0 some in
+      let here : new.page g.block g.start ≡ Written (bytes 0) (tag_bytes (tag_in g name 0)) = ap (new.page g.block) (omega arith) ∙ there.0 in
+      let tag : t ≡ tag_in g name 0 = one_tag new g.block g.start t (tag_in g name 0) has (record { bytes = bytes 0; page = here; valid = there.1 }) in
+      let is : BeginsSummary (tag_in g name 0) = subst BeginsSummary tag begins in
+      other is.0 is.1
+
+  added_other : AddsPages g name bytes old new → AddsNoSummary old new
+  added_other adds = inr (g, adds.group, other_first adds)
+
+  -- however the writing of a group that does not begin as a summary ends, it is none
+  pub none_summarized : (result : Result Placed GroupFault) → GroupsAfter g name bytes old new result → AddsNoSummary old new
+  none_summarized (Ok placed) adds = added_other adds
+  none_summarized (Err faults.NoRoom) same = inl same
+  none_summarized (Err faults.Failed) same = inl same
+  none_summarized (Err faults.Lost) same = inl same
+  none_summarized (Err faults.Gone) (inl same) = inl same
+  none_summarized (Err faults.Gone) (inr adds) = added_other adds
+
 -- where no checkpoint is, a group of other objects leaves none
 pub true_ordinary : (old new : Device) (t u : Table) → Lasts old new → t.checkpoint ≡ None → u.checkpoint ≡ t.checkpoint → (old.honest ≡ true → AddsOrdinary old.flash new.flash)
-    → KeepsTrue old new t.checkpoint u.checkpoint
-true_ordinary old new t u lasts none same adds = record {
+    → (old.honest ≡ true → AreSummariesRight old.geometry old.flash → AreSummariesRight new.geometry new.flash) → KeepsTrue old new t.checkpoint u.checkpoint
+true_ordinary old new t u lasts none same adds right = record {
   noted = λ k is. sym same ∙ is;
   checked = λ honest is. moved _ _ _ None _ lasts.geometry (same ∙ none) (ordinary_added old.geometry old.flash new.flash (adds honest) (subst (IsChecked old.geometry old.flash) none is));
+  summaries = right;
 }

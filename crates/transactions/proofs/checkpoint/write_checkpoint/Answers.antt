@@ -8,4 +8,4 @@ returns-clause-checked g c = λ honest writes tree.
     let made = c.write_any.ensures in
     let old : Device = g.N.Nand.state c.args.device.now in
     checkpoint_written g.S.PageSource c.args.source.now old (g.N.Nand.state c.write_any.new.device) (table c.args.blocks.now) writes tree c.requires.ready made.lasts
-    (made.grows honest) made.stays honest (made.below honest writes.block writes.open_block) c.write_any.result (made.groups honest writes.block writes.open_block)
+    (made.writes honest).grows made.stays honest (made.below honest writes.block writes.open_block) c.write_any.result (made.groups honest writes.block writes.open_block)

@@ -1,4 +1,4 @@
-use Rattle.std.proofs.Common.{◌≡◌, ◌≤◌, ◌+◌, false, if◌then◌else◌, sym, subst, ℕ, true, Err, arith, rules}
+use Rattle.std.proofs.Common.{◌≡◌, ◌≤◌, ◌+◌, false, if◌then◌else◌, sym, subst, ℕ, true, Ok, Err, arith, rules}
 use Rattle.std.proofs.lemmas.Result.{err_from_is_err_and}
 use Rattle.nand_model.specs.Calls.{Device}
 use Rattle.flash_tree.specs.Groups.{Group}
@@ -6,10 +6,11 @@ use Rattle.block_state.specs.Table.{Table}
 use Rattle.block_state.specs.TableOf.{table}
 use Rattle.transactions.specs.declared.place.GroupPlace.{GroupPlace}
 use Rattle.transactions.specs.Groups.{AddsPages, GroupsAfter}
+use Rattle.transactions.specs.Naming.{BeginsOther}
 use Rattle.transactions.specs.Written.{is_suspect}
 use Rattle.transactions.specs.Handing.{HandsNumbers}
 use Rattle.transactions.specs.laws.Handing.{hands_nothing, below_greater}
-use Rattle.transactions.proofs.ReadyLaws.{room_left, may_write, ready_after, group_is, group_grows, group_below, group_hands, groups_ok, groups_err, ok_table, ends_written}
+use Rattle.transactions.proofs.ReadyLaws.{room_left, may_write, ready_after, group_is, group_writes, nothing_written, group_below, group_hands, group_right, groups_ok, groups_err, ok_table, ends_written}
 use Rattle.transactions.proofs.group.write_any.Goals as goal
 
 pub note_end-requires-clause-room : goal.note_end-requires-clause-room
@@ -45,15 +46,15 @@ returns-in_err-last-clause-groups g c = λ h o is.
     let same = group_is old t _ place c.requires.ready found o is in
     rw (← c.count-count.ensures.value, p.1, p.2) (subst (λ (x : Group). GroupsAfter x (g.S.PageSource.name c.args.source.now x.number) (g.S.PageSource.bytes c.args.source.now old.flash) old.flash new.flash (Err c.in_err-last.field-0.0)) same left)
 
-pub returns-in_err-last-clause-grows : goal.returns-in_err-last-clause-grows
-returns-in_err-last-clause-grows g c = λ h.
+pub returns-in_err-last-clause-writes : goal.returns-in_err-last-clause-writes
+returns-in_err-last-clause-writes g c = λ h.
     let old : Device = g.N.Nand.state c.args.device.now in
     let place : GroupPlace = c.in-Some.place in
     let found = c.in-Some.ensures.found in
     let some : 1 ≤ place.count = omega (arith, found.count_is, c.count-count.ensures.some) in
     let may = may_write old _ _ place c.requires.ready found in
     let erased = λ (h : old.honest ≡ true) (l : ℕ) (le : place.first ≤ l). g.met.N.Nand.clean c.args.device.now h place.block (place.first + 0) l may.next (omega (arith, le)) in
-    group_grows old _ _ place c.requires.ready found _ _ _ _ c.write_pages-written.ensures.writes some erased h
+    group_writes old _ _ place c.requires.ready found _ _ _ _ c.write_pages-written.ensures.writes some erased h
 
 pub returns-clause-ready : goal.returns-clause-ready
 returns-clause-ready g c =
@@ -89,15 +90,15 @@ returns-clause-groups g c = λ h o is.
     let same = group_is old t _ place c.requires.ready found o is in
     rw (← c.count-count.ensures.value) (subst (λ (x : Group). AddsPages x (g.S.PageSource.name c.args.source.now x.number) (g.S.PageSource.bytes c.args.source.now old.flash) old.flash new.flash) same adds)
 
-pub returns-clause-grows : goal.returns-clause-grows
-returns-clause-grows g c = λ h.
+pub returns-clause-writes : goal.returns-clause-writes
+returns-clause-writes g c = λ h.
     let old : Device = g.N.Nand.state c.args.device.now in
     let place : GroupPlace = c.in-Some.place in
     let found = c.in-Some.ensures.found in
     let some : 1 ≤ place.count = omega (arith, found.count_is, c.count-count.ensures.some) in
     let may = may_write old _ _ place c.requires.ready found in
     let erased = λ (h : old.honest ≡ true) (l : ℕ) (le : place.first ≤ l). g.met.N.Nand.clean c.args.device.now h place.block (place.first + 0) l may.next (omega (arith, le)) in
-    group_grows old _ _ place c.requires.ready found _ _ _ _ c.write_pages-written.ensures.writes some erased h
+    group_writes old _ _ place c.requires.ready found _ _ _ _ c.write_pages-written.ensures.writes some erased h
 
 pub returns-in_default-clause-numbers : goal.returns-in_default-clause-numbers
 returns-in_default-clause-numbers g c =
@@ -161,3 +162,34 @@ returns-in_default-clause-below g c = λ h o is seq lt below.
     let d : Device = g.N.Nand.state c.args.device.now in
     let t : Table = table c.args.blocks.now in
     below_greater d.flash t.next_group seq (1 + t.next_group) seq (omega arith) (omega arith) below
+
+pub returns-in_err-last-clause-summaries : goal.returns-in_err-last-clause-summaries
+returns-in_err-last-clause-summaries g c = λ h other right.
+    let old : Device = g.N.Nand.state c.args.device.now in
+    let t : Table = table c.args.blocks.now in
+    let place : GroupPlace = c.in-Some.place in
+    let found = c.in-Some.ensures.found in
+    let some : 1 ≤ place.count = omega (arith, found.count_is, c.count-count.ensures.some) in
+    let may = may_write old _ _ place c.requires.ready found in
+    let erased = λ (h : old.honest ≡ true) (l : ℕ) (le : place.first ≤ l). g.met.N.Nand.clean c.args.device.now h place.block (place.first + 0) l may.next (omega (arith, le)) in
+    let all = rw c.in_err-last.was at c.write_pages-written.ensures.writes in
+    let left = groups_err old t _ place c.requires.ready found _ _ _ _ all some erased h in
+    let named = subst (λ n. BeginsOther (g.S.PageSource.name c.args.source.now n 0)) (sym found.group) (other (subst (λ n. 1 ≤ n) c.count-count.ensures.value c.count-count.ensures.some)) in
+    group_right old t _ place c.requires.ready found _ _ _ _ all some erased h (Err c.in_err-last.field-0.0) left named right
+
+pub returns-clause-summaries : goal.returns-clause-summaries
+returns-clause-summaries g c = λ h other right.
+    let old : Device = g.N.Nand.state c.args.device.now in
+    let t : Table = table c.args.blocks.now in
+    let place : GroupPlace = c.in-Some.place in
+    let found = c.in-Some.ensures.found in
+    let some : 1 ≤ place.count = omega (arith, found.count_is, c.count-count.ensures.some) in
+    let may = may_write old _ _ place c.requires.ready found in
+    let erased = λ (h : old.honest ≡ true) (l : ℕ) (le : place.first ≤ l). g.met.N.Nand.clean c.args.device.now h place.block (place.first + 0) l may.next (omega (arith, le)) in
+    let all = rw c.in_ok-last.was at c.write_pages-written.ensures.writes in
+    let adds = groups_ok old t _ place c.requires.ready found _ _ _ c.in_ok-last.last all some erased h in
+    let named = subst (λ n. BeginsOther (g.S.PageSource.name c.args.source.now n 0)) (sym found.group) (other (subst (λ n. 1 ≤ n) c.count-count.ensures.value c.count-count.ensures.some)) in
+    group_right old t _ place c.requires.ready found _ _ _ _ all some erased h (Ok (record { block = place.block; first = place.first; count = place.count; group = place.group; suspect = false })) adds named right
+
+pub returns-in_default-clause-writes : goal.returns-in_default-clause-writes
+returns-in_default-clause-writes g c = λ h. nothing_written (g.N.Nand.state c.args.device.now) (table c.args.blocks.now) c.requires.ready (g.met.N.Nand.clean c.args.device.now h) h

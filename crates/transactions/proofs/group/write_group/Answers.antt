@@ -11,5 +11,5 @@ returns-clause-numbers g c =
     record {
       numbers = made.numbers;
       truth = group_true old _ (table c.args.blocks.now) _ _ (g.S.PageSource.name c.args.source.now (table c.args.blocks.now).next_group) _ _ made.some c.requires.ready made.lasts made.ends made.table
-          (λ short. search rules) made.groups made.grows made.stays.bad c.requires.ordinary;
+          (λ short. search rules) made.groups (λ honest. (made.writes honest).grows) made.stays.bad c.requires.ordinary (λ honest other. made.summaries honest (λ some. other));
     }

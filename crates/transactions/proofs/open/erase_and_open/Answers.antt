@@ -1,4 +1,4 @@
-use Rattle.std.proofs.Common.{refl, ◌∙◌, arith, rules}
+use Rattle.std.proofs.Common.{refl, sym, ◌∙◌, arith, rules}
 use Rattle.nand_model.specs.Calls.{Device}
 use Rattle.nand_model.specs.laws.Changes.{shrinks-erase}
 use Rattle.flash_tree.specs.laws.Newest.{erase_keeps_elsewhere}
@@ -18,7 +18,7 @@ returns-clause-ready g c =
     let new : Device = g.N.Nand.state c.erase.new.self in
     let does = c.in_ok-erase.ensures.erases in
     let ready = ready_erased c.args.block old new (table c.args.blocks.now) _ c.requires.ready c.requires.closed c.erase.ensures.erases in
-    ready_opened c.args.block new _ _ ready (search rules) (search rules) does.next
+    ready_opened c.args.block new _ _ ready (search rules) (search rules) does.next (λ honest. does.pages (sym does.lasts.honest ∙ honest))
     (record { sets = c.open.ensures.sets; open_block = c.open.ensures.open; checkpoint = c.open.ensures.checkpoint ∙ other_than_it c.args.block _ c.requires.first; next_seq = c.open.ensures.seq })
 
 pub returns-clause-below : goal.returns-clause-below

@@ -14,6 +14,7 @@ use Rattle.flash_log.specs.Standing.{AreHeld, KeepsFree, Stands}
 use Rattle.flash_log.specs.Steps.{Step}
 use Rattle.flash_log.specs.Taking.{TakeEnds, Takes, TakesNone}
 use Rattle.flash_log.specs.declared.take.TakeFault.{TakeFault}
+use Rattle.flash_log.specs.laws.Erased.{erased_here}
 use Rattle.flash_log.specs.laws.FreeBlocks.{free_still}
 use Rattle.flash_log.specs.laws.Keeping.{same_here, keeps_passes}
 use Rattle.flash_log.specs.laws.KeptPages.{kept_where, data_where}
@@ -23,7 +24,7 @@ use Rattle.flash_log.specs.laws.Steps.{step_kept}
 module _ (spare : ℕ) (d0 d1 : Device) (t u : Table) (x : Index) (law : (b : ℕ) → kept_in x b ≡ 0 → HoldsNone (kept_pages x) b)
     (lasts : Lasts d0 d1) (ready : IsReady d1 u) (numbers : HandsOut d0 d1 t u) (passes : Passes d0 d1 t u) (stands : Stands spare d0 t x) where
   keeps : KeepsCounts d0 d1 t u
-  keeps = keeps_passes d0 d1 t t u (same_here t) lasts ready numbers (λ is. is) passes
+  keeps = keeps_passes d0 d1 t t u (same_here t) lasts ready numbers (λ is. is) (erased_here d0 t) passes
 
   held : AreHeld t x
   held = are_held t x law stands.tables.counts
@@ -51,7 +52,7 @@ module _ (spare : ℕ) (d0 d1 : Device) (t u : Table) (x : Index) (law : (b : �
     free_where_taken = free_still spare d0 d1 t u x held keeps stands stands_taken.tables (λ honest. kept_where d0.flash d1.flash t (passes.newest honest))
 
     pub step_taken : Step spare (log_of d0 t) (log_of d1 u) x x
-    step_taken = step_kept spare d0 d1 t u x held keeps stands stands_taken stored free_where_taken
+    step_taken = step_kept spare d0 d1 t u x held keeps stands stands_taken stored passes.found free_where_taken
 
   -- none was
   stands_none : TakesNone t u → Stands spare d1 u x
@@ -61,7 +62,7 @@ module _ (spare : ℕ) (d0 d1 : Device) (t u : Table) (x : Index) (law : (b : �
   free_where_none none = free_still spare d0 d1 t u x held keeps stands (stands_none none).tables (λ honest. kept_where d0.flash d1.flash t (passes.newest honest))
 
   pub step_untaken : TakesNone t u → Step spare (log_of d0 t) (log_of d1 u) x x
-  step_untaken none = step_kept spare d0 d1 t u x held keeps stands (stands_none none) stored (free_where_none none)
+  step_untaken none = step_kept spare d0 d1 t u x held keeps stands (stands_none none) stored passes.found (free_where_none none)
 
   -- whether one was or not
   pub step_tried : (result : Result ℕ TakeFault) → TakeEnds spare d1 t u result → Step spare (log_of d0 t) (log_of d1 u) x x

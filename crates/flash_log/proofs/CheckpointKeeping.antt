@@ -26,6 +26,8 @@ use Rattle.transactions.specs.Ready.{IsReady}
 use Rattle.flash_log.specs.Passing.{Passes}
 use Rattle.flash_log.specs.Standing.{AreHeld, AreKept, HasVersion, IsKept, KeepsFree, SameData, Stands, TablesAgree}
 use Rattle.flash_log.specs.Taking.{LiesApart}
+use Rattle.flash_log.specs.laws.Erased.{erased_here, erased_marked, erased_on}
+use Rattle.flash_log.specs.laws.Found.{findable_here, findable_still, found_here, found_marked, found_on}
 use Rattle.flash_log.specs.laws.FreeBlocks.{leaves_unkept}
 use Rattle.flash_log.specs.laws.KeptPages.{kept_stays, data_stays, spot_of}
 use Rattle.flash_log.specs.laws.Moves.{may_lie_later}
@@ -69,6 +71,10 @@ keeps_on a b c first then = record {
       let stays = first.newest honest o k s other newest some in
       stays_on a.device.flash b.device.flash c.device.flash o k s stays
       (then.newest (first.lasts.honest ∙ honest) o k s other stays.newest (let same = first.kept s.block in omega (arith, same, some)));
+  summaries = λ honest right. then.summaries (first.lasts.honest ∙ honest) (first.summaries honest right);
+  found = λ honest. found_on a.device b.device c.device a.table b.table first.kept
+      (λ o k s other newest some. (s, (first.newest honest o k s other newest some).newest, refl)) (first.found honest) (then.found (first.lasts.honest ∙ honest));
+  erased = erased_on a.device b.device c.device a.table b.table c.table first.lasts.honest first.erased then.erased;
 }
 
 pub leaves_on : (right : Type 0) (block : ℕ) (a b c : LogState) → Leaves right block a b → Leaves (Unit {0}) block b c → Leaves right block a c
@@ -81,16 +87,19 @@ leaves_on right block a b c first then = record {
 }
 
 -- a block is taken
-pub keeps_taken : (d e : Device) (t u : Table) → Lasts d e → IsReady e u → HandsNumbers d e t u → Passes d e t u → KeepsPages (log_of d t) (log_of e u)
-keeps_taken d e t u lasts ready numbers passes = record {
+pub keeps_taken : (d e : Device) (t u : Table) → Lasts d e → IsReady e u → HandsOut d e t u → Passes d e t u → KeepsPages (log_of d t) (log_of e u)
+keeps_taken d e t u lasts ready hands passes = record {
   lasts = lasts;
   ready = ready;
-  numbers = numbers;
+  numbers = hands.numbers;
   geometry = passes.geometry;
   kept = passes.kept;
   unkept = passes.unkept;
   limits = λ (groups, seqs). (let same = passes.next_group in omega (arith, same, groups), passes.limit seqs);
   newest = λ honest o k s other newest some. passes.newest honest o k s newest some;
+  summaries = hands.truth.summaries;
+  found = passes.found;
+  erased = passes.erased;
 }
 
 -- nothing is done
@@ -104,6 +113,9 @@ keeps_here d t ready numbers = record {
   unkept = refl;
   limits = λ is. is;
   newest = λ honest o k s other newest some. record { newest = newest; page = refl };
+  summaries = λ honest right. right;
+  found = λ honest. found_here t d;
+  erased = erased_here d t;
 }
 
 -- ---- a mark
@@ -157,16 +169,19 @@ module _ (v : ℕ) (d e : Device) (t u : Table) (result : Result (Unit {0}) Gone
         omega (arith, bad, unkept)
   ]
 
-  pub keeps_marked : IsReady e u → HandsNumbers d e t u → (d.honest ≡ true → KeepsElsewhere v d.flash e.flash) → KeepsPages (log_of d t) (log_of e u)
-  keeps_marked ready numbers elsewhere = record {
+  pub keeps_marked : IsReady e u → HandsOut d e t u → (d.honest ≡ true → KeepsElsewhere v d.flash e.flash) → KeepsPages (log_of d t) (log_of e u)
+  keeps_marked ready hands elsewhere = record {
     lasts = marks.lasts;
     ready = ready;
-    numbers = numbers;
+    numbers = hands.numbers;
     geometry = notes.sets.geometry;
     kept = marked_kept;
     unkept = marked_unkept;
     limits = λ (groups, seqs). (let same = notes.sets.next_group in omega (arith, same, groups), let same = notes.next_seq in omega (arith, same, seqs));
     newest = λ honest o k s other newest some. elsewhere honest o k s newest (λ is. let zero_there : (t.entry s.block).kept ≡ 0 = ap (λ b. (t.entry b).kept) is ∙ none in omega (arith, zero_there, some));
+    summaries = hands.truth.summaries;
+    found = found_marked v d e t result none marks;
+    erased = erased_marked v d e t u result (λ bad. let two : true ≡ false = sym bad ∙ good in absurd cc) marks notes;
   }
 
   same_failures : (r : Result (Unit {0}) Gone) → MarkEnds d e r → e.failures ≡ d.failures
@@ -176,7 +191,7 @@ module _ (v : ℕ) (d e : Device) (t u : Table) (result : Result (Unit {0}) Gone
   -- what a mark leaves of a block that was closed
   pub leaves_marked : IsReady e u → HandsOut d e t u → (d.honest ≡ true → KeepsElsewhere v d.flash e.flash) → t.open_block ≡ None → MayLose v t → Leaves (Unit {0}) v (log_of d t) (log_of e u)
   leaves_marked ready hands elsewhere closed first = record {
-    keeps = keeps_marked ready hands.numbers elsewhere;
+    keeps = keeps_marked ready hands elsewhere;
     checked = λ _. hands.truth.checked;
     reads = let same = same_failures result marks.ends in let reads = marks.reads in omega (arith, same, reads);
     open_block = notes.open_block ∙ closed;
@@ -237,7 +252,7 @@ module _ (spare : ℕ) (x : Index) (d e : Device) (t u : Table) (held : AreHeld 
   pub seals_from : (IsExact d x → StaysChecked (log_of d t) (log_of e u))
       → (d.honest ≡ true → (s : ℕ) (objects : Objects) → ShowsExactly d.geometry d.flash (kept_pages x) s objects → ShowsExactly e.geometry e.flash (kept_pages x) s objects)
       → Seals spare x (log_of d t) (log_of e u)
-  seals_from checked shows = record { keeps = keeps; stands = stands_after; checked = checked; shows = shows; same_data = same_data; free = free }
+  seals_from checked shows = record { keeps = keeps; stands = stands_after; checked = checked; shows = shows; same_data = same_data; free = free; findable = findable_still spare d e t x held keeps.lasts stands keeps.found }
 
 -- nothing is done
 pub seals_here : (spare : ℕ) (x : Index) (d : Device) (t : Table) → IsReady d t → Stands spare d t x → Seals spare x (log_of d t) (log_of d t)
@@ -248,4 +263,5 @@ seals_here spare x d t ready stands = record {
   shows = λ honest s objects is. is;
   same_data = λ honest o c p bytes is has. has;
   free = λ honest leaves. leaves;
+  findable = findable_here d x;
 }

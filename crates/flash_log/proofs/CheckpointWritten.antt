@@ -1,5 +1,5 @@
 -- What the writing of a checkpoint's group leaves.
-use Rattle.std.proofs.Common.{◌≡◌, ◌≢◌, ◌<◌, ℕ, ◌+◌, ◌*◌, true, false, length, Some, None, Result, Ok, Err, refl, sym, ap, subst, ◌∙◌, arith, inl, inr}
+use Rattle.std.proofs.Common.{◌≤◌, ◌≡◌, ◌≢◌, ◌<◌, ℕ, ◌+◌, ◌*◌, true, false, length, Some, None, Result, Ok, Err, refl, sym, ap, subst, ◌∙◌, arith, inl, inr}
 use Rattle.std.proofs.lemmas.List.{length-map}
 use Rattle.volume_terms.specs.Rounding.{ceiling}
 use Rattle.volume_terms.specs.Sizes.{number_end}
@@ -14,6 +14,7 @@ use Rattle.flash_tree.specs.Groups.{Group, SameGroups, AllThere}
 use Rattle.flash_tree.specs.Keeping.{StaysNewest}
 use Rattle.flash_tree.specs.Newest.{Spot, IsNewest}
 use Rattle.flash_tree.specs.Slots.{check_object}
+use Rattle.flash_tree.specs.Truth.{KeepsSummaries}
 use Rattle.flash_tree.specs.laws.Added.{newest_other}
 use Rattle.flash_tree.specs.laws.Newest.{same_groups_keep}
 use Rattle.block_state.specs.Kept.{bad_count, unkept_count, SameCounts}
@@ -27,8 +28,11 @@ use Rattle.transactions.specs.declared.group.GroupFault.TheVariants as groups
 use Rattle.transactions.specs.Checking.{log_of, WritesCheckpoint, WritesGroup}
 use Rattle.transactions.specs.Groups.{next_group, AddsPages, GroupsAfter}
 use Rattle.transactions.specs.Ready.{IsReady}
+use Rattle.transactions.specs.Naming.{BeginsOther}
 use Rattle.transactions.specs.Written.{tag_in}
 use Rattle.transactions.specs.laws.Ready.{none_waits}
+use Rattle.flash_log.specs.Passing.{KeepsFound}
+use Rattle.flash_log.specs.laws.Found.{found_after, found_others}
 use Rattle.flash_log.specs.laws.Keeping.{limits_ends, same_ends}
 use Rattle.flash_log.specs.CheckpointKeeping.{KeepsPages}
 use Rattle.flash_log.specs.CheckpointListing.{kept_keys, check_entry}
@@ -36,6 +40,7 @@ use Rattle.flash_log.specs.CheckpointSource.{CanList, index_entries}
 use Rattle.flash_log.specs.CheckpointWriting.{Leaves, MayMark, ReadsSuspects}
 use Rattle.flash_log.specs.declared.checkpoint_source.Checks.{Checks}
 use Rattle.chunk_index.specs.Maps.{kept_pages}
+use Rattle.flash_log.specs.laws.Erased.{erased_noted, erased_written}
 use Rattle.flash_log.proofs.CheckpointNoting.{noted, ready_noted}
 
 -- so many entries take as many pages as the source has
@@ -59,10 +64,10 @@ module _ {T : Type 0} (pages : Ghosts T) (source : T) (d e : Device) (t u : Tabl
   -- the newest pages of other objects stay
   added_stays : d.honest ≡ true → AddsPages g name (pages.bytes source d.flash) d.flash e.flash → (o k : ℕ) (s : Spot) → o ≢ check_object → IsNewest d.flash o k s → StaysNewest d.flash e.flash o k s
   added_stays honest adds o k s other newest =
-      newest_other g (tag_in g name) (pages.bytes source d.flash) d.flash e.flash adds.group (group.grows honest) adds.pages o k s (other_object honest o k other) newest
+      newest_other g (tag_in g name) (pages.bytes source d.flash) d.flash e.flash adds.group (group.writes honest).grows adds.pages o k s (other_object honest o k other) newest
 
   same_stays : d.honest ≡ true → SameGroups d.flash e.flash → (o k : ℕ) (s : Spot) → IsNewest d.flash o k s → StaysNewest d.flash e.flash o k s
-  same_stays honest same o k s newest = same_groups_keep d.flash e.flash same (group.grows honest) o k s newest
+  same_stays honest same o k s newest = same_groups_keep d.flash e.flash same (group.writes honest).grows o k s newest
 
   stays : (honest : d.honest ≡ true) (r : Result Placed GroupFault) → GroupsAfter g name (pages.bytes source d.flash) d.flash e.flash r → (o k : ℕ) (s : Spot) → o ≢ check_object → IsNewest d.flash o k s → StaysNewest d.flash e.flash o k s
   stays honest (Ok placed) adds o k s other newest = added_stays honest adds o k s other newest
@@ -100,6 +105,20 @@ module _ {T : Type 0} (pages : Ghosts T) (source : T) (d e : Device) (t u : Tabl
   pub bad_same : bad_count u ≡ bad_count t
   bad_same = same_bad_count t u same
 
+  -- a checkpoint does not begin as a summary
+  begins_other : (honest : d.honest ≡ true) → 1 ≤ pages.count source → BeginsOther (name 0)
+  begins_other honest some object chunk =
+      let one : (name 0).key.chunk ≡ 1 + 0 = ap (λ (n : PageName). n.key.chunk) ((writes honest).names 0 some) in
+      omega (arith, one, chunk)
+
+  -- what is findable is so still
+  found_group : d.honest ≡ true → KeepsFound t d e
+  found_group honest =
+      let right : KeepsSummaries d e = group.summaries honest (λ some. begins_other honest some) in
+      found_after t d e block (pages.count source) name (pages.bytes source d.flash) ready opened honest lasts.geometry (group.writes honest) right
+      (λ adds. found_others t d e block (pages.count source) name (pages.bytes source d.flash) ready opened honest lasts.geometry (group.writes honest) right
+      (λ some. begins_other honest some) adds (λ o k other i lt object chunk. other_object honest o k other i lt object chunk)) result (group.groups honest block opened)
+
   -- what is kept, as the group leaves the table
   pub keeps_group : IsReady e u → t.next_group < number_end → KeepsPages (log_of d t) (log_of e u)
   keeps_group after less = record {
@@ -114,7 +133,18 @@ module _ {T : Type 0} (pages : Ghosts T) (source : T) (d e : Device) (t u : Tabl
         omega (arith, bad, unkept);
     limits = λ is. limits_ends (pages.count source) t u result group.table less is;
     newest = λ honest o k s other newest some. stays honest result (group.groups honest block opened) o k s other newest;
+    summaries = λ honest. group.summaries honest (λ some. begins_other honest some);
+    found = λ honest. found_group honest;
+    erased = erased_written d e t block (pages.count source) name (pages.bytes source d.flash) ready opened lasts group.writes u result (λ honest. group.groups honest block opened) group.table;
   }
+
+  -- nothing was written in the block before
+  blank_before : d.honest ≡ true → (t.entry block).next ≡ 0
+  blank_before honest =
+      let w = writes honest in
+      let both : Some w.block ≡ Some block = sym w.open_block ∙ opened in
+      let same : w.block ≡ block = cc in
+      ap (λ b. (t.entry b).next) (sym same) ∙ w.first
 
   -- and once the block is noted
   pub keeps_noted : (v : Table) → v ≡ noted block u → IsReady e u → t.next_group < number_end → KeepsPages (log_of d t) (log_of e v)
@@ -136,6 +166,10 @@ module _ {T : Type 0} (pages : Ghosts T) (source : T) (d e : Device) (t u : Tabl
         unkept = keeps.unkept;
         limits = keeps.limits;
         newest = keeps.newest;
+        summaries = keeps.summaries;
+        found = keeps.found;
+        erased = erased_noted d e t block (pages.count source) name (pages.bytes source d.flash) ready opened lasts group.writes u (noted block u) result
+            (λ honest. group.groups honest block opened) group.table blank_before refl;
       })
 
   -- the block may be marked then

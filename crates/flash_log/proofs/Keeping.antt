@@ -8,6 +8,8 @@ use Rattle.block_state.specs.Table.{Table}
 use Rattle.transactions.specs.declared.copies.CopyOf.{CopyOf}
 use Rattle.transactions.specs.Checking.{LogState}
 use Rattle.flash_log.specs.Copying.{KeepsCounts, KeepsKeptAt, KeepsDataAt, MayBeCopied, NewestAfterCopies, CopiesPages, StayOrLieApart}
+use Rattle.flash_log.specs.Passing.{KeepsFound}
+use Rattle.flash_log.specs.laws.Found.{found_on, places_at}
 use Rattle.flash_log.specs.laws.Keeping.{keeps_on}
 use Rattle.flash_log.specs.Standing.{HasVersion}
 use Rattle.flash_log.specs.declared.copying.Copied.{Copied}
@@ -75,10 +77,10 @@ may_later a b t u copies lasts rises kept stays may = record {
 }
 
 module _ (copies : List CopyOf) (a b : LogState) (keeps : KeepsCounts a.device b.device a.table b.table) (kept : a.device.honest ≡ true → KeepsKeptAt a.table a.device.flash b.device.flash)
-    (stored : a.device.honest ≡ true → KeepsDataAt a.table a.device.flash b.device.flash) where
+    (stored : a.device.honest ≡ true → KeepsDataAt a.table a.device.flash b.device.flash) (found : a.device.honest ≡ true → KeepsFound a.table a.device b.device) where
   -- a fault after a step that keeps what is newest where it is
   pub pages_kept : (fault : MoveFault) → CopiesPages copies a b (Err fault)
-  pages_kept fault = record { keeps = keeps; stored = stored; newest = λ honest power. kept honest; apart = λ honest. inl (kept honest) }
+  pages_kept fault = record { keeps = keeps; stored = stored; newest = λ honest power. kept honest; apart = λ honest. inl (kept honest); found = found }
 
   -- what becomes of pages that are copied after such a step
   pub pages_on : (c : LogState) (r : Result Copied MoveFault) → CopiesPages copies b c r → CopiesPages copies a c r
@@ -87,4 +89,5 @@ module _ (copies : List CopyOf) (a b : LogState) (keeps : KeepsCounts a.device b
     stored = λ honest. data_on a.table b.table keeps.kept a.device b.device c.device then.keeps.lasts (λ _. kept honest) (stored honest) (then.stored (keeps.lasts.honest ∙ honest));
     newest = λ honest power. newest_on a.table b.table keeps.kept keeps.numbers.numbers.groups_rise copies a.device.flash b.device.flash c.device.flash r (kept honest) (then.newest (keeps.lasts.honest ∙ honest) power);
     apart = λ honest. apart_on a.table b.table keeps.kept keeps.geometry copies a.device.flash b.device.flash c.device (kept honest) (then.apart (keeps.lasts.honest ∙ honest));
+    found = λ honest. found_on a.device b.device c.device a.table b.table keeps.kept (places_at a.table a.device.flash b.device.flash (kept honest)) (found honest) (then.found (keeps.lasts.honest ∙ honest));
   }

@@ -75,14 +75,14 @@ module _ (copies : List CopyOf) where
   module _ (once : (i j : ℕ) (x y : CopyOf) → slice_get copies i ≡ Some x → slice_get copies j ≡ Some y → x.name.key ≡ y.name.key → i ≡ j)
       (g : Group) (size : g.size ≡ length copies) where
     -- a page of the group has the key of its copy
-    key_is : (o c i : ℕ) → i < g.size → IsNamed (copy_name copies) o c i → (x : CopyOf) × (slice_get copies i ≡ Some x) × IsCopyOf x o c
+    pub key_is : (o c i : ℕ) → i < g.size → IsNamed (copy_name copies) o c i → (x : CopyOf) × (slice_get copies i ≡ Some x) × IsCopyOf x o c
     key_is o c i lt named =
         let there = slice_get_there copies i (omega (arith, size, lt)) in
         let name = name_is i there.0 there.1 in
         (there.0, there.1, (sym (ap (λ (n : PageName). n.key.object) name) ∙ named.object, sym (ap (λ (n : PageName). n.key.chunk) name) ∙ named.chunk))
 
     -- the key of a copy is that of no other
-    names_once : (o c i : ℕ) (x : CopyOf) → slice_get copies i ≡ Some x → IsCopyOf x o c → NamesOnce g (copy_name copies) o c i
+    pub names_once : (o c i : ℕ) (x : CopyOf) → slice_get copies i ≡ Some x → IsCopyOf x o c → NamesOnce g (copy_name copies) o c i
     names_once o c i x at is =
         let lt : i < length copies = slice_get_within copies i x at in
         record {

@@ -13,7 +13,9 @@ use Rattle.transactions.specs.Handing.{HandsOut}
 use Rattle.transactions.specs.Marking.{NotesMark}
 use Rattle.transactions.specs.Ready.{IsReady}
 use Rattle.flash_log.specs.Copying.{KeepsCounts, KeepsKeptAt, KeepsDataAt}
+use Rattle.flash_log.specs.Erased.{KeepsErased}
 use Rattle.flash_log.specs.Standing.{IsWithinLimits}
+use Rattle.flash_log.specs.laws.Erased.{erased_marked}
 use Rattle.flash_log.specs.laws.Keeping.{keeps_same}
 use Rattle.flash_log.specs.laws.KeptPages.{kept_where, data_where}
 
@@ -45,6 +47,9 @@ module _ (v : ℕ) (d0 d1 : Device) (t u : Table) (result : Result (Unit {0}) Go
   -- a mark of a block without a kept page
   pub keeps_marked : IsReady d0 t → IsReady d1 u → HandsOut d0 d1 t u → KeepsCounts d0 d1 t u
   keeps_marked was ready numbers = go (cases_Bool (t.entry v).bad) (cases_Bool (d1.flash.bad v)) where
+    erased : KeepsErased d0 d1 t u
+    erased = erased_marked v d0 d1 t u result (λ bad. marks.lasts.marks v (sym (was.marks v) ∙ bad)) marks notes
+
     limits : IsWithinLimits t → IsWithinLimits u
     limits (groups, seqs) = (let same = notes.sets.next_group in omega (arith, same, groups), let same = notes.next_seq in omega (arith, same, seqs))
 
@@ -75,12 +80,13 @@ module _ (v : ℕ) (d0 d1 : Device) (t u : Table) (result : Result (Unit {0}) Go
           unkept = omega (arith, more, less);
           rises = omega (arith, more);
           limits = limits;
+          erased = erased;
         }
 
     go : ((t.entry v).bad ≡ true) ⊎ ((t.entry v).bad ≡ false) → (d1.flash.bad v ≡ true) ⊎ (d1.flash.bad v ≡ false) → KeepsCounts d0 d1 t u
-    go (inl bad) now = keeps_same d0 d1 t u (marked_same (here ∙ marks.lasts.marks v (sym (was.marks v) ∙ bad) ∙ sym bad)) marks.lasts ready numbers limits
+    go (inl bad) now = keeps_same d0 d1 t u (marked_same (here ∙ marks.lasts.marks v (sym (was.marks v) ∙ bad) ∙ sym bad)) marks.lasts ready numbers limits erased
     go (inr good) (inl is) = set good is
-    go (inr good) (inr is) = keeps_same d0 d1 t u (marked_same (here ∙ is ∙ sym good)) marks.lasts ready numbers limits
+    go (inr good) (inr is) = keeps_same d0 d1 t u (marked_same (here ∙ is ∙ sym good)) marks.lasts ready numbers limits erased
 
   -- at most one more is bad
   pub one_more_bad : IsReady d0 t → bad_count u ≤ bad_count t + 1

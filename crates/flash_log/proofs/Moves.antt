@@ -4,7 +4,9 @@ use Rattle.std.proofs.lemmas.Bool.{cases_Bool, cases_eq}
 use Rattle.std.proofs.lemmas.Bool.Decides.{nat_tests}
 use Rattle.std.proofs.lemmas.Option.{slice_get_within}
 use Rattle.volume_terms.specs.laws.List.{slice_get_there}
+use Rattle.nand_model.specs.Flash.{Erased, Written}
 use Rattle.nand_model.specs.Calls.{Device}
+use Rattle.page_tags.specs.Tags.{tag_bytes}
 use Rattle.nand_model.specs.declared.geometry.Geometry.{Geometry}
 use Rattle.block_state.specs.Counting.{how_many, sum_below}
 use Rattle.block_state.specs.Kept.{bad_count, unkept_count, kept_count, is_unkept}
@@ -15,7 +17,8 @@ use Rattle.chunk_index.specs.declared.index.Index.{Index}
 use Rattle.chunk_index.specs.Maps.{kept_pages, CountsAgree}
 use Rattle.flash_tree.specs.Newest.{IsNewest}
 use Rattle.flash_tree.specs.Numbering.{AreBelow}
-use Rattle.transactions.specs.Ready.{IsReady}
+use Rattle.flash_tree.specs.Summaries.{BeginsErased}
+use Rattle.transactions.specs.Ready.{IsReady, IsWrittenInOrder}
 use Rattle.transactions.specs.laws.Handing.{hands_same}
 use Rattle.transactions.specs.Sources.{IsPageName}
 use Rattle.transactions.specs.declared.source.PageName.{PageName}
@@ -35,6 +38,10 @@ use Rattle.flash_log.specs.laws.Steps.{moves_kept_out}
 use Rattle.transactions.specs.Checking.{log_of}
 use Rattle.flash_log.specs.declared.copying.Target.{Target}
 use Rattle.flash_log.proofs.KeptPages.{listed_or_not, name_is}
+use Rattle.flash_log.specs.Passing.{KeepsFound}
+use Rattle.flash_log.specs.Erased.{KeepsErased}
+use Rattle.flash_log.specs.laws.Erased.{LeavesBlank, knows_as}
+use Rattle.flash_log.specs.laws.Found.{findable_moved, findable_still}
 use Rattle.flash_log.specs.laws.FreeBlocks.{free_where_stands}
 use Rattle.flash_tree.specs.laws.Place.{had_power}
 use Rattle.flash_log.specs.laws.Moves.{same_kept_sum, may_lie_later, same_data}
@@ -280,7 +287,10 @@ module _ (spare v : ℕ) (target : Target) (d0 d1 : Device) (t0 t1 t2 : Table) (
           good = was.good;
           next = was.next ∙ ap Some (sym next);
           pages = let pages = was.pages in omega (arith, next, pages);
-          seq = (let one = was.seq.0 in omega (arith, seq, one), let below = was.seq.1 in omega (arith, seq, next_seq, below));
+          seq = (let one = was.seq.0 in omega (arith, seq, one), let last = was.seq.1 in omega (arith, seq, next_seq, last));
+          in_order = λ honest.
+              subst (λ n. IsWrittenInOrder d1.flash o n (t2.entry o).seq) (sym next)
+              (subst (λ s. IsWrittenInOrder d1.flash o (t1.entry o).next s) (sym seq) (was.in_order honest));
         };
     waits = λ k noted. let two : None ≡ Some k = sym none_noted ∙ noted in absurd cc;
     numbers = (let group = tells.counts.next_group in let one = ready.numbers.0 in omega (arith, group, one), let seq = tells.counts.next_seq in let one = ready.numbers.1 in omega (arith, seq, one));
@@ -291,8 +301,45 @@ module _ (spare v : ℕ) (target : Target) (d0 d1 : Device) (t0 t1 t2 : Table) (
   free_moved : AreHeld t2 y → d1.gone ≡ false → KeepsFree spare d0 d1 x y
   free_moved there power honest free = free_where_stands spare d1 t2 y (ready_told keeps.ready) there (stands_moved keeps.ready) (keeps.lasts.honest ∙ honest) power
 
-  pub step_moved : AreHeld t2 y → d1.gone ≡ false → (d0.honest ≡ true → KeepsDataAt t0 d0.flash d1.flash) → Step spare (log_of d0 t0) (log_of d1 t2) x y
-  step_moved there power stays = record {
+  some_copy : (x0 : CopyOf) × (slice_get copies 0 ≡ Some x0)
+  some_copy = slice_get_there copies 0 (let count = listed.count in let some = listed.some in omega (arith, count, some))
+
+  -- no block begins erased in which a copy was made
+  kept_erased : d0.honest ≡ true → d1.gone ≡ false → (b : ℕ) → BeginsErased d1.flash b → (t1.entry b).kept ≡ 0 → (t2.entry b).kept ≡ 0
+  kept_erased honest power b begins none = elim (cases_eq b v) [
+    | inl e ↦
+        let less = tells.counts.here in
+        let was : (t1.entry v).kept ≡ 0 = ap (λ k. (t1.entry k).kept) (sym e) ∙ none in
+        let now : (t2.entry b).kept ≡ (t2.entry v).kept = ap (λ k. (t2.entry k).kept) e in
+        omega (arith, less, was, now)
+    | inr nv ↦ elim (cases_eq b target.block) [
+      | inr nw ↦ tells.counts.elsewhere b nv nw ∙ none
+      | inl e ↦
+          let x0 = some_copy in
+          let at = (newest honest power).made.copied 0 x0.0 x0.1 in
+          let has = at.newest.holds.has in
+          let two : Erased ≡ Written has.bytes (tag_bytes at.tag) = sym begins.1 ∙ ap (λ k. d1.flash.page k 0) e ∙ has.page in
+          absurd cc
+    ]
+  ]
+
+  erased_moved : d1.gone ≡ false → KeepsErased d0 d1 t0 t2
+  erased_moved power honest was =
+      let after = keeps.erased honest was in
+      record { first = after.first; known = λ _. knows_as d1.flash t1 t2 (leaves honest) (after.known power) } where
+        leaves : d0.honest ≡ true → LeavesBlank d1.flash t1 t2
+        leaves honest = record {
+          geometry = tells.counts.geometry;
+          next = tells.counts.next;
+          seq = tells.counts.seq;
+          kept = kept_erased honest power;
+          marks = λ b bad. tells.counts.bad b ∙ bad;
+          noted = λ c is. sym tells.counts.checkpoint ∙ is;
+          opened = λ o is. sym tells.counts.open_block ∙ is;
+        }
+
+  pub step_moved : AreHeld t2 y → d1.gone ≡ false → (d0.honest ≡ true → KeepsDataAt t0 d0.flash d1.flash) → (d0.honest ≡ true → KeepsFound t0 d0 d1) → Step spare (log_of d0 t0) (log_of d1 t2) x y
+  step_moved there power stays found = record {
     lasts = keeps.lasts;
     ready = ready_told keeps.ready;
     stands = stands_moved keeps.ready;
@@ -303,6 +350,8 @@ module _ (spare v : ℕ) (target : Target) (d0 d1 : Device) (t0 t1 t2 : Table) (
     index = moves_kept_out v x y moves_out;
     same_data = same_data spare d0 d1 t0 t1 x held keeps stands stays;
     free = free_moved there power;
+    findable = findable_moved d0 d1 x y (moves_kept_out v x y moves_out) (findable_still spare d0 d1 t0 x held keeps.lasts stands found);
+    erased = erased_moved power;
   }
 
   -- what the copies cost, where so many failures are left unanswered

@@ -3,8 +3,9 @@ use Rattle.std.specs.Prelude.{◌≡◌, ◌≢◌, ◌⊎◌, ◌<◌, ◌≤�
 use Rattle.std.proofs.Common.{refl, sym, ◌∙◌, ap, subst, inl, inr, arith}
 use Rattle.std.proofs.lemmas.Bool.{cases_Bool, cases_eq}
 use Rattle.nand_model.specs.Flash.{Flash}
-use Rattle.nand_model.specs.Calls.{Device, Lasts, Marks}
+use Rattle.nand_model.specs.Calls.{Device, Erases, Lasts, Marks}
 use Rattle.nand_model.specs.declared.geometry.Geometry.{Geometry}
+use Rattle.nand_model.specs.declared.nand.EraseFault.{EraseFault}
 use Rattle.nand_model.specs.declared.nand.Gone.{Gone}
 use Rattle.flash_tree.specs.Keeping.{KeepsElsewhere}
 use Rattle.flash_tree.specs.laws.Newest.{stays_on}
@@ -15,8 +16,11 @@ use Rattle.block_state.specs.Table.{Table, Sets}
 use Rattle.transactions.specs.Marking.{NotesMark}
 use Rattle.transactions.specs.Opening.{Opens}
 use Rattle.flash_tree.specs.Numbering.{AreBelow}
-use Rattle.flash_log.specs.Passing.{KeepsKept, Passes}
+use Rattle.flash_log.specs.Erased.{KeepsErased}
+use Rattle.flash_log.specs.Passing.{KeepsFound, KeepsKept, Passes}
 use Rattle.flash_log.specs.Taking.{Takes, TakesNone}
+use Rattle.flash_log.specs.laws.Erased.{erased_as, erased_on, leaves_closed}
+use Rattle.flash_log.specs.laws.Found.{found_erased, found_here, found_marked, found_on, places_kept}
 
 -- a block without a kept page has none that is kept
 keeps_kept : (b : ℕ) (t : Table) (old new : Flash) → (t.entry b).kept ≡ 0 → KeepsElsewhere b old new → KeepsKept t old new
@@ -38,12 +42,14 @@ passes_on a b c t u v lasts first then = record {
       let stays = first.newest honest o c' s newest some in
       stays_on a.flash b.flash c.flash o c' s stays
       (then.newest (lasts.honest ∙ honest) o c' s stays.newest (subst (λ n. 1 ≤ n) (sym (first.kept s.block)) some));
+  found = λ honest. found_on a b c t u first.kept (places_kept t a.flash b.flash (first.newest honest)) (first.found honest) (then.found (lasts.honest ∙ honest));
+  erased = erased_on a b c t u v lasts.honest first.erased then.erased;
 }
 
 -- where marks and counts are the same
 pub passes_same : (old new : Device) (t t' : Table) → SameCounts t t' → t'.next_group ≡ t.next_group → (t.next_seq ≤ 2 ^ 62 → t'.next_seq ≤ 2 ^ 62)
-    → old.failures ≤ new.failures → (old.honest ≡ true → KeepsKept t old.flash new.flash) → Passes old new t t'
-passes_same old new t t' same group limit failures newest =
+    → old.failures ≤ new.failures → (old.honest ≡ true → KeepsKept t old.flash new.flash) → (old.honest ≡ true → KeepsFound t old new) → KeepsErased old new t t' → Passes old new t t'
+passes_same old new t t' same group limit failures newest found erased =
     let bad : bad_count t' ≡ bad_count t = same_bad_count t t' same in
     let unkept : unkept_count t' ≡ unkept_count t = same_unkept_count t t' same in
     record {
@@ -56,6 +62,8 @@ passes_same old new t t' same group limit failures newest =
       failures = omega (arith, bad, failures);
       unkept = omega (arith, bad, unkept);
       newest = newest;
+      found = found;
+      erased = erased;
     }
 
 -- no block is open any longer
@@ -67,16 +75,21 @@ passes_closed d t t' is =
     (λ le. let seq = ap (λ (x : Table). x.next_seq) is in omega (arith, seq, le))
     (omega arith)
     (λ _ o c s newest some. record { newest = newest; page = refl })
+    (λ _. found_here t d)
+    (erased_as d t t' (leaves_closed d.flash t t' (ap (λ (x : Table). x.entry) is) (ap (λ (x : Table). x.geometry) is) (ap (λ (x : Table). x.checkpoint) is) (ap (λ (x : Table). x.open_block) is)))
 
 -- an erase of a block without a kept page
-pub passes_erased : (b : ℕ) (old new : Device) (t t' : Table) → t' ≡ t → (t.entry b).kept ≡ 0 → Lasts old new → (old.honest ≡ true → KeepsElsewhere b old.flash new.flash) → Passes old new t t'
-passes_erased b old new t t' is none lasts keeps =
+pub passes_erased : (b : ℕ) (old new : Device) (t t' : Table) (result : Result (Unit {0}) EraseFault) → t' ≡ t → (t.entry b).kept ≡ 0 → Erases b old new result
+    → (old.honest ≡ true → KeepsElsewhere b old.flash new.flash) → KeepsErased old new t t' → Passes old new t t'
+passes_erased b old new t t' result is none erases keeps erased =
     passes_same old new t t'
     (record { bad = λ k. ap (λ (x : Table). (x.entry k).bad) is; kept = λ k. ap (λ (x : Table). (x.entry k).kept) is; geometry = ap (λ (x : Table). x.geometry) is })
     (ap (λ (x : Table). x.next_group) is)
     (λ le. let seq = ap (λ (x : Table). x.next_seq) is in omega (arith, seq, le))
-    lasts.failures
+    erases.lasts.failures
     (λ honest. keeps_kept b t old.flash new.flash none (keeps honest))
+    (found_erased b old new t result none erases)
+    erased
 
 -- its opening changes no count
 pub same_opened : (b : ℕ) (t t' : Table) → Opens b t t' → SameCounts t t'
@@ -92,25 +105,32 @@ same_opened b t t' opens = record {
   geometry = opens.sets.geometry;
 }
 
--- and nothing that is kept
-pub passes_opened : (b : ℕ) (d : Device) (t t' : Table) → t.next_seq < 2 ^ 62 → Opens b t t' → Passes d d t t'
-passes_opened b d t t' less opens =
-    passes_same d d t t'
+-- and nothing that is kept, once it is erased
+pub passes_opened : (b : ℕ) (old new : Device) (t t' : Table) (result : Result (Unit {0}) EraseFault) → t.next_seq < 2 ^ 62 → (t.entry b).kept ≡ 0 → Erases b old new result
+    → (old.honest ≡ true → KeepsElsewhere b old.flash new.flash) → Opens b t t' → KeepsErased old new t t' → Passes old new t t'
+passes_opened b old new t t' result less none erases keeps opens erased =
+    passes_same old new t t'
     (same_opened b t t' opens)
     opens.sets.next_group
     (λ _. let seq = opens.next_seq in omega (arith, seq, less))
-    (omega arith)
-    (λ _ o c s newest some. record { newest = newest; page = refl })
+    erases.lasts.failures
+    (λ honest. keeps_kept b t old.flash new.flash none (keeps honest))
+    (found_erased b old new t result none erases)
+    erased
 
 -- a mark of a block without a kept page, after a failure of it
 pub passes_marked : (b : ℕ) (old mid new : Device) (t t' : Table) (result : Result (Unit {0}) Gone) → b < t.geometry.blocks → (t.entry b).bad ≡ false → (t.entry b).kept ≡ 0
-    → Lasts old mid → old.failures + 1 ≤ mid.failures → (old.honest ≡ true → KeepsElsewhere b old.flash mid.flash)
-    → Marks b mid new result → (mid.honest ≡ true → KeepsElsewhere b mid.flash new.flash) → NotesMark b new.flash t t' → Passes old new t t'
-passes_marked b old mid new t t' result within good none lasts failed erased marks marked notes = go (cases_Bool (new.flash.bad b)) where
+    → Lasts old mid → old.failures + 1 ≤ mid.failures → (old.honest ≡ true → KeepsElsewhere b old.flash mid.flash) → (old.honest ≡ true → KeepsFound t old mid)
+    → Marks b mid new result → (mid.honest ≡ true → KeepsElsewhere b mid.flash new.flash) → NotesMark b new.flash t t' → KeepsErased old new t t' → Passes old new t t'
+passes_marked b old mid new t t' result within good none lasts failed erased before marks marked notes tracked = go (cases_Bool (new.flash.bad b)) where
   newest : old.honest ≡ true → KeepsKept t old.flash new.flash
   newest honest o c s is some =
       let stays = keeps_kept b t old.flash mid.flash none (erased honest) o c s is some in
       stays_on old.flash mid.flash new.flash o c s stays (keeps_kept b t mid.flash new.flash none (marked (lasts.honest ∙ honest)) o c s stays.newest some)
+
+  found : old.honest ≡ true → KeepsFound t old new
+  found honest = found_on old mid new t t (λ k. refl) (places_kept t old.flash mid.flash (keeps_kept b t old.flash mid.flash none (erased honest))) (before honest)
+      (found_marked b mid new t result none marks (lasts.honest ∙ honest))
 
   kept : (k : ℕ) → (t'.entry k).kept ≡ (t.entry k).kept
   kept k = elim (cases_eq k b) [
@@ -151,6 +171,8 @@ passes_marked b old mid new t t' result within good none lasts failed erased mar
         failures = omega (arith, more, failed, marks.lasts.failures);
         unkept = omega (arith, more, less);
         newest = newest;
+        found = found;
+        erased = tracked;
       }
 
   -- the power went before it was
@@ -169,6 +191,8 @@ passes_marked b old mid new t t' result within good none lasts failed erased mar
       (λ le. let seq = notes.next_seq in omega (arith, seq, le))
       (omega (arith, failed, marks.lasts.failures))
       newest
+      found
+      tracked
 
   go : (new.flash.bad b ≡ true) ⊎ (new.flash.bad b ≡ false) → Passes old new t t'
   go (inl is) = set is

@@ -19,6 +19,7 @@ use Rattle.flash_log.specs.Bills.{PaysEmptying, PaysOut}
 use Rattle.flash_log.specs.Moving.{LiesIn, IsAway}
 use Rattle.flash_log.specs.Standing.{AreHeld, Stands}
 use Rattle.flash_log.specs.Steps.{Step}
+use Rattle.flash_log.specs.laws.Found.{found_marked}
 use Rattle.flash_log.specs.laws.FreeBlocks.{free_still}
 use Rattle.flash_log.specs.laws.Keeping.{bad_rises}
 use Rattle.flash_log.specs.laws.Moves.{are_held, stands_still}
@@ -79,7 +80,7 @@ module _ (spare v : ℕ) (d1 d2 d3 : Device) (t1 t2 t3 : Table) (x y : Index) (g
 
   pub step_marked : Step spare (log_of d1 t1) (log_of d3 t3) x y
   step_marked = step_on spare (log_of d1 t1) (log_of d2 t2) (log_of d3 t3) x y y step
-      (step_kept spare d2 d3 t2 t3 y held keeps step.stands stands_marked (λ honest. (kept_marked v d2 d3 t2 t3 gone inside empty marks notes honest (newest honest)).1)
+      (step_kept spare d2 d3 t2 t3 y held keeps step.stands stands_marked (λ honest. (kept_marked v d2 d3 t2 t3 gone inside empty marks notes honest (newest honest)).1) (found_marked v d2 d3 t2 gone empty marks)
       (free_still spare d2 d3 t2 t3 y held keeps step.stands stands_marked.tables (λ honest. (kept_marked v d2 d3 t2 t3 gone inside empty marks notes honest (newest honest)).0)))
 
   bad_marked : bad_count t3 ≤ bad_count t2 + 1

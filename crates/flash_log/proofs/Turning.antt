@@ -1,15 +1,18 @@
 -- Whose turn it is.
 use Rattle.std.proofs.Common.{◌≡◌, ◌≢◌, ◌<◌, ◌∙◌, if◌then◌else◌, ℕ, true, false, not, ◌&&◌, nat_eq, Option, Some, None, refl, sym, ap, subst, inl, inr, arith}
-use Rattle.std.proofs.lemmas.Bool.{cases_eq}
+use Rattle.std.proofs.lemmas.Bool.{cases_eq, cases_lt}
 use Rattle.nand_model.specs.Flash.{Flash}
 use Rattle.nand_model.specs.Calls.{Device}
 use Rattle.nand_model.specs.declared.geometry.Geometry.{Geometry}
 use Rattle.block_state.specs.declared.blocks.BlockEntry.{BlockEntry}
-use Rattle.block_state.specs.Table.{Table, IsNextFree, IsNextTaken, is_free, is_open, other_than}
+use Rattle.block_state.specs.Table.{Table, IsNextFree, IsNextTaken, is_free, is_open, other_than, turn_of}
 use Rattle.block_state.specs.laws.Checkpoint.{other_is_other}
 use Rattle.transactions.specs.Marking.{NotesMark}
 use Rattle.transactions.specs.Opening.{MayLose, Opens}
 use Rattle.transactions.specs.Ready.{IsReady}
+use Rattle.flash_tree.specs.Summarizing.{GoesFirst}
+use Rattle.flash_log.proofs.Free.{was_unkept}
+use Rattle.flash_log.specs.Erased.{KnowsErased}
 use Rattle.flash_log.specs.Passing.{Passes}
 use Rattle.flash_log.specs.Taking.{CouldBeTaken, IsItsTurn, LiesApart, NoneGoesFirst, SameTurns}
 
@@ -38,7 +41,7 @@ pub opened_in_turn : (b : ℕ) (d : Device) (t u : Table) → IsReady d t → Li
 opened_in_turn b d t u ready apart closed next opens = record {
   first = λ c is good. next.first c is (first_is_free d t c ready apart is);
   oldest = λ none k could. elim (cases_eq k b) [
-    | inl is ↦ let same : (t.entry k).seq ≡ (t.entry b).seq = ap (λ n. (t.entry n).seq) is in omega (arith, same)
+    | inl is ↦ let same : turn_of (t.entry k) ≡ turn_of (t.entry b) = ap (λ n. turn_of (t.entry n)) is in omega (arith, same)
     | inr ne ↦ (turn none).oldest k could.within (free k could ne)
   ];
   lowest = λ none k could as_long. elim (cases_eq k b) [
@@ -67,10 +70,10 @@ turn_from b old mid end t u v passes later same turn = record {
     | inr bad ↦ let two : true ≡ false = sym (later.marks_stay c bad) ∙ good in absurd cc
   ];
   oldest = λ none k could.
-      let here : (u.entry b).seq ≡ (t.entry b).seq = same.seqs b in
-      let there : (u.entry k).seq ≡ (t.entry k).seq = same.seqs k in
+      let here : turn_of (u.entry b) ≡ turn_of (t.entry b) = same.turns b in
+      let there : turn_of (u.entry k) ≡ turn_of (t.entry k) = same.turns k in
       omega (arith, turn.oldest (λ c is. none c (same.from c is)) k (after k could), here, there);
-  lowest = λ none k could as_long. turn.lowest (λ c is. none c (same.from c is)) k (after k could) (same.seqs k ∙ as_long ∙ sym (same.seqs b));
+  lowest = λ none k could as_long. turn.lowest (λ c is. none c (same.from c is)) k (after k could) (same.turns k ∙ as_long ∙ sym (same.turns b));
 }
   where
     after : (k : ℕ) → CouldBeTaken t v k → CouldBeTaken u v k
@@ -83,7 +86,7 @@ turn_from b old mid end t u v passes later same turn = record {
 -- turns in turn
 pub same_turns_on : (t u v : Table) → ((b : ℕ) → (u.entry b).bad ≡ true → (v.entry b).bad ≡ true) → SameTurns t u → SameTurns u v → SameTurns t v
 same_turns_on t u v marks same next = record {
-  seqs = λ b. next.seqs b ∙ same.seqs b;
+  turns = λ b. next.turns b ∙ same.turns b;
   noted = λ c is. elim (same.noted c is) [ inl still ↦ next.noted c still | inr bad ↦ inr (marks c bad) ];
   from = λ c is. same.from c (next.from c is);
 }
@@ -91,22 +94,22 @@ same_turns_on t u v marks same next = record {
 -- no block is open any longer
 pub same_turns_closed : (t u : Table) → u ≡ record t { open_block = None } → SameTurns t u
 same_turns_closed t u is = record {
-  seqs = λ b. ap (λ (x : Table). (x.entry b).seq) is;
+  turns = λ b. ap (λ (x : Table). turn_of (x.entry b)) is;
   noted = λ c was. inl (ap (λ (x : Table). x.checkpoint) is ∙ was);
   from = λ c now. sym (ap (λ (x : Table). x.checkpoint) is) ∙ now;
 }
 
--- the mark of a block leaves the numbers of blocks
-seqs_marked : (b : ℕ) (flash : Flash) (t u : Table) → NotesMark b flash t u → (k : ℕ) → (u.entry k).seq ≡ (t.entry k).seq
-seqs_marked b flash t u notes k = elim (cases_eq k b) [
-  | inl is ↦ ap (λ n. (u.entry n).seq) is ∙ ap (λ (e : BlockEntry). e.seq) notes.sets.here ∙ sym (ap (λ n. (t.entry n).seq) is)
-  | inr ne ↦ ap (λ (e : BlockEntry). e.seq) (notes.sets.others k ne)
+-- the mark of a block leaves the turns of blocks
+turns_stay : (b : ℕ) (flash : Flash) (t u : Table) → NotesMark b flash t u → (k : ℕ) → turn_of (u.entry k) ≡ turn_of (t.entry k)
+turns_stay b flash t u notes k = elim (cases_eq k b) [
+  | inl is ↦ ap (λ n. turn_of (u.entry n)) is ∙ ap (λ (e : BlockEntry). turn_of e) notes.sets.here ∙ sym (ap (λ n. turn_of (t.entry n)) is)
+  | inr ne ↦ ap (λ (e : BlockEntry). turn_of e) (notes.sets.others k ne)
 ]
 
 -- the mark of a block that may have the checkpoint leaves the turns
 pub turns_marked : (b : ℕ) (flash : Flash) (t u : Table) → NotesMark b flash t u → flash.bad b ≡ true → SameTurns t u
 turns_marked b flash t u notes bad = record {
-  seqs = seqs_marked b flash t u notes;
+  turns = turns_stay b flash t u notes;
   noted = λ c is. elim (cases_eq c b) [
     | inl at ↦ inr (ap (λ n. (u.entry n).bad) at ∙ ap (λ (e : BlockEntry). e.bad) notes.sets.here ∙ bad)
     | inr ne ↦ inl (now ∙ ap (other_than b) is ∙ left c ne)
@@ -118,3 +121,43 @@ turns_marked b flash t u notes bad = record {
 
   left : (k : ℕ) → k ≢ b → other_than b (Some k) ≡ Some k
   left k ne = grind (arith, ne)
+
+-- the block that is allocated next goes first of those that begin erased
+pub goes_next : (d : Device) (t : Table) (b : ℕ) → IsReady d t → LiesApart t → t.open_block ≡ None → IsNextTaken t t.geometry.blocks b → KnowsErased d.flash t → GoesFirst d.flash b
+goes_next d t b ready apart closed next knows = go t.checkpoint refl where
+  in_turn : IsNextFree t t.geometry.blocks b → GoesFirst d.flash b
+  in_turn turn k ne begins = elim (cases_lt k t.geometry.blocks) [
+    | inr out ↦ let within = turn.within in (
+      omega (arith, out, within),
+      λ l u has. let at = knows.torn k l u begins has in let inside = at.within in absurd (omega (arith, out, inside)),
+    )
+    | inl inside ↦
+        let was = knows.unwritten k inside begins in
+        let free = free_if t k closed (ready.marks k ∙ begins.0) was.kept in
+        let at_once : turn_of (t.entry k) ≡ 0 = ap (λ n. if nat_eq n 0 then 0 else (t.entry k).seq) was.next in
+        let older = turn.oldest k inside free in
+        let here : turn_of (t.entry b) ≡ 0 = omega (arith, at_once, older) in
+        let le = turn.lowest k inside free (at_once ∙ sym here) in (
+          omega (arith, le, ne),
+          λ l u has.
+              let le' = (knows.torn k l u begins has).lowest b (record { within = turn.within; good = (was_unkept t b turn.free).0; next = unwritten here }) in
+              absurd (omega (arith, le, le', ne)),
+        )
+  ] where
+    -- a block that comes at once has no page that was programmed
+    unwritten : turn_of (t.entry b) ≡ 0 → (t.entry b).next ≡ 0
+    unwritten here = elim (cases_eq (t.entry b).next 0) [
+      | inl none ↦ none
+      | inr some ↦
+          let age = knows.aged b (omega (arith, some)) in
+          let at : turn_of (t.entry b) ≡ (t.entry b).seq = grind (arith, some) in
+          absurd (omega (arith, at, here, age))
+    ]
+
+  go : (x : Option ℕ) → t.checkpoint ≡ x → GoesFirst d.flash b
+  go (Some c) is = subst (GoesFirst d.flash) (sym (next.first c is (first_is_free d t c ready apart is))) (knows.noted c is)
+  go None is = in_turn (next.turn (λ c at. let two : None ≡ Some c = sym is ∙ at in absurd cc))
+
+-- and no other may have a checkpoint
+pub noted_next : (d : Device) (t : Table) (b : ℕ) → IsReady d t → LiesApart t → IsNextTaken t t.geometry.blocks b → (c : ℕ) → t.checkpoint ≡ Some c → c ≡ b
+noted_next d t b ready apart next c is = sym (next.first c is (first_is_free d t c ready apart is))

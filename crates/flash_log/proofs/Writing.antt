@@ -1,5 +1,5 @@
 -- What the writing of copies does, and what it costs.
-use Rattle.std.proofs.Common.{◌≡◌, ◌<◌, ◌≤◌, ℕ, ◌+◌, ◌-◌, ◌*◌, Bool, true, false, if◌then◌else◌, List, length, Result, Ok, Err, refl, sym, ap, subst, ◌∙◌, arith, inl, inr}
+use Rattle.std.proofs.Common.{◌≡◌, ◌⊎◌, ◌<◌, ◌≤◌, ℕ, ◌+◌, ◌-◌, ◌*◌, Bool, true, false, if◌then◌else◌, List, length, Result, Ok, Err, refl, sym, ap, subst, ◌∙◌, arith, inl, inr}
 use Rattle.std.proofs.Math.Nat.{mul-le-mul_left}
 use Rattle.std.proofs.lemmas.Result.{on_ok_weaker}
 use Rattle.volume_terms.specs.Sizes.{number_end}
@@ -10,16 +10,20 @@ use Rattle.nand_model.specs.declared.geometry.Geometry.{Geometry}
 use Rattle.nand_model.specs.declared.nand.Gone.{Gone}
 use Rattle.nand_model.specs.laws.Calls.{lasts_on}
 use Rattle.flash_tree.specs.Keeping.{KeepsElsewhere, KeepsNewest}
+use Rattle.flash_tree.specs.Summarizing.{NamesNot}
+use Rattle.flash_tree.specs.Truth.{KeepsSummaries}
 use Rattle.block_state.specs.Kept.{bad_count}
 use Rattle.block_state.specs.Table.{Table}
 use Rattle.transactions.specs.Checking.{LogState, log_of}
 use Rattle.transactions.specs.Copying.{copy_name, copy_bytes}
-use Rattle.transactions.specs.Groups.{GroupsAfter, TableEnds, next_group, closed}
+use Rattle.transactions.specs.Groups.{GroupsAfter, TableEnds, WritesOpen, next_group, closed}
 use Rattle.transactions.specs.Handing.{HandsOut}
 use Rattle.transactions.specs.Marking.{NotesMark}
+use Rattle.transactions.specs.Naming.{BeginsOther, NamesOnce}
 use Rattle.transactions.specs.Newest.{NewestAfter, ShowsGroup}
 use Rattle.flash_tree.specs.Numbering.{AreBelow}
 use Rattle.transactions.specs.Ready.{IsReady}
+use Rattle.transactions.specs.Written.{tag_in}
 use Rattle.transactions.specs.laws.Handing.{hands_on}
 use Rattle.transactions.specs.laws.Newest.{copies_come_last, newest_after}
 use Rattle.transactions.specs.declared.copies.CopyOf.{CopyOf}
@@ -28,7 +32,7 @@ use Rattle.transactions.specs.declared.group.GroupFault.{GroupFault}
 use Rattle.transactions.specs.declared.group.GroupFault.TheVariants as groups
 use Rattle.flash_log.specs.Bills.{PaysOneBlock, PaysWriting}
 use Rattle.flash_log.specs.Copying.{IsFresh, MayBeCopied, KeepsKeptAt, KeepsDataAt, AreWritten, StayOrLieApart, NewestAfterCopies, CopiesPages, CopiesEnd, left_open, most_changes, most_written}
-use Rattle.flash_log.specs.Passing.{Passes}
+use Rattle.flash_log.specs.Passing.{KeepsFound, Passes}
 use Rattle.flash_log.specs.Taking.{Takes, CostsATake}
 use Rattle.flash_log.specs.declared.copying.Copied.{Copied}
 use Rattle.flash_log.specs.declared.copying.Copied.TheVariants as ends
@@ -38,7 +42,9 @@ use Rattle.flash_log.specs.laws.Costs.{costs_taken, each_more}
 use Rattle.flash_log.specs.laws.Keeping.{keeps_passes, keeps_same, limits_ends, same_closed, same_ends}
 use Rattle.flash_log.proofs.Passing.{passes_marked}
 use Rattle.flash_log.specs.laws.KeptPages.{kept_where, data_where}
-use Rattle.flash_log.proofs.KeptPages.{is_of_copies, are_copied, data_copied, numbered_copies}
+use Rattle.flash_log.specs.laws.Erased.{erased_as, erased_marked, erased_on, erased_pages, erased_written, leaves_closed}
+use Rattle.flash_log.specs.laws.Found.{found_after, found_as, found_copied}
+use Rattle.flash_log.proofs.KeptPages.{is_of_copies, are_copied, data_copied, key_is, listed_or_not, names_once, numbered_copies}
 
 module _ (copies : List CopyOf) (w : ℕ) (d0 d1 : Device) (t : Table) (fresh : IsFresh w d0 t) (may : MayBeCopied d0 t copies) (honest : d0.honest ≡ true) (grows : Grows d0.flash d1.flash) where
   after : (r : Result Placed GroupFault) → GroupsAfter (next_group t (length copies) w) (copy_name copies) (copy_bytes copies d0.flash) d0.flash d1.flash r
@@ -105,15 +111,39 @@ module _ (copies : List CopyOf) (w : ℕ) (d0 d1 : Device) (t : Table) (fresh : 
   pub keeps_failed : GroupsAfter (next_group t (length copies) w) (copy_name copies) (copy_bytes copies d0.flash) d0.flash d1.flash (Err groups.Failed) → KeepsNewest d0.flash d1.flash
   keeps_failed counted = after (Err groups.Failed) counted
 
+-- what was findable by summaries is so still
+module _ (copies : List CopyOf) (w : ℕ) (d0 d1 : Device) (t : Table) (fresh : IsFresh w d0 t) (may : MayBeCopied d0 t copies) (honest : d0.honest ≡ true) (ready : IsReady d0 t)
+    (geometry : d1.geometry ≡ d0.geometry) (writes : WritesOpen t d0.flash d1.flash) (summaries : KeepsSummaries d0 d1) where
+  begins_other : 1 ≤ length copies → BeginsOther (copy_name copies 0)
+  begins_other some object chunk = may.ordinary honest 0 some object
+
+  each_key : (o c : ℕ) → NamesNot (next_group t (length copies) w) (tag_in (next_group t (length copies) w) (copy_name copies)) o c
+      ⊎ ((i : ℕ) × NamesOnce (next_group t (length copies) w) (copy_name copies) o c i)
+  each_key o c = elim (listed_or_not copies o c) [
+    | inl (i, x, at, is) ↦ inr (i, names_once copies may.once (next_group t (length copies) w) refl o c i x at is)
+    | inr none ↦ inl (λ i lt object chunk.
+        let its = key_is copies may.once (next_group t (length copies) w) refl o c i lt (record { object = object; chunk = chunk }) in
+        none i its.0 its.1 its.2)
+  ]
+
+  pub found_written : (r : Result Placed GroupFault) → GroupsAfter (next_group t (length copies) w) (copy_name copies) (copy_bytes copies d0.flash) d0.flash d1.flash r → KeepsFound t d0 d1
+  found_written = found_after t d0 d1 w (length copies) (copy_name copies) (copy_bytes copies d0.flash) ready fresh.open_block honest geometry writes summaries
+      (λ adds. found_copied t d0 d1 w (length copies) (copy_name copies) (copy_bytes copies d0.flash) ready fresh.open_block honest geometry writes summaries begins_other adds
+      (is_of_copies copies may.once (next_group t (length copies) w) refl d0.flash (may.newest honest fresh.power) fresh.number (fresh.below honest)) each_key)
+
 -- the block of copies that failed is passed over
 pub passes_failed : (copies : List CopyOf) (w : ℕ) (d0 d1 d2 : Device) (t t1 t2 : Table) (result : Result (Unit {0}) Gone) → IsFresh w d0 t → MayBeCopied d0 t copies
-    → Lasts d0 d1 → d1.failures ≡ d0.failures + 1 → (d0.honest ≡ true → Grows d0.flash d1.flash)
+    → IsReady d0 t → HandsOut d0 d1 t t1 → Lasts d0 d1 → d1.failures ≡ d0.failures + 1 → (d0.honest ≡ true → WritesOpen t d0.flash d1.flash)
     → (d0.honest ≡ true → GroupsAfter (next_group t (length copies) w) (copy_name copies) (copy_bytes copies d0.flash) d0.flash d1.flash (Err groups.Failed))
     → t1 ≡ closed t → Marks w d1 d2 result → (d1.honest ≡ true → KeepsElsewhere w d1.flash d2.flash) → NotesMark w d2.flash t1 t2 → Passes d0 d2 (closed t) t2
-passes_failed copies w d0 d1 d2 t t1 t2 result fresh may lasts failed grows groups is marks marked notes =
+passes_failed copies w d0 d1 d2 t t1 t2 result fresh may ready numbers lasts failed writes counted is marks marked notes =
     passes_marked w d0 d1 d2 (closed t) t2 result fresh.within fresh.good fresh.unkept lasts (omega (arith, failed))
-    (λ honest o c s newest apart. keeps_failed copies w d0 d1 t fresh may honest (grows honest) (groups honest) o c s newest)
+    (λ honest o c s newest apart. keeps_failed copies w d0 d1 t fresh may honest (writes honest).grows (counted honest) o c s newest)
+    (λ honest. found_as t (closed t) d0 d1 (λ k. refl) (found_written copies w d0 d1 t fresh may honest ready lasts.geometry (writes honest) (numbers.truth.summaries honest) (Err groups.Failed) (counted honest)))
     marks marked (subst (λ (x : Table). NotesMark w d2.flash x t2) is notes)
+    (erased_on d0 d1 d2 (closed t) (closed t) t2 lasts.honest
+    (erased_pages d0 d1 t w (length copies) (copy_name copies) (copy_bytes copies d0.flash) ready fresh.open_block lasts writes (closed t))
+    (erased_marked w d1 d2 (closed t) t2 result (λ bad. let two : true ≡ false = sym bad ∙ fresh.good in absurd cc) marks (subst (λ (x : Table). NotesMark w d2.flash x t2) is notes)))
 
 -- a block that was taken is fresh
 pub fresh_taken : (w : ℕ) (d0 d1 : Device) (t u : Table) → Passes d0 d1 t u → IsReady d1 u → Takes w d1 t u → d1.gone ≡ false → IsFresh w d1 u
@@ -134,14 +164,16 @@ module _ (copies : List CopyOf) (w : ℕ) (d0 d1 : Device) (t t1 : Table) (fresh
     (lasts : Lasts d0 d1) (numbers : HandsOut d0 d1 t t1) where
   -- where no block was marked
   pub pages_written : (r : Result Placed GroupFault) (result : Result Copied MoveFault) → IsReady d0 t → IsReady d1 t1 → TableEnds (length copies) t t1 r → d1.flash.bad ≡ d0.flash.bad
-      → (d0.honest ≡ true → Grows d0.flash d1.flash)
+      → (d0.honest ≡ true → WritesOpen t d0.flash d1.flash)
       → (d0.honest ≡ true → GroupsAfter (next_group t (length copies) w) (copy_name copies) (copy_bytes copies d0.flash) d0.flash d1.flash r)
       → (d0.honest ≡ true → d1.gone ≡ false → NewestAfterCopies copies t d0.flash d1.flash result) → CopiesPages copies (log_of d0 t) (log_of d1 t1) result
-  pages_written r result before ready ends bad grows groups newest = record {
-    keeps = keeps_same d0 d1 t t1 (same_ends (length copies) t t1 r ends) lasts ready numbers (limits_ends (length copies) t t1 r ends less);
-    stored = λ honest. data_written copies w d0 d1 t fresh may honest (grows honest) r (groups honest);
+  pages_written r result before ready ends bad writes groups newest = record {
+    keeps = keeps_same d0 d1 t t1 (same_ends (length copies) t t1 r ends) lasts ready numbers (limits_ends (length copies) t t1 r ends less)
+        (erased_written d0 d1 t w (length copies) (copy_name copies) (copy_bytes copies d0.flash) before fresh.open_block lasts writes t1 r groups ends);
+    stored = λ honest. data_written copies w d0 d1 t fresh may honest (writes honest).grows r (groups honest);
     newest = newest;
-    apart = λ honest. apart_written copies w d0 d1 t fresh may honest (grows honest) before bad r (groups honest);
+    apart = λ honest. apart_written copies w d0 d1 t fresh may honest (writes honest).grows before bad r (groups honest);
+    found = λ honest. found_written copies w d0 d1 t fresh may honest before lasts.geometry (writes honest) (numbers.truth.summaries honest) r (groups honest);
   }
 
   -- and where the block was marked, or was to be
@@ -149,10 +181,11 @@ module _ (copies : List CopyOf) (w : ℕ) (d0 d1 : Device) (t t1 : Table) (fresh
       → (KeepsKeptAt t d0.flash d2.flash → NewestAfterCopies copies t d0.flash d2.flash result) → CopiesPages copies (log_of d0 t) (log_of d2 t2) result
   pages_failed d2 t2 result passes marks after ready newest = record {
     keeps = keeps_passes d0 d2 t (closed t) t2 (same_closed t (closed t) refl) (lasts_on d0 d1 d2 lasts marks) ready (hands_on d0 d1 d2 t t1 t2 lasts marks numbers after)
-        (limits_ends (length copies) t (closed t) (Err groups.Failed) refl less) passes;
+        (limits_ends (length copies) t (closed t) (Err groups.Failed) refl less) (erased_as d0 t (closed t) (leaves_closed d0.flash t (closed t) refl refl refl refl)) passes;
     stored = λ honest. data_where d0.flash d2.flash (closed t) (passes.newest honest);
     newest = λ honest power. newest (kept_where d0.flash d2.flash (closed t) (passes.newest honest));
     apart = λ honest. inl (kept_where d0.flash d2.flash (closed t) (passes.newest honest));
+    found = λ honest. found_as (closed t) t d0 d2 (λ k. refl) (passes.found honest);
   }
 
 -- copies that were made cost their programs, and a last page that was said to fail is a failure

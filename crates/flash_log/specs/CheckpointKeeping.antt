@@ -10,6 +10,7 @@ use Rattle.flash_tree.specs.Keeping.{StaysNewest}
 use Rattle.flash_tree.specs.Mount.{sizes_of, IsVolume}
 use Rattle.flash_tree.specs.Newest.{Spot, IsNewest, HasNewest}
 use Rattle.flash_tree.specs.Slots.{check_object}
+use Rattle.flash_tree.specs.Truth.{KeepsSummaries}
 use Rattle.flash_tree.specs.Tree.{Shows, InFootprint}
 use Rattle.block_state.specs.Kept.{bad_count, unkept_count}
 use Rattle.block_state.specs.Table.{Table}
@@ -18,7 +19,9 @@ use Rattle.chunk_index.specs.Maps.{KeptMap, kept_pages}
 use Rattle.transactions.specs.Checking.{LogState}
 use Rattle.transactions.specs.Handing.{HandsNumbers}
 use Rattle.transactions.specs.Ready.{IsReady}
-use Rattle.flash_log.specs.Standing.{IsKept, IsWithinLimits, KeepsFree, SameData, Stands}
+use Rattle.flash_log.specs.Standing.{IsKept, IsWithinLimits, KeepsFindable, KeepsFree, SameData, Stands}
+use Rattle.flash_log.specs.Erased.{KeepsErased}
+use Rattle.flash_log.specs.Passing.{KeepsFound}
 
 -- The flash shows these objects, and a key is kept exactly where it is looked up to see them.
 pub record ShowsExactly (g : Geometry) (flash : Flash) (m : KeptMap) (spare : ℕ) (objects : Objects) : Type 0 where
@@ -36,7 +39,8 @@ abbrev pub KeepsObjects : Table → Flash → Flash → Type 0
 KeepsObjects t old new = (o c : ℕ) (s : Spot) → o ≢ check_object → IsNewest old o c s → 1 ≤ (t.entry s.block).kept → StaysNewest old new o c s
 
 -- No kept count changes, as many good blocks are without a kept page or bad, no number of 2^62 is handed out, and the newest pages of
--- objects stay where blocks have kept pages.
+-- objects stay where blocks have kept pages, and findable by summaries. Each summary stays right, and the
+-- table knows the blocks that begin erased still.
 pub record KeepsPages (old new : LogState) : Type 0 where
   pub lasts : Lasts old.device new.device
   pub ready : IsReady new.device new.table
@@ -46,14 +50,17 @@ pub record KeepsPages (old new : LogState) : Type 0 where
   pub unkept : unkept_count new.table + bad_count new.table ≡ unkept_count old.table + bad_count old.table
   pub limits : IsWithinLimits old.table → IsWithinLimits new.table
   pub newest : old.device.honest ≡ true → KeepsObjects old.table old.device.flash new.device.flash
+  pub summaries : old.device.honest ≡ true → KeepsSummaries old.device new.device
+  pub found : old.device.honest ≡ true → KeepsFound old.table old.device new.device
+  pub erased : KeepsErased old.device new.device old.table new.table
 
 -- if each whole checkpoint of an honest device was right, and in the block that may have one, each is so still
 abbrev pub StaysChecked : LogState → LogState → Type 0
 StaysChecked old new = old.device.honest ≡ true
     → IsChecked old.device.geometry old.device.flash old.table.checkpoint → IsChecked new.device.geometry new.device.flash new.table.checkpoint
 
--- What stands of a log stands still, with the tree that was shown, the data of each kept page and as many free blocks. Where the kept
--- keys are those of the tree, no whole checkpoint is wrong that was not before.
+-- What stands of a log stands still, with the tree that was shown, the data of each kept page, as many free blocks, and what a mount
+-- by summaries finds. Where the kept keys are those of the tree, no whole checkpoint is wrong that was not before.
 pub record Seals (spare : ℕ) (x : Index) (old new : LogState) : Type 0 where
   pub keeps : KeepsPages old new
   pub stands : Stands spare new.device new.table x
@@ -62,3 +69,4 @@ pub record Seals (spare : ℕ) (x : Index) (old new : LogState) : Type 0 where
       → ShowsExactly old.device.geometry old.device.flash (kept_pages x) s objects → ShowsExactly new.device.geometry new.device.flash (kept_pages x) s objects
   pub same_data : old.device.honest ≡ true → SameData (kept_pages x) old.device.flash new.device.flash
   pub free : KeepsFree spare old.device new.device x x
+  pub findable : KeepsFindable old.device new.device x x

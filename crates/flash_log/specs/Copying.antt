@@ -14,8 +14,10 @@ use Rattle.flash_tree.specs.Newest.{Spot, IsNewest}
 use Rattle.flash_tree.specs.Numbering.{AreBelow}
 use Rattle.transactions.specs.Ready.{IsReady}
 use Rattle.transactions.specs.declared.copies.CopyOf.{CopyOf}
+use Rattle.flash_log.specs.Erased.{KeepsErased}
 use Rattle.flash_log.specs.Lists.{kept_by}
 use Rattle.flash_log.specs.Moving.{WhyNotMoved}
+use Rattle.flash_log.specs.Passing.{KeepsFound}
 use Rattle.flash_log.specs.Standing.{IsKeptAt, HasVersion, IsWithinLimits}
 use Rattle.flash_log.specs.declared.copying.Copied.{Copied}
 use Rattle.flash_log.specs.declared.copying.Copied.TheVariants as ends
@@ -23,7 +25,7 @@ use Rattle.flash_log.specs.declared.copying.Target.{Target}
 use Rattle.flash_log.specs.declared.fault.MoveFault.{MoveFault}
 
 -- What a step keeps that leaves the index: no block's kept count changes, no block with a kept page is marked, and no number
--- of 2^62 is handed out.
+-- of 2^62 is handed out. The table knows the blocks that begin erased still.
 pub record KeepsCounts (old new : Device) (t t' : Table) : Type 0 where
   pub lasts : Lasts old new
   pub ready : IsReady new t'
@@ -35,6 +37,7 @@ pub record KeepsCounts (old new : Device) (t t' : Table) : Type 0 where
   pub unkept : unkept_count t' + bad_count t' ≡ unkept_count t + bad_count t
   pub rises : bad_count t ≤ bad_count t'
   pub limits : IsWithinLimits t → IsWithinLimits t'
+  pub erased : KeepsErased old new t t'
 
 -- the copy is of the key of object o and chunk c
 abbrev pub IsCopyOf : CopyOf → ℕ → ℕ → Type 0
@@ -98,12 +101,14 @@ abbrev pub StayOrLieApart : List CopyOf → Table → Flash → Device → Type 
 StayOrLieApart copies t old new = KeepsKeptAt t old new.flash ⊎ LieApart copies t old new
 
 -- What becomes of the log and of committed pages while listed ones are copied, wherever that ends: no count of a block changes but by
--- marks; and on an honest device what is newest keeps its data, and stays where it is, or the copies are the newest of their keys.
+-- marks; and on an honest device what is newest keeps its data, and stays where it is, or the copies are the newest of their keys; and
+-- what is findable by summaries is so still.
 pub record CopiesPages (copies : List CopyOf) (old new : LogState) (result : Result Copied MoveFault) : Type 0 where
   pub keeps : KeepsCounts old.device new.device old.table new.table
   pub stored : old.device.honest ≡ true → KeepsDataAt old.table old.device.flash new.device.flash
   pub newest : old.device.honest ≡ true → new.device.gone ≡ false → NewestAfterCopies copies old.table old.device.flash new.device.flash result
   pub apart : old.device.honest ≡ true → StayOrLieApart copies old.table old.device.flash new.device
+  pub found : old.device.honest ≡ true → KeepsFound old.table old.device new.device
 
 -- the block is the open one, with so many pages written, and where its last page is suspect none is open
 abbrev pub OpenAfter : ℕ → ℕ → Bool → Table → Type 0

@@ -1,3 +1,4 @@
+pub mod Erased
 pub mod Passing
 pub mod Taking
 pub mod Faults

@@ -6,15 +6,27 @@ use Rattle.nand_model.specs.Flash.{Flash}
 use Rattle.nand_model.specs.Calls.{Device}
 use Rattle.flash_tree.specs.Keeping.{StaysNewest}
 use Rattle.flash_tree.specs.Newest.{Spot, IsNewest}
+use Rattle.flash_tree.specs.Summaries.{AreSummariesRight}
+use Rattle.flash_tree.specs.Summarizing.{IsFindable}
+use Rattle.flash_tree.specs.Truth.{KeepsSummaries}
 use Rattle.block_state.specs.Kept.{bad_count, unkept_count}
 use Rattle.block_state.specs.Table.{Table}
+use Rattle.flash_log.specs.Erased.{KeepsErased}
 
 -- each newest page that lies in a block with kept pages, by the table, stays so
 abbrev pub KeepsKept : Table → Flash → Flash → Type 0
 KeepsKept t old new = (o c : ℕ) (s : Spot) → IsNewest old o c s → 1 ≤ (t.entry s.block).kept → StaysNewest old new o c s
 
+-- If each summary was right, each is so still; and each key is findable still whose newest page lies in a block with kept pages, by the
+-- table, if it was findable.
+pub record KeepsFound (t : Table) (old new : Device) : Type 0 where
+  pub summaries : KeepsSummaries old new
+  pub keys : AreSummariesRight old.geometry old.flash → (o c : ℕ) (s : Spot) → IsNewest old.flash o c s → 1 ≤ (t.entry s.block).kept
+      → IsFindable old.geometry old.flash o c → IsFindable new.geometry new.flash o c
+
 -- Blocks without a kept page may be erased, and of them no more are marked than the device counted failures. So what is
--- kept stays, and blocks that were without a kept page are it still, or are bad. The number 2^62 is not handed out.
+-- kept stays, and blocks that were without a kept page are it still, or are bad. The number 2^62 is not handed out. The table knows the
+-- blocks that begin erased still.
 pub record Passes (old new : Device) (t t' : Table) : Type 0 where
   pub geometry : t'.geometry ≡ t.geometry
   pub next_group : t'.next_group ≡ t.next_group
@@ -25,3 +37,5 @@ pub record Passes (old new : Device) (t t' : Table) : Type 0 where
   pub failures : bad_count t' + old.failures ≤ bad_count t + new.failures
   pub unkept : unkept_count t' + bad_count t' ≡ unkept_count t + bad_count t
   pub newest : old.honest ≡ true → KeepsKept t old.flash new.flash
+  pub found : old.honest ≡ true → KeepsFound t old new
+  pub erased : KeepsErased old new t t'

@@ -4,10 +4,13 @@ use Rattle.std.specs.Prelude.{◌≡◌, ◌≢◌, ◌<◌, ◌≤◌, ℕ, ◌
 use Rattle.volume_terms.specs.Sizes.{number_end}
 use Rattle.nand_model.specs.Flash.{Flash, Written}
 use Rattle.nand_model.specs.Calls.{Device}
+use Rattle.nand_model.specs.declared.geometry.Geometry.{Geometry}
 use Rattle.page_tags.specs.Tags.{tag_bytes}
 use Rattle.page_tags.specs.declared.tag.Tag.{Tag}
 use Rattle.flash_tree.specs.FreeBlocks.{LeavesFree}
 use Rattle.flash_tree.specs.Newest.{Spot, IsNewest}
+use Rattle.flash_tree.specs.Summaries.{AreSummariesRight}
+use Rattle.flash_tree.specs.Summarizing.{IsFindable}
 use Rattle.block_state.specs.Kept.{bad_count, free_count, unkept_count}
 use Rattle.block_state.specs.Table.{Table}
 use Rattle.chunk_index.specs.declared.form.KeptPage.{KeptPage}
@@ -89,3 +92,13 @@ IsKept m o c = (p : KeptPage) × (m o c ≡ Some p)
 abbrev pub KeepsFree : (spare : ℕ) → Device → Device → Index → Index → Type 0
 KeepsFree spare old new x y = old.honest ≡ true
     → LeavesFree old.geometry old.flash spare (IsKept (kept_pages x)) → LeavesFree new.geometry new.flash spare (IsKept (kept_pages y))
+
+-- each kept key has a newest page, which a mount by summaries finds
+abbrev pub AreFound : Geometry → Flash → KeptMap → Type 0
+AreFound g flash m = (o c : ℕ) → IsKept m o c → IsFindable g flash o c
+
+-- Where each summary of an honest device was right, and a mount by summaries would find each kept key, it finds each still, wherever the
+-- power went.
+abbrev pub KeepsFindable : Device → Device → Index → Index → Type 0
+KeepsFindable old new x y = old.honest ≡ true → AreSummariesRight old.geometry old.flash
+    → AreFound old.geometry old.flash (kept_pages x) → AreFound new.geometry new.flash (kept_pages y)

@@ -9,8 +9,9 @@ use Rattle.chunk_index.specs.Maps.{kept_pages, present, StaysPrepared, IsReadyKe
 use Rattle.transactions.specs.Checking.{LogState}
 use Rattle.transactions.specs.Handing.{HandsOut}
 use Rattle.transactions.specs.Ready.{IsReady}
+use Rattle.flash_log.specs.Erased.{KeepsErased}
 use Rattle.flash_log.specs.Moving.{Follows}
-use Rattle.flash_log.specs.Standing.{Stands, SameData, KeepsFree}
+use Rattle.flash_log.specs.Standing.{Stands, SameData, KeepsFree, KeepsFindable}
 
 -- there is room for each key still, also once the changes are settled
 abbrev pub StaysReady : Index → Index → Type 0
@@ -33,7 +34,8 @@ pub record CanWrite (spare : ℕ) (log : LogState) (x : Index) : Type 0 where
   pub few : bad_count log.table ≤ spare
 
 -- What every call of the log keeps while what is committed stays: what every group needs and what holds between two calls, the numbers,
--- the marks, how many pages are committed, each of them and its data, perhaps elsewhere, and blocks that are free of them.
+-- the marks, how many pages are committed, each of them and its data, perhaps elsewhere, blocks that are free of them, what
+-- a mount by summaries finds, and that the table knows the blocks that begin erased.
 pub record Step (spare : ℕ) (old new : LogState) (x y : Index) : Type 0 where
   pub lasts : Lasts old.device new.device
   pub ready : IsReady new.device new.table
@@ -45,3 +47,5 @@ pub record Step (spare : ℕ) (old new : LogState) (x y : Index) : Type 0 where
   pub index : MovesKept x y
   pub same_data : old.device.honest ≡ true → SameData (kept_pages x) old.device.flash new.device.flash
   pub free : KeepsFree spare old.device new.device x y
+  pub findable : KeepsFindable old.device new.device x y
+  pub erased : KeepsErased old.device new.device old.table new.table

@@ -5,7 +5,7 @@ use Rattle.volume_terms.specs.Sizes.{number_end}
 use Rattle.nand_model.specs.Calls.{Device}
 use Rattle.nand_model.specs.declared.nand.Gone.{Gone}
 use Rattle.block_state.specs.Kept.{bad_count, unkept_count}
-use Rattle.block_state.specs.Table.{Table}
+use Rattle.block_state.specs.Table.{Table, turn_of}
 use Rattle.flash_tree.specs.Numbering.{AreBelow}
 use Rattle.flash_log.specs.declared.take.TakeFault.{TakeFault}
 use Rattle.flash_log.specs.declared.take.TakeFault.TheVariants as faults
@@ -45,17 +45,16 @@ pub record CouldBeTaken (old new : Table) (k : ℕ) : Type 0 where
 abbrev pub NoneGoesFirst : Table → Table → Type 0
 NoneGoesFirst old new = (c : ℕ) → old.checkpoint ≡ Some c → (new.entry c).bad ≡ true
 
--- It was the block's turn. The block that may have a checkpoint goes first, unless it went bad. Else of those that could be
--- taken none was taken longer ago, and of those taken as long ago, which are those never taken, it is the first.
+-- It was the block's turn. The block that may have a checkpoint goes first, unless it went bad. Else no turn of those that could be
+-- allocated came before, and of those that came at once, in which nothing was programmed since they were erased, it is the first.
 pub record IsItsTurn (block : ℕ) (old new : Table) : Type 0 where
   pub first : (c : ℕ) → old.checkpoint ≡ Some c → (new.entry c).bad ≡ false → block ≡ c
-  pub oldest : NoneGoesFirst old new → (k : ℕ) → CouldBeTaken old new k → (old.entry block).seq ≤ (old.entry k).seq
-  pub lowest : NoneGoesFirst old new → (k : ℕ) → CouldBeTaken old new k → (old.entry k).seq ≡ (old.entry block).seq → block ≤ k
+  pub oldest : NoneGoesFirst old new → (k : ℕ) → CouldBeTaken old new k → turn_of (old.entry block) ≤ turn_of (old.entry k)
+  pub lowest : NoneGoesFirst old new → (k : ℕ) → CouldBeTaken old new k → turn_of (old.entry k) ≡ turn_of (old.entry block) → block ≤ k
 
--- Each block has the number that it got when it was last taken, and the block that may have a checkpoint is the same, or it
--- went bad.
+-- Each block has its turn, and the block that may have a checkpoint is the same, or it went bad.
 pub record SameTurns (old new : Table) : Type 0 where
-  pub seqs : (b : ℕ) → (new.entry b).seq ≡ (old.entry b).seq
+  pub turns : (b : ℕ) → turn_of (new.entry b) ≡ turn_of (old.entry b)
   pub noted : (c : ℕ) → old.checkpoint ≡ Some c → (new.checkpoint ≡ Some c) ⊎ ((new.entry c).bad ≡ true)
   pub from : (c : ℕ) → new.checkpoint ≡ Some c → old.checkpoint ≡ Some c
 

@@ -2,6 +2,8 @@ pub mod Keeping
 pub mod KeptPages
 pub mod Moves
 pub mod Turns
+pub mod Erased
+pub mod Found
 pub mod FreeBlocks
 pub mod Costs
 pub mod Steps

@@ -20,8 +20,10 @@ use Rattle.transactions.specs.declared.group.Placed.{Placed}
 use Rattle.transactions.specs.declared.group.GroupFault.{GroupFault}
 use Rattle.transactions.specs.declared.group.GroupFault.TheVariants as groups
 use Rattle.flash_log.specs.Copying.{KeepsCounts}
+use Rattle.flash_log.specs.Erased.{KeepsErased}
 use Rattle.flash_log.specs.Passing.{Passes}
 use Rattle.flash_log.specs.Standing.{IsWithinLimits}
+use Rattle.flash_log.specs.laws.Erased.{erased_as, erased_here, erased_on, leaves_closed}
 
 -- ---- tables
 
@@ -109,8 +111,9 @@ counts_more f g (suc n) each =
 pub bad_rises : (t u : Table) → u.geometry ≡ t.geometry → ((b : ℕ) → (t.entry b).bad ≡ true → (u.entry b).bad ≡ true) → bad_count t ≤ bad_count u
 bad_rises t u geometry marks = subst (λ (g : Geometry). bad_count t ≤ how_many (is_bad u) g.blocks) (sym geometry) (counts_more (is_bad t) (is_bad u) t.geometry.blocks marks)
 
-pub keeps_passes : (old new : Device) (t u v : Table) → SameCounts t u → Lasts old new → IsReady new v → HandsOut old new t v → (IsWithinLimits t → IsWithinLimits u) → Passes old new u v → KeepsCounts old new t v
-keeps_passes old new t u v same lasts ready numbers limits passes =
+pub keeps_passes : (old new : Device) (t u v : Table) → SameCounts t u → Lasts old new → IsReady new v → HandsOut old new t v → (IsWithinLimits t → IsWithinLimits u) → KeepsErased old old t u → Passes old new u v
+    → KeepsCounts old new t v
+keeps_passes old new t u v same lasts ready numbers limits erased passes =
     let bad : bad_count u ≡ bad_count t = same_bad_count t u same in
     let unkept : unkept_count u ≡ unkept_count t = same_unkept_count t u same in
     record {
@@ -124,10 +127,11 @@ keeps_passes old new t u v same lasts ready numbers limits passes =
       unkept = omega (arith, passes.unkept, bad, unkept);
       rises = bad_rises t v (passes.geometry ∙ same.geometry) (λ b is. passes.marks_stay b (same.bad b ∙ is));
       limits = λ is. let now = limits is in let group = passes.next_group in (omega (arith, group, now.0), passes.limit now.1);
+      erased = erased_on old old new t u v refl erased passes.erased;
     }
 
-pub keeps_same : (old new : Device) (t u : Table) → SameCounts t u → Lasts old new → IsReady new u → HandsOut old new t u → (IsWithinLimits t → IsWithinLimits u) → KeepsCounts old new t u
-keeps_same old new t u same lasts ready numbers limits =
+pub keeps_same : (old new : Device) (t u : Table) → SameCounts t u → Lasts old new → IsReady new u → HandsOut old new t u → (IsWithinLimits t → IsWithinLimits u) → KeepsErased old new t u → KeepsCounts old new t u
+keeps_same old new t u same lasts ready numbers limits erased =
     let bad : bad_count u ≡ bad_count t = same_bad_count t u same in
     let unkept : unkept_count u ≡ unkept_count t = same_unkept_count t u same in
     record {
@@ -141,6 +145,7 @@ keeps_same old new t u same lasts ready numbers limits =
       unkept = omega (arith, bad, unkept);
       rises = omega (arith, bad);
       limits = limits;
+      erased = erased;
     }
 
 pub keeps_on : (a b c : Device) (t u v : Table) → KeepsCounts a b t u → KeepsCounts b c u v → KeepsCounts a c t v
@@ -155,11 +160,12 @@ keeps_on a b c t u v first then = record {
   unkept = then.unkept ∙ first.unkept;
   rises = omega (arith, first.rises, then.rises);
   limits = λ is. then.limits (first.limits is);
+  erased = erased_on a b c t u v first.lasts.honest first.erased then.erased;
 }
 
 -- where no call is made
 pub keeps_nothing : (d : Device) (t : Table) → IsReady d t → KeepsCounts d d t t
-keeps_nothing d t ready = keeps_same d d t t (same_here t) (lasts_here d) ready (hands_nothing d t) (λ is. is)
+keeps_nothing d t ready = keeps_same d d t t (same_here t) (lasts_here d) ready (hands_nothing d t) (λ is. is) (erased_here d t)
 
 -- no block is open any longer
 pub keeps_closed : (d : Device) (t u : Table) → u ≡ record t { open_block = None } → IsReady d t → KeepsCounts d d t u
@@ -172,3 +178,4 @@ keeps_closed d t u is ready = keeps_same d d t u
       let same = ap (λ (x : Table). x.next_group) is in omega (arith, same, groups),
       let same = ap (λ (x : Table). x.next_seq) is in omega (arith, same, seqs),
     ))
+    (erased_as d t u (leaves_closed d.flash t u (ap (λ (x : Table). x.entry) is) (ap (λ (x : Table). x.geometry) is) (ap (λ (x : Table). x.checkpoint) is) (ap (λ (x : Table). x.open_block) is)))

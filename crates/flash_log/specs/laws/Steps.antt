@@ -15,8 +15,11 @@ use Rattle.transactions.specs.laws.Handing.{hands_on, hands_nothing, hands_close
 use Rattle.transactions.specs.laws.Ready.{ready_closed}
 use Rattle.flash_log.specs.Copying.{KeepsCounts, KeepsDataAt}
 use Rattle.flash_log.specs.Moving.{IsKeptIn, MovesOut}
+use Rattle.flash_log.specs.Passing.{KeepsFound}
 use Rattle.flash_log.specs.Standing.{AreHeld, HasVersion, KeepsFree, SameData, Stands}
 use Rattle.flash_log.specs.Steps.{MovesKept, Step}
+use Rattle.flash_log.specs.laws.Erased.{erased_as, erased_here, erased_on, leaves_closed}
+use Rattle.flash_log.specs.laws.Found.{findable_here, findable_on, findable_still}
 use Rattle.flash_log.specs.laws.FreeBlocks.{free_here, free_on}
 use Rattle.flash_log.specs.laws.Moves.{follows_here, moves_out_none, same_data, same_kept_sum}
 use Rattle.flash_log.specs.laws.Turns.{moved_twice, stands_closed}
@@ -75,6 +78,8 @@ step_none spare d t x ready stands = record {
   index = moves_kept_none x;
   same_data = λ honest o c p bytes is has. has;
   free = free_here spare d x;
+  findable = findable_here d x;
+  erased = erased_here d t;
 }
 
 -- the open block is closed
@@ -90,12 +95,14 @@ step_closed spare d t u x is ready stands = subst (λ (s : Table). Step spare (l
   index = moves_kept_none x;
   same_data = λ honest o c p bytes is has. has;
   free = free_here spare d x;
+  findable = findable_here d x;
+  erased = erased_as d t (record t { open_block = None }) (leaves_closed d.flash t (record t { open_block = None }) refl refl refl refl);
 })
 
 -- the index stays
 pub step_kept : (spare : ℕ) (d0 d1 : Device) (t0 t1 : Table) (x : Index) → AreHeld t0 x → KeepsCounts d0 d1 t0 t1 → Stands spare d0 t0 x → Stands spare d1 t1 x
-    → (d0.honest ≡ true → KeepsDataAt t0 d0.flash d1.flash) → KeepsFree spare d0 d1 x x → Step spare (log_of d0 t0) (log_of d1 t1) x x
-step_kept spare d0 d1 t0 t1 x held keeps stands stand stays free = record {
+    → (d0.honest ≡ true → KeepsDataAt t0 d0.flash d1.flash) → (d0.honest ≡ true → KeepsFound t0 d0 d1) → KeepsFree spare d0 d1 x x → Step spare (log_of d0 t0) (log_of d1 t1) x x
+step_kept spare d0 d1 t0 t1 x held keeps stands stand stays found free = record {
   lasts = keeps.lasts;
   ready = keeps.ready;
   stands = stand;
@@ -106,6 +113,8 @@ step_kept spare d0 d1 t0 t1 x held keeps stands stand stays free = record {
   index = moves_kept_none x;
   same_data = same_data spare d0 d1 t0 t1 x held keeps stands stays;
   free = free;
+  findable = findable_still spare d0 d1 t0 x held keeps.lasts stands found;
+  erased = keeps.erased;
 }
 
 -- one call after the other
@@ -121,4 +130,6 @@ step_on spare a b c x y z first then = record {
   index = moves_kept_on x y z first.index then.index;
   same_data = λ honest. same_data_on x y a.device.flash b.device.flash c.device.flash first.index (first.same_data honest) (then.same_data (first.lasts.honest ∙ honest));
   free = free_on spare a.device b.device c.device x y z first.lasts.honest first.free then.free;
+  findable = findable_on a.device b.device c.device x y z first.lasts.honest first.numbers.truth.summaries first.findable then.findable;
+  erased = erased_on a.device b.device c.device a.table b.table c.table first.lasts.honest first.erased then.erased;
 }

@@ -13,6 +13,7 @@ use Rattle.flash_log.specs.declared.copying.Copied.{Copied}
 use Rattle.flash_log.specs.declared.copying.Copied.TheVariants as ends
 use Rattle.flash_log.specs.declared.fault.MoveFault.{MoveFault}
 use Rattle.flash_log.specs.laws.Bills.{pays_on}
+use Rattle.flash_log.specs.laws.Found.{found_here, found_on, places_at}
 use Rattle.flash_log.specs.laws.Keeping.{keeps_closed, keeps_on}
 use Rattle.flash_log.proofs.Keeping.{kept_on, data_on, may_later, pages_on}
 use Rattle.flash_log.specs.laws.KeptPages.{kept_here, data_here}
@@ -38,6 +39,7 @@ loop-target-init g c =
       pays = record { costs = omega arith; marks = omega (arith, bad); answers = omega (arith, bad); reads = omega arith };
       stored = λ honest. data_here t d.flash;
       newest = λ honest. kept_here t d.flash;
+      found = λ honest. found_here t d;
       closed = ap (λ (x : Table). x.open_block) c.close.ensures;
       few = omega (arith, bad, c.requires.some.bad);
       apart = λ k is. keeps.kept k ∙ c.requires.some.apart k (keeps.numbers.truth.noted k is);
@@ -62,6 +64,7 @@ loop-target-preserved g c =
       stored = λ honest. data_on t u so_far.keeps.kept d0 d1 d2 keeps.lasts (λ _. so_far.newest honest) (so_far.stored honest) (tried.pages.stored (so_far.keeps.lasts.honest ∙ honest));
       newest = λ honest. kept_on t u so_far.keeps.kept d0.flash d1.flash d2.flash
           (so_far.newest honest) (tried.pages.newest (so_far.keeps.lasts.honest ∙ honest) tried.ends.2);
+      found = λ honest. found_on d0 d1 d2 t u so_far.keeps.kept (places_at t d0.flash d1.flash (so_far.newest honest)) (so_far.found honest) (tried.pages.found (so_far.keeps.lasts.honest ∙ honest));
       closed = tried.ends.0;
       few = search rules;
       apart = λ k is. keeps.kept k ∙ so_far.apart k (keeps.numbers.truth.noted k is);
@@ -76,8 +79,8 @@ returns-in_err-target-clause-pages g c =
     let so_far = c.loop-target.invariant in
     let p = err_from_is_err_and c.from_residual.result c.from_residual.ensures.1 in
     let failed = c.in_err-target.ensures in
-    let pages = pages_on c.args.copies.now a b so_far.keeps so_far.newest so_far.stored (log_of (g.N.Nand.state c.copy_once.new.device) (table c.copy_once.new.blocks)) _ failed.pages in
-    rw p.1 (record { keeps = pages.keeps; stored = pages.stored; newest = pages.newest; apart = pages.apart })
+    let pages = pages_on c.args.copies.now a b so_far.keeps so_far.newest so_far.stored so_far.found (log_of (g.N.Nand.state c.copy_once.new.device) (table c.copy_once.new.blocks)) _ failed.pages in
+    rw p.1 (record { keeps = pages.keeps; stored = pages.stored; newest = pages.newest; apart = pages.apart; found = pages.found })
 
 pub returns-in_err-target-clause-pays : goal.returns-in_err-target-clause-pays
 returns-in_err-target-clause-pays g c =
@@ -93,7 +96,7 @@ returns-in-Into-clause-pages g c =
     let so_far = c.loop-target.invariant in
     let done = rw c.in-Into.is at c.in_ok-target.ensures in
     pages_on c.args.copies.now (log_of (g.N.Nand.state c.args.device.now) (table c.args.blocks.now)) (log_of (g.N.Nand.state c.loop-target.device) (table c.loop-target.blocks))
-    so_far.keeps so_far.newest so_far.stored (log_of (g.N.Nand.state c.copy_once.new.device) (table c.copy_once.new.blocks)) (Ok (ends.Into c.in-Into.target)) done.pages
+    so_far.keeps so_far.newest so_far.stored so_far.found (log_of (g.N.Nand.state c.copy_once.new.device) (table c.copy_once.new.blocks)) (Ok (ends.Into c.in-Into.target)) done.pages
 
 pub returns-in-Into-clause-pays : goal.returns-in-Into-clause-pays
 returns-in-Into-clause-pays g c =
@@ -110,8 +113,8 @@ returns-then-bad_count-spare-clause-pages g c =
     let b = log_of (g.N.Nand.state c.loop-target.device) (table c.loop-target.blocks) in
     let so_far = c.loop-target.invariant in
     let tried = rw c.in-Marked.is at c.in_ok-target.ensures in
-    let pages = pages_on c.args.copies.now a b so_far.keeps so_far.newest so_far.stored (log_of (g.N.Nand.state c.copy_once.new.device) (table c.copy_once.new.blocks)) (Ok ends.Marked) tried.pages in
-    record { keeps = pages.keeps; stored = pages.stored; newest = pages.newest; apart = pages.apart }
+    let pages = pages_on c.args.copies.now a b so_far.keeps so_far.newest so_far.stored so_far.found (log_of (g.N.Nand.state c.copy_once.new.device) (table c.copy_once.new.blocks)) (Ok ends.Marked) tried.pages in
+    record { keeps = pages.keeps; stored = pages.stored; newest = pages.newest; apart = pages.apart; found = pages.found }
 
 pub returns-then-bad_count-spare-clause-pays : goal.returns-then-bad_count-spare-clause-pays
 returns-then-bad_count-spare-clause-pays g c =

@@ -5,6 +5,8 @@ use Rattle.block_state.specs.Table.{Table}
 use Rattle.block_state.specs.TableOf.{table}
 use Rattle.transactions.specs.Checking.{log_of}
 use Rattle.flash_log.specs.laws.Bills.{pays_none}
+use Rattle.flash_log.specs.laws.Erased.{erased_here}
+use Rattle.flash_log.specs.laws.Found.{found_here}
 use Rattle.flash_log.specs.laws.Keeping.{same_here, keeps_passes, keeps_nothing}
 use Rattle.flash_log.specs.laws.KeptPages.{kept_where, data_where, kept_here, data_here}
 use Rattle.flash_log.proofs.Keeping.{may_later, pages_kept, pages_on}
@@ -25,7 +27,7 @@ write_copies-requires-clause-copies g c =
 pub returns-clause-ends : goal.returns-clause-ends
 returns-clause-ends g c =
     let took = c.take_block.ensures in
-    let keeps = keeps_passes _ _ (table c.args.blocks.now) (table c.args.blocks.now) _ (same_here _) took.lasts took.ready took.numbers (λ is. is) took.passes in
+    let keeps = keeps_passes _ _ (table c.args.blocks.now) (table c.args.blocks.now) _ (same_here _) took.lasts took.ready took.numbers (λ is. is) (erased_here _ (table c.args.blocks.now)) took.passes in
     ends_on (length c.args.copies.now) c.args.spare (g.N.Nand.state c.write_copies.new.device) (table c.args.blocks.now) (table c.take_block.new.blocks) (table c.write_copies.new.blocks) c.write_copies.result took.passes.geometry took.passes.kept keeps.rises (c.write_copies.ensures.ends c.args.spare)
 
 pub returns-clause-few : goal.returns-clause-few
@@ -37,8 +39,8 @@ returns-clause-pages g c =
     let t : Table = table c.args.blocks.now in
     let took = c.take_block.ensures in
     pages_on c.args.copies.now (log_of d t) (log_of (g.N.Nand.state c.take_block.new.device) (table c.take_block.new.blocks))
-    (keeps_passes _ _ (table c.args.blocks.now) (table c.args.blocks.now) _ (same_here _) took.lasts took.ready took.numbers (λ is. is) took.passes)
-    (λ honest. kept_where _ _ t (took.passes.newest honest)) (λ honest. data_where _ _ t (took.passes.newest honest))
+    (keeps_passes _ _ (table c.args.blocks.now) (table c.args.blocks.now) _ (same_here _) took.lasts took.ready took.numbers (λ is. is) (erased_here _ (table c.args.blocks.now)) took.passes)
+    (λ honest. kept_where _ _ t (took.passes.newest honest)) (λ honest. data_where _ _ t (took.passes.newest honest)) took.passes.found
     (log_of (g.N.Nand.state c.write_copies.new.device) (table c.write_copies.new.blocks)) c.write_copies.result c.write_copies.ensures.pages
 
 pub returns-clause-pays : goal.returns-clause-pays
@@ -56,8 +58,8 @@ returns-in_err-block-clause-pages g c =
     let took = c.take_block.ensures in
     let p = err_from_is_err_and c.from_residual.result c.from_residual.ensures.1 in
     rw p.1 (pages_kept c.args.copies.now (log_of d t) (log_of (g.N.Nand.state c.take_block.new.device) (table c.take_block.new.blocks))
-    (keeps_passes _ _ (table c.args.blocks.now) (table c.args.blocks.now) _ (same_here _) took.lasts took.ready took.numbers (λ is. is) took.passes)
-    (λ honest. kept_where _ _ t (took.passes.newest honest)) (λ honest. data_where _ _ t (took.passes.newest honest)) p.0)
+    (keeps_passes _ _ (table c.args.blocks.now) (table c.args.blocks.now) _ (same_here _) took.lasts took.ready took.numbers (λ is. is) (erased_here _ (table c.args.blocks.now)) took.passes)
+    (λ honest. kept_where _ _ t (took.passes.newest honest)) (λ honest. data_where _ _ t (took.passes.newest honest)) took.passes.found p.0)
 
 pub returns-in_err-block-clause-pays : goal.returns-in_err-block-clause-pays
 returns-in_err-block-clause-pays g c =
@@ -70,7 +72,7 @@ pub returns-then-next_group-ge-NUMBER_END-clause-pages : goal.returns-then-next_
 returns-then-next_group-ge-NUMBER_END-clause-pages g c =
     let d : Device = g.N.Nand.state c.args.device.now in
     let t : Table = table c.args.blocks.now in
-    pages_kept c.args.copies.now (log_of d t) (log_of d t) (keeps_nothing d t c.requires.ready) (λ honest. kept_here t d.flash) (λ honest. data_here t d.flash) _
+    pages_kept c.args.copies.now (log_of d t) (log_of d t) (keeps_nothing d t c.requires.ready) (λ honest. kept_here t d.flash) (λ honest. data_here t d.flash) (λ honest. found_here t d) _
 
 pub returns-then-next_group-ge-NUMBER_END-clause-pays : goal.returns-then-next_group-ge-NUMBER_END-clause-pays
 returns-then-next_group-ge-NUMBER_END-clause-pays g c = pays_none (length c.args.copies.now + 1) ((g.N.Nand.state c.args.device.now).geometry.pages + 2) (log_of (g.N.Nand.state c.args.device.now) (table c.args.blocks.now)) _

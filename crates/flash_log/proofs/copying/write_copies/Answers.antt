@@ -64,8 +64,8 @@ returns-in-Ok-clause-pages g c =
     let wrote = c.in-Ok.ensures in
     let told = wrote.placed c.args.block c.requires.fresh.open_block in
     pages_written c.args.copies.now c.args.block d0 d1 t (table c.write_group.new.blocks) c.requires.fresh c.requires.copies c.requires.group wrote.lasts wrote.numbers (Ok c.in-Ok.placed) _
-    c.requires.ready wrote.ready wrote.table wrote.stays.bad wrote.grows (λ honest. wrote.groups honest c.args.block c.requires.fresh.open_block)
-    (λ honest power. rw told.block (copies_written c.args.copies.now c.args.block d0 d1 t c.requires.fresh c.requires.copies honest (wrote.grows honest) c.in-Ok.placed (wrote.groups honest c.args.block c.requires.fresh.open_block)))
+    c.requires.ready wrote.ready wrote.table wrote.stays.bad wrote.writes (λ honest. wrote.groups honest c.args.block c.requires.fresh.open_block)
+    (λ honest power. rw told.block (copies_written c.args.copies.now c.args.block d0 d1 t c.requires.fresh c.requires.copies honest (wrote.writes honest).grows c.in-Ok.placed (wrote.groups honest c.args.block c.requires.fresh.open_block)))
 
 pub returns-in-Ok-clause-pays : goal.returns-in-Ok-clause-pays
 returns-in-Ok-clause-pays g c =
@@ -79,7 +79,7 @@ returns-in-Err-Lost-clause-pages g c =
     let wrote = rw c.in-Err-Lost.field-0-is at c.in-Err-Lost.ensures in
     pages_written c.args.copies.now c.args.block (g.N.Nand.state c.args.device.now) (g.N.Nand.state c.write_group.new.device) (table c.args.blocks.now) (table c.write_group.new.blocks)
     c.requires.fresh c.requires.copies c.requires.group wrote.lasts wrote.numbers (Err groups.Lost) _
-    c.requires.ready wrote.ready wrote.table wrote.stays.bad wrote.grows (λ honest. wrote.groups honest c.args.block c.requires.fresh.open_block)
+    c.requires.ready wrote.ready wrote.table wrote.stays.bad wrote.writes (λ honest. wrote.groups honest c.args.block c.requires.fresh.open_block)
     (λ honest power. absurd (false≢true (sym wrote.ends.0 ∙ honest)))
 
 pub returns-in-Err-Lost-clause-pays : goal.returns-in-Err-Lost-clause-pays
@@ -93,7 +93,7 @@ returns-in-Err-Gone-clause-pages g c =
     let wrote = rw c.in-Err-Gone.field-0-is at c.in-Err-Gone.ensures in
     pages_written c.args.copies.now c.args.block (g.N.Nand.state c.args.device.now) (g.N.Nand.state c.write_group.new.device) (table c.args.blocks.now) (table c.write_group.new.blocks)
     c.requires.fresh c.requires.copies c.requires.group wrote.lasts wrote.numbers (Err groups.Gone) _
-    c.requires.ready wrote.ready wrote.table wrote.stays.bad wrote.grows (λ honest. wrote.groups honest c.args.block c.requires.fresh.open_block)
+    c.requires.ready wrote.ready wrote.table wrote.stays.bad wrote.writes (λ honest. wrote.groups honest c.args.block c.requires.fresh.open_block)
     (λ honest power. absurd (false≢true (sym power ∙ wrote.ends.0)))
 
 pub returns-in-Err-Gone-clause-pays : goal.returns-in-Err-Gone-clause-pays
@@ -111,7 +111,7 @@ returns-in-Err-clause-pages g c =
     let wrote = rw c.in-Err-Failed.field-0-is at c.in-Err-Failed.ensures in
     let marked = c.mark_block.ensures in
     let passes = passes_failed c.args.copies.now c.args.block d0 d1 d2 t (table c.write_group.new.blocks) (table c.mark_block.new.blocks) _ c.requires.fresh c.requires.copies
-    wrote.lasts wrote.ends.0 wrote.grows (λ honest. wrote.groups honest c.args.block c.requires.fresh.open_block) wrote.table marked.marks marked.newest marked.notes in
+    c.requires.ready wrote.numbers wrote.lasts wrote.ends.0 wrote.writes (λ honest. wrote.groups honest c.args.block c.requires.fresh.open_block) wrote.table marked.marks marked.newest marked.notes in
     pages_failed c.args.copies.now c.args.block d0 d1 t (table c.write_group.new.blocks) c.requires.fresh c.requires.copies c.requires.group wrote.lasts wrote.numbers
     d2 (table c.mark_block.new.blocks) _ passes marked.marks.lasts marked.numbers marked.ready (λ kept. kept)
 
@@ -124,7 +124,7 @@ returns-in-Err-clause-pays g c =
     let wrote = rw c.in-Err-Failed.field-0-is at c.in-Err-Failed.ensures in
     let marked = c.mark_block.ensures in
     let passes = passes_failed c.args.copies.now c.args.block d0 d1 d2 t (table c.write_group.new.blocks) (table c.mark_block.new.blocks) _ c.requires.fresh c.requires.copies
-    wrote.lasts wrote.ends.0 wrote.grows (λ honest. wrote.groups honest c.args.block c.requires.fresh.open_block) wrote.table marked.marks marked.newest marked.notes in
+    c.requires.ready wrote.numbers wrote.lasts wrote.ends.0 wrote.writes (λ honest. wrote.groups honest c.args.block c.requires.fresh.open_block) wrote.table marked.marks marked.newest marked.notes in
     let same = mark_fails_not c.args.block d1 d2 _ marked.marks in
     pays_cut (length c.args.copies.now) (log_of d0 t) (log_of d2 (table c.mark_block.new.blocks)) c.requires.copies.few (same ∙ wrote.ends.0)
     (changes_marked (length c.args.copies.now) d0 d1 d2 (mark_costs c.args.block d1 d2 _ marked.marks) wrote.ends.3) _ passes.failures
@@ -139,7 +139,7 @@ returns-in-Ok-mark_block-clause-pages g c =
     let wrote = rw c.in-Err-Failed.field-0-is at c.in-Err-Failed.ensures in
     let marked = c.mark_block.ensures in
     let passes = passes_failed c.args.copies.now c.args.block d0 d1 d2 t (table c.write_group.new.blocks) (table c.mark_block.new.blocks) _ c.requires.fresh c.requires.copies
-    wrote.lasts wrote.ends.0 wrote.grows (λ honest. wrote.groups honest c.args.block c.requires.fresh.open_block) wrote.table marked.marks marked.newest marked.notes in
+    c.requires.ready wrote.numbers wrote.lasts wrote.ends.0 wrote.writes (λ honest. wrote.groups honest c.args.block c.requires.fresh.open_block) wrote.table marked.marks marked.newest marked.notes in
     pages_failed c.args.copies.now c.args.block d0 d1 t (table c.write_group.new.blocks) c.requires.fresh c.requires.copies c.requires.group wrote.lasts wrote.numbers
     d2 (table c.mark_block.new.blocks) _ passes marked.marks.lasts marked.numbers marked.ready (λ kept. kept)
 

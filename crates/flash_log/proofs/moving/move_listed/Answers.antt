@@ -49,7 +49,7 @@ returns-in_err-target-clause-step g c =
     let copied = c.in_err-target.ensures in
     let stand = stands_kept c.args.spare d0 d1 t0 t1 x held copied.pages.keeps c.requires.can.stands copied.ends.0 copied.pages.newest in
     let free = free_copied c.args.spare d0 d1 t0 t1 x held copied.pages.keeps c.requires.can.stands stand.tables c.requires.listed.0 c.args.copies.now c.requires.listed.1 copied.pages.apart in
-    step_kept c.args.spare d0 d1 t0 t1 x held copied.pages.keeps c.requires.can.stands stand copied.pages.stored free
+    step_kept c.args.spare d0 d1 t0 t1 x held copied.pages.keeps c.requires.can.stands stand copied.pages.stored copied.pages.found free
 
 pub returns-in_err-target-clause-out : goal.returns-in_err-target-clause-out
 returns-in_err-target-clause-out g c = λ v listed. moves_out_none v c.args.index.now
@@ -82,7 +82,7 @@ returns-then-suspect g c =
     let told = c.tell_copies.ensures.tells v listed.lists (unlike v target.block t0 listed.some copied.ends.0.unkept) in
     let agree = c.tell_copies.ensures.agree in
     record {
-      step = step_moved c.args.spare v target d0 d1 t0 t1 t2 x y c.args.copies.now listed held copied.pages.keeps c.requires.can.stands copied.ends.0 told agree copied.pages.newest (are_held t2 y (c.the_counts_are_of_the_keys.ensures.none y) agree) copied.ends.1 copied.pages.stored;
+      step = step_moved c.args.spare v target d0 d1 t0 t1 t2 x y c.args.copies.now listed held copied.pages.keeps c.requires.can.stands copied.ends.0 told agree copied.pages.newest (are_held t2 y (c.the_counts_are_of_the_keys.ensures.none y) agree) copied.ends.1 copied.pages.stored copied.pages.found;
       out = λ v listed.
           let told = c.tell_copies.ensures.tells v listed.lists (unlike v target.block t0 listed.some copied.ends.0.unkept) in
           moves_out c.args.spare v target d0 d1 t0 t1 t2 x y c.args.copies.now listed held copied.pages.keeps c.requires.can.stands copied.ends.0 told agree copied.pages.newest;
@@ -115,7 +115,7 @@ returns g c =
     let told = c.tell_copies.ensures.tells v listed.lists (unlike v target.block t0 listed.some copied.ends.0.unkept) in
     let agree = c.tell_copies.ensures.agree in
     record {
-      step = step_moved c.args.spare v target d0 d1 t0 t1 t2 x y c.args.copies.now listed held copied.pages.keeps c.requires.can.stands copied.ends.0 told agree copied.pages.newest (are_held t2 y (c.the_counts_are_of_the_keys.ensures.none y) agree) copied.ends.1 copied.pages.stored;
+      step = step_moved c.args.spare v target d0 d1 t0 t1 t2 x y c.args.copies.now listed held copied.pages.keeps c.requires.can.stands copied.ends.0 told agree copied.pages.newest (are_held t2 y (c.the_counts_are_of_the_keys.ensures.none y) agree) copied.ends.1 copied.pages.stored copied.pages.found;
       out = λ v listed.
           let told = c.tell_copies.ensures.tells v listed.lists (unlike v target.block t0 listed.some copied.ends.0.unkept) in
           moves_out c.args.spare v target d0 d1 t0 t1 t2 x y c.args.copies.now listed held copied.pages.keeps c.requires.can.stands copied.ends.0 told agree copied.pages.newest;

@@ -110,3 +110,8 @@ pub returns-in-Ok-Taken-clause-answers : goal.returns-in-Ok-Taken-clause-answers
 returns-in-Ok-Taken-clause-answers g c =
     let took = rw c.in-Ok-Taken.field-0-is at c.in-Ok-Taken.ensures in
     omega (arith, c.loop-block.invariant.answers, took.answers)
+
+pub try_block-requires-clause-some : goal.try_block-requires-clause-some
+try_block-requires-clause-some g c =
+    let so_far = c.loop-block.invariant in
+    (c.args.spare, record { bad = so_far.few; unkept = omega (arith, so_far.passes.unkept, c.requires.some.unkept); apart = so_far.apart })

@@ -1,4 +1,4 @@
-use Rattle.std.proofs.Common.{ℕ, refl, sym, ◌∙◌, ap, subst, arith}
+use Rattle.std.proofs.Common.{ℕ, sym, ◌∙◌, ap, subst, arith}
 use Rattle.std.proofs.lemmas.Result.{err_from_is_err_and}
 use Rattle.block_state.specs.laws.Kept.{free_where_closed, none_free, same_bad_count}
 use Rattle.block_state.specs.Table.{Table}
@@ -6,9 +6,11 @@ use Rattle.block_state.specs.TableOf.{table}
 use Rattle.transactions.specs.Marking.{NotesMark}
 use Rattle.transactions.specs.Opening.{MayLose}
 use Rattle.transactions.specs.laws.Handing.{hands_on}
-use Rattle.flash_log.proofs.Passing.{passes_on, passes_erased, passes_opened, passes_marked, same_opened}
+use Rattle.flash_log.proofs.Passing.{passes_erased, passes_opened, passes_marked, same_opened}
 use Rattle.flash_log.proofs.Free.{was_unkept, one_more, erase_costs, erase_fails, mark_costs}
-use Rattle.flash_log.proofs.Turning.{first_taken, opened_in_turn, turns_marked}
+use Rattle.flash_log.specs.laws.Erased.{erased_cut, erased_failed, erased_opened}
+use Rattle.flash_log.specs.laws.Found.{found_erased}
+use Rattle.flash_log.proofs.Turning.{first_taken, goes_next, noted_next, opened_in_turn, turns_marked}
 use Rattle.flash_log.proofs.take.try_block.Goals as goal
 
 pub unreachable-requires : goal.unreachable-requires
@@ -24,7 +26,9 @@ returns-in-Ok-clause-passes g c =
     let t : Table = table c.args.blocks.now in
     let free = was_unkept t c.in-Some.block c.in-Some.ensures.found.free in
     let does = c.erase_and_open.ensures in
-    passes_on _ _ _ t t _ does.erases.lasts (passes_erased c.in-Some.block _ _ t t refl free.1 does.erases.lasts does.newest) (passes_opened c.in-Some.block _ t _ c.requires.seq c.in-Ok.ensures.opens)
+    let opens = c.in-Ok.ensures.opens in
+    passes_opened c.in-Some.block _ _ t _ _ c.requires.seq free.1 does.erases does.newest opens
+    (erased_opened c.in-Some.block _ _ t _ _ (λ honest. goes_next _ t c.in-Some.block c.requires.ready c.requires.some.1.apart c.requires.closed c.in-Some.ensures.found) free.1 c.in-Ok.ensures.erases opens)
 
 pub returns-in-Ok-clause-ends : goal.returns-in-Ok-clause-ends
 returns-in-Ok-clause-ends g c =
@@ -55,7 +59,9 @@ returns-in_ok-mark_block-in-Err-Failed-clause-passes g c =
     let erased = rw c.in-Err-Failed.field-0-is at c.in-Err-Failed.ensures in
     let marked = c.mark_block.ensures in
     let notes = subst (λ (x : Table). NotesMark block (g.N.Nand.state c.mark_block.new.device).flash x (table c.mark_block.new.blocks)) erased.unchanged marked.notes in
-    passes_marked block _ _ _ t _ _ c.in-Some.ensures.found.within free.0 free.1 erased.erases.lasts (erase_fails block _ _ erased.erases) erased.newest marked.marks marked.newest notes
+    passes_marked block _ _ _ t _ _ c.in-Some.ensures.found.within free.0 free.1 erased.erases.lasts (erase_fails block _ _ erased.erases) erased.newest (found_erased block _ _ t _ free.1 erased.erases) marked.marks marked.newest notes
+    (erased_failed block _ _ _ t _ _ _ (λ honest. goes_next _ t block c.requires.ready c.requires.some.1.apart c.requires.closed c.in-Some.ensures.found)
+    (noted_next _ t block c.requires.ready c.requires.some.1.apart c.in-Some.ensures.found) c.requires.closed erased.erases marked.marks notes)
 
 pub returns-in_err-mark_block-in-Err-Failed-clause-passes : goal.returns-in_err-mark_block-in-Err-Failed-clause-passes
 returns-in_err-mark_block-in-Err-Failed-clause-passes g c =
@@ -65,7 +71,9 @@ returns-in_err-mark_block-in-Err-Failed-clause-passes g c =
     let erased = rw c.in-Err-Failed.field-0-is at c.in-Err-Failed.ensures in
     let marked = c.mark_block.ensures in
     let notes = subst (λ (x : Table). NotesMark block (g.N.Nand.state c.mark_block.new.device).flash x (table c.mark_block.new.blocks)) erased.unchanged marked.notes in
-    passes_marked block _ _ _ t _ _ c.in-Some.ensures.found.within free.0 free.1 erased.erases.lasts (erase_fails block _ _ erased.erases) erased.newest marked.marks marked.newest notes
+    passes_marked block _ _ _ t _ _ c.in-Some.ensures.found.within free.0 free.1 erased.erases.lasts (erase_fails block _ _ erased.erases) erased.newest (found_erased block _ _ t _ free.1 erased.erases) marked.marks marked.newest notes
+    (erased_failed block _ _ _ t _ _ _ (λ honest. goes_next _ t block c.requires.ready c.requires.some.1.apart c.requires.closed c.in-Some.ensures.found)
+    (noted_next _ t block c.requires.ready c.requires.some.1.apart c.in-Some.ensures.found) c.requires.closed erased.erases marked.marks notes)
 
 pub returns-in_ok-mark_block-in-Err-Failed-clause-ends : goal.returns-in_ok-mark_block-in-Err-Failed-clause-ends
 returns-in_ok-mark_block-in-Err-Failed-clause-ends g c =
@@ -86,7 +94,8 @@ returns-in-Err-Gone-clause-passes g c =
     let t : Table = table c.args.blocks.now in
     let free = was_unkept t c.in-Some.block c.in-Some.ensures.found.free in
     let erased = rw c.in-Err-Gone.field-0-is at c.in-Err-Gone.ensures in
-    passes_erased c.in-Some.block _ _ t _ erased.unchanged free.1 erased.erases.lasts erased.newest
+    passes_erased c.in-Some.block _ _ t _ _ erased.unchanged free.1 erased.erases erased.newest
+    (erased_cut c.in-Some.block _ _ t _ _ (λ honest. goes_next _ t c.in-Some.block c.requires.ready c.requires.some.1.apart c.requires.closed c.in-Some.ensures.found) erased.erases erased.erases.ends.is)
 
 pub returns-in-Ok-clause-costs : goal.returns-in-Ok-clause-costs
 returns-in-Ok-clause-costs g c = let erase = erase_costs _ _ _ _ c.erase_and_open.ensures.erases in omega (arith, erase, c.erase_and_open.ensures.erases.lasts.failures)

@@ -26,7 +26,7 @@ invariant_of-self-2-clause-stands g c =
     let v : Table = table c.write_into.new.blocks in
     let w = rw k.index at c.write_into.ensures in
     let takes = c.in_ok-block.ensures.ends.0 in
-    let taken : KeepsPages (log_of d t) (log_of e u) = keeps_taken d e t u k.step.lasts k.step.ready k.step.numbers.numbers k.passes in
+    let taken : KeepsPages (log_of d t) (log_of e u) = keeps_taken d e t u k.step.lasts k.step.ready k.step.numbers k.passes in
     let keeps : KeepsPages (log_of d t) (log_of f v) = keeps_on (log_of d t) (log_of e u) (log_of f v) taken w.leaves.keeps in
     let seals = seals_from c.args.self.now.spare x d f t v held c.args.self.now.stands keeps w.leaves.open_block
     (λ n is. keeps.kept n ∙ ap (λ b. (t.entry b).kept) (w.leaves.checkpoint n is) ∙ takes.unkept)
@@ -63,7 +63,7 @@ returns-in_err-block-clause-seals g c =
     let k = c.allocate_block.ensures in
     let held : AreHeld t x = are_held t x (c.the_counts_are_of_the_keys.ensures.none x) c.args.self.now.stands.tables.counts in
     let none = c.in_err-block.ensures.ends.0 in
-    let keeps : KeepsPages (log_of d t) (log_of e u) = keeps_taken d e t u k.step.lasts k.step.ready k.step.numbers.numbers k.passes in
+    let keeps : KeepsPages (log_of d t) (log_of e u) = keeps_taken d e t u k.step.lasts k.step.ready k.step.numbers k.passes in
     seals_from c.args.self.now.spare x d e t u held c.args.self.now.stands keeps none.open_block
     (lies_apart t u k.step.numbers.truth.noted k.passes.kept c.args.self.now.stands.tables.apart) (λ _. k.step.numbers.truth.checked)
     (shows_after c.args.self.now.spare d t x c.args.self.now.ready c.args.self.now.stands held e u keeps)
@@ -91,7 +91,7 @@ write_into-requires-clause-take g c =
     let k = c.allocate_block.ensures in
     let held : AreHeld t x = are_held t x (c.the_counts_are_of_the_keys.ensures.none x) c.args.self.now.stands.tables.counts in
     let ends = c.in_ok-block.ensures.ends in
-    rw k.index (may_take c.args.self.now.spare d t x c.args.self.now.ready c.args.self.now.stands held e u c.in_ok-block.block k.step.ready k.passes (keeps_taken d e t u k.step.lasts k.step.ready k.step.numbers.numbers k.passes) ends.0 ends.1)
+    rw k.index (may_take c.args.self.now.spare d t x c.args.self.now.ready c.args.self.now.stands held e u c.in_ok-block.block k.step.ready k.passes (keeps_taken d e t u k.step.lasts k.step.ready k.step.numbers k.passes) ends.0 ends.1)
 
 pub returns-clause-seals : goal.returns-clause-seals
 returns-clause-seals g c =
@@ -106,7 +106,7 @@ returns-clause-seals g c =
     let v : Table = table c.write_into.new.blocks in
     let w = rw k.index at c.write_into.ensures in
     let takes = c.in_ok-block.ensures.ends.0 in
-    let taken : KeepsPages (log_of d t) (log_of e u) = keeps_taken d e t u k.step.lasts k.step.ready k.step.numbers.numbers k.passes in
+    let taken : KeepsPages (log_of d t) (log_of e u) = keeps_taken d e t u k.step.lasts k.step.ready k.step.numbers k.passes in
     let keeps : KeepsPages (log_of d t) (log_of f v) = keeps_on (log_of d t) (log_of e u) (log_of f v) taken w.leaves.keeps in
     seals_from c.args.self.now.spare x d f t v held c.args.self.now.stands keeps w.leaves.open_block
     (λ n is. keeps.kept n ∙ ap (λ b. (t.entry b).kept) (w.leaves.checkpoint n is) ∙ takes.unkept)

@@ -24,6 +24,8 @@ use Rattle.transactions.specs.Newest.{NewestAfter, ShowsGroup}
 use Rattle.transactions.specs.Ready.{IsReady}
 use Rattle.transactions.specs.declared.group.GroupFault.TheVariants as group_faults
 use Rattle.transactions.specs.declared.group.Placed.{Placed}
+use Rattle.flash_log.specs.Erased.{KeepsErased}
+use Rattle.flash_log.specs.Passing.{KeepsFound}
 use Rattle.flash_log.specs.Standing.{AreHeld, HasFreeBlocks, HasVersion, IsKept, Stands, TablesAgree}
 use Rattle.flash_log.specs.laws.Keeping.{same_ends, same_closed, limits_ends}
 use Rattle.page_store.specs.Carrying.{AreWritable, HaveRanges, StaysOrShows}
@@ -61,8 +63,10 @@ was_open o d e t v ready is lasts same = record {
 
 -- the group is not valid
 pub keeps_written : (spare : ℕ) (d e : Device) (t u : Table) (x : Index) (xs : List FreshPage) (o : ℕ) → ListsAreWhole → Stands spare d t x → t.next_group < 2 ^ 62 → u ≡ closed t → Lasts d e → IsReady e u
-    → HandsOut d e t u → (d.honest ≡ true → KeepsNewest d.flash e.flash) → Step spare (log_of d t) (log_of e u) x x
-keeps_written spare d e t u x xs o lists stands less is lasts then numbers newest = keeps_group spare d e t u x stands (held_lists lists t x stands.tables.counts) less is lasts then numbers newest
+    → HandsOut d e t u → (d.honest ≡ true → KeepsNewest d.flash e.flash) → (d.honest ≡ true → KeepsFound t d e) → KeepsErased d e t u
+    → Step spare (log_of d t) (log_of e u) x x
+keeps_written spare d e t u x xs o lists stands less is lasts then numbers newest found erased =
+    keeps_group spare d e t u x stands (held_lists lists t x stands.tables.counts) less is lasts then numbers newest found erased
 
 -- the device lost its power, and the group is valid or not
 pub leaves_gone : (spare : ℕ) (d e : Device) (t u : Table) (x : Index) (pages : List FreshPage) (o : ℕ) → ListsAreWhole → Stands spare d t x → HasFreeBlocks t spare → t.next_group < 2 ^ 62 → t.open_block ≡ Some o → Buffers x pages → IsReady d t

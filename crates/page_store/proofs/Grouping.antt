@@ -40,6 +40,9 @@ use Rattle.flash_log.specs.Standing.{AreHeld, AreKept, HasFreeBlocks, IsKept, Is
 use Rattle.flash_log.specs.laws.FreeBlocks.{leaves_unkept, newest_where_kept}
 use Rattle.flash_tree.specs.laws.Place.{had_power}
 use Rattle.flash_log.specs.laws.Keeping.{limits_ends}
+use Rattle.flash_log.specs.Erased.{KeepsErased}
+use Rattle.flash_log.specs.Passing.{KeepsFound}
+use Rattle.flash_log.specs.laws.Found.{findable_still}
 use Rattle.flash_log.specs.laws.Moves.{may_lie_later}
 use Rattle.pages.specs.Stores.{Carries, HasPage}
 use Rattle.transactions.specs.Checking.{log_of}
@@ -81,8 +84,9 @@ free_group spare d e t u x stands held is lasts ready newest honest free = elim 
 ]
 
 pub keeps_group : (spare : ℕ) (d e : Device) (t u : Table) (x : Index) → Stands spare d t x → AreHeld t x → t.next_group < 2 ^ 62 → u ≡ closed t → Lasts d e → IsReady e u → HandsOut d e t u
-    → (d.honest ≡ true → KeepsNewest d.flash e.flash) → Step spare (log_of d t) (log_of e u) x x
-keeps_group spare d e t u x stands held less is lasts ready numbers newest = record {
+    → (d.honest ≡ true → KeepsNewest d.flash e.flash) → (d.honest ≡ true → KeepsFound t d e) → KeepsErased d e t u
+    → Step spare (log_of d t) (log_of e u) x x
+keeps_group spare d e t u x stands held less is lasts ready numbers newest found erased = record {
   lasts = lasts;
   ready = ready;
   stands = record {
@@ -100,6 +104,8 @@ keeps_group spare d e t u x stands held less is lasts ready numbers newest = rec
   index = moves_kept_none x;
   same_data = λ honest. same_kept_pages x d.flash e.flash (newest honest);
   free = free_group spare d e t u x stands held is lasts ready newest;
+  findable = findable_still spare d e t x held lasts stands found;
+  erased = erased;
 }
 
 -- ---- its names

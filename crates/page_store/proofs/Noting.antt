@@ -37,20 +37,20 @@ notes_skip list n old new f at above notes = record {
   ];
 }
 
-entry_bad : (k seq : ℕ) (t t' : Table) → Sets k (record (t.entry k) { seq = seq }) t t' → (b : ℕ) → (t'.entry b).bad ≡ (t.entry b).bad
+entry_bad : (k seq : ℕ) (t t' : Table) → Sets k (record (t.entry k) { seq = seq; next = t.geometry.pages }) t t' → (b : ℕ) → (t'.entry b).bad ≡ (t.entry b).bad
 entry_bad k seq t t' sets b = elim (cases_eq b k) [
   | inl here ↦ ap (λ j. (t'.entry j).bad) here ∙ ap (λ (e : BlockEntry). e.bad) sets.here ∙ ap (λ j. (t.entry j).bad) (sym here)
   | inr ne ↦ ap (λ (e : BlockEntry). e.bad) (sets.others b ne)
 ]
 
-entry_kept : (k seq : ℕ) (t t' : Table) → Sets k (record (t.entry k) { seq = seq }) t t' → (b : ℕ) → (t'.entry b).kept ≡ (t.entry b).kept
+entry_kept : (k seq : ℕ) (t t' : Table) → Sets k (record (t.entry k) { seq = seq; next = t.geometry.pages }) t t' → (b : ℕ) → (t'.entry b).kept ≡ (t.entry b).kept
 entry_kept k seq t t' sets b = elim (cases_eq b k) [
   | inl here ↦ ap (λ j. (t'.entry j).kept) here ∙ ap (λ (e : BlockEntry). e.kept) sets.here ∙ ap (λ j. (t.entry j).kept) (sym here)
   | inr ne ↦ ap (λ (e : BlockEntry). e.kept) (sets.others b ne)
 ]
 
 -- a page whose seq becomes its block's
-pub notes_more : (list : List PageCopy) (n : ℕ) (old t t' : Table) (f : PageCopy) → slice_get list n ≡ Some f → Sets f.block (record (t.entry f.block) { seq = f.seq }) t t'
+pub notes_more : (list : List PageCopy) (n : ℕ) (old t t' : Table) (f : PageCopy) → slice_get list n ≡ Some f → Sets f.block (record (t.entry f.block) { seq = f.seq; next = t.geometry.pages }) t t'
     → t'.open_block ≡ t.open_block → t'.checkpoint ≡ t.checkpoint → t'.next_seq ≡ t.next_seq → Notes list n old t → Notes list (n + 1) old t'
 notes_more list n old t t' f at sets open_same noted seq_same notes = record {
   only = record {

@@ -119,6 +119,7 @@ module _ (a : StoreState) (lent : List ℕ) where
       numbers = hands_told d d t t (hands_nothing d t);
       marks = omega arith;
       limits = λ honest left. left;
+      summaries = λ honest right. right;
     };
     checked = λ _ honest was. was;
     kept = λ sound. absurd (let two : false ≡ true = sym (not_sound d.honest broken is) ∙ sound in cc);
@@ -148,6 +149,7 @@ module _ (a : StoreState) (lent : List ℕ) where
       numbers = numbers_told d e t u seals.keeps.numbers;
       marks = marks_told d e t u before seals.keeps.ready marks;
       limits = λ honest left. limits_told e u seals.keeps.ready seals.stands.limits (seals.keeps.lasts.honest ∙ honest);
+      summaries = seals.keeps.summaries;
     }
 
     left_right : IsExact seen → StaysRight seen (left_by seen e u)

@@ -28,7 +28,7 @@ use Rattle.transactions.specs.Handing.{HandsOut}
 use Rattle.transactions.specs.laws.Handing.{hands_same}
 use Rattle.transactions.specs.Newest.{ShowsGroup}
 use Rattle.flash_tree.specs.Numbering.{AreBelow}
-use Rattle.transactions.specs.Ready.{IsReady}
+use Rattle.transactions.specs.Ready.{IsReady, IsWrittenInOrder}
 use Rattle.flash_tree.specs.Slots.{check_object}
 use Rattle.flash_tree.specs.laws.Truth.{none_after}
 use Rattle.transactions.specs.laws.Ready.{none_waits}
@@ -60,7 +60,10 @@ ready_counted d t u before after counts ready = record {
         good = was.good;
         next = was.next ∙ ap Some (sym next);
         pages = let pages = was.pages in omega (arith, next, pages);
-        seq = (let one = was.seq.0 in omega (arith, seq, one), let below = was.seq.1 in omega (arith, seq, next_seq, below));
+        seq = (let one = was.seq.0 in omega (arith, seq, one), let last = was.seq.1 in omega (arith, seq, next_seq, last));
+        in_order = λ honest.
+            subst (λ n. IsWrittenInOrder d.flash o n (u.entry o).seq) (sym next)
+            (subst (λ s. IsWrittenInOrder d.flash o (t.entry o).next s) (sym seq) (was.in_order honest));
       };
   waits = λ c is.
       let was = ready.waits c (sym counts.checkpoint ∙ is) in

@@ -60,9 +60,9 @@ pub record OnlySeqs (old new : Table) : Type 0 where
   pub next_group : new.next_group ≡ old.next_group
   pub next_seq : new.next_seq ≡ old.next_seq
 
--- A block gets this seq, where that was handed out, and else nothing changes.
+-- A block gets this seq, where that was handed out, as one in which something was programmed, and else nothing changes.
 pub record NotesOne (b seq : ℕ) (old new : Table) : Type 0 where
-  pub sets : seq < old.next_seq → Sets b (record (old.entry b) { seq = seq }) old new
+  pub sets : seq < old.next_seq → Sets b (record (old.entry b) { seq = seq; next = old.geometry.pages }) old new
   pub open_block : new.open_block ≡ old.open_block
   pub checkpoint : new.checkpoint ≡ old.checkpoint
   pub next_seq : new.next_seq ≡ old.next_seq

@@ -6,6 +6,7 @@ use Rattle.posix_profile.specs.State.{Objects}
 use Rattle.flash_tree.specs.Checkpoints.{Checkpoint, IsChecked, IsWhole}
 use Rattle.flash_tree.specs.Mount.{sizes_of, IsVolume}
 use Rattle.flash_tree.specs.Newest.{HasNewest}
+use Rattle.flash_tree.specs.Truth.{KeepsSummaries}
 use Rattle.flash_tree.specs.Tree.{Shows, InFootprint}
 use Rattle.pages.specs.State.{PagesState}
 use Rattle.pages.specs.Stores.{HandsOutNumbers, HasFailed, HasNumbersLeft, HasPage, KeptAs, StaysSame, bad_on}
@@ -38,6 +39,7 @@ pub record EndsOn (old new : PagesState) : Type 0 where
   pub numbers : HandsOutNumbers old.device new.device old.next new.next
   pub marks : bad_on new.device + old.device.failures ≤ bad_on old.device + new.device.failures
   pub limits : old.device.honest ≡ true → HasNumbersLeft old.device.flash → HasNumbersLeft new.device.flash
+  pub summaries : old.device.honest ≡ true → KeepsSummaries old.device new.device
 
 -- If each whole checkpoint of an honest device was right and in the block that was noted, each is right and in the one that is now.
 abbrev pub StaysRight : PagesState → PagesState → Type 0

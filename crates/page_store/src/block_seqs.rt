@@ -14,7 +14,7 @@ fn note_one(block: u32, seq: u64, blocks: &mut Blocks)
     ensures { NotesOne block seq (table blocks.old) (table blocks.new) }
 {
     if seq < blocks.next_seq() {
-        blocks.note_seq(block, seq);
+        blocks.note_written(block, seq);
     }
 }
 

@@ -17,4 +17,5 @@ ends_going p q goes = record {
   numbers = goes.numbers;
   marks = goes.marks;
   limits = goes.limits;
+  summaries = goes.truth.summaries;
 }

@@ -20,6 +20,7 @@ ends_after a b c x y = record {
   numbers = numbers_on a.device b.device c.device a.next b.next c.next x.device y.device x.numbers y.numbers;
   marks = omega (arith, x.marks, y.marks);
   limits = λ honest left. y.limits (x.device.honest ∙ honest) (x.limits honest left);
+  summaries = λ honest right. y.summaries (x.device.honest ∙ honest) (x.summaries honest right);
 }
 
 -- checkpoints stay right by calls that go on

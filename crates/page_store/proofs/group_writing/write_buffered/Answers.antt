@@ -11,6 +11,9 @@ use Rattle.transactions.specs.Checking.{log_of}
 use Rattle.transactions.specs.Committing.{fresh_name, fresh_bytes}
 use Rattle.transactions.specs.Groups.{AddsPages, GroupsAfter, OkTable, TellsGroup, next_group}
 use Rattle.transactions.specs.declared.group.GroupFault.TheVariants as groups
+use Rattle.flash_log.specs.Passing.{KeepsFound}
+use Rattle.flash_log.specs.laws.Erased.{erased_written}
+use Rattle.flash_log.specs.laws.Found.{found_same}
 use Rattle.flash_log.specs.laws.Keeping.{same_ends, same_closed}
 use Rattle.flash_log.specs.declared.room_fault.RoomFault.TheVariants as rooms
 use Rattle.page_store.specs.Buffered.{BufferedLog, in_parts}
@@ -89,7 +92,7 @@ returns-then-placed-clause-attempts g c = λ spare stands free.
     let adds = subst (λ (xs : List FreshPage). d.honest ≡ true → AddsPages (next_group t (length xs) o) (fresh_name xs t.next_group) (fresh_bytes xs) d.flash e.flash) same (λ honest. w.groups honest o opened) in
     let a : BufferedLog = in_parts g.N.Nand.state c.args.device.now c.args.blocks.now c.args.index.now c.args.buffer.now in
     let b : BufferedLog = in_parts g.N.Nand.state c.write_group.new.device c.settle.new.blocks c.settle.new.index c.settle.new.self in
-    let whole : IsWhole spare a b = whole_written spare lists d e t u v x y pages o c.in-Ok.placed c.requires.buffers opened c.requires.ready stands free c.requires.pages ranges c.requires.fits c.requires.number w.lasts w.ready w.numbers w.grows ok w.ends.1 tells adds
+    let whole : IsWhole spare a b = whole_written spare lists d e t u v x y pages o c.in-Ok.placed c.requires.buffers opened c.requires.ready stands free c.requires.pages ranges c.requires.fits c.requires.number w.lasts w.ready w.numbers (λ (honest : d.honest ≡ true). (w.writes honest).grows) ok w.ends.1 tells adds
     c.settle.ensures.settles c.settle.ensures.agree c.settle.ensures.counts a.last b.pages b.last c.settle.ensures.empty c.settle.ensures.written in
     (leaves_committed spare a b whole.commits whole.empty, (whole, was_open o d e t v c.requires.ready opened w.lasts (c.settle.ensures.counts.bad o ∙ (same_ends (length pages) t u (Ok c.in-Ok.placed) ok).bad o)))
 
@@ -139,7 +142,7 @@ returns-else-placed-clause-attempts g c = λ spare stands free.
     let adds = subst (λ (xs : List FreshPage). d.honest ≡ true → AddsPages (next_group t (length xs) o) (fresh_name xs t.next_group) (fresh_bytes xs) d.flash e.flash) same (λ honest. w.groups honest o opened) in
     let a : BufferedLog = in_parts g.N.Nand.state c.args.device.now c.args.blocks.now c.args.index.now c.args.buffer.now in
     let b : BufferedLog = in_parts g.N.Nand.state c.write_group.new.device c.settle.new.blocks c.settle.new.index c.settle.new.self in
-    let whole : IsWhole spare a b = whole_written spare lists d e t u v x y pages o c.in-Ok.placed c.requires.buffers opened c.requires.ready stands free c.requires.pages ranges c.requires.fits c.requires.number w.lasts w.ready w.numbers w.grows ok w.ends.1 tells adds
+    let whole : IsWhole spare a b = whole_written spare lists d e t u v x y pages o c.in-Ok.placed c.requires.buffers opened c.requires.ready stands free c.requires.pages ranges c.requires.fits c.requires.number w.lasts w.ready w.numbers (λ (honest : d.honest ≡ true). (w.writes honest).grows) ok w.ends.1 tells adds
     c.settle.ensures.settles c.settle.ensures.agree c.settle.ensures.counts a.last b.pages b.last c.settle.ensures.empty c.settle.ensures.written in
     let none : e.failures ≡ d.failures + 0 = w.ends.0 ∙ ap (λ s. d.failures + (if s then 1 else 0)) c.if-placed.false in
     (leaves_committed spare a b whole.commits whole.empty, (whole, omega (arith, none)))
@@ -173,8 +176,10 @@ returns-in-Err-Failed-clause-attempts g c = λ spare stands free.
     let a : BufferedLog = in_parts g.N.Nand.state c.args.device.now c.args.blocks.now c.args.index.now c.args.buffer.now in
     let b : BufferedLog = in_parts g.N.Nand.state c.write_group.new.device c.write_group.new.blocks c.args.index.now c.args.buffer.now in
     let xs : List FreshPage = c.pages-pages.result.now in
-    let newest : d.honest ≡ true → KeepsNewest d.flash e.flash = λ honest. newest_written d e t xs o c.requires.ready honest (w.grows honest) (Err groups.Failed) (w.groups honest o opened) in
-    let step = keeps_written spare d e t u x xs o lists stands c.requires.number w.table w.lasts w.ready w.numbers newest in
+    let newest : d.honest ≡ true → KeepsNewest d.flash e.flash = λ honest. newest_written d e t xs o c.requires.ready honest (w.writes honest).grows (Err groups.Failed) (w.groups honest o opened) in
+    let found : d.honest ≡ true → KeepsFound t d e = λ honest. found_same t d e o (length xs) (fresh_name xs t.next_group) (fresh_bytes xs) c.requires.ready opened honest w.lasts.geometry (w.writes honest) (w.numbers.truth.summaries honest) (w.groups honest o opened) in
+    let erased = erased_written d e t o (length xs) (fresh_name xs t.next_group) (fresh_bytes xs) c.requires.ready opened w.lasts w.writes u (Err groups.Failed) (λ honest. w.groups honest o opened) w.table in
+    let step = keeps_written spare d e t u x xs o lists stands c.requires.number w.table w.lasts w.ready w.numbers newest found erased in
     (leaves_kept spare a b step refl c.requires.buffers, (record { step = step; pages = refl; power = w.ends.1 }, was_open o d e t u c.requires.ready opened w.lasts ((same_closed t u w.table).bad o)))
 
 pub returns-in-Err-Lost-clause-bad : goal.returns-in-Err-Lost-clause-bad
@@ -205,8 +210,10 @@ returns-in-Err-Lost-clause-attempts g c = λ spare stands free.
     let a : BufferedLog = in_parts g.N.Nand.state c.args.device.now c.args.blocks.now c.args.index.now c.args.buffer.now in
     let b : BufferedLog = in_parts g.N.Nand.state c.write_group.new.device c.write_group.new.blocks c.args.index.now c.args.buffer.now in
     let xs : List FreshPage = c.pages-pages.result.now in
-    let newest : d.honest ≡ true → KeepsNewest d.flash e.flash = λ honest. newest_written d e t xs o c.requires.ready honest (w.grows honest) (Err groups.Lost) (w.groups honest o opened) in
-    let step = keeps_written spare d e t u x xs o lists stands c.requires.number w.table w.lasts w.ready w.numbers newest in
+    let newest : d.honest ≡ true → KeepsNewest d.flash e.flash = λ honest. newest_written d e t xs o c.requires.ready honest (w.writes honest).grows (Err groups.Lost) (w.groups honest o opened) in
+    let found : d.honest ≡ true → KeepsFound t d e = λ honest. found_same t d e o (length xs) (fresh_name xs t.next_group) (fresh_bytes xs) c.requires.ready opened honest w.lasts.geometry (w.writes honest) (w.numbers.truth.summaries honest) (w.groups honest o opened) in
+    let erased = erased_written d e t o (length xs) (fresh_name xs t.next_group) (fresh_bytes xs) c.requires.ready opened w.lasts w.writes u (Err groups.Lost) (λ honest. w.groups honest o opened) w.table in
+    let step = keeps_written spare d e t u x xs o lists stands c.requires.number w.table w.lasts w.ready w.numbers newest found erased in
     (leaves_kept spare a b step refl c.requires.buffers, w.lasts.honest ∙ w.ends.0)
 
 pub returns-in-Err-Gone-clause-bad : goal.returns-in-Err-Gone-clause-bad
@@ -237,7 +244,7 @@ returns-in-Err-Gone-clause-attempts g c = λ spare stands free.
     let a : BufferedLog = in_parts g.N.Nand.state c.args.device.now c.args.blocks.now c.args.index.now c.args.buffer.now in
     let b : BufferedLog = in_parts g.N.Nand.state c.write_group.new.device c.write_group.new.blocks c.args.index.now c.args.buffer.now in
     let pages : List FreshPage = buffered c.args.buffer.now in (
-      leaves_gone spare d e t u x pages o lists stands free c.requires.number opened c.requires.buffers c.requires.ready w.table w.lasts w.ready w.numbers w.ends.0 w.grows
+      leaves_gone spare d e t u x pages o lists stands free c.requires.number opened c.requires.buffers c.requires.ready w.table w.lasts w.ready w.numbers w.ends.0 (λ (honest : d.honest ≡ true). (w.writes honest).grows)
           (subst (λ (xs : List FreshPage). d.honest ≡ true → GroupsAfter (next_group t (length xs) o) (fresh_name xs t.next_group) (fresh_bytes xs) d.flash e.flash (Err groups.Gone)) c.pages-pages.ensures (λ honest. w.groups honest o opened))
           a.last,
       w.ends.0,

@@ -28,6 +28,8 @@ mod scans;
 #[cfg(test)]
 mod searches;
 #[cfg(test)]
+mod summaries;
+#[cfg(test)]
 mod taken;
 #[cfg(test)]
 mod volumes;

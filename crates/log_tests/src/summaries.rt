@@ -1,0 +1,144 @@
+//! A scan by a block summary that is put together by hand.
+
+use crate::laid::{Laid, empty, write};
+use crate::same::assert_same;
+use crate::scans::pages_of;
+use crate::worked::tag;
+use flash_tree::{CHECK_OBJECT, TagNumbers};
+use mount_scan::{NewestScan, PageCopy, ScanFault, scan_newest, scan_summaries};
+use nand_model::MemNand;
+use std::alloc::Global;
+use std::process::Abort;
+
+/// The head of a summary of two pages of block 2, which was allocated with number 1: `NLFB`, version 1, and zeros.
+const HEAD: [u8; 32] = [
+    0x4e, 0x4c, 0x46, 0x42, 1, 0, 0, 0, 2, 0, 0, 0, 2, 0, 0, 0, 1, 0, 0, 0, 0, 0, 0, 0, 0, 0, 0, 0,
+    0, 0, 0, 0,
+];
+
+/// A block of two pages: chunks 0 and 1 of object 1, in versions 1 and 2.
+fn listed_block() -> Laid {
+    Laid {
+        first: [7; 512],
+        second: [8; 512],
+        first_tag: tag((0, 1), (1, 0), (1, 1, 1)),
+        second_tag: tag((0, 1), (1, 1), (2, 2, 1)),
+    }
+}
+
+/// The page of the summary: the head, the two entries, and zeros.
+fn summary() -> [u8; 512] {
+    let mut page = [0; 512];
+    page[..32].copy_from_slice(&HEAD);
+    for k in 0..2u8 {
+        let at = 32 * (k as usize + 1);
+        page[at] = 1;
+        page[at + 8] = k;
+        page[at + 16] = k + 1;
+        page[at + 24] = 2;
+        page[at + 28] = k;
+    }
+    page
+}
+
+/// A block that begins with this page as a summary, and has chunk 0 of object 1 in version 4 behind it.
+fn next_block(page: [u8; 512]) -> Laid {
+    Laid {
+        first: page,
+        second: [9; 512],
+        first_tag: tag((0, 1), (CHECK_OBJECT, 2_147_483_648), (3, 3, 2)),
+        second_tag: tag((0, 1), (1, 0), (4, 4, 2)),
+    }
+}
+
+/// A flash of 8 blocks of 32 pages: block 2 is listed by the page that block 5 begins with, and the others are erased.
+fn flash(rt: &impl Abort, alloc: Global, page: [u8; 512]) -> MemNand {
+    let mut nand = empty(rt, alloc);
+    write(rt, &mut nand, 2, &listed_block(), true);
+    write(rt, &mut nand, 5, &next_block(page), true);
+    nand.power_up();
+    nand
+}
+
+/// The newest page of each key: chunk 0 of object 1 in block 5, chunk 1 in block 2, and the summary.
+const NEWEST: [PageCopy; 3] = [
+    PageCopy {
+        object: 1,
+        version: 4,
+        seq: 2,
+        chunk: 0,
+        block: 5,
+        page: 1,
+    },
+    PageCopy {
+        object: 1,
+        version: 2,
+        seq: 1,
+        chunk: 1,
+        block: 2,
+        page: 1,
+    },
+    PageCopy {
+        object: u64::MAX,
+        version: 3,
+        seq: 2,
+        chunk: 2_147_483_648,
+        block: 5,
+        page: 0,
+    },
+];
+
+/// Asserts that a scan found these pages and numbers.
+fn found_all(rt: &impl Abort, alloc: Global, found: &NewestScan, what: &str) {
+    let pages = pages_of(rt, alloc, &found.newest);
+    assert_same!(rt; pages.len(), 3usize, what);
+    for page in &NEWEST {
+        assert!(rt; pages.contains(page), "{what}: {page:?}");
+    }
+    let numbers = TagNumbers {
+        version: 4,
+        group: 4,
+        seq: 2,
+    };
+    assert_same!(rt; found.numbers, numbers, what);
+}
+
+/// How many pages a scan by summaries reads of the flash on which block 5 begins with this page. It finds what a scan of all tags does.
+fn reads_of(rt: &impl Abort, alloc: Global, page: [u8; 512], what: &str) -> u64 {
+    let mut nand = flash(rt, alloc, page);
+    let before = nand.calls();
+    let found = scan_summaries(alloc, &mut nand).expect(rt, "a scan");
+    let reads = nand.calls().saturating_sub(before);
+    found_all(rt, alloc, &found, what);
+    let all = scan_newest(alloc, &mut nand).expect(rt, "a scan");
+    found_all(rt, alloc, &all, what);
+    reads
+}
+
+/// The first page of each of 8 blocks, the summary, and all 32 pages of block 0, the first that begins erased, and of block 5.
+#[test]
+fn a_block_that_is_listed_is_not_read(rt: HostRuntime) {
+    assert_same!(rt; reads_of(&rt, rt.alloc(), summary(), "whole"), 73);
+}
+
+/// Those of block 2 are read too where the head names another number of it, and where the summary is not whole.
+#[test]
+fn a_block_is_read_whose_summary_is_of_no_use(rt: HostRuntime) {
+    let mut page = summary();
+    page[16] = 2;
+    assert_same!(rt; reads_of(&rt, rt.alloc(), page, "of another number"), 105);
+    let mut page = summary();
+    page[511] = 1;
+    assert_same!(rt; reads_of(&rt, rt.alloc(), page, "not whole"), 105);
+}
+
+#[test]
+fn a_cut_scan_reports_gone_and_changes_nothing(rt: HostRuntime) {
+    let alloc = rt.alloc();
+    for call in 0..73u64 {
+        let mut cut = flash(&rt, alloc, summary()).with_fuse(call + 1, Vec::new(alloc));
+        let fault = scan_summaries(alloc, &mut cut).err();
+        assert_same!(rt; fault, Some(ScanFault::Gone), call);
+        assert_same!(rt; cut.changes(), 0, call);
+    }
+}

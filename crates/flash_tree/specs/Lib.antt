@@ -1,3 +1,4 @@
+pub mod ErasedBlocks
 pub mod Groups
 pub mod Newest
 pub mod Numbering
@@ -12,5 +13,6 @@ pub mod Sound
 pub mod Summaries
 pub mod Summarizing
 pub mod Checkpoints
+pub mod MountableFlash
 pub mod Fading
 pub mod laws

@@ -10,6 +10,7 @@ use Rattle.page_tags.specs.Summaries.{IsHead, summary_bytes}
 use Rattle.page_tags.specs.declared.check.CheckEntry.{CheckEntry}
 use Rattle.page_tags.specs.declared.summary_head.SummaryHead.{SummaryHead}
 use Rattle.flash_tree.specs.Checkpoints.{entry_of}
+use Rattle.flash_tree.specs.ErasedBlocks.{OnlyFirstHasTags}
 use Rattle.flash_tree.specs.Groups.{HasTag, Group, AllThere}
 use Rattle.flash_tree.specs.Newest.{Spot, Holds, IsAfter, IsNewest}
 use Rattle.flash_tree.specs.Slots.{check_object}
@@ -84,14 +85,6 @@ pub record AreSummariesRight (g : Geometry) (flash : Flash) : Type 0 where
   pub versions : (s : Summary) (e : CheckEntry) → IsWholeSummary g flash s → Contains s.entries e → e.version < s.number
   pub below : (s : Summary) (l : ℕ) (t : Tag) → IsWholeSummary g flash s → MatchesBlock flash s → HasTag flash s.head.block l t → (t.group < s.number) × (t.seq < s.seq)
   pub lists : (s : Summary) (o c : ℕ) (p : Spot) → IsWholeSummary g flash s → MatchesBlock flash s → Holds flash o c p → p.block ≡ s.head.block → o ≢ check_object → IsListed s p
-
--- the block is good, and its page 0 is erased
-abbrev pub BeginsErased : Flash → ℕ → Type 0
-BeginsErased flash b = (flash.bad b ≡ false) × (flash.page b 0 ≡ Erased)
-
--- of the good blocks whose page 0 is erased the first alone may have tags: an erase of it may have been cut
-abbrev pub OnlyFirstHasTags : Flash → Type 0
-OnlyFirstHasTags flash = (b k l : ℕ) (t : Tag) → b < k → BeginsErased flash b → BeginsErased flash k → HasTag flash k l t → ⊥
 
 -- A mount may go by the summaries of the flash: each is right, and of the blocks that begin with an erased page the first alone has tags.
 pub record IsSummarized (g : Geometry) (flash : Flash) : Type 0 where

@@ -11,11 +11,7 @@ use Rattle.flash_tree.specs.Groups.{HasTag, Group, SameGroups, AddsGroup, AllThe
 use Rattle.flash_tree.specs.Newest.{Spot, Holds, IsAfter, IsNewest}
 use Rattle.flash_tree.specs.Numbering.{AreBelow}
 use Rattle.flash_tree.specs.Slots.{check_object}
-use Rattle.flash_tree.specs.Summaries.{BeginsSummary, Summary, summary_group, IsWholeSummary, BeginsErased, AreFindable}
-
--- Block b is the first that an erase may leave torn: each other good block whose page 0 is erased lies behind it, and has no tag.
-abbrev pub GoesFirst : Flash → ℕ → Type 0
-GoesFirst flash b = (k : ℕ) → k ≢ b → BeginsErased flash k → (b < k) × ((l : ℕ) (t : Tag) → HasTag flash k l t → ⊥)
+use Rattle.flash_tree.specs.Summaries.{BeginsSummary, Summary, summary_group, IsWholeSummary, AreFindable}
 
 -- no good block has a tag
 abbrev pub HasNoTags : Flash → Type 0

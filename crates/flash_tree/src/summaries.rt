@@ -10,8 +10,9 @@ ghost use Rattle.flash_tree.specs.Checkpoints.{Checkpoint, AddsOrdinary, AddsChe
 ghost use Rattle.flash_tree.specs.Groups.{Group, SameGroups};
 ghost use Rattle.flash_tree.specs.Newest.{Spot, spot_in, IsNewest};
 ghost use Rattle.flash_tree.specs.Fading.{Fades};
-ghost use Rattle.flash_tree.specs.Summaries.{Summary, AreSummariesRight, BeginsErased, OnlyFirstHasTags, IsSummarized};
-ghost use Rattle.flash_tree.specs.Summarizing.{GoesFirst, HasNoTags, WritesIn, AddsNoSummary, AddsSummary, AddsNamed, NamesOnce, NamesNot, IsFindable, Renews};
+ghost use Rattle.flash_tree.specs.Summaries.{Summary, AreSummariesRight, IsSummarized};
+ghost use Rattle.flash_tree.specs.ErasedBlocks.{BeginsErased, OnlyFirstHasTags, GoesFirst};
+ghost use Rattle.flash_tree.specs.Summarizing.{HasNoTags, WritesIn, AddsNoSummary, AddsSummary, AddsNamed, NamesOnce, NamesNot, IsFindable, Renews};
 
 /// A flash whose good blocks have no tags is summarized, and it is so over reads and power-ups, which leave its pages and marks.
 pub fn a_flash_without_tags_is_summarized()

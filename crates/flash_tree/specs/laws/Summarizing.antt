@@ -16,8 +16,9 @@ use Rattle.flash_tree.specs.Groups.{HasTag, Group, IsPart, IsGroup}
 use Rattle.flash_tree.specs.Keeping.{Loses}
 use Rattle.flash_tree.specs.Newest.{Spot, Holds}
 use Rattle.flash_tree.specs.Slots.{check_object}
-use Rattle.flash_tree.specs.Summaries.{summary_chunk, Summary, summary_group, summary_tag, IsWholeSummary, MatchesBlock, IsListed, AreSummariesRight, BeginsErased, OnlyFirstHasTags, IsSummarized}
-use Rattle.flash_tree.specs.Summarizing.{GoesFirst, HasNoTags, WritesIn, AddsNoSummary, ListsBlock, AddsSummary}
+use Rattle.flash_tree.specs.Summaries.{summary_chunk, Summary, summary_group, summary_tag, IsWholeSummary, MatchesBlock, IsListed, AreSummariesRight, IsSummarized}
+use Rattle.flash_tree.specs.ErasedBlocks.{BeginsErased, OnlyFirstHasTags, GoesFirst}
+use Rattle.flash_tree.specs.Summarizing.{HasNoTags, WritesIn, AddsNoSummary, ListsBlock, AddsSummary}
 use Rattle.flash_tree.specs.laws.Checking.{first_tag as checkpoint_tag}
 use Rattle.flash_tree.specs.laws.Fading.{loses_fading, fades_erase, fades_mark, written_before, good_before}
 use Rattle.flash_tree.specs.laws.Newest.{one_tag, tag_stays, tag_grows, holds_with, held_before, has_before, group_before}

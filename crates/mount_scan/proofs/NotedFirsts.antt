@@ -1,18 +1,21 @@
 -- What is noted of the first pages of blocks.
-use Rattle.std.specs.Prelude.{◌≡◌, ℕ, ◌+◌, true, List, [], ◌∷◌, ◌++◌, length, slice_get, Some}
+use Rattle.std.specs.Prelude.{◌≡◌, ◌<◌, ℕ, ◌+◌, true, List, [], ◌∷◌, ◌++◌, length, slice_get, Option, Some, None, IfSome}
 use Rattle.std.proofs.Common.{sym, ◌∙◌, ap, subst, inl, inr, arith, length-append}
 use Rattle.std.proofs.lemmas.Bool.{cases_eq, false≢true}
 use Rattle.volume_terms.specs.laws.List.{get_push}
 use Rattle.nand_model.specs.Flash.{Flash}
 use Rattle.nand_model.specs.Calls.{Device}
 use Rattle.nand_model.specs.Changes.{OnlyReads}
+use Rattle.nand_model.specs.declared.geometry.Geometry.{Geometry}
 use Rattle.page_tags.specs.declared.tag.Tag.{Tag}
 use Rattle.flash_tree.specs.Newest.{Numbers}
 use Rattle.flash_tree.specs.Places.{numbers_of}
 use Rattle.flash_tree.specs.laws.Newest.{one_tag}
 use Rattle.flash_tree.specs.laws.Place.{no_tag}
 use Rattle.mount_scan.specs.Blocks.{numbers_in, AreAtMost}
-use Rattle.mount_scan.specs.FirstPages.{BeginsWithTag, IsFirstRead, IsGoodRead, IsFirstPage, IsGoodFirst, IsRaisedToRead, AreFirstPages, AreGoodFirsts, AreNoneAbove, FirstPagesBelow}
+use Rattle.mount_scan.specs.FirstPages.{BeginsWithTag, IsFirstRead, IsGoodRead, IsFirstPage, IsGoodFirst, IsRaisedToRead, AreFirstPages, AreGoodFirsts, AreNoneAbove, FirstPagesBelow, FirstReadsBelow, tag_of_read}
+use Rattle.mount_scan.specs.CheckpointCandidates.{FirstIs, IsCandidate, IsGoodTag, IsGreatestBelow}
+use Rattle.mount_scan.specs.declared.first_page.FirstReads.{FirstReads}
 use Rattle.mount_scan.specs.declared.first_page.FirstRead.{FirstRead}
 use Rattle.mount_scan.specs.declared.first_page.FirstRead.TheVariants as reads
 use Rattle.mount_scan.specs.declared.first_page.FirstPage.{FirstPage}
@@ -108,3 +111,36 @@ firsts_more d a b old new read page only pages good is noted keeps raised were =
 } where
   read_is : d.honest ≡ true → IsFirstRead d.flash b read
   read_is = back_honest (λ g flash. IsFirstRead flash b read) d a only is
+
+-- ---- and the best candidate
+
+tag_is_good : (e : Device) (b : ℕ) (read : FirstRead) → IsGoodRead e b read → IfSome (tag_of_read read) (IsGoodTag e b)
+tag_is_good e b reads.Bad is = is
+tag_is_good e b reads.Erased is = is
+tag_is_good e b reads.Untagged is = is
+tag_is_good e b (reads.Tagged t) is = is
+
+tag_is_first : (flash : Flash) (b : ℕ) (read : FirstRead) → IsFirstRead flash b read → FirstIs flash b (tag_of_read read)
+tag_is_first flash b reads.Bad is = λ t good has. false≢true (sym good ∙ is)
+tag_is_first flash b reads.Erased is = λ t good has. no_tag flash b 0 t is.1 has
+tag_is_first flash b reads.Untagged is = λ t good has. is.2 t has
+tag_is_first flash b (reads.Tagged t) is = is
+
+pub best_none : (device : Device) (r : FirstReads) → r.firsts.pages.items ≡ [] → numbers_of r.firsts.numbers ≡ record { version = 0; group = 0; seq = 0 } → r.best ≡ None → FirstReadsBelow device 0 r
+best_none device r empty zeros none = record {
+  pages = firsts_none device r.firsts empty zeros;
+  candidate = subst (λ best. IfSome best (IsCandidate device)) (sym none) tt;
+  best = λ honest. subst (IsGreatestBelow device.flash 0) (sym none) (λ k t lt may. absurd (omega (arith, lt)));
+}
+
+pub best_more :
+    (d a : Device) (b : ℕ) (old new : FirstReads) (read : FirstRead) (first : Option Tag) → OnlyReads d a → b < a.geometry.blocks → IsGoodRead a b read
+    → (a.honest ≡ true → IsFirstRead a.flash b read) → first ≡ tag_of_read read
+    → ((e : Device) → b < e.geometry.blocks → IfSome first (IsGoodTag e b) → IfSome old.best (IsCandidate e) → IfSome new.best (IsCandidate e))
+    → ((flash : Flash) → FirstIs flash b first → IsGreatestBelow flash b old.best → IsGreatestBelow flash (b + 1) new.best)
+    → (FirstPagesBelow d b old.firsts → FirstPagesBelow d (b + 1) new.firsts) → FirstReadsBelow d b old → FirstReadsBelow d (b + 1) new
+best_more d a b old new read first only within good is tag candidate greatest pages were = record {
+  pages = pages were.pages;
+  candidate = candidate d (omega (arith, within, ap (λ (g : Geometry). g.blocks) only.lasts.geometry)) (subst (λ t. IfSome t (IsGoodTag d b)) (sym tag) (tag_is_good d b read (good_back d a b read only good))) were.candidate;
+  best = λ honest. greatest d.flash (subst (FirstIs d.flash b) (sym tag) (tag_is_first d.flash b read (back_honest (λ g flash. IsFirstRead flash b read) d a only is honest))) (were.best honest);
+}

@@ -8,7 +8,7 @@ use Rattle.nand_model.specs.Changes.{OnlyReads}
 use Rattle.nand_model.specs.declared.geometry.Geometry.{Geometry}
 use Rattle.flash_tree.specs.Newest.{Holds, Numbers}
 use Rattle.flash_tree.specs.Places.{spot_of, numbers_of}
-use Rattle.flash_tree.specs.Summaries.{BeginsErased}
+use Rattle.flash_tree.specs.ErasedBlocks.{BeginsErased}
 use Rattle.flash_tree.specs.declared.place.Found.{Found}
 use Rattle.mount_scan.specs.Blocks.{numbers_in, AreAtMost, RaisesBy}
 use Rattle.mount_scan.specs.FirstPages.{IsFirstPage, AreAboveFirsts, AreNoneAbove, FirstPagesBelow}

@@ -1,5 +1,5 @@
 -- The page 0 of blocks, and which of them a checkpoint may begin with.
-use Rattle.std.specs.Prelude.{◌≡◌, ◌<◌, ◌≤◌, ℕ, true, false, Option, Some, None, IfSome, length}
+use Rattle.std.specs.Prelude.{◌≡◌, ◌<◌, ◌≤◌, ℕ, true, false, Option, Some, None}
 use Rattle.nand_model.specs.Flash.{Flash}
 use Rattle.nand_model.specs.Calls.{Device}
 use Rattle.page_tags.specs.declared.tag.Tag.{Tag}
@@ -7,10 +7,8 @@ use Rattle.page_tags.specs.Tags.{IsTag}
 use Rattle.flash_tree.specs.Groups.{HasTag}
 use Rattle.flash_tree.specs.Slots.{check_object}
 use Rattle.flash_tree.specs.Checkpoints.{Checkpoint}
-use Rattle.mount_scan.specs.FoundCheckpoint.{AreFirstSeqs}
 use Rattle.mount_scan.specs.declared.found_checkpoint.FoundCheckpoint.{FoundCheckpoint}
 use Rattle.mount_scan.specs.declared.checkpoint_candidate.Candidate.{Candidate}
-use Rattle.mount_scan.specs.declared.checkpoint_candidate.Firsts.{Firsts}
 
 -- the tag of a checkpoint's first page
 abbrev pub BeginsCheckpoint : Tag → Type 0
@@ -20,11 +18,6 @@ BeginsCheckpoint t = (t.object ≡ check_object) × (t.chunk ≡ 1) × (t.index 
 abbrev pub FirstIs : Flash → ℕ → Option Tag → Type 0
 FirstIs flash b None = (t : Tag) → flash.bad b ≡ false → HasTag flash b 0 t → ⊥
 FirstIs flash b (Some t) = (flash.bad b ≡ false) × HasTag flash b 0 t
-
--- the seq of a tag, or 0
-abbrev pub seq_or_zero : Option Tag → ℕ
-seq_or_zero None = 0
-seq_or_zero (Some t) = t.seq
 
 -- a seq is above that of a candidate, if there is one
 abbrev pub IsAbove : ℕ → Option Candidate → Type 0
@@ -71,10 +64,3 @@ pub record IsCandidate (device : Device) (c : Candidate) : Type 0 where
   pub block : c.block < device.geometry.blocks
   pub good : device.flash.bad c.block ≡ false
   pub tag : IsTag c.tag
-
--- What was read of the blocks below b.
-pub record FirstsBelow (device : Device) (b : ℕ) (firsts : Firsts) : Type 0 where
-  pub len : length firsts.seqs.items ≡ b
-  pub candidate : IfSome firsts.best (IsCandidate device)
-  pub seqs : device.honest ≡ true → AreFirstSeqs device.flash firsts.seqs.items
-  pub best : device.honest ≡ true → IsGreatestBelow device.flash b firsts.best

@@ -33,15 +33,15 @@ HaveSummaries g flash these = (k : ℕ) → these k ≡ true → (s : Summary) �
 abbrev pub AreSizes : Flash → (ℕ → ℕ) → Type 0
 AreSizes flash sizes = (k : ℕ) (t : Tag) → BeginsWithTag flash k t → BeginsSummary t → t.count ≤ sizes k
 
--- Of any device: of each block the first page is read, and each page twice, at most.
+-- Of any device: each page is read twice, at most.
 abbrev pub ReadsTwice : {T : Type 0} → Device → Device → Result T ScanFault → Type 0
-ReadsTwice old new result = ReadsAtMost (old.geometry.blocks + 2 * old.geometry.pages * old.geometry.blocks) old new result
+ReadsTwice old new result = ReadsAtMost (2 * old.geometry.pages * old.geometry.blocks) old new result
 
--- Of an honest device these pages are read at most: the first of each block, those of the summaries, and all of a block that begins
--- erased and of the others that do not and are none of these, where each of these has a summary.
+-- Of an honest device these pages are read at most: those of the summaries, and all of a block that begins erased and of the others that
+-- do not and are none of these, where each of these has a summary.
 abbrev pub ReadsByNeed : Device → Device → Type 0
 ReadsByNeed old new = old.honest ≡ true → (these : ℕ → Bool) (sizes : ℕ → ℕ) → HaveSummaries old.geometry old.flash these → AreSizes old.flash sizes
-    → new.reads ≤ old.reads + old.geometry.blocks + sum_below sizes old.geometry.blocks + old.geometry.pages * (1 + sum_below (one_other old.flash these) old.geometry.blocks)
+    → new.reads ≤ old.reads + sum_below sizes old.geometry.blocks + old.geometry.pages * (1 + sum_below (one_other old.flash these) old.geometry.blocks)
 
 -- each whole summary in a block below b that matches its block is noted
 abbrev pub AreDoneBelow : Device → ℕ → List Bool → Type 0

@@ -1,5 +1,5 @@
 -- The first pages of blocks.
-use Rattle.std.specs.Prelude.{◌≡◌, ◌≢◌, ◌<◌, ℕ, true, false, List, Option, Some, None, length, slice_get}
+use Rattle.std.specs.Prelude.{◌≡◌, ◌≢◌, ◌<◌, ℕ, true, false, List, Option, Some, None, IfSome, length, slice_get}
 use Rattle.nand_model.specs.Flash.{Flash, Erased}
 use Rattle.nand_model.specs.Calls.{Device}
 use Rattle.page_tags.specs.declared.tag.Tag.{Tag}
@@ -7,14 +7,16 @@ use Rattle.flash_tree.specs.Groups.{HasTag}
 use Rattle.flash_tree.specs.Newest.{Numbers, AreAbove}
 use Rattle.flash_tree.specs.Places.{numbers_of}
 use Rattle.flash_tree.specs.Slots.{check_object}
-use Rattle.flash_tree.specs.Summaries.{BeginsSummary, BeginsErased, summary_chunk}
+use Rattle.flash_tree.specs.Summaries.{BeginsSummary, summary_chunk}
+use Rattle.flash_tree.specs.ErasedBlocks.{BeginsErased}
 use Rattle.mount_scan.specs.Blocks.{numbers_in, AreAtMost, IsRaisedTo}
-use Rattle.mount_scan.specs.CheckpointCandidates.{IsGoodTag}
+use Rattle.mount_scan.specs.CheckpointCandidates.{IsGoodTag, IsCandidate, IsGreatestBelow}
 use Rattle.mount_scan.specs.declared.first_page.FirstRead.{FirstRead}
 use Rattle.mount_scan.specs.declared.first_page.FirstRead.TheVariants as reads
 use Rattle.mount_scan.specs.declared.first_page.FirstPage.{FirstPage}
 use Rattle.mount_scan.specs.declared.first_page.FirstPage.TheVariants as firsts
 use Rattle.mount_scan.specs.declared.first_page.FirstPages.{FirstPages}
+use Rattle.mount_scan.specs.declared.first_page.FirstReads.{FirstReads}
 
 -- the tag of the first page of a summary of so many pages, with these numbers
 abbrev pub first_tag : (count number seq : ℕ) → Tag
@@ -89,6 +91,13 @@ IsRaisedToRead reads.Erased old new = new ≡ old
 IsRaisedToRead reads.Untagged old new = new ≡ old
 IsRaisedToRead (reads.Tagged t) old new = IsRaisedTo t old new
 
+-- the tag that was read, if one was
+abbrev pub tag_of_read : FirstRead → Option Tag
+tag_of_read reads.Bad = None
+tag_of_read reads.Erased = None
+tag_of_read reads.Untagged = None
+tag_of_read (reads.Tagged t) = Some t
+
 -- what is noted of the first page of each block
 abbrev pub AreFirstPages : Flash → List FirstPage → Type 0
 AreFirstPages flash pages = (b : ℕ) (first : FirstPage) → slice_get pages b ≡ Some first → IsFirstPage flash b first
@@ -115,3 +124,13 @@ pub record FirstPagesBelow (device : Device) (b : ℕ) (firsts : FirstPages) : T
   pub noted : AreNoted device b firsts.pages.items
   pub above : device.honest ≡ true → AreAboveFirsts device.flash b (numbers_of firsts.numbers)
   pub least : device.honest ≡ true → AreNoneAbove device.flash (numbers_of firsts.numbers)
+
+-- what was read of the first pages of a device
+abbrev pub AreFirstsOf : Device → FirstPages → Type 0
+AreFirstsOf device firsts = FirstPagesBelow device device.geometry.blocks firsts
+
+-- What was read of those of the blocks below b, and the best of these blocks that may begin a checkpoint.
+pub record FirstReadsBelow (device : Device) (b : ℕ) (r : FirstReads) : Type 0 where
+  pub pages : FirstPagesBelow device b r.firsts
+  pub candidate : IfSome r.best (IsCandidate device)
+  pub best : device.honest ≡ true → IsGreatestBelow device.flash b r.best

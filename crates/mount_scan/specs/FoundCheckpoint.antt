@@ -1,13 +1,10 @@
 -- What a search for a checkpoint finds.
-use Rattle.std.specs.Prelude.{◌≡◌, ◌<◌, ◌≤◌, ℕ, ◌+◌, ◌*◌, true, false, List, Some, length, slice_get, All, AllPairs, Result}
+use Rattle.std.specs.Prelude.{◌≡◌, ◌<◌, ◌≤◌, ℕ, ◌+◌, ◌*◌, true, false, length, All, AllPairs, Result}
 use Rattle.volume_terms.specs.Rounding.{ceiling}
-use Rattle.nand_model.specs.Flash.{Flash}
 use Rattle.nand_model.specs.Calls.{Device}
 use Rattle.nand_model.specs.Changes.{OnlyReads}
-use Rattle.page_tags.specs.declared.tag.Tag.{Tag}
 use Rattle.page_tags.specs.Tags.{IsTag}
 use Rattle.page_tags.specs.Checks.{IsCheckEntry, IsEntryBefore}
-use Rattle.flash_tree.specs.Groups.{HasTag}
 use Rattle.flash_tree.specs.Checkpoints.{Checkpoint, check_tag, IsWhole, IsTrueFlash}
 use Rattle.mount_scan.specs.Scanned.{TellsGone}
 use Rattle.mount_scan.specs.declared.fault.ScanFault.{ScanFault}
@@ -28,15 +25,6 @@ pub record HasForm (device : Device) (c : Checkpoint) : Type 0 where
   pub entries : All IsCheckEntry c.entries
   pub rise : AllPairs IsEntryBefore c.entries
 
--- the seq in the tag of page 0 of a good block, and 0 where there is none
-pub record IsFirstSeq (flash : Flash) (b seq : ℕ) : Type 0 where
-  pub tagged : (t : Tag) → flash.bad b ≡ false → HasTag flash b 0 t → seq ≡ t.seq
-  pub other : ((t : Tag) → flash.bad b ≡ false → HasTag flash b 0 t → ⊥) → seq ≡ 0
-
--- for each block that
-abbrev pub AreFirstSeqs : Flash → List ℕ → Type 0
-AreFirstSeqs flash seqs = (b seq : ℕ) → slice_get seqs b ≡ Some seq → IsFirstSeq flash b seq
-
 -- The device was only read, no more pages than so many were, and Gone is reported of a gone device alone.
 pub record ReadsAtMost {T : Type 0} (pages : ℕ) (old new : Device) (result : Result T ScanFault) : Type 0 where
   pub only : OnlyReads old new
@@ -56,8 +44,3 @@ HasNoneWhole device = device.honest ≡ true → IsTrueFlash device.geometry dev
 abbrev pub ReadsFew : Device → Device → Type 0
 ReadsFew old new =
     old.honest ≡ true → IsTrueFlash old.geometry old.flash → (c : Checkpoint) → IsWhole old.geometry old.flash c → new.reads ≤ old.reads + old.geometry.blocks + c.size
-
--- one seq for each block, and of an honest device the right ones
-pub record TellsSeqs (device : Device) (seqs : List ℕ) : Type 0 where
-  pub len : length seqs ≡ device.geometry.blocks
-  pub each : device.honest ≡ true → AreFirstSeqs device.flash seqs

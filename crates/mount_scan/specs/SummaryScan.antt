@@ -8,7 +8,8 @@ use Rattle.page_tags.specs.declared.check.CheckEntry.{CheckEntry}
 use Rattle.flash_tree.specs.Groups.{HasTag}
 use Rattle.flash_tree.specs.Newest.{Spot, Holds, IsAfter, Numbers}
 use Rattle.flash_tree.specs.Places.{numbers_of}
-use Rattle.flash_tree.specs.Summaries.{Summary, HasSummaryForm, IsWholeSummary, MatchesBlock, BeginsErased, claimed}
+use Rattle.flash_tree.specs.Summaries.{Summary, HasSummaryForm, IsWholeSummary, MatchesBlock, claimed}
+use Rattle.flash_tree.specs.ErasedBlocks.{BeginsErased}
 use Rattle.mount_scan.specs.Blocks.{numbers_in, AreAtMost}
 use Rattle.mount_scan.specs.Copies.{copy_at, spot_of_copy}
 use Rattle.mount_scan.specs.Keys.{HaveOneKey}

@@ -1,13 +1,14 @@
 // The search for a whole checkpoint.
 ghost use Rattle.std.specs.Prelude.{◌≤◌, ◌+◌, Some, IfOk, IfSome, IfNone};
-ghost use Rattle.flash_tree.specs.Checkpoints.{Checkpoint};
-ghost use Rattle.mount_scan.specs.FoundCheckpoint.{ReadsAtMost, ReadsFew, HasForm, IsWholeOn, HasNoneWhole, TellsSeqs, checkpoint_of};
+ghost use Rattle.mount_scan.specs.FoundCheckpoint.{ReadsAtMost, ReadsFew, HasForm, IsWholeOn, HasNoneWhole, checkpoint_of};
 ghost use Rattle.mount_scan.specs.CheckpointCandidates.{IsCandidate, IsOf, LiesFirst};
 ghost use Rattle.mount_scan.specs.CheckpointBlocks.{HasNoneAt, pages_of};
+ghost use Rattle.mount_scan.specs.FirstPages.{AreFirstsOf};
 
 use crate::ScanFault;
 use crate::checkpoint_block::read_pages;
-use crate::checkpoint_candidate::{Candidate, read_firsts};
+use crate::checkpoint_candidate::Candidate;
+use crate::first_page::{FirstReads, read_first_pages};
 use crate::found_checkpoint::{CheckpointSearch, FoundCheckpoint};
 use nand_model::Nand;
 use std::alloc::Global;
@@ -78,12 +79,9 @@ pub fn find_checkpoint<N: Nand>(
     ensures found { IfOk result (λ search. IfSome search.checkpoint (λ c. IsWholeOn (N.state device.old) (checkpoint_of c))) }
     ensures none { IfOk result (λ search. IfNone search.checkpoint (HasNoneWhole (N.state device.old))) }
     ensures first { IfOk result (λ search. IfSome search.checkpoint (λ c. LiesFirst (N.state device.old) (checkpoint_of c))) }
-    ensures seqs { IfOk result (λ search. TellsSeqs (N.state device.old) search.seqs.items) }
+    ensures firsts { IfOk result (λ search. AreFirstsOf (N.state device.old) search.firsts) }
 {
-    let firsts = read_firsts(alloc, device)?;
-    let checkpoint = read_best(alloc, device, firsts.best)?;
-    Ok(CheckpointSearch {
-        seqs: firsts.seqs,
-        checkpoint,
-    })
+    let FirstReads { firsts, best } = read_first_pages(alloc, device)?;
+    let checkpoint = read_best(alloc, device, best)?;
+    Ok(CheckpointSearch { firsts, checkpoint })
 }

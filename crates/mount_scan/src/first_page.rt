@@ -8,9 +8,10 @@ ghost use Rattle.flash_tree.specs.Summaries.{BeginsSummary};
 ghost use Rattle.mount_scan.specs.FoundCheckpoint.{ReadsAtMost};
 ghost use Rattle.mount_scan.specs.CheckpointCandidates.{IsGoodTag};
 ghost use Rattle.mount_scan.specs.FirstPages.{BeginsWithTag, IsFirstRead, IsGoodRead, IsFirstPage, IsGoodFirst};
-ghost use Rattle.mount_scan.specs.FirstPages.{FirstPagesBelow, HasSeqAt, IsRaisedToRead, seq_of_first, tag_of_summary};
+ghost use Rattle.mount_scan.specs.FirstPages.{FirstReadsBelow, HasSeqAt, IsRaisedToRead, seq_of_first, tag_of_read, tag_of_summary};
 
 use crate::ScanFault;
+use crate::checkpoint_candidate::{Candidate, best_with};
 use crate::raise::raised_to;
 use block_summaries::SUMMARY_CHUNK;
 use flash_tree::{CHECK_OBJECT, TagNumbers};
@@ -31,7 +32,7 @@ enum FirstRead {
 
 /// What is noted of the first page of a block.
 #[derive(Clone, Copy, Debug, PartialEq, Eq)]
-pub(crate) enum FirstPage {
+pub enum FirstPage {
     /// The block is bad.
     Bad,
     Erased,
@@ -45,11 +46,21 @@ pub(crate) enum FirstPage {
 
 const _: () = prove!(size_of::<FirstPage>() == 24);
 
-/// What is noted of the first pages of all blocks, and the greatest numbers of their tags.
+/// What is noted of the first pages of all blocks.
 #[derive(Drop)]
-pub(crate) struct FirstPages {
+pub struct FirstPages {
+    /// What is noted of each block.
     pub pages: Vec<FirstPage>,
+    /// The greatest numbers of these tags.
     pub numbers: TagNumbers,
+}
+
+/// What was read of the first pages, and which of them a checkpoint may begin with.
+#[derive(Drop)]
+pub(crate) struct FirstReads {
+    pub firsts: FirstPages,
+    /// The candidate with the greatest seq, among equals that of the lowest block.
+    pub best: Option<Candidate>,
 }
 
 /// Reads the tag of the first page of a block.
@@ -157,6 +168,18 @@ impl FirstRead {
         }
     }
 
+    /// Its tag, if it has one.
+    fn tag(&self) -> Option<Tag>
+        ensures { result ≡ tag_of_read self.now }
+    {
+        match self {
+            FirstRead::Bad => None,
+            FirstRead::Erased => None,
+            FirstRead::Untagged => None,
+            FirstRead::Tagged(tag) => Some(*tag),
+        }
+    }
+
     /// Numbers, raised to those of its tag, if it has one.
     fn raised(&self, numbers: TagNumbers) -> TagNumbers
         ensures { IsRaisedToRead self.now (numbers_of numbers) (numbers_of result) }
@@ -171,15 +194,16 @@ impl FirstRead {
 }
 
 /// Adds the first page of one more block.
-fn add_first<N: Nand>(device: &mut N, block: u32, firsts: &mut FirstPages) -> Result<(), ScanFault>
+fn add_first<N: Nand>(device: &mut N, block: u32, reads: &mut FirstReads) -> Result<(), ScanFault>
     requires { block < (N.state device.old).geometry.blocks }
     ensures reads { ReadsAtMost 1 (N.state device.old) (N.state device.new) result }
-    ensures below { (d : Device) → OnlyReads d (N.state device.old) → FirstPagesBelow d block firsts.old
-        → OnOk result (FirstPagesBelow d (block + 1) firsts.new) }
+    ensures below { (d : Device) → OnlyReads d (N.state device.old) → FirstReadsBelow d block reads.old
+        → OnOk result (FirstReadsBelow d (block + 1) reads.new) }
 {
     let read = read_first(device, block)?;
-    firsts.pages.push(read.page())?;
-    firsts.numbers = read.raised(firsts.numbers);
+    reads.firsts.pages.push(read.page())?;
+    reads.firsts.numbers = read.raised(reads.firsts.numbers);
+    reads.best = best_with(reads.best, block, read.tag());
     Ok(())
 }
 
@@ -187,21 +211,24 @@ fn add_first<N: Nand>(device: &mut N, block: u32, firsts: &mut FirstPages) -> Re
 pub(crate) fn read_first_pages<N: Nand>(
     alloc: Global,
     device: &mut N,
-) -> Result<FirstPages, ScanFault>
+) -> Result<FirstReads, ScanFault>
     ensures reads { ReadsAtMost (N.state device.old).geometry.blocks (N.state device.old) (N.state device.new) result }
-    ensures firsts { IfOk result (FirstPagesBelow (N.state device.old) (N.state device.old).geometry.blocks) }
+    ensures firsts { IfOk result (FirstReadsBelow (N.state device.old) (N.state device.old).geometry.blocks) }
 {
     let blocks = device.geometry().blocks();
-    let mut firsts = FirstPages {
-        pages: Vec::with_capacity(alloc, blocks as usize)?,
-        numbers: TagNumbers {
-            version: 0,
-            group: 0,
-            seq: 0,
+    let mut reads = FirstReads {
+        firsts: FirstPages {
+            pages: Vec::with_capacity(alloc, blocks as usize)?,
+            numbers: TagNumbers {
+                version: 0,
+                group: 0,
+                seq: 0,
+            },
         },
+        best: None,
     };
     for block in 0..blocks {
-        add_first(device, block, &mut firsts)?;
+        add_first(device, block, &mut reads)?;
     }
-    Ok(firsts)
+    Ok(reads)
 }

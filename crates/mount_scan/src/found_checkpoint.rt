@@ -1,5 +1,6 @@
 // What a search for a checkpoint finds.
 
+use crate::first_page::FirstPages;
 use page_tags::CheckEntry;
 
 /// A whole checkpoint.
@@ -20,8 +21,8 @@ pub struct FoundCheckpoint {
 /// What was found.
 #[derive(Drop)]
 pub struct CheckpointSearch {
-    /// For each block the seq in the tag of its page 0. It is 0 for a bad block, and where that page has no valid tag.
-    pub seqs: Vec<u64>,
+    /// The first pages of all blocks.
+    pub firsts: FirstPages,
     /// The checkpoint, if one is whole.
     pub checkpoint: Option<FoundCheckpoint>,
 }

@@ -28,6 +28,7 @@ pub use answer::{NewestScan, Scan};
 pub use bucket::Bucket;
 pub use checkpoint_search::find_checkpoint;
 pub use fault::ScanFault;
+pub use first_page::{FirstPage, FirstPages};
 pub use found_checkpoint::{CheckpointSearch, FoundCheckpoint};
 pub use found_pages::{BUCKETS, FoundPages};
 pub use law::{

@@ -6,7 +6,7 @@ ghost use Rattle.flash_tree.specs.Newest.{AreGreatest};
 ghost use Rattle.flash_tree.specs.Places.{numbers_of};
 ghost use Rattle.mount_scan.specs.FoundCheckpoint.{ReadsAtMost};
 ghost use Rattle.mount_scan.specs.FewReads.{IsOther, AreNotedSummarized, ReadsTwice, ReadsByNeed, most_pages, one_erased, one_other, sum_below};
-ghost use Rattle.mount_scan.specs.FirstPages.{FirstPagesBelow};
+ghost use Rattle.mount_scan.specs.FirstPages.{AreFirstsOf};
 ghost use Rattle.mount_scan.specs.Listed.{listed};
 ghost use Rattle.mount_scan.specs.Summarized.{HasSummarizedFlash, FindsNeeded};
 ghost use Rattle.mount_scan.specs.SummaryScan.{AreSummaryPages, IsLeft, IsNextBlock, IsRestBelow, IsScannedAll};
@@ -15,7 +15,7 @@ ghost use Rattle.mount_scan.specs.declared.first_page.FirstPage.TheVariants as f
 use crate::FoundPages;
 use crate::answer::NewestScan;
 use crate::fault::ScanFault;
-use crate::first_page::{FirstPage, FirstPages, read_first_pages};
+use crate::first_page::{FirstPage, FirstPages};
 use crate::summary_pages::{SummaryPages, read_summaries};
 use crate::whole::{Seen, find_block};
 use nand_model::Nand;
@@ -99,10 +99,10 @@ fn find_rest<N: Nand>(
     requires pages { length firsts.now.pages.items ≡ (N.state device.old).geometry.blocks }
     requires done { length summarized.done.items ≡ (N.state device.old).geometry.blocks }
     ensures reads { ReadsAtMost ((N.state device.old).geometry.pages * (N.state device.old).geometry.blocks) (N.state device.old) (N.state device.new) result }
-    ensures few { (d : Device) (these : ℕ → Bool) → OnlyReads d (N.state device.old) → d.honest ≡ true → FirstPagesBelow d d.geometry.blocks firsts.now
+    ensures few { (d : Device) (these : ℕ → Bool) → OnlyReads d (N.state device.old) → d.honest ≡ true → AreFirstsOf d firsts.now
         → AreNotedSummarized these summarized.done.items
         → (N.state device.new).reads ≤ (N.state device.old).reads + d.geometry.pages * (1 + sum_below (one_other d.flash these) d.geometry.blocks) }
-    ensures scanned { (d : Device) → OnlyReads d (N.state device.old) → FirstPagesBelow d d.geometry.blocks firsts.now → AreSummaryPages d summarized
+    ensures scanned { (d : Device) → OnlyReads d (N.state device.old) → AreFirstsOf d firsts.now → AreSummaryPages d summarized
         → IfOk result (IsScannedAll d) }
 {
     let SummaryPages { done, newest } = summarized;
@@ -123,18 +123,22 @@ fn find_rest<N: Nand>(
 }
 
 /// The newest pages of the keys that a tree may look up, and the greatest numbers, by the summaries of blocks: of a block that has one
-/// its tags are not read, nor of those that begin with an erased page but of the first of them.
+/// its tags are not read, nor of those that begin with an erased page but of the first of them. The first pages were read.
 ///
 /// On a flash that is not summarized, or of a device that is not honest, pages may be missing, and any keys be found for places.
-pub fn scan_summaries<N: Nand>(alloc: Global, device: &mut N) -> Result<NewestScan, ScanFault>
+pub fn scan_summaries<N: Nand>(
+    alloc: Global,
+    device: &mut N,
+    firsts: &FirstPages,
+) -> Result<NewestScan, ScanFault>
+    requires { AreFirstsOf (N.state device.old) firsts.now }
     ensures reads { ReadsTwice (N.state device.old) (N.state device.new) result }
     ensures few { ReadsByNeed (N.state device.old) (N.state device.new) }
     ensures newest { IfOk result (λ scan. FindsNeeded (N.state device.old) (listed scan.newest)) }
     ensures numbers { HasSummarizedFlash (N.state device.old) → IfOk result (λ scan. AreGreatest (N.state device.old).flash (numbers_of scan.numbers)) }
 {
-    let firsts = read_first_pages(alloc, device)?;
     let summarized = read_summaries(alloc, device, &firsts.pages)?;
-    let mut scan = find_rest(alloc, device, &firsts, summarized)?;
+    let mut scan = find_rest(alloc, device, firsts, summarized)?;
     scan.newest.keep_newest();
     Ok(scan)
 }

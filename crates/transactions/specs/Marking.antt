@@ -12,6 +12,7 @@ pub record MarksNoted (device : Device) (n : ℕ) (old new : Table) : Type 0 whe
   pub others : (b : ℕ) → n ≤ b → (new.entry b).bad ≡ false
   pub kept : (b : ℕ) → (new.entry b).kept ≡ (old.entry b).kept
   pub seqs : (b : ℕ) → (new.entry b).seq ≡ (old.entry b).seq
+  pub nexts : (b : ℕ) → (new.entry b).next ≡ (old.entry b).next
   pub geometry : new.geometry ≡ old.geometry
   pub open_block : new.open_block ≡ None
   pub checkpoint : new.checkpoint ≡ None
@@ -26,7 +27,7 @@ pub record NotesMark (block : ℕ) (flash : Flash) (old new : Table) : Type 0 wh
   pub next_seq : new.next_seq ≡ old.next_seq
 
 -- A table of the device that was made anew: its marks are the device's, no block is open, none may have a checkpoint, none has a kept
--- page or was taken, and the next numbers are one above these.
+-- page, was allocated or was written, and the next numbers are one above these.
 pub record IsMarked (device : Device) (n : Numbers) (t : Table) : Type 0 where
   pub geometry : t.geometry ≡ device.geometry
   pub marks : (b : ℕ) → (t.entry b).bad ≡ device.flash.bad b
@@ -34,5 +35,6 @@ pub record IsMarked (device : Device) (n : Numbers) (t : Table) : Type 0 where
   pub checkpoint : t.checkpoint ≡ None
   pub kept : (b : ℕ) → (t.entry b).kept ≡ 0
   pub seqs : (b : ℕ) → (t.entry b).seq ≡ 0
+  pub nexts : (b : ℕ) → (t.entry b).next ≡ 0
   pub group : t.next_group ≡ n.group + 1
   pub seq : t.next_seq ≡ n.seq + 1

@@ -1,5 +1,5 @@
 -- What was found of a device is so still after more reads of it.
-use Rattle.std.specs.Prelude.{◌≡◌, ◌<◌, ◌≤◌, ℕ, Bool, true, List, length, ◌+◌, ◌*◌}
+use Rattle.std.specs.Prelude.{◌≡◌, ◌<◌, ◌≤◌, ℕ, Bool, true, length, ◌+◌, ◌*◌}
 use Rattle.std.proofs.Common.{sym, ◌∙◌, ap, subst}
 use Rattle.volume_terms.specs.Rounding.{ceiling}
 use Rattle.nand_model.specs.Calls.{Device}
@@ -8,7 +8,12 @@ use Rattle.nand_model.specs.Flash.{Flash}
 use Rattle.nand_model.specs.declared.geometry.Geometry.{Geometry}
 use Rattle.flash_tree.specs.Checkpoints.{Checkpoint, IsWhole}
 use Rattle.flash_tree.specs.laws.Place.{same_flash}
-use Rattle.mount_scan.specs.FoundCheckpoint.{HasForm, AreFirstSeqs, IsWholeOn, TellsSeqs}
+use Rattle.mount_scan.specs.FoundCheckpoint.{HasForm, IsWholeOn}
+use Rattle.flash_tree.specs.Places.{numbers_of}
+use Rattle.mount_scan.specs.FirstPages.{IsGoodFirst, AreFirstPages, AreAboveFirsts, AreNoneAbove, AreFirstsOf}
+use Rattle.mount_scan.specs.declared.first_page.FirstPage.{FirstPage}
+use Rattle.mount_scan.specs.declared.first_page.FirstPage.TheVariants as firsts
+use Rattle.mount_scan.specs.declared.first_page.FirstPages.{FirstPages}
 
 pub form_read : (a b : Device) (c : Checkpoint) → OnlyReads a b → HasForm a c → HasForm b c
 form_read a b c reads form = record {
@@ -28,10 +33,26 @@ whole_read a b c reads whole honest =
     let before : a.honest ≡ true = sym reads.lasts.honest ∙ honest in
     subst (λ (g : Geometry). IsWhole g b.flash c) (sym reads.lasts.geometry) (subst (λ (f : Flash). IsWhole a.geometry f c) (sym (same_flash a b reads before)) (whole before))
 
-pub seqs_read : (a b : Device) (seqs : List ℕ) → OnlyReads a b → TellsSeqs a seqs → TellsSeqs b seqs
-seqs_read a b seqs reads tells = record {
-  len = tells.len ∙ ap (λ (g : Geometry). g.blocks) (sym reads.lasts.geometry);
-  each = λ honest.
-      let before : a.honest ≡ true = sym reads.lasts.honest ∙ honest in
-      subst (λ (f : Flash). AreFirstSeqs f seqs) (sym (same_flash a b reads before)) (tells.each before);
-}
+good_first_read : (a b : Device) (k : ℕ) (first : FirstPage) → OnlyReads a b → IsGoodFirst a k first → IsGoodFirst b k first
+good_first_read a b k firsts.Bad reads is = is
+good_first_read a b k firsts.Erased reads is = is
+good_first_read a b k firsts.Untagged reads is = is
+good_first_read a b k (firsts.Tagged seq) reads is = is
+good_first_read a b k (firsts.Summary count number seq) reads is = (is.0, ap (λ (f : ℕ → Bool). f k) reads.bad ∙ is.1)
+
+pub firsts_read : (a b : Device) (pages : FirstPages) → OnlyReads a b → AreFirstsOf a pages → AreFirstsOf b pages
+firsts_read a b pages reads are = record {
+  noted = record {
+    len = are.noted.len ∙ ap (λ (g : Geometry). g.blocks) (sym reads.lasts.geometry);
+    good = λ k first at. good_first_read a b k first reads (are.noted.good k first at);
+    noted = λ honest. subst (λ (f : Flash). AreFirstPages f pages.pages.items) (flash honest) (are.noted.noted (before honest));
+  };
+  above = λ honest. subst (λ n. AreAboveFirsts b.flash n (numbers_of pages.numbers)) (ap (λ (g : Geometry). g.blocks) (sym reads.lasts.geometry))
+      (subst (λ (f : Flash). AreAboveFirsts f a.geometry.blocks (numbers_of pages.numbers)) (flash honest) (are.above (before honest)));
+  least = λ honest. subst (λ (f : Flash). AreNoneAbove f (numbers_of pages.numbers)) (flash honest) (are.least (before honest));
+} where
+  before : b.honest ≡ true → a.honest ≡ true
+  before honest = sym reads.lasts.honest ∙ honest
+
+  flash : b.honest ≡ true → a.flash ≡ b.flash
+  flash honest = sym (same_flash a b reads (before honest))

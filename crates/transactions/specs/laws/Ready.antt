@@ -219,6 +219,7 @@ made_marked d n t0 t1 t2 within fresh noted raised =
       checkpoint = noted.checkpoint;
       kept = λ b. noted.kept b ∙ ap (λ (t : Table). (t.entry b).kept) fresh;
       seqs = λ b. noted.seqs b ∙ ap (λ (t : Table). (t.entry b).seq) fresh;
+      nexts = λ b. noted.nexts b ∙ ap (λ (t : Table). (t.entry b).next) fresh;
       group = omega (arith, group_one);
       seq = omega (arith, seq_one);
     } in

@@ -3,19 +3,19 @@ use Rattle.mount_scan.proofs.checkpoint_search.find_checkpoint.Goals as goal
 
 pub returns-in_err-checkpoint-clause-few : goal.returns-in_err-checkpoint-clause-few
 returns-in_err-checkpoint-clause-few g c =
-    few_read (g.N.Nand.state c.args.device.now) (g.N.Nand.state c.read_firsts.new.device) (g.N.Nand.state c.read_best.new.device) c.in_ok-firsts.firsts.best (g.met.N.Nand.within c.args.device.now)
+    few_read (g.N.Nand.state c.args.device.now) (g.N.Nand.state c.read_first_pages.new.device) (g.N.Nand.state c.read_best.new.device) c.in_ok-firsts.field-0.best (g.met.N.Nand.within c.args.device.now)
     c.in_ok-firsts.ensures.firsts.best c.in_ok-firsts.ensures.reads.most c.in_err-checkpoint.ensures.few
 
 pub returns-clause-few : goal.returns-clause-few
 returns-clause-few g c =
-    few_read (g.N.Nand.state c.args.device.now) (g.N.Nand.state c.read_firsts.new.device) (g.N.Nand.state c.read_best.new.device) c.in_ok-firsts.firsts.best (g.met.N.Nand.within c.args.device.now)
+    few_read (g.N.Nand.state c.args.device.now) (g.N.Nand.state c.read_first_pages.new.device) (g.N.Nand.state c.read_best.new.device) c.in_ok-firsts.field-0.best (g.met.N.Nand.within c.args.device.now)
     c.in_ok-firsts.ensures.firsts.best c.in_ok-firsts.ensures.reads.most c.in_ok-checkpoint.ensures.few
 
 pub returns-clause-none : goal.returns-clause-none
 returns-clause-none g c =
-    none_best (g.N.Nand.state c.args.device.now) (g.N.Nand.state c.read_firsts.new.device) c.in_ok-firsts.firsts.best c.in_ok-checkpoint.checkpoint c.in_ok-firsts.ensures.reads.only (g.met.N.Nand.within c.args.device.now)
+    none_best (g.N.Nand.state c.args.device.now) (g.N.Nand.state c.read_first_pages.new.device) c.in_ok-firsts.field-0.best c.in_ok-checkpoint.checkpoint c.in_ok-firsts.ensures.reads.only (g.met.N.Nand.within c.args.device.now)
     c.in_ok-firsts.ensures.firsts.best c.in_ok-checkpoint.ensures.none
 
 pub returns-clause-first : goal.returns-clause-first
 returns-clause-first g c =
-    lies_first (g.N.Nand.state c.args.device.now) c.in_ok-firsts.firsts.best c.in_ok-checkpoint.checkpoint c.in_ok-firsts.ensures.firsts.best c.in_ok-checkpoint.ensures.of
+    lies_first (g.N.Nand.state c.args.device.now) c.in_ok-firsts.field-0.best c.in_ok-checkpoint.checkpoint c.in_ok-firsts.ensures.firsts.best c.in_ok-checkpoint.ensures.of

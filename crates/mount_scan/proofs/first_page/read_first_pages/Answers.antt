@@ -2,15 +2,15 @@ use Rattle.std.proofs.Common.{◌≡◌, ◌≤◌, ◌+◌, refl, ap, subst, ar
 use Rattle.std.proofs.lemmas.Result.{err_from_is_err_and}
 use Rattle.nand_model.specs.Calls.{Device}
 use Rattle.nand_model.specs.declared.geometry.Geometry.{Geometry}
-use Rattle.mount_scan.specs.FirstPages.{FirstPagesBelow}
-use Rattle.mount_scan.proofs.NotedFirsts.{firsts_none}
+use Rattle.mount_scan.specs.FirstPages.{FirstReadsBelow}
+use Rattle.mount_scan.proofs.NotedFirsts.{best_none}
 use Rattle.mount_scan.proofs.ReadCount.{read_none, read_on, ends_so, ends_well}
 use Rattle.mount_scan.proofs.first_page.read_first_pages.Goals as goal
 
 pub loop-block-init : goal.loop-block-init
 loop-block-init g c = record {
   read = read_none (g.N.Nand.state c.args.device.now);
-  below = firsts_none (g.N.Nand.state c.args.device.now) _ c.in_ok-with_capacity.ensures.items refl;
+  below = best_none (g.N.Nand.state c.args.device.now) _ c.in_ok-with_capacity.ensures.items refl refl;
 }
 
 pub add_first-requires : goal.add_first-requires
@@ -39,4 +39,4 @@ pub returns-clause-firsts : goal.returns-clause-firsts
 returns-clause-firsts g c =
     let old : Device = g.N.Nand.state c.args.device.now in
     let end : c.loop-block.block ≡ old.geometry.blocks = omega (arith, c.loop-block-test.false, c.loop-block.auto.block-end, c.blocks-blocks.ensures, ap (λ (x : Geometry). x.blocks) c.geometry.ensures) in
-    subst (λ b. FirstPagesBelow old b c.loop-block.firsts) end c.loop-block.invariant.below
+    subst (λ b. FirstReadsBelow old b c.loop-block.reads) end c.loop-block.invariant.below

@@ -4,3 +4,4 @@ pub mod Marking
 pub mod Standing
 pub mod Rooted
 pub mod Truth
+pub mod Mountable

@@ -41,7 +41,7 @@ module _ (flash : Flash) (bytes : List ℕ) (tag : Tag) (valid : IsTag tag) (alo
   has = record { bytes = bytes; page = alone.page; valid = valid }
 
   -- what has a tag in a good block is that page
-  only_there : (b p : ℕ) (t : Tag) → flash.bad b ≡ false → HasTag flash b p t → (b ≡ alone.block) × (p ≡ 0)
+  pub only_there : (b p : ℕ) (t : Tag) → flash.bad b ≡ false → HasTag flash b p t → (b ≡ alone.block) × (p ≡ 0)
   only_there b p t good there = elim (cases_eq b alone.block) [
     | inr ne ↦ let two : Erased ≡ Written there.bytes (tag_bytes t) = sym (alone.others b p good (inl ne)) ∙ there.page in absurd cc
     | inl same ↦ elim (cases_eq p 0) [
@@ -59,7 +59,7 @@ module _ (flash : Flash) (bytes : List ℕ) (tag : Tag) (valid : IsTag tag) (alo
   abbrev spot : Spot
   spot = record { block = alone.block; page = 0; tag = tag }
 
-  only_spot : (o c : ℕ) (s : Spot) → Holds flash o c s → s ≡ spot
+  pub only_spot : (o c : ℕ) (s : Spot) → Holds flash o c s → s ≡ spot
   only_spot o c s holds =
       let good : flash.bad s.block ≡ false = ap flash.bad holds.block ∙ holds.whole.good in
       let at = only_there s.block s.page s.tag good holds.has in

@@ -6,7 +6,9 @@ use Rattle.page_tags.specs.declared.tag.Tag.{Tag}
 use Rattle.page_tags.specs.Tags.{tag_bytes}
 use Rattle.page_tags.specs.Headers.{header_bytes}
 use Rattle.volume_terms.specs.Sizes.{root_number}
+use Rattle.flash_tree.specs.Checkpoints.{IsTrueFlash}
 use Rattle.flash_tree.specs.Mount.{bad_blocks}
+use Rattle.flash_tree.specs.MountableFlash.{IsMountableFlash}
 use Rattle.flash_tree.specs.declared.place.Key.{Key}
 use Rattle.flash_tree.specs.declared.place.FreshPage.{FreshPage}
 use Rattle.directories.specs.Heads.{fields_in}
@@ -89,6 +91,11 @@ pub record HoldsOnlyRoot (spare : ℕ) (device : Device) : Type 0 where
   pub some : 1 ≤ number
   pub few : number ≤ device.geometry.blocks
   pub alone : StandsAlone device.flash (header_bytes (fields_in device.geometry.bytes (empty_root spare))) (single_tag root_key number)
+
+-- Each whole checkpoint on the device is right, and a mount may go by the summaries there.
+pub record StartsTrue (device : Device) : Type 0 where
+  pub checkpoints : IsTrueFlash device.geometry device.flash
+  pub mountable : IsMountableFlash device.geometry device.flash
 
 -- what a fault says of the device, where it is neither of the spare blocks nor of memory
 abbrev pub Explains : ℕ → Device → FormatFault → Type 0

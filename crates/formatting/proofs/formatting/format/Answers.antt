@@ -1,10 +1,13 @@
-use Rattle.std.proofs.Common.{◌≡◌, ◌≤◌, ◌+◌, ◌∙◌, ap, subst, arith}
+use Rattle.std.proofs.Common.{◌≡◌, ◌≤◌, ◌+◌, ◌∙◌, sym, ap, subst, arith}
 use Rattle.nand_model.specs.Calls.{Device}
 use Rattle.nand_model.specs.declared.geometry.Geometry.{Geometry}
 use Rattle.volume_terms.specs.Sizes.{root_number}
+use Rattle.page_tags.specs.Headers.{IsHeader}
 use Rattle.directories.specs.HeadPages.{IsHeadPage}
+use Rattle.directories.specs.Heads.{fields_in}
 use Rattle.formatting.specs.Formatting.{empty_root}
 use Rattle.formatting.proofs.Rooted.{volume_of, root_alone}
+use Rattle.formatting.proofs.Mountable.{root_mountable}
 use Rattle.formatting.proofs.Truth.{root_true}
 use Rattle.formatting.proofs.formatting.format.Goals as goal
 
@@ -31,4 +34,7 @@ returns-in-Ok-lay_out-clause-true_flash g c = λ honest.
     let same : c.geometry-geometry.result ≡ old.geometry = c.geometry-geometry.ensures in
     let size : c.bytes.result ≡ old.geometry.bytes = c.bytes.ensures ∙ ap (λ (x : Geometry). x.bytes) same in
     let head = subst (λ d. IsHeadPage c.in-Ok.page d root_number (empty_root c.args.spare)) size c.in-Ok.ensures in
-    root_true c.args.spare (g.N.Nand.state c.lay_out.new.device) (root_alone old (g.N.Nand.state c.lay_out.new.device) c.args.spare c.in-Ok.page honest c.lay_out.ensures.keeps head c.in-Ok-lay_out.ensures.stands)
+    let new : Device = g.N.Nand.state c.lay_out.new.device in
+    let only = root_alone old new c.args.spare c.in-Ok.page honest c.lay_out.ensures.keeps head c.in-Ok-lay_out.ensures.stands in
+    let there = subst (λ (x : Geometry). IsHeader x.bytes (fields_in x.bytes (empty_root c.args.spare))) (sym c.lay_out.ensures.keeps.lasts.geometry) head.head_is.valid in
+    record { checkpoints = root_true c.args.spare new only; mountable = root_mountable c.args.spare new only there }

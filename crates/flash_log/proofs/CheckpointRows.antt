@@ -12,7 +12,7 @@ use Rattle.chunk_index.specs.Maps.{KeptMap}
 use Rattle.flash_log.specs.CheckpointListing.{check_entries}
 
 -- a part that is written in place keeps the length
-length-put_mid : (a k : ℕ) (xs ys : List ℕ) → a + k ≤ length xs → length ys ≡ k → length (put_mid a k xs ys) ≡ length xs
+pub length-put_mid : (a k : ℕ) (xs ys : List ℕ) → a + k ≤ length xs → length ys ≡ k → length (put_mid a k xs ys) ≡ length xs
 length-put_mid a k xs ys within same =
     omega (arith, length-append (take a xs) (ys ++ drop k (drop a xs)), length-append ys (drop k (drop a xs)), length-take a xs, length-drop k (drop a xs), length-drop a xs)
 

@@ -17,6 +17,7 @@ pub mod Collected
 pub mod KeyLists
 pub mod NextKeys
 pub mod CheckpointRows
+pub mod SummaryRows
 pub mod PageParts
 pub mod CheckpointKeeping
 pub mod CheckpointListed

@@ -17,7 +17,7 @@ use Rattle.chunk_index.specs.declared.index.Index.{Index}
 use Rattle.chunk_index.specs.Maps.{kept_pages, CountsAgree}
 use Rattle.flash_tree.specs.Newest.{IsNewest}
 use Rattle.flash_tree.specs.Numbering.{AreBelow}
-use Rattle.flash_tree.specs.Summaries.{BeginsErased}
+use Rattle.flash_tree.specs.ErasedBlocks.{BeginsErased}
 use Rattle.transactions.specs.Ready.{IsReady, IsWrittenInOrder}
 use Rattle.transactions.specs.laws.Handing.{hands_same}
 use Rattle.transactions.specs.Sources.{IsPageName}

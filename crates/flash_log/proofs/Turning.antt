@@ -10,7 +10,7 @@ use Rattle.block_state.specs.laws.Checkpoint.{other_is_other}
 use Rattle.transactions.specs.Marking.{NotesMark}
 use Rattle.transactions.specs.Opening.{MayLose, Opens}
 use Rattle.transactions.specs.Ready.{IsReady}
-use Rattle.flash_tree.specs.Summarizing.{GoesFirst}
+use Rattle.flash_tree.specs.ErasedBlocks.{GoesFirst}
 use Rattle.flash_log.proofs.Free.{was_unkept}
 use Rattle.flash_log.specs.Erased.{KnowsErased}
 use Rattle.flash_log.specs.Passing.{Passes}

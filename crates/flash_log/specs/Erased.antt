@@ -5,8 +5,7 @@ use Rattle.nand_model.specs.Flash.{Flash}
 use Rattle.nand_model.specs.Calls.{Device}
 use Rattle.page_tags.specs.declared.tag.Tag.{Tag}
 use Rattle.flash_tree.specs.Groups.{HasTag}
-use Rattle.flash_tree.specs.Summaries.{BeginsErased, OnlyFirstHasTags}
-use Rattle.flash_tree.specs.Summarizing.{GoesFirst}
+use Rattle.flash_tree.specs.ErasedBlocks.{BeginsErased, OnlyFirstHasTags, GoesFirst}
 use Rattle.block_state.specs.Table.{Table}
 
 -- the block is a good one of the device, and as far as the table knows nothing was programmed in it since it was erased

@@ -10,6 +10,8 @@ pub mod Telling
 pub mod Retiring
 pub mod Room
 pub mod Steps
+pub mod Mountable
+pub mod Snapshots
 pub mod Bills
 pub mod LogOf
 pub mod RoomFaults
@@ -21,4 +23,5 @@ pub mod CheckpointDue
 pub mod CheckpointKeeping
 pub mod CheckpointWriting
 pub mod Sealing
+pub mod SummarySource
 pub mod laws

@@ -7,6 +7,9 @@ pub mod Found
 pub mod FreeBlocks
 pub mod Costs
 pub mod Steps
+pub mod Mountable
+pub mod Snapshots
 pub mod OneProof
 pub mod Room
 pub mod Bills
+pub mod SummarySource

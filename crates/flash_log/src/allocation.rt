@@ -11,14 +11,14 @@ use chunk_index::the_counts_are_of_the_keys;
 use nand_model::Nand;
 
 impl<N: Nand> Log<N> {
-    ghost use Rattle.flash_log.specs.LogOf.{HasReserve, Moves, log_state};
+    ghost use Rattle.flash_log.specs.LogOf.{HasReserve, Moves, SameTerms, log_state, terms_of};
 
     /// Allocates a free block, the one that may have a checkpoint before all others: erases it, and makes it the open one. The
     /// block that was open is so no longer. A block whose erase fails is marked, and the next is tried, while there are blocks
     /// to spare.
     pub fn allocate_block(&mut self) -> Result<u32, TakeFault>
         requires few { HasReserve self.old }
-        ensures spare { self.new.spare ≡ self.old.spare }
+        ensures terms { SameTerms (terms_of self.old) (terms_of self.new) }
         ensures index { self.new.index ≡ self.old.index }
         ensures step { Moves self.old self.new }
         ensures passes { Passes (N.state self.old.device) (N.state self.new.device) (table self.old.blocks) (table self.new.blocks) }

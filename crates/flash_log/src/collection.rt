@@ -2,7 +2,7 @@
 ghost use Rattle.std.specs.Prelude.{◌≡◌, ◌<◌, ◌≤◌, false, OnOk};
 ghost use Rattle.block_state.specs.TableOf.{table};
 ghost use Rattle.flash_log.specs.Bills.{PaysCollection};
-ghost use Rattle.flash_log.specs.LogOf.{HasReserve, Moves, log_state};
+ghost use Rattle.flash_log.specs.LogOf.{HasReserve, Moves, SameTerms, log_state, terms_of};
 ghost use Rattle.flash_log.specs.Moving.{MovesOut};
 ghost use Rattle.flash_log.specs.Refreshing.{IsWrittenAnew};
 ghost use Rattle.flash_log.specs.RoomMaking.{CollectEnds};
@@ -21,7 +21,7 @@ impl<N: Nand> Log<N> {
         requires block { block < (N.state self.old.device).geometry.blocks }
         requires good { ((table self.old.blocks).entry block).bad ≡ false }
         requires some { 1 ≤ ((table self.old.blocks).entry block).kept }
-        ensures spare { self.new.spare ≡ self.old.spare }
+        ensures terms { SameTerms (terms_of self.old) (terms_of self.new) }
         ensures step { Moves self.old self.new }
         ensures out { MovesOut block self.old.index self.new.index }
         ensures pays { PaysCollection block (log_state self.old) (log_state self.new) result }

@@ -1,11 +1,15 @@
 // The log: a device, and what memory holds of its blocks and of its pages.
-ghost use Rattle.std.specs.Prelude.{◌≡◌, IfOk, IfErr};
+ghost use Rattle.std.specs.Prelude.{◌≡◌, Option, IfOk, IfErr};
 ghost use Rattle.block_state.specs.TableOf.{table};
+ghost use Rattle.transactions.specs.Checking.{log_of};
 ghost use Rattle.transactions.specs.Ready.{IsReady};
+ghost use Rattle.flash_log.specs.Mountable.{IsMountableSince};
 ghost use Rattle.flash_log.specs.Room.{IsRoomFor};
+ghost use Rattle.flash_log.specs.Snapshots.{Snapshot};
 ghost use Rattle.flash_log.specs.Standing.{Stands};
 ghost use Rattle.flash_log.specs.laws.OneProof.{stands_prop};
 
+use crate::origin::Origin;
 use crate::room::MoveRoom;
 use block_state::Blocks;
 use chunk_index::Index;
@@ -21,13 +25,17 @@ pub struct Log<N: Nand> {
     pub room: MoveRoom,
     /// How many blocks may be bad.
     pub spare: u32,
+    /// The flash with which the log began, for contracts alone. It takes no memory.
+    pub origin: Origin,
     ghost ready: { IsReady (N.state device) (table blocks) },
     ghost stands: { Stands spare (N.state device) (table blocks) index } by { stands_prop spare (N.state device) (table blocks) index },
     ghost room_size: { IsRoomFor (N.state device).geometry room },
+    ghost mountable: { IsMountableSince origin.first (log_of (N.state device) (table blocks)) index },
 }
 
 impl<N: Nand> Log<N> {
-    /// A log of these parts, which agree, with room for moves. Where memory is refused the device is returned as it is.
+    /// A log of these parts, which agree, with room for moves. Which flash is remembered, or none, a proof chooses at the call. Where
+    /// memory is refused the device is returned as it is.
     pub fn new(
         alloc: Global,
         device: N,
@@ -35,11 +43,14 @@ impl<N: Nand> Log<N> {
         index: Index,
         spare: u32,
     ) -> Result<Log<N>, (N, AllocError)>
+        ghost first: { Option Snapshot }
         requires ready { IsReady (N.state device) (table blocks) }
         requires stands { Stands spare (N.state device) (table blocks) index }
+        requires mountable { IsMountableSince first (log_of (N.state device) (table blocks)) index }
         ensures device { IfOk result (λ log. log.device ≡ device) }
         ensures tables { IfOk result (λ log. (log.blocks ≡ blocks) × (log.index ≡ index)) }
         ensures spare { IfOk result (λ log. log.spare ≡ spare) }
+        ensures origin { IfOk result (λ log. log.origin.first ≡ first) }
         ensures given_back { IfErr result (λ back. back.0 ≡ device) }
     {
         match MoveRoom::new(alloc, device.geometry()) {
@@ -49,6 +60,7 @@ impl<N: Nand> Log<N> {
                 index,
                 room,
                 spare,
+                origin: Origin::as_chosen(),
             }),
             Err(refused) => Err((device, refused)),
         }

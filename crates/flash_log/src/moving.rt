@@ -1,5 +1,5 @@
 // The move of the kept pages of a block.
-ghost use Rattle.std.specs.Prelude.{◌≡◌, ◌<◌, ◌≤◌, ◌+◌, ℕ, length, false, OnOk};
+ghost use Rattle.std.specs.Prelude.{◌≡◌, ◌<◌, ◌≤◌, ℕ, length, false, OnOk};
 ghost use Rattle.block_state.specs.Kept.{bad_count};
 ghost use Rattle.block_state.specs.TableOf.{table};
 ghost use Rattle.transactions.specs.Checking.{log_of};
@@ -59,7 +59,7 @@ fn move_listed<N: Nand>(
 }
 
 impl<N: Nand> Log<N> {
-    ghost use Rattle.flash_log.specs.LogOf.{HasReserve, Moves, log_state};
+    ghost use Rattle.flash_log.specs.LogOf.{HasReserve, Moves, SameTerms, log_state, terms_of};
 
     /// Moves all pages that are committed in a good block into a freshly erased free block, as one group. A block in which
     /// that fails is marked, and they are written again into the next, while there are blocks to spare.
@@ -68,7 +68,7 @@ impl<N: Nand> Log<N> {
         requires block { block < (N.state self.old.device).geometry.blocks }
         requires good { ((table self.old.blocks).entry block).bad ≡ false }
         requires some { 1 ≤ ((table self.old.blocks).entry block).kept }
-        ensures spare { self.new.spare ≡ self.old.spare }
+        ensures terms { SameTerms (terms_of self.old) (terms_of self.new) }
         ensures step { Moves self.old self.new }
         ensures out { MovesOut block self.old.index self.new.index }
         ensures pays { PaysMove block (log_state self.old) (log_state self.new) result }

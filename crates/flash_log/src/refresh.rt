@@ -2,7 +2,7 @@
 ghost use Rattle.std.specs.Prelude.{◌≡◌, ◌<◌, Ok, OnOk};
 ghost use Rattle.block_state.specs.TableOf.{table};
 ghost use Rattle.flash_log.specs.Bills.{PaysCollection};
-ghost use Rattle.flash_log.specs.LogOf.{HasReserve, Moves, log_state};
+ghost use Rattle.flash_log.specs.LogOf.{HasReserve, Moves, SameTerms, log_state, terms_of};
 ghost use Rattle.flash_log.specs.Moving.{MovesOut};
 ghost use Rattle.flash_log.specs.Refreshing.{IsWrittenAnew, MovesNothing, RefreshEnds};
 ghost use Rattle.flash_log.specs.RoomMaking.{StaysWhole};
@@ -18,7 +18,7 @@ impl<N: Nand> Log<N> {
     pub fn refresh(&mut self, block: u32) -> Result<(), MoveFault>
         requires few { HasReserve self.old }
         requires block { block < (N.state self.old.device).geometry.blocks }
-        ensures spare { self.new.spare ≡ self.old.spare }
+        ensures terms { SameTerms (terms_of self.old) (terms_of self.new) }
         ensures step { Moves self.old self.new }
         ensures out { MovesOut block self.old.index self.new.index }
         ensures pays { PaysCollection block (log_state self.old) (log_state self.new) result }

@@ -51,7 +51,7 @@ fn mark_emptied<N: Nand>(
 }
 
 impl<N: Nand> Log<N> {
-    ghost use Rattle.flash_log.specs.LogOf.{HasReserve, Moves, log_state};
+    ghost use Rattle.flash_log.specs.LogOf.{HasReserve, Moves, SameTerms, log_state, terms_of};
 
     /// Moves away what is committed in a good block, if anything. Returns the block of a suspect copy.
     fn empty_block(&mut self, block: u32) -> Result<Option<u32>, MoveFault>
@@ -59,7 +59,7 @@ impl<N: Nand> Log<N> {
         requires closed { (table self.old.blocks).open_block ≡ None }
         requires block { block < (N.state self.old.device).geometry.blocks }
         requires good { ((table self.old.blocks).entry block).bad ≡ false }
-        ensures spare { self.new.spare ≡ self.old.spare }
+        ensures terms { SameTerms (terms_of self.old) (terms_of self.new) }
         ensures step { Moves self.old self.new }
         ensures out { MovesOut block self.old.index self.new.index }
         ensures pays { PaysEmptying (log_state self.old) (log_state self.new) result }
@@ -86,7 +86,7 @@ impl<N: Nand> Log<N> {
         requires none { (table self.old.blocks).checkpoint ≡ None }
         requires block { block < (N.state self.old.device).geometry.blocks }
         requires good { ((table self.old.blocks).entry block).bad ≡ false }
-        ensures spare { self.new.spare ≡ self.old.spare }
+        ensures terms { SameTerms (terms_of self.old) (terms_of self.new) }
         ensures step { Moves self.old self.new }
         ensures out { MovesOut block self.old.index self.new.index }
         ensures pays { PaysOut (log_state self.old) (log_state self.new) result }
@@ -110,7 +110,7 @@ impl<N: Nand> Log<N> {
         requires none { (table self.old.blocks).checkpoint ≡ None }
         requires block { block < (N.state self.old.device).geometry.blocks }
         requires good { ((table self.old.blocks).entry block).bad ≡ false }
-        ensures spare { self.new.spare ≡ self.old.spare }
+        ensures terms { SameTerms (terms_of self.old) (terms_of self.new) }
         ensures step { Moves self.old self.new }
         ensures out { MovesOut block self.old.index self.new.index }
         ensures pays { PaysRetirement (log_state self.old) (log_state self.new) result }
@@ -136,7 +136,7 @@ impl<N: Nand> Log<N> {
         requires none { (table self.old.blocks).checkpoint ≡ None }
         requires block { block < (N.state self.old.device).geometry.blocks }
         requires good { ((table self.old.blocks).entry block).bad ≡ false }
-        ensures spare { self.new.spare ≡ self.old.spare }
+        ensures terms { SameTerms (terms_of self.old) (terms_of self.new) }
         ensures step { Moves self.old self.new }
         ensures out { MovesOut block self.old.index self.new.index }
         ensures pays { PaysRetirement (log_state self.old) (log_state self.new) result }

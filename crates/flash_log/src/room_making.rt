@@ -1,7 +1,7 @@
 // The making of room.
-ghost use Rattle.std.specs.Prelude.{◌≡◌, IsOk};
+ghost use Rattle.std.specs.Prelude.{IsOk};
 ghost use Rattle.block_state.specs.TableOf.{table};
-ghost use Rattle.flash_log.specs.LogOf.{HasReserve, Moves, log_state};
+ghost use Rattle.flash_log.specs.LogOf.{HasReserve, Moves, SameTerms, log_state, terms_of};
 ghost use Rattle.flash_log.specs.RoomMaking.{FitsOpen, MovesFewest, PaysRoom, RoomEnds, StaysWhole, StaysWhereFull};
 
 use crate::choice::{has_unkept, victim};
@@ -17,7 +17,7 @@ impl<N: Nand> Log<N> {
     /// becomes the open one. A block whose erase or copy fails is marked, while there are blocks to spare.
     pub fn make_room(&mut self, count: u32) -> Result<(), RoomFault>
         requires few { HasReserve self.old }
-        ensures spare { self.new.spare ≡ self.old.spare }
+        ensures terms { SameTerms (terms_of self.old) (terms_of self.new) }
         ensures step { Moves self.old self.new }
         ensures fewest { MovesFewest self.old.spare (table self.old.blocks) self.old.index self.new.index }
         ensures pays { PaysRoom self.old.spare (log_state self.old) (log_state self.new) result }

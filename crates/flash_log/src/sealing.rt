@@ -1,7 +1,7 @@
 // The writing of a checkpoint of a log that is unmounted.
 ghost use Rattle.std.specs.Prelude.{◌≡◌, ◌+◌, OnOk};
 ghost use Rattle.block_state.specs.TableOf.{table};
-ghost use Rattle.flash_log.specs.LogOf.{HasReserve, log_state};
+ghost use Rattle.flash_log.specs.LogOf.{HasReserve, SameTerms, log_state, terms_of};
 ghost use Rattle.flash_log.specs.Moving.{AnswersFailures, MarksFailures};
 ghost use Rattle.flash_log.specs.CheckpointKeeping.{Seals};
 ghost use Rattle.flash_log.specs.CheckpointDue.{check_pages};
@@ -22,7 +22,7 @@ impl<N: Nand> Log<N> {
     /// the block. Nothing is done where a block may have one already, where it has no room in a block, where too few blocks are free, and
     /// where no number is left. A block in which a program fails is marked, and no other is tried.
     pub fn seal(&mut self) -> Result<(), SealFault>
-        ensures spare { self.new.spare ≡ self.old.spare }
+        ensures terms { SameTerms (terms_of self.old) (terms_of self.new) }
         ensures index { self.new.index ≡ self.old.index }
         ensures seals { Seals self.old.spare self.old.index (log_state self.old) (log_state self.new) }
         // Each mark answers a failure, and after Ok each failure has its mark.

@@ -12,8 +12,8 @@ use Rattle.page_tags.specs.Tags.{tag_bytes}
 use Rattle.page_tags.specs.declared.tag.Tag.{Tag}
 use Rattle.flash_tree.specs.Fading.{Fades}
 use Rattle.flash_tree.specs.Groups.{HasTag}
-use Rattle.flash_tree.specs.Summaries.{BeginsErased, OnlyFirstHasTags}
-use Rattle.flash_tree.specs.Summarizing.{GoesFirst, WritesIn}
+use Rattle.flash_tree.specs.ErasedBlocks.{BeginsErased, OnlyFirstHasTags, GoesFirst}
+use Rattle.flash_tree.specs.Summarizing.{WritesIn}
 use Rattle.flash_tree.specs.laws.Fading.{fades_erase, fades_mark, good_before, loses_fading}
 use Rattle.flash_tree.specs.laws.Newest.{has_before}
 use Rattle.flash_tree.specs.laws.Place.{had_power}

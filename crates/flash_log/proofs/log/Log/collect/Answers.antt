@@ -24,7 +24,7 @@ pub returns-in-Trusted-clause-ends : goal.returns-in-Trusted-clause-ends
 returns-in-Trusted-clause-ends g c =
     let moved = rw c.in-Trusted.is at c.in_ok-move_kept.ensures in
     let reserve = moved.few in
-    let same = c.move_kept.ensures.spare in (
+    let same = c.move_kept.ensures.terms.spare in (
       collected_open c.args.block moved.ends.1.0 c.args.self.now.spare (g.N.Nand.state c.move_kept.new.self.device) (table c.args.self.now.blocks) (table c.move_kept.new.self.blocks) c.move_kept.new.self.index c.requires.some
           moved.ends.1.1 moved.ends.0.unkept (omega (arith, reserve, same)) moved.step.stands,
       moved.ends.2,
@@ -39,26 +39,26 @@ retire-requires-clause-none g c = (rw c.in-Suspect.is at c.in_ok-move_kept.ensur
 pub returns-in-Suspect-clause-step : goal.returns-in-Suspect-clause-step
 returns-in-Suspect-clause-step g c =
     step_on c.args.self.now.spare (log_of (g.N.Nand.state c.args.self.now.device) (table c.args.self.now.blocks)) (log_of (g.N.Nand.state c.move_kept.new.self.device) (table c.move_kept.new.self.blocks))
-    (log_of (g.N.Nand.state c.retire.new.self.device) (table c.retire.new.self.blocks)) c.args.self.now.index c.move_kept.new.self.index c.retire.new.self.index c.in_ok-move_kept.ensures.step (rw c.move_kept.ensures.spare at c.retire.ensures).step
+    (log_of (g.N.Nand.state c.retire.new.self.device) (table c.retire.new.self.blocks)) c.args.self.now.index c.move_kept.new.self.index c.retire.new.self.index c.in_ok-move_kept.ensures.step (rw c.move_kept.ensures.terms.spare at c.retire.ensures).step
 
 pub returns-in-Suspect-clause-out : goal.returns-in-Suspect-clause-out
 returns-in-Suspect-clause-out g c =
     let moved = rw c.in-Suspect.is at c.in_ok-move_kept.ensures in
     out_retired c.args.block c.in-Suspect.copies c.args.self.now.spare (g.N.Nand.state c.args.self.now.device) (table c.args.self.now.blocks) (table c.move_kept.new.self.blocks)
     c.args.self.now.index c.move_kept.new.self.index c.retire.new.self.index (c.the_counts_are_of_the_keys.ensures.none c.args.self.now.index)
-    c.args.self.now.stands moved.ends.1.0 moved.out (rw c.move_kept.ensures.spare at c.retire.ensures).out
+    c.args.self.now.stands moved.ends.1.0 moved.out (rw c.move_kept.ensures.terms.spare at c.retire.ensures).out
 
 pub returns-in-Suspect-clause-pays : goal.returns-in-Suspect-clause-pays
 returns-in-Suspect-clause-pays g c =
     let moved = rw c.in-Suspect.is at c.in_ok-move_kept.ensures in
     pays_retired c.args.block c.in-Suspect.copies (g.N.Nand.state c.args.self.now.device) (g.N.Nand.state c.move_kept.new.self.device) (g.N.Nand.state c.retire.new.self.device)
-    (table c.args.self.now.blocks) (table c.move_kept.new.self.blocks) (table c.retire.new.self.blocks) c.retire.result moved.step.lasts.geometry moved.pays (rw c.move_kept.ensures.spare at c.retire.ensures).pays
+    (table c.args.self.now.blocks) (table c.move_kept.new.self.blocks) (table c.retire.new.self.blocks) c.retire.result moved.step.lasts.geometry moved.pays (rw c.move_kept.ensures.terms.spare at c.retire.ensures).pays
 
 pub returns-in-Suspect-clause-ends : goal.returns-in-Suspect-clause-ends
 returns-in-Suspect-clause-ends g c =
     let moved = rw c.in-Suspect.is at c.in_ok-move_kept.ensures in
     ends_retired c.args.block c.in-Suspect.copies c.args.self.now.spare (g.N.Nand.state c.retire.new.self.device) (table c.args.self.now.blocks) (table c.move_kept.new.self.blocks)
-    (table c.retire.new.self.blocks) c.retire.result c.requires.some moved.ends.1.0 moved.ends.0.unkept (rw c.move_kept.ensures.spare at c.retire.ensures).ends
+    (table c.retire.new.self.blocks) c.retire.result c.requires.some moved.ends.1.0 moved.ends.0.unkept (rw c.move_kept.ensures.terms.spare at c.retire.ensures).ends
 
 pub returns-in-Trusted-clause-anew : goal.returns-in-Trusted-clause-anew
 returns-in-Trusted-clause-anew g c =
@@ -74,4 +74,4 @@ returns-in-Suspect-clause-anew g c =
     on_ok_weaker c.retire.result
     (λ fills. anew_after c.args.self.now.spare c.args.block (log_of (g.N.Nand.state c.args.self.now.device) (table c.args.self.now.blocks)) (log_of (g.N.Nand.state c.move_kept.new.self.device) (table c.move_kept.new.self.blocks))
     (log_of (g.N.Nand.state c.retire.new.self.device) (table c.retire.new.self.blocks)) c.args.self.now.index c.move_kept.new.self.index c.retire.new.self.index moved.step moved.ends.0.unkept fills)
-    (rw c.move_kept.ensures.spare at c.retire.ensures).anew
+    (rw c.move_kept.ensures.terms.spare at c.retire.ensures).anew

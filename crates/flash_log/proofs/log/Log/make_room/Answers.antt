@@ -43,7 +43,7 @@ returns-then-has_unkept-clause-ends g c =
     let pages : c.pages.result ≡ (table c.allocate_block.new.self.blocks).geometry.pages = c.pages.ensures ∙ ap (λ (x : Geometry). x.pages) (c.geometry.ensures ∙ sym took.passes.geometry) in
     record {
       fits = fits_open c.args.count c.in_ok-allocate_block.field-0 0 (table c.allocate_block.new.self.blocks) took.ends.0.open_block took.ends.0.next (omega (arith, pages, c.if-count-pages.false));
-      few = let reserve = took.few in let same = took.spare in omega (arith, reserve, same);
+      few = let reserve = took.few in let same = took.terms.spare in omega (arith, reserve, same);
       free = λ _. free (c.if-has_unkept.ensures.0 refl);
       power = λ _. took.ends.1;
     }

@@ -3,6 +3,7 @@ use Rattle.nand_model.specs.declared.geometry.Geometry.{Geometry}
 use Rattle.block_state.specs.TableOf.{table}
 use Rattle.transactions.specs.Checking.{log_of}
 use Rattle.flash_log.specs.Bills.{PaysCopies}
+use Rattle.flash_log.specs.laws.Mountable.{mountable_after}
 use Rattle.flash_log.specs.laws.Room.{same_page}
 use Rattle.flash_log.proofs.log.Log.move_kept.Goals as goal
 
@@ -24,6 +25,11 @@ invariant_of-self-clause-room_size g c =
       copies = omega (arith, room_size.copies, same.copies, pages);
       scratch = same_page c.list.new.self.scratch.len c.move_listed.new.scratch _ (omega arith) ∙ omega (arith, room_size.scratch, same.scratch, bytes);
     }
+
+pub invariant_of-self-clause-mountable : goal.invariant_of-self-clause-mountable
+invariant_of-self-clause-mountable g c =
+    let log = c.args.self.now in
+    mountable_after log.origin.first log.spare (log_of (g.N.Nand.state log.device) (table log.blocks)) (log_of (g.N.Nand.state c.move_listed.new.device) (table c.move_listed.new.blocks)) log.index c.move_listed.new.index c.move_listed.ensures.step log.mountable
 
 pub list-requires-clause-keys : goal.list-requires-clause-keys
 list-requires-clause-keys g c =

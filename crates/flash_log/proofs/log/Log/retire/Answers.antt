@@ -5,6 +5,7 @@ use Rattle.block_state.specs.Kept.{bad_count}
 use Rattle.block_state.specs.Table.{Table}
 use Rattle.block_state.specs.TableOf.{table}
 use Rattle.transactions.specs.Checking.{log_of}
+use Rattle.flash_log.specs.laws.Mountable.{mountable_after}
 use Rattle.flash_log.specs.laws.Steps.{step_closed, step_on}
 use Rattle.flash_log.specs.laws.Turns.{stands_closed}
 use Rattle.transactions.specs.Ready.{IsReady}
@@ -24,6 +25,7 @@ invariant_of-self g c =
       ready = subst (IsReady d) (sym c.close.ensures) (ready_closed d t self.ready);
       stands = stands_closed self.spare d t u self.index c.close.ensures self.stands;
       room_size = self.room_size;
+      mountable = mountable_after self.origin.first self.spare (log_of d t) (log_of d u) self.index self.index (step_closed self.spare d t u self.index c.close.ensures self.ready self.stands) self.mountable;
     }
 
 pub retire_all-requires-clause-few : goal.retire_all-requires-clause-few

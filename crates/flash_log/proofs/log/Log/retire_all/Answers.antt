@@ -21,7 +21,7 @@ pub loop-suspect-init : goal.loop-suspect-init
 loop-suspect-init g c =
     let e = c.in_ok-suspect.ensures in
     record {
-      spare = e.spare;
+      terms = e.terms;
       retiring = record { step = e.step; moved = e.out; pays = e.pays; anew = e.anew; out = e.ends.0; power = e.ends.1 };
       empty = e.empty;
     }
@@ -39,7 +39,7 @@ returns-in_err-suspect-2-clause-step g c =
     let d' : Device = g.N.Nand.state c.retire_one-in-Some.new.self.device in
     let t' : Table = table c.retire_one-in-Some.new.self.blocks in
     let y = c.retire_one-in-Some.new.self.index in
-    step_next c.args.self.now.spare c.args.block w d0 d t0 t x0 x r d' t' y (rw c.loop-suspect.invariant.spare at c.in_err-suspect-2.ensures).step
+    step_next c.args.self.now.spare c.args.block w d0 d t0 t x0 x r d' t' y (rw c.loop-suspect.invariant.terms.spare at c.in_err-suspect-2.ensures).step
 
 pub returns-in_err-suspect-2-clause-out : goal.returns-in_err-suspect-2-clause-out
 returns-in_err-suspect-2-clause-out g c =
@@ -55,7 +55,7 @@ returns-in_err-suspect-2-clause-out g c =
     let t' : Table = table c.retire_one-in-Some.new.self.blocks in
     let y = c.retire_one-in-Some.new.self.index in
     let none : HoldsNone (kept_pages x0) w = c.the_counts_are_of_the_keys.ensures.none x0 w (sym (c.args.self.now.stands.tables.counts.counts w) ∙ next_unkept c.args.self.now.spare c.args.block w d0 d t0 t x0 x r) in
-    moved_next c.args.self.now.spare c.args.block w d0 d t0 t x0 x r y none (rw c.loop-suspect.invariant.spare at c.in_err-suspect-2.ensures).out
+    moved_next c.args.self.now.spare c.args.block w d0 d t0 t x0 x r y none (rw c.loop-suspect.invariant.terms.spare at c.in_err-suspect-2.ensures).out
 
 pub returns-in_err-suspect-2-clause-pays : goal.returns-in_err-suspect-2-clause-pays
 returns-in_err-suspect-2-clause-pays g c =
@@ -70,7 +70,7 @@ returns-in_err-suspect-2-clause-pays g c =
     let d' : Device = g.N.Nand.state c.retire_one-in-Some.new.self.device in
     let t' : Table = table c.retire_one-in-Some.new.self.blocks in
     let y = c.retire_one-in-Some.new.self.index in
-    let pays = (rw c.loop-suspect.invariant.spare at c.in_err-suspect-2.ensures).pays in
+    let pays = (rw c.loop-suspect.invariant.terms.spare at c.in_err-suspect-2.ensures).pays in
     let p = err_from_is_err_and c.from_residual-in_err-suspect-2.result c.from_residual-in_err-suspect-2.ensures.1 in
     rw p.1 (pays_next c.args.self.now.spare c.args.block w d0 d t0 t x0 x r 0 d' t' _ (record { costs = pays.costs; marks = pays.marks; answers = tt; reads = pays.reads }))
 
@@ -88,9 +88,10 @@ loop-suspect-preserved g c =
     let t' : Table = table c.retire_one-in-Some.new.self.blocks in
     let y = c.retire_one-in-Some.new.self.index in
     let none : HoldsNone (kept_pages x0) w = c.the_counts_are_of_the_keys.ensures.none x0 w (sym (c.args.self.now.stands.tables.counts.counts w) ∙ next_unkept c.args.self.now.spare c.args.block w d0 d t0 t x0 x r) in
-    let e = rw c.loop-suspect.invariant.spare at c.in_ok-suspect-2.ensures in
+    let e = rw c.loop-suspect.invariant.terms.spare at c.in_ok-suspect-2.ensures in
+    let terms = c.in_ok-suspect-2.ensures.terms in
     record {
-      spare = e.spare;
+      terms = record { spare = terms.spare ∙ c.loop-suspect.invariant.terms.spare; first = terms.first ∙ c.loop-suspect.invariant.terms.first };
       retiring = retiring_next c.args.self.now.spare c.args.block w d0 d t0 t x0 x r d' t' y c.in_ok-suspect-2.suspect none e.step e.ends.0 e.out e.pays (are_held t' y (c.the_counts_are_of_the_keys.ensures.none y) e.step.stands.tables.counts) e.anew e.ends.1;
       empty = λ kept. absurd (some_none w (sym c.in-Some.is ∙ (c.loop-suspect.invariant.empty kept).1));
     }

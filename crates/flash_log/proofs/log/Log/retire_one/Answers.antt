@@ -1,12 +1,16 @@
-use Rattle.std.proofs.Common.{◌<◌, ◌∙◌, sym, subst, arith, inl}
+use Rattle.std.proofs.Common.{◌<◌, ◌∙◌, Option, sym, subst, arith, inl}
 use Rattle.std.proofs.lemmas.Result.{err_from_is_err_and}
 use Rattle.nand_model.specs.Calls.{Device}
 use Rattle.nand_model.specs.declared.geometry.Geometry.{Geometry}
 use Rattle.block_state.specs.Table.{Table}
 use Rattle.block_state.specs.TableOf.{table}
 use Rattle.flash_tree.specs.laws.Truth.{none_after}
+use Rattle.transactions.specs.Checking.{log_of}
+use Rattle.flash_log.specs.Mountable.{IsMountableSince}
+use Rattle.flash_log.specs.Snapshots.{Snapshot}
 use Rattle.flash_log.specs.Room.{IsRoomFor}
 use Rattle.flash_log.specs.Standing.{Stands}
+use Rattle.flash_log.specs.laws.Mountable.{mountable_after}
 use Rattle.flash_log.specs.laws.Moves.{are_held}
 use Rattle.flash_log.proofs.Refreshed.{fills_marked}
 use Rattle.flash_log.proofs.Retired.{step_marked, pays_out, pays_unmarked, out}
@@ -27,8 +31,10 @@ invariant_of-self g c =
     let step = step_marked c.args.self.now.spare c.args.block d1 d2 d3 t1 t2 t3 c.args.self.now.index y m.marks.0 e.step (c.the_counts_are_of_the_keys.ensures.none y) within e.ends.left.unkept m.marks.1 m.ready m.notes m.newest m.numbers in
     record {
       ready = m.ready;
-      stands = subst (λ s. Stands s d3 t3 y) (sym e.spare) step.stands;
+      stands = subst (λ s. Stands s d3 t3 y) (sym e.terms.spare) step.stands;
       room_size = subst (λ (z : Geometry). IsRoomFor z c.empty_block.new.self.room) (e.step.lasts.geometry ∙ sym step.lasts.geometry) c.empty_block.new.self.room_size;
+      mountable = subst (λ (k : Option Snapshot). IsMountableSince k (log_of d3 t3) y) (sym e.terms.first)
+          (mountable_after c.args.self.now.origin.first c.args.self.now.spare (log_of d1 t1) (log_of d3 t3) c.args.self.now.index y step c.args.self.now.mountable);
     }
 
 pub returns-in_err-suspect-clause-pays : goal.returns-in_err-suspect-clause-pays

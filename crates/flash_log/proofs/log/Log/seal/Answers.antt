@@ -1,11 +1,14 @@
-use Rattle.std.proofs.Common.{refl, ap, sym, subst, ◌∙◌, arith, inl}
+use Rattle.std.proofs.Common.{Option, refl, ap, sym, subst, ◌∙◌, arith, inl}
 use Rattle.nand_model.specs.Calls.{Device}
 use Rattle.nand_model.specs.declared.geometry.Geometry.{Geometry}
 use Rattle.block_state.specs.Table.{Table}
 use Rattle.block_state.specs.TableOf.{table}
 use Rattle.chunk_index.specs.declared.index.Index.{Index}
 use Rattle.transactions.specs.Checking.{log_of}
+use Rattle.flash_log.specs.Mountable.{IsMountableSince}
+use Rattle.flash_log.specs.Snapshots.{Snapshot}
 use Rattle.flash_log.specs.Standing.{AreHeld, Stands}
+use Rattle.flash_log.specs.laws.Mountable.{mountable_on, mountable_seals}
 use Rattle.flash_log.specs.laws.Room.{same_page}
 use Rattle.flash_log.specs.laws.Moves.{are_held, lies_apart}
 use Rattle.flash_log.specs.CheckpointKeeping.{KeepsPages}
@@ -32,7 +35,29 @@ invariant_of-self-2-clause-stands g c =
     (λ n is. keeps.kept n ∙ ap (λ b. (t.entry b).kept) (w.leaves.checkpoint n is) ∙ takes.unkept)
     (λ exact honest checked. w.leaves.checked (list_kept c.args.self.now.spare d t x c.args.self.now.ready c.args.self.now.stands held exact e u taken c.in_ok-block.ensures.ends.1) (k.step.lasts.honest ∙ honest) (k.step.numbers.truth.checked honest checked))
     (shows_after c.args.self.now.spare d t x c.args.self.now.ready c.args.self.now.stands held f v keeps) in
-    subst (λ n. Stands n f v c.allocate_block.new.self.index) (sym k.spare) (subst (Stands c.args.self.now.spare f v) (sym k.index) seals.stands)
+    subst (λ n. Stands n f v c.allocate_block.new.self.index) (sym k.terms.spare) (subst (Stands c.args.self.now.spare f v) (sym k.index) seals.stands)
+
+pub invariant_of-self-2-clause-mountable : goal.invariant_of-self-2-clause-mountable
+invariant_of-self-2-clause-mountable g c =
+    let d : Device = g.N.Nand.state c.args.self.now.device in
+    let e : Device = g.N.Nand.state c.allocate_block.new.self.device in
+    let t : Table = table c.args.self.now.blocks in
+    let u : Table = table c.allocate_block.new.self.blocks in
+    let x : Index = c.args.self.now.index in
+    let k = c.allocate_block.ensures in
+    let held : AreHeld t x = are_held t x (c.the_counts_are_of_the_keys.ensures.none x) c.args.self.now.stands.tables.counts in
+    let f : Device = g.N.Nand.state c.write_into.new.device in
+    let v : Table = table c.write_into.new.blocks in
+    let w = rw k.index at c.write_into.ensures in
+    let takes = c.in_ok-block.ensures.ends.0 in
+    let taken : KeepsPages (log_of d t) (log_of e u) = keeps_taken d e t u k.step.lasts k.step.ready k.step.numbers k.passes in
+    let keeps : KeepsPages (log_of d t) (log_of f v) = keeps_on (log_of d t) (log_of e u) (log_of f v) taken w.leaves.keeps in
+    let seals = seals_from c.args.self.now.spare x d f t v held c.args.self.now.stands keeps w.leaves.open_block
+    (λ n is. keeps.kept n ∙ ap (λ b. (t.entry b).kept) (w.leaves.checkpoint n is) ∙ takes.unkept)
+    (λ exact honest checked. w.leaves.checked (list_kept c.args.self.now.spare d t x c.args.self.now.ready c.args.self.now.stands held exact e u taken c.in_ok-block.ensures.ends.1) (k.step.lasts.honest ∙ honest) (k.step.numbers.truth.checked honest checked))
+    (shows_after c.args.self.now.spare d t x c.args.self.now.ready c.args.self.now.stands held f v keeps) in
+    let now = mountable_on c.args.self.now.origin.first (log_of d t) (log_of f v) x x seals.keeps.lasts (mountable_seals c.args.self.now.spare x (log_of d t) (log_of f v) seals) c.args.self.now.mountable in
+    subst (λ (b : Option Snapshot). IsMountableSince b (log_of f v) c.allocate_block.new.self.index) (sym k.terms.first) (subst (IsMountableSince c.args.self.now.origin.first (log_of f v)) (sym k.index) now)
 
 pub invariant_of-self-2-clause-ready : goal.invariant_of-self-2-clause-ready
 invariant_of-self-2-clause-ready g c = c.write_into.ensures.leaves.keeps.ready

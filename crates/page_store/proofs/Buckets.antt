@@ -1,15 +1,12 @@
 -- What is known of the pages of all buckets, from what is known of each.
 use Rattle.std.specs.Prelude.{◌≡◌, ◌<◌, ◌≤◌, ℕ, ◌+◌, ◌-◌, Bool, false, List, length, Some, IsTrue, slice_get}
-use Rattle.std.proofs.Common.{refl, sym, ◌∙◌, ap, subst, inl, inr, arith, get_or}
+use Rattle.std.proofs.Common.{sym, ◌∙◌, ap, inl, inr, arith, get_or}
 use Rattle.std.proofs.lemmas.Bool.{cases_lt, false≢true}
 use Rattle.std.proofs.lemmas.Option.{get_or_from_slice_get, slice_get_within, slice_get-get_or}
 use Rattle.mount_scan.specs.declared.page_copy.PageCopy.{PageCopy}
-use Rattle.block_state.specs.Table.{Table}
-use Rattle.chunk_index.specs.Newest.{LieWithin}
 use Rattle.transactions.specs.Sources.{IsPageName}
 use Rattle.mount_scan.specs.Listed.{IsPartAt}
-use Rattle.page_store.specs.Opened.{name_in, HaveNames, OnlySeqs, NotesSeq}
-use Rattle.page_store.proofs.Noting.{Notes}
+use Rattle.page_store.specs.Opened.{name_in, HaveNames}
 
 pub not_true : (b : Bool) → b ≡ false → IsTrue b → ⊥
 not_true b is holds = false≢true (sym is ∙ holds)
@@ -41,58 +38,3 @@ names_more number fs n part at before names i f lt there = elim (cases_lt i n) [
 
 pub names_part : (number : ℕ) (fs : List PageCopy) (n : ℕ) (part : List PageCopy) → IsPartAt fs n part → HaveNames number fs → HaveNames number part
 names_part number fs n part at names i f there = names (n + i) f (part_there fs n part i f at there)
-
--- ---- numbers of blocks
-
-pub notes_none : (fs : List PageCopy) (t : Table) → Notes fs 0 t t
-notes_none fs t = record {
-  only = record { bad = λ b. refl; kept = λ b. refl; geometry = refl; open_block = refl; checkpoint = refl; next_group = refl; next_seq = refl };
-  each = λ b. inr (refl, λ i f lt. absurd (omega (arith, lt)));
-}
-
-pub notes_part : (fs : List PageCopy) (n : ℕ) (part : List PageCopy) (old mid new : Table) → IsPartAt fs n part → Notes fs n old mid → OnlySeqs mid new → ((b : ℕ) → NotesSeq part (length part) mid new b)
-    → Notes fs (n + length part) old new
-notes_part fs n part old mid new at before only notes = record {
-  only = record {
-    bad = λ b. only.bad b ∙ before.only.bad b;
-    kept = λ b. only.kept b ∙ before.only.kept b;
-    geometry = only.geometry ∙ before.only.geometry;
-    open_block = only.open_block ∙ before.only.open_block;
-    checkpoint = only.checkpoint ∙ before.only.checkpoint;
-    next_group = only.next_group ∙ before.only.next_group;
-    next_seq = only.next_seq ∙ before.only.next_seq;
-  };
-  each = λ b. elim (notes b) [
-    | inl has ↦ inl (record {
-      index = n + has.index;
-      found = has.found;
-      before = omega (arith, has.before);
-      there = part_there fs n part has.index has.found at has.there;
-      block = has.block;
-      seq_is = has.seq_is;
-    })
-    | inr is ↦ elim (before.each b) [
-      | inl had ↦ inl (record {
-        index = had.index;
-        found = had.found;
-        before = omega (arith, had.before);
-        there = had.there;
-        block = had.block;
-        seq_is = is.0 ∙ had.seq_is;
-      })
-      | inr was ↦ inr (
-        is.0 ∙ was.0,
-        λ i f lt there block. elim (cases_lt i n) [
-          | inl less ↦ was.1 i f less there block
-          | inr ge ↦
-              let later : mid.next_seq ≤ f.seq = is.1 (i - n) f (omega (arith, lt, ge)) (there_part fs n part i f at ge lt there) block in
-              let same : mid.next_seq ≡ old.next_seq = before.only.next_seq in
-              omega (arith, later, same)
-        ],
-      )
-    ]
-  ];
-}
-
-pub part_within : (fs : List PageCopy) (n : ℕ) (part : List PageCopy) (blocks : ℕ) → IsPartAt fs n part → LieWithin blocks fs → LieWithin blocks part
-part_within fs n part blocks at within i d lt = subst (λ (y : PageCopy). y.block < blocks) (at.each i d lt) (within (n + i) d (omega (arith, lt, at.within)))

@@ -10,10 +10,13 @@ use Rattle.chunk_index.specs.declared.form.KeptPage.{KeptPage}
 use Rattle.chunk_index.specs.declared.index.Index.{Index}
 use Rattle.chunk_index.specs.Kept.{HoldsNone}
 use Rattle.chunk_index.specs.Maps.{kept_pages, kept_in, SameKept}
+use Rattle.transactions.specs.Checking.{LogState, log_of}
 use Rattle.transactions.specs.Ready.{IsReady}
+use Rattle.flash_log.specs.Mountable.{IsMountable}
 use Rattle.flash_log.specs.Standing.{IsKept, IsKeptAt, AreKept, TablesAgree}
 use Rattle.flash_log.specs.laws.FreeBlocks.{leaves_fewer, leaves_unkept}
 use Rattle.flash_log.specs.laws.Moves.{are_held}
+use Rattle.page_store.specs.Carrying.{CarriesFound}
 use Rattle.page_store.specs.Shown.{data_of, data_at, kept_data}
 use Rattle.pages.specs.Maps.{PageMap, known_pages}
 use Rattle.pages.specs.Stores.{HasPage, IsCarried, SamePages}
@@ -38,17 +41,38 @@ known_there false m o c xs is = absurd (let two : None ≡ Some xs = is in cc)
 pub carried_known : (h : Bool) (d : Device) (spare : ℕ) (m : PageMap) → IsCarried d spare m → IsCarried d spare (known_pages h m)
 carried_known h d spare m = carried_fewer d spare m (known_pages h m) (known_there h m)
 
-pub either_known : (h : Bool) (d : Device) (spare : ℕ) (m n : PageMap) → IsCarried d spare m ⊎ IsCarried d spare n → IsCarried d spare (known_pages h m) ⊎ IsCarried d spare (known_pages h n)
-either_known h d spare m n is = elim is [
-  | inl kept ↦ inl (carried_known h d spare m kept)
-  | inr present ↦ inr (carried_known h d spare n present)
+-- and of fewer pages the keys are found too
+pub found_fewer : (log : LogState) (x : Index) (d : Device) (spare : ℕ) (m n : PageMap) → ((o c : ℕ) (xs : List ℕ) → n o c ≡ Some xs → m o c ≡ Some xs) → CarriesFound log x d spare m → CarriesFound log x d spare n
+found_fewer log x d spare m n fewer is = record {
+  carried = carried_fewer d spare m n fewer is.carried;
+  found = λ was o c (xs, has). is.found was o c (xs, fewer o c xs has);
+}
+
+pub found_known : (log : LogState) (x : Index) (h : Bool) (d : Device) (spare : ℕ) (m : PageMap) → CarriesFound log x d spare m → CarriesFound log x d spare (known_pages h m)
+found_known log x h d spare m = found_fewer log x d spare m (known_pages h m) (known_there h m)
+
+pub found_same : (log other : LogState) (x y : Index) (d : Device) (spare : ℕ) (m n : PageMap) → (IsMountable other y → IsMountable log x) → SamePages n m → CarriesFound log x d spare m → CarriesFound other y d spare n
+found_same log other x y d spare m n mounts same is = record {
+  carried = carried_same d spare m n same is.carried;
+  found = λ was o c (xs, has). is.found (mounts was) o c (xs, sym (same o c) ∙ has);
+}
+
+pub either_known : (log : LogState) (x : Index) (h : Bool) (d : Device) (spare : ℕ) (m n : PageMap) → CarriesFound log x d spare m ⊎ CarriesFound log x d spare n
+    → CarriesFound log x d spare (known_pages h m) ⊎ CarriesFound log x d spare (known_pages h n)
+either_known log x h d spare m n is = elim is [
+  | inl kept ↦ inl (found_known log x h d spare m kept)
+  | inr present ↦ inr (found_known log x h d spare n present)
 ]
 
-pub either_same : (d : Device) (spare : ℕ) (m n m' n' : PageMap) → SamePages m' m → SamePages n' n → IsCarried d spare m ⊎ IsCarried d spare n → IsCarried d spare m' ⊎ IsCarried d spare n'
-either_same d spare m n m' n' first then is = elim is [
-  | inl kept ↦ inl (carried_same d spare m m' first kept)
-  | inr present ↦ inr (carried_same d spare n n' then present)
+pub either_same : (log other : LogState) (x y : Index) (d : Device) (spare : ℕ) (m n m' n' : PageMap) → (IsMountable other y → IsMountable log x) → SamePages m' m → SamePages n' n
+    → CarriesFound log x d spare m ⊎ CarriesFound log x d spare n → CarriesFound other y d spare m' ⊎ CarriesFound other y d spare n'
+either_same log other x y d spare m n m' n' mounts first then is = elim is [
+  | inl kept ↦ inl (found_same log other x y d spare m m' mounts first kept)
+  | inr present ↦ inr (found_same log other x y d spare n n' mounts then present)
 ]
+
+pub either_carried : (log : LogState) (x : Index) (d : Device) (spare : ℕ) (m n : PageMap) → CarriesFound log x d spare m ⊎ CarriesFound log x d spare n → IsCarried d spare m ⊎ IsCarried d spare n
+either_carried log x d spare m n is = elim is [ inl kept ↦ inl kept.carried | inr present ↦ inr present.carried ]
 
 -- a kept key is one that has a page
 pub kept_of_data : (f : Flash) (m : Option KeptPage) (xs : List ℕ) → option_and_then (data_at f) m ≡ Some xs → (p : KeptPage) × (m ≡ Some p)
@@ -64,8 +88,15 @@ module _ (spare : ℕ) (d : Device) (t : Table) (x : Index) (none : (y : Index) 
         (leaves_unkept spare d t x ready tables (are_held t x (none x) tables.counts) kept);
   }
 
+  -- and a mount by summaries finds them, if it finds them
+  pub store_finds : CarriesFound (log_of d t) x d spare (kept_map d x)
+  store_finds = found_known (log_of d t) x d.honest d spare (kept_data x d.flash) (record {
+    carried = kept_is_carried;
+    found = λ was o c (xs, has). was.found o c (kept_of_data d.flash (kept_pages x o c) xs has);
+  })
+
   pub store_carries : IsCarried d spare (kept_map d x)
-  store_carries = carried_known d.honest d spare (kept_data x d.flash) kept_is_carried
+  store_carries = store_finds.carried
 
 -- kept pages are the newest of their keys still, where none of them moves
 pub newest_kept : (f : Flash) (x y : Index) → SameKept x y → AreKept f (kept_pages x) → AreKept f (kept_pages y)

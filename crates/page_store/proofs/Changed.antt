@@ -8,7 +8,7 @@ use Rattle.flash_log.specs.laws.Bills.{pays_none}
 use Rattle.page_store.specs.Committing.{KeepsOpen, PaysCommit, PaysUpTo}
 use Rattle.page_store.specs.BufferOf.{buffered}
 use Rattle.page_store.specs.declared.buffer.Buffer.{Buffer}
-use Rattle.pages.specs.Stores.{SamePages, IsCarried}
+use Rattle.pages.specs.Stores.{SamePages}
 use Rattle.transactions.specs.Checking.{LogState}
 use Rattle.transactions.specs.Handing.{HandsOut}
 use Rattle.transactions.specs.laws.Handing.{hands_nothing}
@@ -20,7 +20,10 @@ use Rattle.page_store.specs.Changing.{ChangeEnds, CommitsEither, CommitsNone, Sa
 use Rattle.page_store.specs.Counts.{IsRefused}
 use Rattle.page_store.specs.StoreState.{StoreState, committed_in, current_in, waiting}
 use Rattle.page_store.specs.declared.counts.StoreCounts.{StoreCounts}
+use Rattle.page_store.specs.Carrying.{CarriesFound}
+use Rattle.flash_log.specs.Mountable.{IsMountable}
 use Rattle.page_store.proofs.Carried.{either_same}
+use Rattle.page_store.proofs.Findable.{mountable_kept}
 use Rattle.page_store.proofs.Steps.{same_back, same_on, kept_map_same, present_map_same}
 
 -- nothing is done
@@ -108,9 +111,11 @@ module _ (a b c d : StoreState) (before : Prepares a b) (after : SameBeside c d)
   pub carried_made : StaysCarried b c → StaysCarried a d
   carried_made stays = λ whole honest.
       let told : b.log.device.honest ≡ true = ap (λ (x : Device). x.honest) still ∙ honest in
-      subst (λ (k : Device). IsCarried k a.spare (committed_in a) ⊎ IsCarried k a.spare (current_in a)) (sym still_after)
-      (either_same c.log.device a.spare (committed_in b) (current_in b) (committed_in a) (current_in a) (same_back _ _ committed_before) (same_back _ _ current_before)
-      (subst (λ n. IsCarried c.log.device n (committed_in b) ⊎ IsCarried c.log.device n (current_in b)) before.log.spare (stays (before.log.broken ∙ whole) told)))
+      let mounts : IsMountable a.log a.index → IsMountable b.log b.index =
+      λ was. mountable_kept b.log a.index b.index before.committed (subst (λ (l : LogState). IsMountable l a.index) (sym before.log.log) was) in
+      subst (λ (k : Device). CarriesFound a.log a.index k a.spare (committed_in a) ⊎ CarriesFound a.log a.index k a.spare (current_in a)) (sym still_after)
+      (either_same b.log a.log b.index a.index c.log.device a.spare (committed_in b) (current_in b) (committed_in a) (current_in a) mounts (same_back _ _ committed_before) (same_back _ _ current_before)
+      (subst (λ n. CarriesFound b.log b.index c.log.device n (committed_in b) ⊎ CarriesFound b.log b.index c.log.device n (current_in b)) before.log.spare (stays (before.log.broken ∙ whole) told)))
 
   pub whole_made : StaysWhole b c → StaysWhole a d
   whole_made whole = record {

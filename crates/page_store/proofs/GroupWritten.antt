@@ -2,7 +2,6 @@
 use Rattle.std.proofs.Common.{refl, ◌≡◌, ◌⊎◌, ◌<◌, ◌≤◌, ◌^◌, ℕ, true, false, List, [], length, Some, Ok, Err, sym, ap, subst, ◌∙◌, inl, inr}
 use Rattle.std.proofs.lemmas.Bool.{cases_Bool}
 use Rattle.nand_model.specs.Calls.{Device, Lasts}
-use Rattle.nand_model.specs.Changes.{Grows}
 use Rattle.nand_model.specs.declared.geometry.Geometry.{Geometry}
 use Rattle.flash_tree.specs.FreeBlocks.{LeavesFree}
 use Rattle.flash_tree.specs.Keeping.{KeepsNewest}
@@ -18,24 +17,28 @@ use Rattle.chunk_index.specs.Counts.{Recounts}
 use Rattle.chunk_index.specs.Maps.{kept_in, kept_pages, CountsAgree, Settles}
 use Rattle.page_store.specs.Buffering.{Buffers}
 use Rattle.transactions.specs.Committing.{fresh_name, fresh_bytes}
-use Rattle.transactions.specs.Groups.{AddsPages, GroupsAfter, OkTable, TellsGroup, closed, next_group}
+use Rattle.transactions.specs.Groups.{AddsPages, GroupsAfter, OkTable, TellsGroup, WritesOpen, closed, next_group}
 use Rattle.transactions.specs.Handing.{HandsOut}
-use Rattle.transactions.specs.Newest.{NewestAfter, ShowsGroup}
+use Rattle.transactions.specs.Newest.{ShowsGroup}
 use Rattle.transactions.specs.Ready.{IsReady}
 use Rattle.transactions.specs.declared.group.GroupFault.TheVariants as group_faults
 use Rattle.transactions.specs.declared.group.Placed.{Placed}
 use Rattle.flash_log.specs.Erased.{KeepsErased}
+use Rattle.flash_log.specs.Mountable.{IsMountable, KeepsMountable}
 use Rattle.flash_log.specs.Passing.{KeepsFound}
-use Rattle.flash_log.specs.Standing.{AreHeld, HasFreeBlocks, HasVersion, IsKept, Stands, TablesAgree}
+use Rattle.flash_log.specs.Standing.{AreFound, AreHeld, HasFreeBlocks, HasVersion, IsKept, Stands, TablesAgree}
 use Rattle.flash_log.specs.laws.Keeping.{same_ends, same_closed, limits_ends}
-use Rattle.page_store.specs.Carrying.{AreWritable, HaveRanges, StaysOrShows}
+use Rattle.page_store.specs.Buffered.{BufferedLog}
+use Rattle.page_store.specs.Carrying.{AreWritable, FindsAll, HaveRanges, StaysOrShows}
+use Rattle.page_store.specs.Shown.{present_data}
 use Rattle.transactions.specs.Checking.{log_of}
 use Rattle.flash_log.specs.Steps.{Step}
 use Rattle.page_store.specs.CommitKeeping.{Leaves}
 use Rattle.page_store.specs.GroupWriting.{IsWhole, WasOpen}
 use Rattle.page_store.proofs.GroupCounts.{ListsAreWhole, held_lists}
 use Rattle.flash_log.specs.laws.Steps.{moves_kept_none}
-use Rattle.page_store.proofs.Grouping.{carries_present, free_group, free_present, keeps_group, newest_written, same_kept_pages, tables_closed}
+use Rattle.page_store.proofs.Grouping.{carries_present, free_group, free_present, keeps_group, newest_written, same_kept_pages, shows_written, tables_closed}
+use Rattle.page_store.proofs.Findable.{current_found, finds_present, found_short, mountable_short, mountable_whole}
 use Rattle.page_store.proofs.Settling.{commits_whole, free_whole, open_after}
 
 -- the counts agree still, where no count changes
@@ -69,11 +72,11 @@ keeps_written spare d e t u x xs o lists stands less is lasts then numbers newes
     keeps_group spare d e t u x stands (held_lists lists t x stands.tables.counts) less is lasts then numbers newest found erased
 
 -- the device lost its power, and the group is valid or not
-pub leaves_gone : (spare : ℕ) (d e : Device) (t u : Table) (x : Index) (pages : List FreshPage) (o : ℕ) → ListsAreWhole → Stands spare d t x → HasFreeBlocks t spare → t.next_group < 2 ^ 62 → t.open_block ≡ Some o → Buffers x pages → IsReady d t
-    → u ≡ closed t → Lasts d e → IsReady e u → HandsOut d e t u → e.gone ≡ true → (d.honest ≡ true → Grows d.flash e.flash)
+pub leaves_gone : (spare : ℕ) (d e : Device) (t u : Table) (x : Index) (pages : List FreshPage) (o : ℕ) → ListsAreWhole → Stands spare d t x → HasFreeBlocks t spare → t.next_group < 2 ^ 62 → t.open_block ≡ Some o → Buffers x pages → AreWritable d pages → IsReady d t
+    → u ≡ closed t → Lasts d e → IsReady e u → HandsOut d e t u → e.gone ≡ true → (d.honest ≡ true → WritesOpen t d.flash e.flash)
     → (d.honest ≡ true → GroupsAfter (next_group t (length pages) o) (fresh_name pages t.next_group) (fresh_bytes pages) d.flash e.flash (Err group_faults.Gone)) → (last : List FreshPage)
     → Leaves spare (record { log = log_of d t; index = x; pages = pages; last = last }) (record { log = log_of e u; index = x; pages = pages; last = last })
-leaves_gone spare d e t u x pages o lists stands free less opened buffers ready is lasts then numbers gone grows groups last = record {
+leaves_gone spare d e t u x pages o lists stands free less opened buffers writable ready is lasts then numbers gone writes groups last = record {
   log = record {
     lasts = lasts;
     ready = then;
@@ -84,6 +87,7 @@ leaves_gone spare d e t u x pages o lists stands free less opened buffers ready 
       limits = limits_ends (length pages) t u (Err group_faults.Gone) is less stands.limits;
     };
     numbers = numbers;
+    mountable = mountable_short d e t u x pages o ready opened buffers writable lasts numbers writes group_faults.Gone groups is;
   };
   buffers = buffers;
   waits = inl (refl, moves_kept_none x);
@@ -96,25 +100,40 @@ leaves_gone spare d e t u x pages o lists stands free less opened buffers ready 
   same : SameCounts t u
   same = same_closed t u is
 
-  after : (honest : d.honest ≡ true) → d.gone ≡ false → NewestAfter (next_group t (length pages) o) (fresh_name pages t.next_group) (fresh_bytes pages) d.flash e.flash (Err group_faults.Gone) → StaysOrShows spare (record { log = log_of d t; index = x; pages = pages; last = last }) e
-  after honest power (inl keeps) = inl (record { same_data = same_kept_pages x d.flash e.flash keeps; free = free_group spare d e t u x stands held is lasts then (λ _. keeps) honest })
-  after honest power (inr shows) = inr (record {
-    newest = carries_present t x pages o buffers d.flash e.flash shows (stands.newest honest power);
-    free = free_present t x pages o buffers d.flash e.flash shows (stands.newest honest power) spare e.geometry (sym then.geometry ∙ same.geometry) (λ b. sym (then.marks b) ∙ same.bad b) opened held free;
-  })
+  a : BufferedLog
+  a = record { log = log_of d t; index = x; pages = pages; last = last }
 
-  newest : d.honest ≡ true → (d.gone ≡ true) ⊎ (d.gone ≡ false) → StaysOrShows spare (record { log = log_of d t; index = x; pages = pages; last = last }) e
+  found : (honest : d.honest ≡ true) → IsMountable (log_of d t) x → AreFound e.geometry e.flash (kept_pages x)
+  found honest was = found_short d e t x pages o ready opened buffers writable lasts honest (writes honest) was.summaries was.found group_faults.Gone (groups honest)
+
+  after : (honest : d.honest ≡ true) → d.gone ≡ false
+      → GroupsAfter (next_group t (length pages) o) (fresh_name pages t.next_group) (fresh_bytes pages) d.flash e.flash (Err group_faults.Gone) → StaysOrShows spare a e
+  after honest power (inl none) =
+      let keeps : KeepsNewest d.flash e.flash = newest_written d e t pages o ready honest (writes honest).grows (Err group_faults.Failed) none in
+      inl (record { same_data = same_kept_pages x d.flash e.flash keeps; free = free_group spare d e t u x stands held is lasts then (λ _. keeps) honest; found = found honest })
+  after honest power (inr adds) =
+      let shows = shows_written d e t pages o ready honest (writes honest).grows adds in
+      inr (record {
+        carries = record {
+          newest = carries_present t x pages o buffers d.flash e.flash shows (stands.newest honest power);
+          free = free_present t x pages o buffers d.flash e.flash shows (stands.newest honest power) spare e.geometry (sym then.geometry ∙ same.geometry) (λ b. sym (then.marks b) ∙ same.bad b) opened held free;
+        };
+        found = λ was. finds_present d e t x pages o ready opened buffers writable lasts honest (writes honest) was.summaries was.found adds;
+      })
+
+  newest : d.honest ≡ true → (d.gone ≡ true) ⊎ (d.gone ≡ false) → StaysOrShows spare a e
   newest honest (inl was) = inl (record {
     same_data = λ o c p xs at v. subst (λ (z : Device). HasVersion z.flash o c p.version xs) (sym (lasts.gone was)) v;
     free = λ before. subst (λ (z : Device). LeavesFree z.geometry z.flash spare (IsKept (kept_pages x))) (sym (lasts.gone was)) before;
+    found = found honest;
   })
-  newest honest (inr power) = after honest power (newest_written d e t pages o ready honest (grows honest) (Err group_faults.Gone) (groups honest))
+  newest honest (inr power) = after honest power (groups honest)
 
 -- the group is valid
 module _ (spare : ℕ) (lists : ListsAreWhole) (d e : Device) (t u v : Table) (x y : Index) (pages : List FreshPage) (o : ℕ) (placed : Placed)
     (buffers : Buffers x pages) (is : t.open_block ≡ Some o) (ready : IsReady d t) (stands : Stands spare d t x) (free : HasFreeBlocks t spare)
     (writable : AreWritable d pages) (ranges : HaveRanges pages) (fit : length pages ≤ room t) (less : t.next_group < 2 ^ 62)
-    (lasts : Lasts d e) (then : IsReady e u) (numbers : HandsOut d e t u) (grows : d.honest ≡ true → Grows d.flash e.flash) (table : OkTable placed.suspect (length pages) t u) (power : e.gone ≡ false)
+    (lasts : Lasts d e) (then : IsReady e u) (numbers : HandsOut d e t u) (writes : d.honest ≡ true → WritesOpen t d.flash e.flash) (table : OkTable placed.suspect (length pages) t u) (power : e.gone ≡ false)
     (tells : TellsGroup (next_group t (length pages) o) placed)
     (groups : d.honest ≡ true → AddsPages (next_group t (length pages) o) (fresh_name pages t.next_group) (fresh_bytes pages) d.flash e.flash)
     (settles : Settles (record { block = placed.block; first = placed.first; number = placed.group }) x y) (agree : CountsAgree v y) (counts : Recounts (kept_in x) (kept_in y) u v) where
@@ -125,13 +144,20 @@ module _ (spare : ℕ) (lists : ListsAreWhole) (d e : Device) (t u v : Table) (x
   settles_there = subst (λ (w : WrittenGroup). Settles w x y) same_group settles
 
   shows : d.honest ≡ true → ShowsGroup (next_group t (length pages) o) (fresh_name pages t.next_group) (fresh_bytes pages) d.flash e.flash
-  shows honest = newest_written d e t pages o ready honest (grows honest) (Ok placed) (groups honest)
+  shows honest = shows_written d e t pages o ready honest (writes honest).grows (groups honest)
+
+  found : d.honest ≡ true → IsMountable (log_of d t) x → FindsAll e (present_data x pages d.flash)
+  found = current_found d e t u x pages o ready is buffers writable lasts numbers writes placed groups
+
+  pub mountable_written : KeepsMountable (log_of d t) (log_of e v) x y
+  mountable_written = mountable_whole d e t u x pages o ready is buffers writable lasts numbers writes placed groups lists v y
+      (record { block = o; first = (t.entry o).next; number = t.next_group }) refl settles_there stands.tables.counts agree counts table
 
   pub whole_written : (last rest written : List FreshPage) → rest ≡ [] → written ≡ pages
       → IsWhole spare (record { log = log_of d t; index = x; pages = pages; last = last }) (record { log = log_of e v; index = y; pages = rest; last = written })
   whole_written last rest written empty same = record {
     commits = commits_whole spare lists d e t u v x y pages o buffers is ready stands free writable ranges fit lasts then numbers (same_ends (length pages) t u (Ok placed) table)
-        (open_after placed.suspect (length pages) o t u is table) (limits_ends (length pages) t u (Ok placed) table less) power shows settles_there agree counts last rest written;
+        (open_after placed.suspect (length pages) o t u is table) (limits_ends (length pages) t u (Ok placed) table less) power shows settles_there agree counts found mountable_written last rest written;
     empty = empty;
     last = same;
     free = free_whole spare lists d e t u v x y pages o buffers is ready stands free writable ranges fit lasts then numbers (same_ends (length pages) t u (Ok placed) table)

@@ -26,7 +26,7 @@ use Rattle.page_store.specs.Buffering.{Buffers, key_at}
 use Rattle.page_store.specs.laws.Buffering.{place_within}
 use Rattle.page_store.specs.Shown.{data_of, data_at, data_by, data_in, present_data}
 use Rattle.transactions.specs.Committing.{fresh_name, fresh_bytes, no_key}
-use Rattle.transactions.specs.Groups.{GroupsAfter, closed, next_group}
+use Rattle.transactions.specs.Groups.{AddsPages, GroupsAfter, closed, next_group}
 use Rattle.transactions.specs.Handing.{HandsOut}
 use Rattle.transactions.specs.Naming.{IsNamed, NamesOnce}
 use Rattle.transactions.specs.Newest.{NewestAfter, ShowsGroup}
@@ -34,7 +34,7 @@ use Rattle.transactions.specs.Ready.{IsReady}
 use Rattle.transactions.specs.Written.{tag_in}
 use Rattle.transactions.specs.declared.group.GroupFault.{GroupFault}
 use Rattle.transactions.specs.declared.group.Placed.{Placed}
-use Rattle.transactions.specs.laws.Newest.{commit_comes_last, newest_after}
+use Rattle.transactions.specs.laws.Newest.{added_shows, commit_comes_last, newest_after}
 use Rattle.transactions.specs.declared.group.GroupFault.TheVariants as group_faults
 use Rattle.flash_log.specs.Standing.{AreHeld, AreKept, HasFreeBlocks, IsKept, IsKeptAt, KeepsFree, SameData, Stands, TablesAgree}
 use Rattle.flash_log.specs.laws.FreeBlocks.{leaves_unkept, newest_where_kept}
@@ -145,27 +145,42 @@ newest_written d e t pages o ready honest grows result groups =
     (commit_comes_last (next_group t (length pages) o) (fresh_name pages t.next_group) d.flash (record { versions = λ i lt. refl; seq = t.next_seq; below = ready.below honest }))
     result groups
 
+-- once the group is added
+pub shows_written : (d e : Device) (t : Table) (pages : List FreshPage) (o : ℕ) → IsReady d t → d.honest ≡ true → Grows d.flash e.flash
+    → AddsPages (next_group t (length pages) o) (fresh_name pages t.next_group) (fresh_bytes pages) d.flash e.flash
+    → ShowsGroup (next_group t (length pages) o) (fresh_name pages t.next_group) (fresh_bytes pages) d.flash e.flash
+shows_written d e t pages o ready honest grows =
+    added_shows (next_group t (length pages) o) (fresh_name pages t.next_group) (fresh_bytes pages) d.flash e.flash grows
+    (commit_comes_last (next_group t (length pages) o) (fresh_name pages t.next_group) d.flash (record { versions = λ i lt. refl; seq = t.next_seq; below = ready.below honest }))
+
 -- ---- a group that counts
+
+module _ (t : Table) (x : Index) (pages : List FreshPage) (buffers : Buffers x pages) where
+  -- it does not name a key that is not present in the buffer
+  pub not_named : (q c : ℕ) → ((i : ℕ) → present x q c ≡ presents.InBuffer i → ⊥) → (i : ℕ) → i < length pages → IsNamed (fresh_name pages t.next_group) q c i → ⊥
+  not_named q c out i lt named = out i (buffers.told q c i (named_key pages t.next_group q c i lt named))
+
+-- and once one that is present there
+pub named_once : (t : Table) (x : Index) (pages : List FreshPage) (o : ℕ) → Buffers x pages → (q c i : ℕ) → present x q c ≡ presents.InBuffer i
+    → NamesOnce (next_group t (length pages) o) (fresh_name pages t.next_group) q c i
+named_once t x pages o buffers q c i is =
+    let key = buffers.there q c i is in
+    let lt : i < length pages = place_within pages i (record { object = q; chunk = c }) key in
+    record {
+      within = lt;
+      named = key_named pages t.next_group q c i lt key;
+      once = λ k l named. let two : presents.InBuffer k ≡ presents.InBuffer i = sym (buffers.told q c k (named_key pages t.next_group q c k l named)) ∙ is in cc;
+    }
 
 module _ (t : Table) (x : Index) (pages : List FreshPage) (o : ℕ) (buffers : Buffers x pages) (f g : Flash)
     (shows : ShowsGroup (next_group t (length pages) o) (fresh_name pages t.next_group) (fresh_bytes pages) f g) where
   unnamed : (q c : ℕ) (k : KeptPage) → present x q c ≡ presents.OnFlash k → (i : ℕ) → i < length pages → IsNamed (fresh_name pages t.next_group) q c i → ⊥
-  unnamed q c k is i lt named = let two : presents.OnFlash k ≡ presents.InBuffer i = sym is ∙ buffers.told q c i (named_key pages t.next_group q c i lt named) in cc
-
-  names_once : (q c i : ℕ) → present x q c ≡ presents.InBuffer i → NamesOnce (next_group t (length pages) o) (fresh_name pages t.next_group) q c i
-  names_once q c i is =
-      let key = buffers.there q c i is in
-      let lt : i < length pages = place_within pages i (record { object = q; chunk = c }) key in
-      record {
-        within = lt;
-        named = key_named pages t.next_group q c i lt key;
-        once = λ k l named. let two : presents.InBuffer k ≡ presents.InBuffer i = sym (buffers.told q c k (named_key pages t.next_group q c k l named)) ∙ is in cc;
-      }
+  unnamed q c k is = not_named t x pages buffers q c (λ i there. let two : presents.OnFlash k ≡ presents.InBuffer i = sym is ∙ there in cc)
 
   -- a page of the buffer is the newest of its key
   pub kept_buffered : (q c i : ℕ) → present x q c ≡ presents.InBuffer i → IsKeptAt g q c (record { block = o; page = (t.entry o).next + i; version = t.next_group })
   kept_buffered q c i is =
-      let there = shows.named q c i (names_once q c i is) in
+      let there = shows.named q c i (named_once t x pages o buffers q c i is) in
       record { tag = tag_in (next_group t (length pages) o) (fresh_name pages t.next_group) i; newest = there.newest; version = refl }
 
   -- and reads
@@ -174,7 +189,7 @@ module _ (t : Table) (x : Index) (pages : List FreshPage) (o : ℕ) (buffers : B
       let there = slice_get_there pages i lt in
       let key : key_at pages i ≡ Some there.0.key = ap (option_map (λ (p : FreshPage). p.key)) there.1 in
       let is = buffers.told there.0.key.object there.0.key.chunk i key in
-      let with = shows.named there.0.key.object there.0.key.chunk i (names_once there.0.key.object there.0.key.chunk i is) in
+      let with = shows.named there.0.key.object there.0.key.chunk i (named_once t x pages o buffers there.0.key.object there.0.key.chunk i is) in
       ap data_of with.stored ∙ sym (bytes_is pages i lt)
 
   module _ (kept : AreKept f (kept_pages x)) where

@@ -11,6 +11,7 @@ pub mod GroupCounts
 pub mod Freeing
 pub mod Grouping
 pub mod Settling
+pub mod Findable
 pub mod Turning
 pub mod Refreshed
 pub mod GroupWritten
@@ -26,6 +27,7 @@ pub mod SlotDropped
 pub mod Putting
 pub mod BufferCutting
 pub mod Noting
+pub mod KnowingFirsts
 pub mod Buckets
 pub mod Tables
 pub mod Entries

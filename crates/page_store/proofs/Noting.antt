@@ -1,40 +1,56 @@
--- The numbers of blocks that pages tell.
-use Rattle.std.specs.Prelude.{◌≡◌, ◌<◌, ◌≤◌, ℕ, ◌+◌, List, Some, slice_get}
+-- The numbers of blocks that their first pages give them.
+use Rattle.std.specs.Prelude.{◌≡◌, ◌<◌, ◌⊎◌, ℕ, ◌+◌, List, Option, Some, None, slice_get}
 use Rattle.std.proofs.Common.{refl, sym, ◌∙◌, ap, subst, inl, inr, arith}
-use Rattle.std.proofs.lemmas.Bool.{cases_eq, cases_lt, cases_order}
-use Rattle.mount_scan.specs.declared.page_copy.PageCopy.{PageCopy}
+use Rattle.std.proofs.lemmas.Bool.{cases_eq, cases_lt}
+use Rattle.nand_model.specs.declared.geometry.Geometry.{Geometry}
+use Rattle.mount_scan.specs.declared.first_page.FirstPage.{FirstPage}
 use Rattle.block_state.specs.declared.blocks.BlockEntry.{BlockEntry}
 use Rattle.block_state.specs.Table.{Table, Sets}
-use Rattle.page_store.specs.Opened.{AreNoted, OnlySeqs, NotesOne, HasSeqOf, AreNotBelow, NotesSeq}
+use Rattle.page_store.specs.KnownFirsts.{NotesFirst, NotesFirsts, IsNumbered, number_of_first}
+use Rattle.page_store.specs.Opened.{OnlySeqs, NotesOne}
 
--- what is known once the first n pages were gone through
-pub record Notes (list : List PageCopy) (n : ℕ) (old new : Table) : Type 0 where
+-- what is known once the first n blocks were gone through
+pub record Noted (pages : List FirstPage) (n : ℕ) (old new : Table) : Type 0 where
   pub only : OnlySeqs old new
-  pub each : (b : ℕ) → NotesSeq list n old new b
+  pub notes : NotesFirsts pages n old new
 
-one_at : (list : List PageCopy) (n : ℕ) (f g : PageCopy) → slice_get list n ≡ Some f → slice_get list n ≡ Some g → f ≡ g
-one_at list n f g x y = let two : Some f ≡ Some g = sym x ∙ y in cc
+pub noted_none : (pages : List FirstPage) (t : Table) → Noted pages 0 t t
+noted_none pages t = record {
+  only = record { bad = λ b. refl; kept = λ b. refl; geometry = refl; open_block = refl; checkpoint = refl; next_group = refl; next_seq = refl };
+  notes = record {
+    numbered = λ b seq is. let lt = is.within in absurd (omega (arith, lt));
+    others = λ b not. refl;
+  };
+}
 
--- a page more that tells nothing of the block
-on_elsewhere : (list : List PageCopy) (n next b : ℕ) (f : PageCopy) → slice_get list n ≡ Some f → (f.block ≡ b → next ≤ f.seq) → AreNotBelow list n b next → AreNotBelow list (n + 1) b next
-on_elsewhere list n next b f at above before i g lt there block = elim (cases_eq i n) [
-  | inl same ↦
-      let here : f ≡ g = one_at list n f g at (subst (λ k. slice_get list k ≡ Some g) same there) in
-      subst (λ (x : PageCopy). next ≤ x.seq) here (above (ap (λ (x : PageCopy). x.block) here ∙ block))
-  | inr ne ↦ before i g (omega (arith, lt, ne)) there block
-]
+pub number_or_none : (x : Option ℕ) → (x ≡ None) ⊎ ((k : ℕ) × (x ≡ Some k))
+number_or_none None = inl refl
+number_or_none (Some k) = inr (k, refl)
 
-wider : (list : List PageCopy) (n b seq : ℕ) → HasSeqOf list n b seq → HasSeqOf list (n + 1) b seq
-wider list n b seq has = record { index = has.index; found = has.found; before = omega (arith, has.before); there = has.there; block = has.block; seq_is = has.seq_is }
+pub one_first : (pages : List FirstPage) (b : ℕ) (f g : FirstPage) → slice_get pages b ≡ Some f → slice_get pages b ≡ Some g → f ≡ g
+one_first pages b f g x y = let two : Some f ≡ Some g = sym x ∙ y in cc
 
--- a page whose seq was not handed out
-pub notes_skip : (list : List PageCopy) (n : ℕ) (old new : Table) (f : PageCopy) → slice_get list n ≡ Some f → new.next_seq ≤ f.seq → Notes list n old new → Notes list (n + 1) old new
-notes_skip list n old new f at above notes = record {
-  only = notes.only;
-  each = λ b. elim (notes.each b) [
-    | inl has ↦ inl (wider list n b _ has)
-    | inr is ↦ inr (is.0, on_elsewhere list n old.next_seq b f at (λ block. omega (arith, above, notes.only.next_seq)) is.1)
-  ];
+-- the number of a block is that of its first page
+pub number_is : (pages : List FirstPage) (m n b seq : ℕ) (t : Table) (first : FirstPage) → slice_get pages n ≡ Some first → b ≡ n → IsNumbered pages m t b seq → number_of_first first ≡ Some seq
+number_is pages m n b seq t first at here is = ap number_of_first (one_first pages n first is.first at (subst (λ k. slice_get pages k ≡ Some is.first) here is.there)) ∙ is.number
+
+fewer : (pages : List FirstPage) (n b seq : ℕ) (t : Table) → (b ≡ n → ⊥) → IsNumbered pages (n + 1) t b seq → IsNumbered pages n t b seq
+fewer pages n b seq t ne is = record { within = let lt = is.within in omega (arith, lt, ne); first = is.first; there = is.there; number = is.number; below = is.below }
+
+more : (pages : List FirstPage) (n b seq : ℕ) (t : Table) → IsNumbered pages n t b seq → IsNumbered pages (n + 1) t b seq
+more pages n b seq t is = record { within = let lt = is.within in omega (arith, lt); first = is.first; there = is.there; number = is.number; below = is.below }
+
+-- a block more that gets no number
+skip : (pages : List FirstPage) (n : ℕ) (old t : Table) → ((seq : ℕ) → IsNumbered pages (n + 1) old n seq → ⊥) → Noted pages n old t → Noted pages (n + 1) old t
+skip pages n old t none before = record {
+  only = before.only;
+  notes = record {
+    numbered = λ b seq is. elim (cases_eq b n) [
+      | inl here ↦ absurd (none seq (subst (λ k. IsNumbered pages (n + 1) old k seq) here is))
+      | inr ne ↦ before.notes.numbered b seq (fewer pages n b seq old ne is)
+    ];
+    others = λ b not. before.notes.others b (λ seq is. not seq (more pages n b seq old is));
+  };
 }
 
 entry_bad : (k seq : ℕ) (t t' : Table) → Sets k (record (t.entry k) { seq = seq; next = t.geometry.pages }) t t' → (b : ℕ) → (t'.entry b).bad ≡ (t.entry b).bad
@@ -49,96 +65,56 @@ entry_kept k seq t t' sets b = elim (cases_eq b k) [
   | inr ne ↦ ap (λ (e : BlockEntry). e.kept) (sets.others b ne)
 ]
 
--- a page whose seq becomes its block's
-pub notes_more : (list : List PageCopy) (n : ℕ) (old t t' : Table) (f : PageCopy) → slice_get list n ≡ Some f → Sets f.block (record (t.entry f.block) { seq = f.seq; next = t.geometry.pages }) t t'
-    → t'.open_block ≡ t.open_block → t'.checkpoint ≡ t.checkpoint → t'.next_seq ≡ t.next_seq → Notes list n old t → Notes list (n + 1) old t'
-notes_more list n old t t' f at sets open_same noted seq_same notes = record {
-  only = record {
-    bad = λ b. entry_bad f.block f.seq t t' sets b ∙ notes.only.bad b;
-    kept = λ b. entry_kept f.block f.seq t t' sets b ∙ notes.only.kept b;
-    geometry = sets.geometry ∙ notes.only.geometry;
-    open_block = open_same ∙ notes.only.open_block;
-    checkpoint = noted ∙ notes.only.checkpoint;
-    next_group = sets.next_group ∙ notes.only.next_group;
-    next_seq = seq_same ∙ notes.only.next_seq;
-  };
-  each = λ b. elim (cases_eq b f.block) [
-    | inl here ↦ inl (record {
-      index = n;
-      found = f;
-      before = omega arith;
-      there = at;
-      block = sym here;
-      seq_is = ap (λ k. (t'.entry k).seq) here ∙ ap (λ (e : BlockEntry). e.seq) sets.here;
-    })
-    | inr ne ↦
-        let same : (t'.entry b).seq ≡ (t.entry b).seq = ap (λ (e : BlockEntry). e.seq) (sets.others b ne) in
-        elim (notes.each b) [
-          | inl has ↦ inl (subst (HasSeqOf list (n + 1) b) (sym same) (wider list n b _ has))
-          | inr is ↦ inr (same ∙ is.0, on_elsewhere list n old.next_seq b f at (λ block. absurd (ne (sym block))) is.1)
-        ]
-  ];
-}
-
--- a page more
-pub notes_one : (list : List PageCopy) (n : ℕ) (old t t' : Table) (f : PageCopy) → slice_get list n ≡ Some f → NotesOne f.block f.seq t t' → Notes list n old t → Notes list (n + 1) old t'
-notes_one list n old t t' f at one notes = elim (cases_order f.seq t.next_seq) [
-  | inl same ↦ subst (Notes list (n + 1) old) (sym (one.same (omega (arith, same)))) (notes_skip list n old t f at (omega (arith, same)) notes)
-  | inr (inl lt) ↦ notes_more list n old t t' f at (one.sets lt) one.open_block one.checkpoint one.next_seq notes
-  | inr (inr gt) ↦ subst (Notes list (n + 1) old) (sym (one.same (omega (arith, gt)))) (notes_skip list n old t f at (omega (arith, gt)) notes)
-]
-
--- ---- a number for each block
-
--- what is known once the first n blocks were gone through
-pub record NotedEach (seqs : List ℕ) (n : ℕ) (old new : Table) : Type 0 where
-  pub only : OnlySeqs old new
-  pub each : AreNoted seqs n old new
-
-pub noted_none : (seqs : List ℕ) (t : Table) → NotedEach seqs 0 t t
-noted_none seqs t = record {
-  only = record { bad = λ b. refl; kept = λ b. refl; geometry = refl; open_block = refl; checkpoint = refl; next_group = refl; next_seq = refl };
-  each = λ b seq lt. absurd (omega (arith, lt));
-}
-
--- a block more, whose number is noted
-noted_set : (seqs : List ℕ) (n seq : ℕ) (old t t' : Table) → slice_get seqs n ≡ Some seq → seq < t.next_seq → NotesOne n seq t t' → NotedEach seqs n old t → NotedEach seqs (n + 1) old t'
-noted_set seqs n seq old t t' at below one before =
+-- a block more, which gets this number
+numbers : (pages : List FirstPage) (n k : ℕ) (first : FirstPage) (old t t' : Table) → slice_get pages n ≡ Some first → number_of_first first ≡ Some k → k < t.next_seq → NotesOne n k t t'
+    → Noted pages n old t → Noted pages (n + 1) old t'
+numbers pages n k first old t t' at number below one before =
     let sets = one.sets below in
+    let handed = before.only.next_seq in
     record {
       only = record {
-        bad = λ b. entry_bad n seq t t' sets b ∙ before.only.bad b;
-        kept = λ b. entry_kept n seq t t' sets b ∙ before.only.kept b;
+        bad = λ b. entry_bad n k t t' sets b ∙ before.only.bad b;
+        kept = λ b. entry_kept n k t t' sets b ∙ before.only.kept b;
         geometry = sets.geometry ∙ before.only.geometry;
         open_block = one.open_block ∙ before.only.open_block;
         checkpoint = one.checkpoint ∙ before.only.checkpoint;
         next_group = sets.next_group ∙ before.only.next_group;
         next_seq = one.next_seq ∙ before.only.next_seq;
       };
-      each = λ b s lt there less. elim (cases_eq b n) [
-        | inl here ↦
-            let two : Some seq ≡ Some s = sym at ∙ subst (λ k. slice_get seqs k ≡ Some s) here there in
-            let same : seq ≡ s = cc in
-            ap (λ k. (t'.entry k).seq) here ∙ ap (λ (e : BlockEntry). e.seq) sets.here ∙ same
-        | inr ne ↦ ap (λ (e : BlockEntry). e.seq) (sets.others b ne) ∙ before.each b s (omega (arith, lt, ne)) there less
-      ];
+      notes = record {
+        numbered = λ b seq is. elim (cases_eq b n) [
+          | inl here ↦
+              let two : Some k ≡ Some seq = sym number ∙ number_is pages (n + 1) n b seq old first at here is in
+              let same : k ≡ seq = cc in (
+                ap (λ j. (t'.entry j).seq) here ∙ ap (λ (e : BlockEntry). e.seq) sets.here ∙ same,
+                ap (λ j. (t'.entry j).next) here ∙ ap (λ (e : BlockEntry). e.next) sets.here ∙ ap (λ (g : Geometry). g.pages) before.only.geometry,
+              )
+          | inr ne ↦
+              let was = before.notes.numbered b seq (fewer pages n b seq old ne is) in
+              let same = sets.others b ne in
+              (ap (λ (e : BlockEntry). e.seq) same ∙ was.0, ap (λ (e : BlockEntry). e.next) same ∙ was.1)
+        ];
+        others = λ b not. elim (cases_eq b n) [
+          | inl here ↦ absurd (subst (λ j. ((seq : ℕ) → IsNumbered pages (n + 1) old j seq → ⊥) → ⊥) (sym here)
+              (λ none. none k (record { within = omega arith; first = first; there = at; number = number; below = omega (arith, below, handed) })) not)
+          | inr ne ↦ sets.others b ne ∙ before.notes.others b (λ seq is. not seq (more pages n b seq old is))
+        ];
+      };
     }
 
--- a block more, whose number was not handed out
-noted_skip : (seqs : List ℕ) (n seq : ℕ) (old t : Table) → slice_get seqs n ≡ Some seq → t.next_seq ≤ seq → NotedEach seqs n old t → NotedEach seqs (n + 1) old t
-noted_skip seqs n seq old t at above before = record {
-  only = before.only;
-  each = λ b s lt there less. elim (cases_eq b n) [
-    | inl here ↦
-        let two : Some seq ≡ Some s = sym at ∙ subst (λ k. slice_get seqs k ≡ Some s) here there in
-        let same : seq ≡ s = cc in
-        absurd (omega (arith, same, less, above, before.only.next_seq))
-    | inr ne ↦ before.each b s (omega (arith, lt, ne)) there less
-  ];
-}
-
-pub noted_more : (seqs : List ℕ) (n seq : ℕ) (old t t' : Table) → slice_get seqs n ≡ Some seq → NotesOne n seq t t' → NotedEach seqs n old t → NotedEach seqs (n + 1) old t'
-noted_more seqs n seq old t t' at one before = elim (cases_lt seq t.next_seq) [
-  | inl below ↦ noted_set seqs n seq old t t' at below one before
-  | inr above ↦ subst (NotedEach seqs (n + 1) old) (sym (one.same above)) (noted_skip seqs n seq old t at above before)
+-- a block more
+pub noted_more : (pages : List FirstPage) (n : ℕ) (first : FirstPage) (old t t' : Table) → slice_get pages n ≡ Some first → NotesFirst n first t t' → Noted pages n old t → Noted pages (n + 1) old t'
+noted_more pages n first old t t' at notes before = elim (number_or_none (number_of_first first)) [
+  | inl none ↦ subst (Noted pages (n + 1) old) (sym (notes.none none)) (skip pages n old t
+      (λ seq is. let two : None ≡ Some seq = sym none ∙ number_is pages (n + 1) n n seq old first at refl is in absurd cc) before)
+  | inr (k, number) ↦ elim (cases_lt k t.next_seq) [
+    | inl below ↦ numbers pages n k first old t t' at number below (notes.some k number) before
+    | inr above ↦ subst (Noted pages (n + 1) old) (sym ((notes.some k number).same above)) (skip pages n old t
+        (λ seq is.
+        let two : Some k ≡ Some seq = sym number ∙ number_is pages (n + 1) n n seq old first at refl is in
+        let same : k ≡ seq = cc in
+        let below = is.below in
+        let handed = before.only.next_seq in
+        absurd (omega (arith, same, below, above, handed))) before)
+  ]
 ]

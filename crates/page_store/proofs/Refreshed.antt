@@ -25,17 +25,20 @@ use Rattle.flash_log.specs.declared.fault.MoveFault.TheVariants as moves
 use Rattle.flash_log.specs.laws.Costs.{costs_kept}
 use Rattle.flash_log.specs.laws.FreeBlocks.{leaves_fewer, leaves_unkept, same_bad_blocks}
 use Rattle.flash_log.specs.laws.KeptPages.{spot_of}
+use Rattle.flash_log.specs.laws.Mountable.{mountable_step}
 use Rattle.flash_log.specs.laws.Moves.{are_held}
 use Rattle.pages.specs.Maps.{PageMap, known_pages}
 use Rattle.pages.specs.Refreshing as refreshing
 use Rattle.pages.specs.Refreshing.{KeepsNone, LeavesBlock, RefreshFailsBy}
 use Rattle.pages.specs.Stores.{HasPage, IsCarried, KeptAs, SamePages}
+use Rattle.page_store.specs.Carrying.{CarriesFound}
 use Rattle.page_store.specs.Shown.{kept_data, present_data}
 use Rattle.page_store.specs.Refreshing.{IsRefreshed, IsRefreshFault, PaysRefresh, RefreshEnds, moved_fault}
 use Rattle.page_store.specs.StoreState.{StoreState, committed_in, seen_of}
 use Rattle.volume_terms.specs.declared.fault.StoreFault.{StoreFault}
 use Rattle.volume_terms.specs.declared.fault.StoreFault.TheVariants as faults
 use Rattle.page_store.proofs.Carried.{has_page, known_there}
+use Rattle.page_store.proofs.Findable.{finds_kept, found_unmoved}
 use Rattle.page_store.proofs.Following.{carries_kept, same_kept, same_present}
 use Rattle.page_store.proofs.Told.{is_sound, kept_still, not_sound}
 use Rattle.page_store.proofs.Turning.{data_kept, kept_moved}
@@ -47,11 +50,18 @@ module _ (spare : ℕ) (d e : Device) (t u : Table) (x y : Index) (step : Step s
   held = are_held t x (law x) stands.tables.counts
 
   -- the committed pages are carried, perhaps elsewhere
-  pub carried_moved : IsCarried e spare (kept_data x d.flash)
+  carried_moved : IsCarried e spare (kept_data x d.flash)
   carried_moved = record {
     newest = carries_kept x d.flash e.flash was (step.same_data honest);
     free = λ left. leaves_fewer e.geometry e.flash spare (IsKept (kept_pages y)) (HasPage (kept_data x d.flash))
         (λ o c has. kept_moved x y step.index o c (data_kept x d.flash o c has)) (step.free honest (leaves_unkept spare d t x ready stands.tables held was));
+  }
+
+  -- and a mount by summaries finds them
+  pub found_moved : CarriesFound (log_of d t) x e spare (kept_data x d.flash)
+  found_moved = record {
+    carried = carried_moved;
+    found = λ before. finds_kept e x d.flash (found_unmoved e x y step.index (mountable_step spare (log_of d t) (log_of e u) x y step honest before).found);
   }
 
   -- no committed page lies in a block from which nothing is to be moved

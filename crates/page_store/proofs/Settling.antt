@@ -32,11 +32,12 @@ use Rattle.transactions.specs.Ready.{IsReady, IsWrittenInOrder}
 use Rattle.flash_tree.specs.Slots.{check_object}
 use Rattle.flash_tree.specs.laws.Truth.{none_after}
 use Rattle.transactions.specs.laws.Ready.{none_waits}
+use Rattle.flash_log.specs.Mountable.{IsMountable, KeepsMountable}
 use Rattle.flash_log.specs.Standing.{AreKept, KeepsOrdinary, HasFreeBlocks, IsKeptAt, IsWithinLimits, MayLie, Stands, TablesAgree}
 use Rattle.flash_log.specs.laws.FreeBlocks.{leaves_fewer}
 use Rattle.flash_tree.specs.laws.Place.{had_power}
 use Rattle.flash_log.specs.laws.Moves.{may_lie_later}
-use Rattle.page_store.specs.Carrying.{AreWritable, HaveRanges}
+use Rattle.page_store.specs.Carrying.{AreWritable, FindsAll, HaveRanges}
 use Rattle.pages.specs.Stores.{HasPage, IsCarried}
 use Rattle.page_store.specs.CommitKeeping.{Commits}
 use Rattle.transactions.specs.Checking.{log_of}
@@ -278,9 +279,9 @@ module _ (spare : ℕ) (lists : ListsAreWhole) (d e : Device) (t u v : Table) (x
   pub free_whole : HasFreeBlocks v spare
   free_whole = free_settled spare lists group t u v x y pages settles buffers agree counts same stands.tables free numbers.numbers.groups_rise lies fills opened not_free shut noted_none
 
-  pub commits_whole : (last rest written : List FreshPage)
+  pub commits_whole : (found : d.honest ≡ true → IsMountable (log_of d t) x → FindsAll e (present_data x pages d.flash)) → KeepsMountable (log_of d t) (log_of e v) x y → (last rest written : List FreshPage)
       → Commits spare (record { log = log_of d t; index = x; pages = pages; last = last }) (record { log = log_of e v; index = y; pages = rest; last = written })
-  commits_whole last rest written = record {
+  commits_whole found mountable last rest written = record {
     log = record {
       lasts = lasts;
       ready = ready_counted e u v (kept_in x) (kept_in y) counts then;
@@ -293,14 +294,18 @@ module _ (spare : ℕ) (lists : ListsAreWhole) (d e : Device) (t u v : Table) (x
         limits = limits_counted u v (kept_in x) (kept_in y) counts (limits stands.limits);
       };
       numbers = hands_counted d e t u v (kept_in x) (kept_in y) counts numbers;
+      mountable = mountable;
     };
     settled = settles.presents;
     keys = settles.ready;
     kept = λ honest on. written_kept group x y pages d.flash e.flash settles buffers (reads_buffered t x pages o buffers d.flash e.flash (shows honest)) (reads_on_flash t x pages o buffers d.flash e.flash (shows honest) (kept honest));
     newest = λ honest. record {
-      newest = carries_present t x pages o buffers d.flash e.flash (shows honest) (kept honest);
-      free = free_present t x pages o buffers d.flash e.flash (shows honest) (kept honest) spare e.geometry (sym then.geometry ∙ same.geometry) (λ b. sym (then.marks b) ∙ same.bad b) is
-          (held_lists lists t x stands.tables.counts) free;
+      carries = record {
+        newest = carries_present t x pages o buffers d.flash e.flash (shows honest) (kept honest);
+        free = free_present t x pages o buffers d.flash e.flash (shows honest) (kept honest) spare e.geometry (sym then.geometry ∙ same.geometry) (λ b. sym (then.marks b) ∙ same.bad b) is
+            (held_lists lists t x stands.tables.counts) free;
+      };
+      found = found honest;
     };
   } where
     kept : d.honest ≡ true → AreKept d.flash (kept_pages x)

@@ -30,7 +30,8 @@ use Rattle.transactions.specs.Ready.{IsReady, IsWaiting}
 use Rattle.transactions.specs.laws.Ready.{above_below}
 use Rattle.mount_scan.specs.Scanned.{IsNewestCopy, AreNewest, TellsNewest}
 use Rattle.flash_log.specs.Standing.{IsKeptAt, AreKept, MayLie}
-use Rattle.page_store.specs.Opened.{OnlySeqs, NotesSeq, HasItsSeq, name_in, HaveNames, AreLeft, IsTableOf, IsOpened, kept_at}
+use Rattle.page_store.specs.KnownFirsts.{AreUnwritten}
+use Rattle.page_store.specs.Opened.{name_in, HaveNames, AreLeft, IsTableOf, IsOpened, kept_at}
 use Rattle.flash_tree.specs.laws.Place.{same_flash}
 
 -- a table without marks, where there are no numbers left
@@ -49,11 +50,11 @@ blank_tables d n g (Ok blocks) none same made = subst (λ (t : Table). IsTableOf
   seq = λ left. absurd (none left);
 })
 
--- and no block of it was ever taken
-pub blank_seqs : (g : Geometry) (r : Result Blocks AllocError) → IfOk r (λ blocks. table blocks ≡ record { geometry = g; entry = λ b. blank; open_block = None; checkpoint = None; next_seq = 1; next_group = 1 })
-    → IfOk r (λ blocks. (b : ℕ) → ((table blocks).entry b).seq ≡ 0)
-blank_seqs g (Err e) made = tt
-blank_seqs g (Ok blocks) made = λ b. ap (λ (t : Table). (t.entry b).seq) made
+-- and as far as it knows no block was written
+pub blank_unwritten : (g : Geometry) (r : Result Blocks AllocError) → IfOk r (λ blocks. table blocks ≡ record { geometry = g; entry = λ b. blank; open_block = None; checkpoint = None; next_seq = 1; next_group = 1 })
+    → IfOk r (λ blocks. AreUnwritten (table blocks))
+blank_unwritten g (Err e) made = tt
+blank_unwritten g (Ok blocks) made = λ b. (ap (λ (t : Table). (t.entry b).next) made, ap (λ (t : Table). (t.entry b).seq) made)
 
 -- and one with marks, where there are
 pub marked_tables : (d : Device) (n : Numbers) (r : Result Blocks AllocError) → IfOk r (λ blocks. IsMarked d n (table blocks)) → IfOk r (λ blocks. IsTableOf d n (table blocks))
@@ -68,6 +69,14 @@ marked_tables d n (Ok blocks) made = record {
   group = λ left. made.group;
   seq = λ left. made.seq;
 }
+
+pub marked_unwritten : (d : Device) (n : Numbers) (r : Result Blocks AllocError) → IfOk r (λ blocks. IsMarked d n (table blocks)) → IfOk r (λ blocks. AreUnwritten (table blocks))
+marked_unwritten d n (Err e) made = tt
+marked_unwritten d n (Ok blocks) made = λ b. (made.nexts b, made.seqs b)
+
+-- counting leaves that
+pub counted_unwritten : (before after : ℕ → ℕ) (t t' : Table) → Recounts before after t t' → AreUnwritten t → AreUnwritten t'
+counted_unwritten before after t t' recounts is b = (recounts.next b ∙ (is b).0, recounts.seq b ∙ (is b).1)
 
 -- ---- what was found is named
 
@@ -242,53 +251,6 @@ ready_from d n t geometry marks closed waits group seq above = record {
   below = λ honest. subst (λ k. AreBelow d.flash k t.next_seq) (sym group) (subst (λ k. AreBelow d.flash (n.group + 1) k) (sym seq) (above_below d.flash n (above honest)));
 }
 
--- it is a table of the device still
-pub noted_table : (d : Device) (n : Numbers) (t t' : Table) → OnlySeqs t t' → IsTableOf d n t → IsTableOf d n t'
-noted_table d n t t' only is = record {
-  geometry = only.geometry ∙ is.geometry;
-  closed = only.open_block ∙ is.closed;
-  checkpoint = only.checkpoint ∙ is.checkpoint;
-  none = λ b. only.kept b ∙ is.none b;
-  good = λ b good. only.bad b ∙ is.good b good;
-  marks = λ left b. only.bad b ∙ is.marks left b;
-  group = λ left. only.next_group ∙ is.group left;
-  seq = λ left. only.next_seq ∙ is.seq left;
-}
-
--- and on an honest device blocks have the numbers of their newest pages
-pub has_its_seq : (d : Device) (list : List PageCopy) (n : Numbers) (t t' : Table) (b : ℕ) → TellsNewest d list → d.honest ≡ true → AreGreatest d.flash n → t.next_seq ≡ n.seq + 1
-    → (t.entry b).seq ≡ 0 → NotesSeq list (length list) t t' b → HasItsSeq d.flash t' b
-has_its_seq d list n t t' b tells honest greatest next none (inl has) =
-    let is : IsNewestCopy d.flash has.found = is_newest d.flash list has.index has.found (tells.exact honest) has.there in
-    inr (
-      has.found.object,
-      has.found.chunk,
-      is.spot,
-      is.newest,
-      ap (λ (y : PageCopy). y.block) is.copied ∙ has.block,
-      has.seq_is ∙ sym (ap (λ (y : PageCopy). y.seq) is.copied),
-    )
-has_its_seq d list n t t' b tells honest greatest next none (inr is) = inl (
-  (λ o c s low newest here.
-      let has = (tells.exact honest).each o c s low newest in
-      let at : slice_get list has.0 ≡ Some (copy_at s) = subst (λ y. slice_get list has.0 ≡ Some y) has.2 (slice_get-get_or list has.0 (copy_at s) has.1) in
-      let above : t.next_seq ≤ s.tag.seq = is.1 has.0 (copy_at s) has.1 at here in
-      let held = newest.holds in
-      let good : d.flash.bad s.block ≡ false = ap d.flash.bad held.block ∙ held.whole.good in
-      let most = greatest.above s.block s.page s.tag good held.has in
-      omega (arith, above, next, most)),
-  is.0 ∙ none,
-)
-
-pub seqs_are : (d : Device) (list : List PageCopy) (n : Numbers) (t t' : Table) → TellsNewest d list → (d.honest ≡ true → AreGreatest d.flash n) → IsTableOf d n t
-    → ((b : ℕ) → (t.entry b).seq ≡ 0) → ((b : ℕ) → NotesSeq list (length list) t t' b) → d.honest ≡ true → AreLeft n → (b : ℕ) → HasItsSeq d.flash t' b
-seqs_are d list n t t' tells greatest is none notes honest left b = has_its_seq d list n t t' b tells honest (greatest honest) (is.seq left) (none b) (notes b)
-
--- counting leaves the numbers of blocks
-counted_seq : (d : Device) (t t' : Table) (before after : ℕ → ℕ) (b : ℕ) → Recounts before after t t' → HasItsSeq d.flash t b → HasItsSeq d.flash t' b
-counted_seq d t t' before after b recounts (inl none) = inl (none.0, recounts.seq b ∙ none.1)
-counted_seq d t t' before after b recounts (inr is) = inr (is.0, is.1, is.2, is.3, is.4, recounts.seq b ∙ is.5)
-
 -- what a scan told of a device before it was read is so of it afterwards
 pub tells_read : (a b : Device) (list : List PageCopy) → OnlyReads a b → TellsNewest a list → TellsNewest b list
 tells_read a b list reads tells = record {
@@ -307,8 +269,8 @@ greatest_read a b n reads greatest honest =
 
 -- all of it together
 pub opened : (d : Device) (list : List PageCopy) (x : Index) (t t' : Table) (n : Numbers) → TellsNewest d list → (d.honest ≡ true → AreGreatest d.flash n) → HaveNames n.group list
-    → IsTableOf d n t → (d.honest ≡ true → AreLeft n → (b : ℕ) → HasItsSeq d.flash t b) → Indexes list (length list) x → CountsAgree t' x → Recounts (λ b. 0) (kept_in x) t t' → IsOpened d t' x n
-opened d list x t t' n tells greatest names is seqs indexes counts recounts = record {
+    → IsTableOf d n t → Indexes list (length list) x → CountsAgree t' x → Recounts (λ b. 0) (kept_in x) t t' → IsOpened d t' x n
+opened d list x t t' n tells greatest names is indexes counts recounts = record {
   tables = record {
     counts = counts;
     geometry = recounts.geometry ∙ is.geometry;
@@ -333,5 +295,4 @@ opened d list x t t' n tells greatest names is seqs indexes counts recounts = re
         may_lie list x indexes d t' n tells (recounts.geometry ∙ is.geometry) names (omega (arith, next));
   };
   all = all_kept list x indexes d tells;
-  seqs = λ honest left b. counted_seq d t t' _ _ b recounts (seqs honest left b);
 }

@@ -1,49 +1,31 @@
 -- The tables of a true flash, by its checkpoint.
-use Rattle.std.specs.Prelude.{◌≡◌, ◌<◌, ◌≤◌, ◌^◌, ◌-◌, ℕ, ◌+◌, true, false, List, map, Some, Contains}
-use Rattle.std.proofs.Common.{sym, ◌∙◌, ap, subst, inl, inr, arith}
-use Rattle.std.proofs.lemmas.Bool.{cases_Bool}
-use Rattle.volume_terms.specs.laws.List.{slice_get_there}
-use Rattle.nand_model.specs.Flash.{Flash, IsWithin}
+use Rattle.std.specs.Prelude.{◌≡◌, ◌<◌, ◌^◌, ◌-◌, ℕ, true, false, map, Some, Contains}
+use Rattle.std.proofs.Common.{sym, ◌∙◌, ap, subst, arith}
+use Rattle.nand_model.specs.Flash.{IsWithin}
 use Rattle.nand_model.specs.Calls.{Device}
 use Rattle.page_tags.specs.declared.check.CheckEntry.{CheckEntry}
 use Rattle.flash_tree.specs.Checkpoints.{Checkpoint, IsWhole, IsRight, IsTrueFlash, IsChecked}
 use Rattle.flash_tree.specs.Mount.{sizes_of}
-use Rattle.flash_tree.specs.Newest.{Spot, IsNewest, HasNewest, Numbers}
-use Rattle.flash_tree.specs.Places.{numbers_of}
-use Rattle.nand_model.specs.declared.geometry.Geometry.{Geometry}
+use Rattle.flash_tree.specs.Newest.{Spot, IsNewest, HasNewest}
 use Rattle.flash_tree.specs.Tree.{InFootprint}
 use Rattle.flash_tree.specs.laws.Checking.{same_block}
 use Rattle.flash_tree.specs.laws.Newest.{one_spot}
-use Rattle.flash_tree.specs.laws.NewestExists.{tag_at}
 use Rattle.flash_tree.specs.laws.Place.{tag_placed}
 use Rattle.block_state.specs.Table.{Table}
 use Rattle.block_state.specs.TableOf.{table}
 use Rattle.chunk_index.specs.Adding.{entry_key}
-use Rattle.chunk_index.specs.Counts.{Recounts}
 use Rattle.chunk_index.specs.Kept.{IsListOf}
 use Rattle.pages.specs.laws.Low.{looked_low}
-use Rattle.chunk_index.specs.Maps.{kept_pages, kept_in}
+use Rattle.chunk_index.specs.Maps.{kept_pages}
 use Rattle.chunk_index.specs.declared.form.KeptKey.{KeptKey}
 use Rattle.chunk_index.specs.declared.form.KeptPage.{KeptPage}
 use Rattle.chunk_index.specs.declared.index.Index.{Index}
-use Rattle.mount_scan.specs.FoundCheckpoint.{HasForm, IsFirstSeq, TellsSeqs}
-use Rattle.page_store.specs.Checked.{MayAllBeKept, HaveFirstSeqs, KeepsItsTree}
-use Rattle.page_store.specs.Opened.{AreLeft, AreNoted, kept_at}
+use Rattle.mount_scan.specs.FoundCheckpoint.{HasForm}
+use Rattle.page_store.specs.Checked.{MayAllBeKept, KeepsItsTree}
+use Rattle.page_store.specs.Opened.{kept_at}
 use Rattle.page_store.specs.declared.opening.Opened.{Opened}
 use Rattle.page_store.specs.laws.Trust.{right_said}
 use Rattle.page_store.proofs.Entries.{mapped, contains_at, there_at, told_by, are_newest}
-
--- the seq of page 0 of a block is not above the checkpoint's
-first_below : (g : Geometry) (flash : Flash) (c : Checkpoint) (b seq : ℕ) → IsRight g flash c → IsFirstSeq flash b seq → seq ≤ c.seq
-first_below g flash c b seq right first = elim (cases_Bool (flash.bad b)) [
-  | inl bad ↦
-      let none : seq ≡ 0 = first.other (λ t good has. let two : true ≡ false = sym bad ∙ good in cc) in
-      omega (arith, none)
-  | inr good ↦ elim (tag_at flash b 0) [
-    | inl (t, has) ↦ let same = first.tagged t good has in let most = (right.above b 0 t good has).2 in omega (arith, same, most)
-    | inr no_tag ↦ let none : seq ≡ 0 = first.other (λ t is has. no_tag t has) in omega (arith, none)
-  ]
-]
 
 module _ (d : Device) (c : Checkpoint) (honest : d.honest ≡ true) (whole : IsWhole d.geometry d.flash c) (true_flash : IsTrueFlash d.geometry d.flash) where
   right : IsRight d.geometry d.flash c
@@ -75,9 +57,8 @@ module _ (d : Device) (c : Checkpoint) (honest : d.honest ≡ true) (whole : IsW
         version = (omega (arith, held.has.valid.version, version), omega (arith, most, version));
       }
 
-  module _ (opened : Opened) (t0 t1 t2 : Table) (n : Numbers) (form : HasForm d c) (placed : MayAllBeKept d c) (list : IsListOf (kept_pages opened.index) (map entry_key c.entries))
-      (next : AreLeft n → t0.next_seq ≡ c.seq + 1) (seqs : List ℕ) (tells : TellsSeqs d seqs) (notes : AreNoted seqs d.geometry.blocks t0 t1)
-      (recounts : Recounts (λ b. 0) (kept_in opened.index) t1 t2) (last : table opened.blocks ≡ record t2 { checkpoint = Some c.block }) (same : numbers_of opened.numbers ≡ n) where
+  module _ (opened : Opened) (t2 : Table) (form : HasForm d c) (placed : MayAllBeKept d c) (list : IsListOf (kept_pages opened.index) (map entry_key c.entries))
+      (last : table opened.blocks ≡ record t2 { checkpoint = Some c.block }) where
     abbrev x : Index
     x = opened.index
 
@@ -113,16 +94,6 @@ module _ (d : Device) (c : Checkpoint) (honest : d.honest ≡ true) (whole : IsW
       only = λ other there. noted ∙ ap Some (same_block d.geometry d.flash true_flash c other whole there);
     }
 
-    first_seqs : AreLeft (numbers_of opened.numbers) → HaveFirstSeqs d (table opened.blocks)
-    first_seqs left b lt =
-        let there = slice_get_there seqs b (omega (arith, lt, tells.len)) in
-        let first = tells.each honest b there.0 there.1 in
-        let low = first_below d.geometry d.flash c b there.0 right first in
-        let one_above = next (subst AreLeft same left) in
-        let is : (t1.entry b).seq ≡ there.0 = notes b there.0 lt there.1 (omega (arith, low, one_above)) in
-        let seq : ((table opened.blocks).entry b).seq ≡ there.0 = ap (λ (t : Table). (t.entry b).seq) last ∙ recounts.seq b ∙ is in
-        subst (IsFirstSeq d.flash b) (sym seq) first
-
     pub keeps_tree : KeepsItsTree d opened
     keeps_tree = record {
       spare = right.tree.spare;
@@ -133,5 +104,4 @@ module _ (d : Device) (c : Checkpoint) (honest : d.honest ≡ true) (whole : IsW
       all = all;
       only = only;
       checked = checked;
-      seqs = first_seqs;
     }

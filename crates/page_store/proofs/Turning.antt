@@ -23,7 +23,9 @@ use Rattle.pages.specs.Maps.{PageMap}
 use Rattle.pages.specs.Stores.{HasNumbersLeft, HasPage, IsCarried}
 use Rattle.transactions.specs.Ready.{IsReady}
 use Rattle.transactions.specs.laws.Handing.{hands_on}
-use Rattle.flash_log.specs.Standing.{AreKept, HasFreeBlocks, IsKept, IsWithinLimits, SameData, Stands}
+use Rattle.flash_log.specs.Mountable.{IsMountable}
+use Rattle.flash_log.specs.laws.Mountable.{mountable_step}
+use Rattle.flash_log.specs.Standing.{AreFound, AreKept, HasFreeBlocks, IsKept, IsWithinLimits, SameData, Stands}
 use Rattle.flash_log.specs.laws.FreeBlocks.{leaves_fewer}
 use Rattle.flash_log.specs.Steps.{MovesKept, Step}
 use Rattle.flash_log.specs.laws.Keeping.{bad_rises}
@@ -32,12 +34,13 @@ use Rattle.flash_log.specs.RoomMaking.{LeavesRoom, WhyNoRoom}
 use Rattle.flash_log.specs.declared.room_fault.RoomFault.{RoomFault}
 use Rattle.flash_log.specs.declared.room_fault.RoomFault.TheVariants as faults
 use Rattle.page_store.specs.Buffered.{BufferedLog, committed, current}
-use Rattle.page_store.specs.Carrying.{CarriesEither, CarriesFree, KeepsOrShows, StaysOrShows}
+use Rattle.page_store.specs.Carrying.{CarriesEither, CarriesFree, FindsAll, KeepsOrShows, ShowsCurrent, StaysOrShows}
 use Rattle.page_store.specs.Committing.{CommitEnds}
 use Rattle.page_store.specs.CommitKeeping.{Commits, IsAnswered, IsSettled, KeepsLog, Leaves}
 use Rattle.page_store.specs.GroupWriting.{AttemptEnds, IsWhole, IsWaiting, TurnEnds, WholeEnds}
 use Rattle.page_store.specs.declared.turn.Turn.{Turn}
 use Rattle.page_store.specs.declared.turn.Turn.TheVariants as turns
+use Rattle.page_store.proofs.Findable.{finds_kept, finds_same, found_unmoved}
 use Rattle.page_store.proofs.Following.{buffers_moved, presents_moved, carries_kept, kept_reads, same_kept, same_present}
 
 -- ---- keys
@@ -80,7 +83,13 @@ numbers_left d t ready (groups, seqs) honest b p tag good has =
 
 -- the log after a step
 log_kept : (spare : ℕ) (a b : BufferedLog) → Step spare a.log b.log a.index b.index → KeepsLog spare a b
-log_kept spare a b step = record { lasts = step.lasts; ready = step.ready; stands = step.stands; numbers = step.numbers }
+log_kept spare a b step = record {
+  lasts = step.lasts;
+  ready = step.ready;
+  stands = step.stands;
+  numbers = step.numbers;
+  mountable = mountable_step spare a.log b.log a.index b.index step;
+}
 
 -- and after a step behind another call
 log_on : (spare : ℕ) (a b c : BufferedLog) → KeepsLog spare a b → KeepsLog spare b c → KeepsLog spare a c
@@ -89,7 +98,12 @@ log_on spare a b c first then = record {
   ready = then.ready;
   stands = then.stands;
   numbers = hands_on a.log.device b.log.device c.log.device a.log.table b.log.table c.log.table first.lasts then.lasts first.numbers then.numbers;
+  mountable = λ honest was. then.mountable (first.lasts.honest ∙ honest) (first.mountable honest was);
 }
+
+-- what was committed is found after a step
+found_after_step : (spare : ℕ) (a b : BufferedLog) → Step spare a.log b.log a.index b.index → a.log.device.honest ≡ true → IsMountable a.log a.index → AreFound b.log.device.geometry b.log.device.flash (kept_pages a.index)
+found_after_step spare a b step honest was = found_unmoved b.log.device a.index b.index step.index (mountable_step spare a.log b.log a.index b.index step honest was).found
 
 -- no buffered page is valid
 pub leaves_kept : (spare : ℕ) (a b : BufferedLog) → Step spare a.log b.log a.index b.index → b.pages ≡ a.pages → Buffers b.index b.pages → Leaves spare a b
@@ -98,7 +112,11 @@ leaves_kept spare a b step same buffers = record {
   buffers = buffers;
   waits = inl (same, step.index);
   keys = step.index.ready;
-  newest = λ honest. inl (record { same_data = step.same_data honest; free = λ free. leaves_as_kept spare b.log.device a.index b.index step.index (step.free honest free) });
+  newest = λ honest. inl (record {
+    same_data = step.same_data honest;
+    free = λ free. leaves_as_kept spare b.log.device a.index b.index step.index (step.free honest free);
+    found = found_after_step spare a b step honest;
+  });
 }
 
 pub leaves_moved : (spare : ℕ) (a b : BufferedLog) → Step spare a.log b.log a.index b.index → b.pages ≡ a.pages → Buffers a.index a.pages → Leaves spare a b
@@ -143,6 +161,16 @@ module _ (spare : ℕ) (a b c : BufferedLog) (stands : Stands spare a.log.device
       ap (λ (ps : List FreshPage). present_data b.index ps b.log.device.flash o k) same
       ∙ same_present a.index b.index a.log.device.flash b.log.device.flash first.index (was_kept honest power) (now_kept honest power) (first.same_data honest) a.pages o k
 
+  mounts : a.log.device.honest ≡ true → IsMountable a.log a.index → IsMountable b.log b.index
+  mounts = mountable_step spare a.log b.log a.index b.index first
+
+  -- what was current is shown
+  shows_current : a.log.device.honest ≡ true → b.log.device.gone ≡ false → ShowsCurrent spare b c.log.device → ShowsCurrent spare a c.log.device
+  shows_current honest power shows = record {
+    carries = carries_same c.log.device spare (current b) (current a) (same_current honest power) shows.carries;
+    found = λ was. finds_same c.log.device (current b) (current a) (same_current honest power) (shows.found (mounts honest was));
+  }
+
   pub leaves_on : Leaves spare b c → Leaves spare a c
   leaves_on then = record {
     log = log_on spare a b c (log_kept spare a b first) then.log;
@@ -155,13 +183,15 @@ module _ (spare : ℕ) (a b c : BufferedLog) (stands : Stands spare a.log.device
     powered honest power (inl stays) = inl (record {
       same_data = same_data_on a.index b.index a.log.device.flash b.log.device.flash c.log.device.flash first.index (first.same_data honest) stays.same_data;
       free = λ free. leaves_as_kept spare c.log.device a.index b.index first.index (stays.free (first.free honest free));
+      found = λ was. found_unmoved c.log.device a.index b.index first.index (stays.found (mounts honest was));
     })
-    powered honest power (inr shows) = inr (carries_same c.log.device spare (current b) (current a) (same_current honest power) shows)
+    powered honest power (inr shows) = inr (shows_current honest power shows)
 
     newest : a.log.device.honest ≡ true → (b.log.device.gone ≡ true) ⊎ (b.log.device.gone ≡ false) → StaysOrShows spare a c.log.device
     newest honest (inl gone) = inl (record {
       same_data = subst (λ (d : Device). SameData (kept_pages a.index) a.log.device.flash d.flash) (sym (then.log.lasts.gone gone)) (first.same_data honest);
       free = λ free. subst (λ (d : Device). LeavesFree d.geometry d.flash spare (IsKept (kept_pages a.index))) (sym (then.log.lasts.gone gone)) (leaves_as_kept spare b.log.device a.index b.index first.index (first.free honest free));
+      found = λ was. subst (λ (d : Device). AreFound d.geometry d.flash (kept_pages a.index)) (sym (then.log.lasts.gone gone)) (found_after_step spare a b first honest was);
     })
     newest honest (inr power) = powered honest power (then.newest (first.lasts.honest ∙ honest))
 
@@ -173,7 +203,7 @@ module _ (spare : ℕ) (a b c : BufferedLog) (stands : Stands spare a.log.device
         settled = then.settled;
         keys = λ o k is. then.keys o k (first.index.ready o k is);
         kept = λ honest still o k. then.kept (first.lasts.honest ∙ honest) still o k ∙ same_current honest power o k;
-        newest = λ honest. carries_same c.log.device spare (current b) (current a) (same_current honest power) (then.newest (first.lasts.honest ∙ honest));
+        newest = λ honest. shows_current honest power (then.newest (first.lasts.honest ∙ honest));
       }
 
   pub whole_after : IsWhole spare b c → IsWhole spare a c
@@ -194,18 +224,21 @@ commits_then spare a b c first then = record {
       same_kept b.index c.index b.log.device.flash c.log.device.flash then.index (first.log.stands.newest mid power) (then.stands.newest (then.lasts.honest ∙ mid) on) (then.same_data mid) o k ∙ first.kept honest power o k;
   newest = λ honest. newest honest (cases_Bool b.log.device.gone);
 } where
-  newest : a.log.device.honest ≡ true → (b.log.device.gone ≡ true) ⊎ (b.log.device.gone ≡ false) → CarriesFree c.log.device spare (current a)
-  newest honest (inl gone) = subst (λ (d : Device). CarriesFree d spare (current a)) (sym (then.lasts.gone gone)) (first.newest honest)
+  newest : a.log.device.honest ≡ true → (b.log.device.gone ≡ true) ⊎ (b.log.device.gone ≡ false) → ShowsCurrent spare a c.log.device
+  newest honest (inl gone) = subst (ShowsCurrent spare a) (sym (then.lasts.gone gone)) (first.newest honest)
   newest honest (inr power) =
       let mid : b.log.device.honest ≡ true = first.log.lasts.honest ∙ honest in
       let kept : AreKept b.log.device.flash (kept_pages b.index) = first.log.stands.newest mid power in
       let same : (o k : ℕ) → committed b o k ≡ current a o k = first.kept honest power in
       let before = leaves_fewer b.log.device.geometry b.log.device.flash spare (HasPage (current a)) (IsKept (kept_pages b.index))
-      (λ o k is. let has = kept_has b.index b.log.device.flash kept o k is in (has.0, sym (same o k) ∙ has.1)) (first.newest honest).free in
+      (λ o k is. let has = kept_has b.index b.log.device.flash kept o k is in (has.0, sym (same o k) ∙ has.1)) (first.newest honest).carries.free in
       record {
-        newest = λ o k xs is. carries_kept b.index b.log.device.flash c.log.device.flash kept (then.same_data mid) o k xs (same o k ∙ is);
-        free = leaves_fewer c.log.device.geometry c.log.device.flash spare (IsKept (kept_pages c.index)) (HasPage (current a))
-            (λ o k (xs, is). kept_moved b.index c.index then.index o k (data_kept b.index b.log.device.flash o k (xs, same o k ∙ is))) (then.free mid before);
+        carries = record {
+          newest = λ o k xs is. carries_kept b.index b.log.device.flash c.log.device.flash kept (then.same_data mid) o k xs (same o k ∙ is);
+          free = leaves_fewer c.log.device.geometry c.log.device.flash spare (IsKept (kept_pages c.index)) (HasPage (current a))
+              (λ o k (xs, is). kept_moved b.index c.index then.index o k (data_kept b.index b.log.device.flash o k (xs, same o k ∙ is))) (then.free mid before);
+        };
+        found = λ was. finds_same c.log.device (committed b) (current a) same (finds_kept c.log.device b.index b.log.device.flash (found_after_step spare b c then mid (first.log.mountable honest was)));
       }
 
 pub whole_then : (spare : ℕ) (a b c : BufferedLog) → IsWhole spare a b → Step spare b.log c.log b.index c.index → c.pages ≡ b.pages → c.last ≡ b.last → HasFreeBlocks c.log.table spare → c.log.device.gone ≡ false → IsWhole spare a c
@@ -262,24 +295,29 @@ carried d spare m carries = record { newest = carries.newest; free = λ _. carri
 -- the data of what was committed, or of what was current
 pub keeps_or_shows : (spare : ℕ) (a : BufferedLog) (e : Device) → StaysOrShows spare a e → KeepsOrShows a e.flash
 keeps_or_shows spare a e (inl stays) = inl stays.same_data
-keeps_or_shows spare a e (inr shows) = inr shows.newest
+keeps_or_shows spare a e (inr shows) = inr shows.carries.newest
 
 -- the committed pages are carried still, or the current ones are
 pub carries_either : (spare : ℕ) (a b : BufferedLog) → IsReady a.log.device a.log.table → Stands spare a.log.device a.log.table a.index → KeepsLog spare a b → a.log.device.honest ≡ true → StaysOrShows spare a b.log.device
     → CarriesEither spare a b.log.device
-carries_either spare a b ready stands log honest (inr shows) was = inr (carried b.log.device spare (current a) shows)
+carries_either spare a b ready stands log honest (inr shows) was = inr (record { carried = carried b.log.device spare (current a) shows.carries; found = shows.found })
 carries_either spare a b ready stands log honest (inl stays) was = elim (cases_Bool a.log.device.gone) [
-  | inl gone ↦ inl (subst (λ (z : Device). IsCarried z spare (committed a)) (sym (log.lasts.gone gone)) was)
+  | inl gone ↦ inl (record { carried = subst (λ (z : Device). IsCarried z spare (committed a)) (sym (log.lasts.gone gone)) was; found = found })
   | inr power ↦
       let d : Device = a.log.device in
       let e : Device = b.log.device in
       let kept : AreKept d.flash (kept_pages a.index) = stands.newest honest power in
       let before = leaves_fewer d.geometry d.flash spare (HasPage (committed a)) (IsKept (kept_pages a.index)) (kept_has a.index d.flash kept) (was.free (numbers_left d a.log.table ready stands.limits honest)) in
       inl (record {
-        newest = carries_kept a.index d.flash e.flash kept stays.same_data;
-        free = λ _. leaves_fewer e.geometry e.flash spare (IsKept (kept_pages a.index)) (HasPage (committed a)) (data_kept a.index d.flash) (stays.free before);
+        carried = record {
+          newest = carries_kept a.index d.flash e.flash kept stays.same_data;
+          free = λ _. leaves_fewer e.geometry e.flash spare (IsKept (kept_pages a.index)) (HasPage (committed a)) (data_kept a.index d.flash) (stays.free before);
+        };
+        found = found;
       })
-]
+] where
+  found : IsMountable a.log a.index → FindsAll b.log.device (committed a)
+  found mounts = finds_kept b.log.device a.index a.log.device.flash (stays.found mounts)
 
 as_kept_shown : (f : Flash) (m : Option KeptPage) (pages : List FreshPage) → data_by f pages (as_kept m) ≡ option_and_then (data_at f) m
 as_kept_shown f None pages = refl
@@ -298,7 +336,7 @@ whole_committed spare a b (Ok done) (whole, few, answered) = record {
   last = whole.last;
   kept = λ honest. whole.commits.kept honest whole.power;
   present = λ honest o c. shown_kept b.index b.log.device.flash b.pages whole.commits.settled o c ∙ whole.commits.kept honest whole.power o c;
-  newest = λ honest _. carried b.log.device spare (current a) (whole.commits.newest honest);
+  newest = λ honest _. carried b.log.device spare (current a) (whole.commits.newest honest).carries;
   few = few;
   free = whole.free;
   power = λ _. whole.power;

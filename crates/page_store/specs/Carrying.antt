@@ -1,21 +1,35 @@
--- What a flash carries, and pages that can be written to it.
+-- What a flash carries, what a mount by summaries finds on it, and pages that can be written to it.
 use Rattle.std.specs.Prelude.{◌≡◌, ◌≢◌, ◌⊎◌, ◌<◌, ◌≤◌, ◌^◌, ℕ, true, List, length, Some, slice_get}
 use Rattle.nand_model.specs.Calls.{Device}
 use Rattle.nand_model.specs.Flash.{Flash}
 use Rattle.flash_tree.specs.FreeBlocks.{LeavesFree}
 use Rattle.flash_tree.specs.Slots.{check_object}
+use Rattle.flash_tree.specs.Summarizing.{IsFindable}
 use Rattle.flash_tree.specs.declared.place.FreshPage.{FreshPage}
 use Rattle.flash_tree.specs.declared.place.Key.{Key}
 use Rattle.pages.specs.Maps.{PageMap}
 use Rattle.pages.specs.Stores.{Carries, HasPage, IsCarried}
 use Rattle.chunk_index.specs.Maps.{kept_pages}
-use Rattle.flash_log.specs.Standing.{IsKept, SameData}
+use Rattle.chunk_index.specs.declared.index.Index.{Index}
+use Rattle.transactions.specs.Checking.{LogState}
+use Rattle.flash_log.specs.Mountable.{IsMountable}
+use Rattle.flash_log.specs.Standing.{AreFound, IsKept, SameData}
 use Rattle.page_store.specs.Buffered.{BufferedLog, committed, current}
 
+-- a mount that goes by summaries finds each key of the map on the device
+abbrev pub FindsAll : Device → PageMap → Type 0
+FindsAll device m = (o c : ℕ) → HasPage m o c → IsFindable device.geometry device.flash o c
+
+-- The device carries the pages of the map; and a mount by summaries finds their keys, if it would have found what was committed on this log.
+pub record CarriesFound (log : LogState) (x : Index) (device : Device) (spare : ℕ) (m : PageMap) : Type 0 where
+  pub carried : IsCarried device spare m
+  pub found : IsMountable log x → FindsAll device m
+
 -- A device that carries the committed pages carries them still, or it carries the current ones: all of the one or all of the
--- other, with blocks enough that hold none of them.
+-- other, with blocks enough that hold none of them. A mount by summaries finds those that it carries, if it would have found the committed ones.
 abbrev pub CarriesEither : (spare : ℕ) → BufferedLog → Device → Type 0
-CarriesEither spare old new = IsCarried old.log.device spare (committed old) → IsCarried new spare (committed old) ⊎ IsCarried new spare (current old)
+CarriesEither spare old new = IsCarried old.log.device spare (committed old)
+    → CarriesFound old.log old.index new spare (committed old) ⊎ CarriesFound old.log old.index new spare (current old)
 
 -- the newest page of each committed key has its version and its data still, or the current pages are the newest of their keys
 abbrev pub KeepsOrShows : BufferedLog → Flash → Type 0
@@ -26,14 +40,22 @@ pub record CarriesFree (device : Device) (spare : ℕ) (m : PageMap) : Type 0 wh
   pub newest : Carries device.flash m
   pub free : LeavesFree device.geometry device.flash spare (HasPage m)
 
--- the newest page of each committed key has its version and its data still, and blocks enough hold none of these, if they did so
+-- The device has the current pages, and blocks enough that hold none of them; and a mount by summaries finds their keys, if it would have
+-- found the committed ones.
+pub record ShowsCurrent (spare : ℕ) (old : BufferedLog) (new : Device) : Type 0 where
+  pub carries : CarriesFree new spare (current old)
+  pub found : IsMountable old.log old.index → FindsAll new (current old)
+
+-- The newest page of each committed key has its version and its data still, and blocks enough hold none of these, if they did so; and a
+-- mount by summaries finds these keys still.
 pub record StaysCarried (spare : ℕ) (old : BufferedLog) (new : Device) : Type 0 where
   pub same_data : SameData (kept_pages old.index) old.log.device.flash new.flash
   pub free : LeavesFree old.log.device.geometry old.log.device.flash spare (IsKept (kept_pages old.index)) → LeavesFree new.geometry new.flash spare (IsKept (kept_pages old.index))
+  pub found : IsMountable old.log old.index → AreFound new.geometry new.flash (kept_pages old.index)
 
 -- so it is with the committed pages, or the device carries the current ones
 abbrev pub StaysOrShows : (spare : ℕ) → BufferedLog → Device → Type 0
-StaysOrShows spare old new = StaysCarried spare old new ⊎ CarriesFree new spare (current old)
+StaysOrShows spare old new = StaysCarried spare old new ⊎ ShowsCurrent spare old new
 
 -- each page is of an object from 1 on, and on an honest device not of that of checkpoints
 abbrev pub AreNumbered : Device → List FreshPage → Type 0

@@ -15,11 +15,12 @@ use Rattle.page_store.specs.BufferOf.{buffered, most_pages}
 use Rattle.page_store.specs.Buffering.{AreBuffered, with_new}
 use Rattle.page_store.specs.Cached.{held_count, capacity_of}
 use Rattle.pages.specs.Maps.{changed}
-use Rattle.pages.specs.Stores.{SamePages, IsCarried}
+use Rattle.pages.specs.Stores.{SamePages}
 use Rattle.pages.specs.declared.change.Change.{Change}
 use Rattle.transactions.specs.Handing.{HandsOut}
 use Rattle.volume_terms.specs.declared.fault.StoreFault.{StoreFault}
 use Rattle.volume_terms.specs.declared.fault.StoreFault.TheVariants as faults
+use Rattle.page_store.specs.Carrying.{CarriesFound}
 use Rattle.page_store.specs.Caching.{HaveUncutPlaces, KeepsKeys, TakesPages}
 use Rattle.page_store.specs.Counts.{CountsUpTo, HasBegun, IsRefused, NoneFalls}
 use Rattle.page_store.specs.StoreState.{StoreState, committed_in, current_in, waiting}
@@ -58,9 +59,11 @@ pub record CommitKeeps (old new : StoreState) : Type 0 where
   pub keys : StaysReady old.index new.index
   pub cache : KeepsKeys old.cache new.cache
 
--- Of a store that was whole, an honest device carries what was committed or all that was current, wherever a call ends.
+-- Of a store that was whole, an honest device carries what was committed or all that was current, wherever a call ends; and a mount by
+-- summaries finds what it carries, if it would have found what was committed.
 abbrev pub StaysCarried : StoreState → StoreState → Type 0
-StaysCarried old new = old.broken ≡ false → old.log.device.honest ≡ true → IsCarried new.log.device old.spare (committed_in old) ⊎ IsCarried new.log.device old.spare (current_in old)
+StaysCarried old new = old.broken ≡ false → old.log.device.honest ≡ true
+    → CarriesFound old.log old.index new.log.device old.spare (committed_in old) ⊎ CarriesFound old.log old.index new.log.device old.spare (current_in old)
 
 -- the store was whole and is, and the device has lost no power
 pub record StaysWhole (old new : StoreState) : Type 0 where

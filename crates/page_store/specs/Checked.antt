@@ -12,13 +12,12 @@ use Rattle.flash_tree.specs.Places.{numbers_of}
 use Rattle.flash_tree.specs.Tree.{Shows, InFootprint}
 use Rattle.flash_tree.specs.Truth.{IsObjectNumber}
 use Rattle.flash_tree.specs.laws.Telling.{AreNewestAt}
-use Rattle.block_state.specs.Table.{Table}
 use Rattle.block_state.specs.TableOf.{table}
 use Rattle.nand_model.specs.Trusting.{trusted_as}
 use Rattle.chunk_index.specs.declared.form.KeptPage.{KeptPage}
 use Rattle.chunk_index.specs.Maps.{kept_pages}
 use Rattle.flash_log.specs.Standing.{AreKept}
-use Rattle.mount_scan.specs.FoundCheckpoint.{IsFirstSeq}
+use Rattle.page_store.specs.KnownFirsts.{KnowsFirsts}
 use Rattle.page_store.specs.declared.opening.Opened.{Opened}
 use Rattle.page_store.specs.Opened.{AreLeft, IsOpenedBy, kept_at}
 
@@ -60,12 +59,13 @@ IsOpenedFor device c opened = (told : Bool) → IsTrustedFor c told device
 abbrev pub HasTrueFlash : Device → Type 0
 HasTrueFlash device = (device.honest ≡ true) × IsTrueFlash device.geometry device.flash
 
--- each block has the seq of its page 0
-abbrev pub HaveFirstSeqs : Device → Table → Type 0
-HaveFirstSeqs device t = (b : ℕ) → b < device.geometry.blocks → IsFirstSeq device.flash b (t.entry b).seq
+-- of an honest device with no tag of a number above the checkpoint's the table knows the first pages, where numbers are left
+abbrev pub KnowsFirstsBy : Device → Checkpoint → Opened → Type 0
+KnowsFirstsBy device c opened = device.honest ≡ true → AreAbove device.flash (numbers_at c) → AreLeft (numbers_of opened.numbers)
+    → KnowsFirsts device.flash (table opened.blocks)
 
--- The device shows a tree, and exactly the newest pages that are looked up to see it are kept; the block that is noted is the only one
--- with a whole checkpoint, which is right; and where there are numbers left, each block has the seq of its page 0.
+-- The device shows a tree, and exactly the newest pages that are looked up to see it are kept; and the block that is noted is the only
+-- one with a whole checkpoint, which is right.
 pub record KeepsItsTree (device : Device) (opened : Opened) : Type 0 where
   pub spare : ℕ
   pub objects : Objects
@@ -76,4 +76,3 @@ pub record KeepsItsTree (device : Device) (opened : Opened) : Type 0 where
       → kept_pages opened.index o c ≡ Some (kept_at s)
   pub only : (o c : ℕ) (p : KeptPage) → kept_pages opened.index o c ≡ Some p → InFootprint (sizes_of device.geometry spare) (HasNewest device.flash) objects o c
   pub checked : IsChecked device.geometry device.flash (table opened.blocks).checkpoint
-  pub seqs : AreLeft (numbers_of opened.numbers) → HaveFirstSeqs device (table opened.blocks)

@@ -10,10 +10,11 @@ use Rattle.page_store.specs.Buffering.{Buffers}
 use Rattle.transactions.specs.Checking.{LogState}
 use Rattle.transactions.specs.Handing.{HandsOut}
 use Rattle.transactions.specs.Ready.{IsReady}
+use Rattle.flash_log.specs.Mountable.{KeepsMountable}
 use Rattle.flash_log.specs.Standing.{Stands}
 use Rattle.flash_log.specs.Steps.{MovesKept, StaysReady, Step}
 use Rattle.page_store.specs.Buffered.{BufferedLog, committed, current}
-use Rattle.page_store.specs.Carrying.{CarriesFree, StaysOrShows}
+use Rattle.page_store.specs.Carrying.{ShowsCurrent, StaysOrShows}
 
 -- What a commit keeps of the log, wherever it ends.
 pub record KeepsLog (spare : ℕ) (old new : BufferedLog) : Type 0 where
@@ -21,19 +22,20 @@ pub record KeepsLog (spare : ℕ) (old new : BufferedLog) : Type 0 where
   pub ready : IsReady new.log.device new.log.table
   pub stands : Stands spare new.log.device new.log.table new.index
   pub numbers : HandsOut old.log.device new.log.device old.log.table new.log.table
+  pub mountable : KeepsMountable old.log new.log old.index new.index
 
 -- what is current of each key is what is committed
 abbrev pub IsSettled : Index → Type 0
 IsSettled x = (o c : ℕ) → present x o c ≡ as_kept (kept_pages x o c)
 
 -- The buffered pages are valid: what is current is what is committed, and of an honest device each key has the data that was
--- current, and its device blocks enough that hold none of it.
+-- current, and its device blocks enough that hold none of it, and a mount by summaries finds it, if it would have found what was committed.
 pub record Commits (spare : ℕ) (old new : BufferedLog) : Type 0 where
   pub log : KeepsLog spare old new
   pub settled : IsSettled new.index
   pub keys : StaysReady old.index new.index
   pub kept : old.log.device.honest ≡ true → new.log.device.gone ≡ false → (o c : ℕ) → committed new o c ≡ current old o c
-  pub newest : old.log.device.honest ≡ true → CarriesFree new.log.device spare (current old)
+  pub newest : old.log.device.honest ≡ true → ShowsCurrent spare old new.log.device
 
 -- Since there was room for the group, before any of its pages was valid, the device has counted no failure, or the block that
 -- was open for it is bad: no block is trusted in which a program of the group failed.

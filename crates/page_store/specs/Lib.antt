@@ -22,6 +22,7 @@ pub mod Shown
 pub mod BufferOf
 pub mod Buffering
 pub mod Opened
+pub mod KnownFirsts
 pub mod Checked
 pub mod NewestParts
 pub mod Newest

@@ -1,8 +1,7 @@
 -- The tables of a device that was scanned.
 -- From: this project.
-use Rattle.std.specs.Prelude.{◌≡◌, ◌≢◌, ◌⊎◌, ◌<◌, ◌≤◌, ◌^◌, ℕ, ◌+◌, true, false, List, Option, Some, None, slice_get}
+use Rattle.std.specs.Prelude.{◌≡◌, ◌<◌, ◌≤◌, ◌^◌, ℕ, ◌+◌, true, false, List, Option, Some, None, slice_get}
 use Rattle.volume_terms.specs.Sizes.{number_end}
-use Rattle.nand_model.specs.Flash.{Flash}
 use Rattle.nand_model.specs.Calls.{Device}
 use Rattle.flash_tree.specs.Newest.{Spot, IsNewest, Numbers, AreGreatest}
 use Rattle.mount_scan.specs.declared.page_copy.PageCopy.{PageCopy}
@@ -50,7 +49,7 @@ pub record IsTableOf (device : Device) (n : Numbers) (t : Table) : Type 0 where
   pub group : AreLeft n → t.next_group ≡ n.group + 1
   pub seq : AreLeft n → t.next_seq ≡ n.seq + 1
 
--- only the numbers of blocks are other
+-- only the numbers of blocks are other, and how many of their pages were programmed
 pub record OnlySeqs (old new : Table) : Type 0 where
   pub bad : (b : ℕ) → (new.entry b).bad ≡ (old.entry b).bad
   pub kept : (b : ℕ) → (new.entry b).kept ≡ (old.entry b).kept
@@ -67,34 +66,6 @@ pub record NotesOne (b seq : ℕ) (old new : Table) : Type 0 where
   pub checkpoint : new.checkpoint ≡ old.checkpoint
   pub next_seq : new.next_seq ≡ old.next_seq
   pub same : old.next_seq ≤ seq → new ≡ old
-
--- each of the first n blocks has its number of the list, where that was handed out
-abbrev pub AreNoted : List ℕ → (n : ℕ) → Table → Table → Type 0
-AreNoted seqs n old new = (b seq : ℕ) → b < n → slice_get seqs b ≡ Some seq → seq < old.next_seq → (new.entry b).seq ≡ seq
-
--- one of the first n pages lies in block b, and has this seq
-pub record HasSeqOf (list : List PageCopy) (n b seq : ℕ) : Type 0 where
-  pub index : ℕ
-  pub found : PageCopy
-  pub before : index < n
-  pub there : slice_get list index ≡ Some found
-  pub block : found.block ≡ b
-  pub seq_is : seq ≡ found.seq
-
--- no seq of the first n pages in block b is below this number
-abbrev pub AreNotBelow : List PageCopy → (n b next : ℕ) → Type 0
-AreNotBelow list n b next = (i : ℕ) (f : PageCopy) → i < n → slice_get list i ≡ Some f → f.block ≡ b → next ≤ f.seq
-
--- Block b has the seq of one of the first n pages, which lies in it; or the seq that it had, where none of them that lies
--- in it has a seq that was handed out.
-abbrev pub NotesSeq : List PageCopy → (n : ℕ) → Table → Table → ℕ → Type 0
-NotesSeq list n old new b = HasSeqOf list n b (new.entry b).seq ⊎ (((new.entry b).seq ≡ (old.entry b).seq) × AreNotBelow list n b old.next_seq)
-
--- no newest page of a chunk that a tree may look up lies in block b, and its number is that of a block that was not taken; or its number is the seq of one
--- that does
-abbrev pub HasItsSeq : Flash → Table → ℕ → Type 0
-HasItsSeq flash t b = (((o c : ℕ) (s : Spot) → c < 2 ^ 32 → IsNewest flash o c s → s.block ≢ b) × ((t.entry b).seq ≡ 0))
-    ⊎ ((o : ℕ) × (c : ℕ) × (s : Spot) × IsNewest flash o c s × (s.block ≡ b) × ((t.entry b).seq ≡ s.tag.seq))
 
 -- The tables of a device, by a checkpoint in this block or, with none, by a scan. What is kept is on the device, of a chunk that a tree
 -- may look up, and is present, and no page of it lies in that block; no block is open, and no good one is marked; the counts of blocks are those of the index. On an honest
@@ -118,12 +89,11 @@ pub record IsOpenedBy (checkpoint : Option ℕ) (device : Device) (t : Table) (x
   pub seq : AreLeft n → t.next_seq ≡ n.seq + 1
   pub lie : AreLeft n → (o c : ℕ) (p : KeptPage) → kept_pages x o c ≡ Some p → MayLie t o c p
 
--- The tables of a device by a scan: on an honest one the newest page of each key of a chunk that a tree may look up is kept, with its place and version, and blocks have
--- the numbers that their pages tell.
+-- The tables of a device by a scan: on an honest one the newest page of each key of a chunk that a tree may look up is kept, with its
+-- place and version.
 pub record IsOpened (device : Device) (t : Table) (x : Index) (n : Numbers) : Type 0 where
   pub tables : IsOpenedBy None device t x n
   pub all : device.honest ≡ true → (o c : ℕ) (s : Spot) → c < 2 ^ 32 → IsNewest device.flash o c s → kept_pages x o c ≡ Some (kept_at s)
-  pub seqs : device.honest ≡ true → AreLeft n → (b : ℕ) → HasItsSeq device.flash t b
 
 -- what a scan's fault is here
 abbrev pub of_scan : ScanFault → OpenFault

@@ -8,9 +8,10 @@ use Rattle.flash_log.specs.RoomFaults.{room_fault}
 use Rattle.flash_log.specs.declared.fault.MoveFault.{MoveFault}
 use Rattle.flash_log.specs.declared.fault.MoveFault.TheVariants as moves
 use Rattle.pages.specs.Refreshing.{LeavesBlock}
-use Rattle.pages.specs.Stores.{SamePages, IsCarried}
+use Rattle.pages.specs.Stores.{SamePages}
 use Rattle.volume_terms.specs.declared.fault.StoreFault.{StoreFault}
 use Rattle.volume_terms.specs.declared.fault.StoreFault.TheVariants as faults
+use Rattle.page_store.specs.Carrying.{CarriesFound}
 use Rattle.page_store.specs.Changing.{StaysWhole, StoreLasts, fault_of}
 use Rattle.page_store.specs.StoreState.{StoreState, committed_in, current_in}
 
@@ -29,9 +30,9 @@ pub record RefreshKeeps (old new : StoreState) : Type 0 where
 abbrev pub PaysRefresh : LogState → LogState → Result (Unit {0}) StoreFault → Type 0
 PaysRefresh old new result = Pays (bill_of old (old.device.geometry.pages + 1) 0 0) old new result
 
--- of a store that was whole, an honest device carries what was committed
+-- of a store that was whole, an honest device carries what was committed, and a mount by summaries finds it, if it would have before
 abbrev pub CarriesStill : StoreState → StoreState → Type 0
-CarriesStill old new = old.broken ≡ false → old.log.device.honest ≡ true → IsCarried new.log.device old.spare (committed_in old)
+CarriesStill old new = old.broken ≡ false → old.log.device.honest ≡ true → CarriesFound old.log old.index new.log.device old.spare (committed_in old)
 
 -- Why a block was not refreshed: the device is gone or not honest, or a call failed before; or there is nothing left to write with. It
 -- takes no memory.

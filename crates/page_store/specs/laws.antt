@@ -6,3 +6,4 @@ pub mod Reading
 pub mod Trust
 pub mod ReadOnlyProof
 pub mod ReadOnlySound
+pub mod KnownFirsts

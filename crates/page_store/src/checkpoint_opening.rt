@@ -1,13 +1,14 @@
 // The tables of a device, by the entries of a checkpoint.
 ghost use Rattle.std.specs.Prelude.{◌↔◌, IsSome, IsTrue, IfOk, IfSome};
-ghost use Rattle.mount_scan.specs.FoundCheckpoint.{HasForm, IsWholeOn, TellsSeqs, checkpoint_of};
-ghost use Rattle.page_store.specs.Checked.{HasTrueFlash, IsOpenedFor, KeepsItsTree, MayAllBeKept, MayBeKept};
+ghost use Rattle.mount_scan.specs.FoundCheckpoint.{HasForm, IsWholeOn, checkpoint_of};
+ghost use Rattle.mount_scan.specs.FirstPages.{AreFirstsOf};
+ghost use Rattle.page_store.specs.Checked.{HasTrueFlash, IsOpenedFor, KeepsItsTree, KnowsFirstsBy, MayAllBeKept, MayBeKept};
 
-use crate::block_seqs::note_each;
+use crate::first_pages::note_firsts;
 use crate::opening::{Opened, table_above};
 use chunk_index::{Index, the_counts_are_of_the_keys};
 use flash_tree::{CHECK_OBJECT, CHUNK_END, TagNumbers};
-use mount_scan::FoundCheckpoint;
+use mount_scan::{FirstPages, FoundCheckpoint};
 use nand_model::Nand;
 use page_tags::CheckEntry;
 use std::alloc::{AllocError, Global};
@@ -41,20 +42,20 @@ fn may_all_be_kept<N: Nand>(device: &N, found: &FoundCheckpoint) -> bool
     true
 }
 
-/// The tables of a device by the entries of a checkpoint that is whole, and by the seqs of the page 0 of its blocks: exactly
-/// what the entries tell of is kept, and the checkpoint's block is noted. There are none where an entry cannot tell of a kept
-/// page.
+/// The tables of a device by the entries of a checkpoint that is whole, and by the first pages of its blocks: exactly what
+/// the entries tell of is kept, and the checkpoint's block is noted. There are none where an entry cannot tell of a kept page.
 pub fn open_kept<N: Nand>(
     alloc: Global,
     device: &N,
     found: &FoundCheckpoint,
-    seqs: &[u64],
+    firsts: &FirstPages,
 ) -> Result<Option<Opened>, AllocError>
     requires form { HasForm (N.state device.now) (checkpoint_of found.now) }
     requires whole { IsWholeOn (N.state device.now) (checkpoint_of found.now) }
-    requires seqs { TellsSeqs (N.state device.now) seqs.now }
+    requires firsts { AreFirstsOf (N.state device.now) firsts.now }
     ensures opened { IfOk result (λ made. IfSome made (IsOpenedFor (N.state device.now) (checkpoint_of found.now))) }
     ensures tree { HasTrueFlash (N.state device.now) → IfOk result (λ made. IfSome made (KeepsItsTree (N.state device.now))) }
+    ensures firsts { IfOk result (λ made. IfSome made (KnowsFirstsBy (N.state device.now) (checkpoint_of found.now))) }
     ensures some { HasTrueFlash (N.state device.now) → IfOk result (λ made. IsSome made) }
 {
     the_counts_are_of_the_keys();
@@ -67,7 +68,7 @@ pub fn open_kept<N: Nand>(
         seq: found.seq,
     };
     let mut blocks = table_above(alloc, device, numbers)?;
-    note_each(seqs, &mut blocks);
+    note_firsts(&firsts.pages, &mut blocks);
     let (index, blocks) = Index::from_kept(alloc, &found.entries, blocks)?;
     let mut blocks = blocks;
     blocks.note_checkpoint(found.block);

@@ -9,6 +9,7 @@ ghost use Rattle.page_store.specs.Buffering.{Buffers};
 ghost use Rattle.transactions.specs.Ready.{IsReady};
 ghost use Rattle.flash_log.specs.Standing.{Stands};
 ghost use Rattle.flash_log.specs.RoomMaking.{FitsOpen};
+ghost use Rattle.flash_log.specs.Mountable.{KeepsMountable};
 ghost use Rattle.page_store.specs.Buffered.{in_parts, log_in};
 ghost use Rattle.page_store.specs.Carrying.{AreWritable};
 ghost use Rattle.page_store.specs.CommitKeeping.{SameSizes};
@@ -56,6 +57,8 @@ pub(crate) fn write_buffered<N: Nand>(
     ensures pays { PaysAttempt (length (buffered buffer.old)) (log_in N.state device.old blocks.old) (log_in N.state device.new blocks.new) result }
     ensures keeps_open { TrustsOpen (length (buffered buffer.old)) (log_in N.state device.old blocks.old) (log_in N.state device.new blocks.new) result }
     ensures attempts { Attempts (in_parts N.state device.old blocks.old index.old buffer.old) (in_parts N.state device.new blocks.new index.new buffer.new) result }
+    // Wherever power goes, the next mount may go by summaries, if it might before.
+    ensures mountable { KeepsMountable (log_in N.state device.old blocks.old) (log_in N.state device.new blocks.new) index.old index.new }
     ensures sizes { SameSizes buffer.old buffer.new }
 {
     have_ranges(buffer.pages());

@@ -2,7 +2,6 @@
 //! and what is buffered is committed as one group. The pages of a worn device are only read.
 #![tactic(auto)]
 
-mod block_seqs;
 mod buffer;
 mod buffer_law;
 mod buffering;
@@ -14,6 +13,8 @@ mod committing;
 mod counts;
 mod cutting;
 mod dropping;
+mod first_pages;
+mod first_pages_law;
 mod flash_pages;
 mod group_writing;
 mod kept_reading;
@@ -38,6 +39,8 @@ pub use buffering::prepare;
 pub use cache::PageCache;
 pub use checkpoint_opening::open_kept;
 pub use counts::StoreCounts;
+pub use first_pages::note_firsts;
+pub use first_pages_law::a_table_of_first_pages_knows_erased_blocks;
 pub use flash_pages::FlashPages;
 pub use kept_reading::read_kept;
 pub use newest_law::the_opened_pages_are_the_newest;

@@ -6,7 +6,7 @@ ghost use Rattle.chunk_index.specs.Counts.{Recounts};
 ghost use Rattle.chunk_index.specs.Maps.{CountsAgree, Settles, kept_in};
 ghost use Rattle.page_store.specs.BufferOf.{buffered, last_written};
 ghost use Rattle.page_store.specs.Buffering.{Buffers, IsUnbuffered};
-ghost use Rattle.flash_log.specs.LogOf.{HasReserve, log_state};
+ghost use Rattle.flash_log.specs.LogOf.{HasReserve, SameTerms, log_state, terms_of};
 ghost use Rattle.flash_log.specs.Standing.{HasFreeBlocks};
 ghost use Rattle.page_store.specs.Buffered.{held};
 ghost use Rattle.page_store.specs.Carrying.{AreWritable, CarriesEither, KeepsOrShows};
@@ -51,7 +51,7 @@ pub fn commit<N: Nand>(log: &mut Log<N>, buffer: &mut Buffer) -> Result<(), Room
     requires buffers { Buffers log.old.index (buffered buffer.old) }
     requires pages { AreWritable (N.state log.old.device) (buffered buffer.old) }
     ensures log { KeepsLog log.old.spare (held log.old buffer.old) (held log.new buffer.new) }
-    ensures spare { log.new.spare ≡ log.old.spare }
+    ensures terms { SameTerms (terms_of log.old) (terms_of log.new) }
     ensures pays { PaysCommit (length (buffered buffer.old)) log.old.spare (log_state log.old) (log_state log.new) result }
     // The open block is closed only where it lacks the pages, or a program failed; and what nothing hinders is done.
     ensures well { GoesWell (length (buffered buffer.old)) (log_state log.old) (log_state log.new) result }

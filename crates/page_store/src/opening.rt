@@ -1,12 +1,12 @@
 // The tables of a device, by a scan.
-ghost use Rattle.std.specs.Prelude.{◌≡◌, ◌↔◌, ◌≤◌, ◌+◌, ℕ, true, false, IsTrue, OnOk, IfOk, IfErr};
+ghost use Rattle.std.specs.Prelude.{◌≡◌, ◌↔◌, ◌≤◌, ◌+◌, false, IsTrue, OnOk, IfOk, IfErr};
 ghost use Rattle.nand_model.specs.Changes.{OnlyReads};
 ghost use Rattle.flash_tree.specs.Places.{numbers_of};
 ghost use Rattle.block_state.specs.TableOf.{table};
 ghost use Rattle.mount_scan.specs.Scanned.{good_pages};
+ghost use Rattle.page_store.specs.KnownFirsts.{AreUnwritten};
 ghost use Rattle.page_store.specs.Opened.{IsOpened, AreLeft, IsTableOf, WhyNotOpened};
 
-use crate::block_seqs::note_seqs;
 use crate::page_names::have_names;
 use block_state::Blocks;
 use chunk_index::Index;
@@ -72,7 +72,7 @@ pub(crate) fn table_above<N: Nand>(
     numbers: TagNumbers,
 ) -> Result<Blocks, AllocError>
     ensures table { IfOk result (λ blocks. IsTableOf (N.state device.now) (numbers_of numbers) (table blocks)) }
-    ensures seqs { IfOk result (λ blocks. (b : ℕ) → ((table blocks).entry b).seq ≡ 0) }
+    ensures unwritten { IfOk result (λ blocks. AreUnwritten (table blocks)) }
 {
     if !are_left(numbers) {
         return Blocks::new(alloc, device.geometry());
@@ -80,20 +80,21 @@ pub(crate) fn table_above<N: Nand>(
     marked_table(alloc, device, numbers)
 }
 
-/// Scans a device, which is only read: the newest page of each key is kept. Each tag of a good block is read once at most.
+/// Scans a device, which is only read: the newest page of each key is kept. Each tag of a good block is read once at most. No number of a
+/// block is noted.
 pub fn open<N: Nand>(alloc: Global, device: &mut N) -> Result<Opened, OpenFault>
     ensures reads { OnlyReads (N.state device.old) (N.state device.new) }
     ensures asked { (N.state device.new).reads ≤ (N.state device.old).reads + good_pages (N.state device.old).flash (N.state device.old).geometry.pages (N.state device.old).geometry.blocks }
     ensures power { (N.state device.old).gone ≡ false → OnOk result ((N.state device.new).gone ≡ false) }
     ensures opened { IfOk result (λ opened. IsOpened (N.state device.new) (table opened.blocks) opened.index (numbers_of opened.numbers)) }
+    ensures unwritten { IfOk result (λ opened. AreUnwritten (table opened.blocks)) }
     ensures fault { IfErr result (WhyNotOpened (N.state device.new)) }
 {
     let NewestScan { newest, numbers } = scan_newest(alloc, device)?;
     if !have_names(&newest, numbers.group) {
         return Err(OpenFault::Lost);
     }
-    let mut blocks = table_above(alloc, device, numbers)?;
-    note_seqs(&newest, &mut blocks);
+    let blocks = table_above(alloc, device, numbers)?;
     let (index, blocks) = Index::from_newest(alloc, newest, blocks)?;
     Ok(Opened {
         blocks,

@@ -1,10 +1,10 @@
 // The writing of the buffered pages, in as many turns as it takes.
-ghost use Rattle.std.specs.Prelude.{◌≡◌, ◌<◌, ◌≤◌, length};
+ghost use Rattle.std.specs.Prelude.{◌<◌, ◌≤◌, length};
 ghost use Rattle.volume_terms.specs.Sizes.{number_end};
 ghost use Rattle.block_state.specs.TableOf.{table};
 ghost use Rattle.page_store.specs.BufferOf.{buffered};
 ghost use Rattle.page_store.specs.Buffering.{Buffers};
-ghost use Rattle.flash_log.specs.LogOf.{HasReserve, log_state};
+ghost use Rattle.flash_log.specs.LogOf.{HasReserve, SameTerms, log_state, terms_of};
 ghost use Rattle.flash_log.specs.Standing.{HasFreeBlocks};
 ghost use Rattle.flash_log.specs.RoomMaking.{FitsOpen};
 ghost use Rattle.page_store.specs.Buffered.{held};
@@ -37,7 +37,7 @@ fn write_in_room<N: Nand>(log: &mut Log<N>, buffer: &mut Buffer) -> Result<Turn,
     requires pages { AreWritable (N.state log.old.device) (buffered buffer.old) }
     requires fits { FitsOpen (length (buffered buffer.old)) (table log.old.blocks) }
     requires number { (table log.old.blocks).next_group < number_end }
-    ensures spare { log.new.spare ≡ log.old.spare }
+    ensures terms { SameTerms (terms_of log.old) (terms_of log.new) }
     ensures leaves { Leaves log.old.spare (held log.old buffer.old) (held log.new buffer.new) }
     ensures pays { PaysWriting (length (buffered buffer.old)) (log_state log.old) (log_state log.new) result }
     ensures well { GoesWell (length (buffered buffer.old)) (log_state log.old) (log_state log.new) result }
@@ -70,7 +70,7 @@ fn take_turn<N: Nand>(log: &mut Log<N>, buffer: &mut Buffer) -> Result<Turn, Roo
     requires buffers { Buffers log.old.index (buffered buffer.old) }
     requires some { 1 ≤ length (buffered buffer.old) }
     requires pages { AreWritable (N.state log.old.device) (buffered buffer.old) }
-    ensures spare { log.new.spare ≡ log.old.spare }
+    ensures terms { SameTerms (terms_of log.old) (terms_of log.new) }
     ensures leaves { Leaves log.old.spare (held log.old buffer.old) (held log.new buffer.new) }
     ensures pays { PaysTurn (length (buffered buffer.old)) log.old.spare (log_state log.old) (log_state log.new) result }
     ensures well { GoesWell (length (buffered buffer.old)) (log_state log.old) (log_state log.new) result }
@@ -93,7 +93,7 @@ pub(crate) fn write_whole<N: Nand>(log: &mut Log<N>, buffer: &mut Buffer) -> Res
     requires buffers { Buffers log.old.index (buffered buffer.old) }
     requires some { 1 ≤ length (buffered buffer.old) }
     requires pages { AreWritable (N.state log.old.device) (buffered buffer.old) }
-    ensures spare { log.new.spare ≡ log.old.spare }
+    ensures terms { SameTerms (terms_of log.old) (terms_of log.new) }
     ensures leaves { Leaves log.old.spare (held log.old buffer.old) (held log.new buffer.new) }
     ensures pays { PaysCommit (length (buffered buffer.old)) log.old.spare (log_state log.old) (log_state log.new) result }
     ensures well { GoesWell (length (buffered buffer.old)) (log_state log.old) (log_state log.new) result }

@@ -22,6 +22,7 @@ use Rattle.page_store.specs.GroupWriting.{IsWhole}
 use Rattle.page_store.specs.declared.group_writing.Attempt.TheVariants as attempts
 use Rattle.page_store.proofs.Costing.{attempt_done, attempt_short}
 use Rattle.page_store.proofs.Staying.{lie_in_open, stays_open}
+use Rattle.page_store.proofs.Findable.{mountable_short, mountable_whole}
 use Rattle.page_store.proofs.GroupCounts.{ListsAreWhole}
 use Rattle.page_store.proofs.Grouping.{newest_written}
 use Rattle.page_store.proofs.Settling.{ready_counted}
@@ -92,7 +93,7 @@ returns-then-placed-clause-attempts g c = λ spare stands free.
     let adds = subst (λ (xs : List FreshPage). d.honest ≡ true → AddsPages (next_group t (length xs) o) (fresh_name xs t.next_group) (fresh_bytes xs) d.flash e.flash) same (λ honest. w.groups honest o opened) in
     let a : BufferedLog = in_parts g.N.Nand.state c.args.device.now c.args.blocks.now c.args.index.now c.args.buffer.now in
     let b : BufferedLog = in_parts g.N.Nand.state c.write_group.new.device c.settle.new.blocks c.settle.new.index c.settle.new.self in
-    let whole : IsWhole spare a b = whole_written spare lists d e t u v x y pages o c.in-Ok.placed c.requires.buffers opened c.requires.ready stands free c.requires.pages ranges c.requires.fits c.requires.number w.lasts w.ready w.numbers (λ (honest : d.honest ≡ true). (w.writes honest).grows) ok w.ends.1 tells adds
+    let whole : IsWhole spare a b = whole_written spare lists d e t u v x y pages o c.in-Ok.placed c.requires.buffers opened c.requires.ready stands free c.requires.pages ranges c.requires.fits c.requires.number w.lasts w.ready w.numbers w.writes ok w.ends.1 tells adds
     c.settle.ensures.settles c.settle.ensures.agree c.settle.ensures.counts a.last b.pages b.last c.settle.ensures.empty c.settle.ensures.written in
     (leaves_committed spare a b whole.commits whole.empty, (whole, was_open o d e t v c.requires.ready opened w.lasts (c.settle.ensures.counts.bad o ∙ (same_ends (length pages) t u (Ok c.in-Ok.placed) ok).bad o)))
 
@@ -142,7 +143,7 @@ returns-else-placed-clause-attempts g c = λ spare stands free.
     let adds = subst (λ (xs : List FreshPage). d.honest ≡ true → AddsPages (next_group t (length xs) o) (fresh_name xs t.next_group) (fresh_bytes xs) d.flash e.flash) same (λ honest. w.groups honest o opened) in
     let a : BufferedLog = in_parts g.N.Nand.state c.args.device.now c.args.blocks.now c.args.index.now c.args.buffer.now in
     let b : BufferedLog = in_parts g.N.Nand.state c.write_group.new.device c.settle.new.blocks c.settle.new.index c.settle.new.self in
-    let whole : IsWhole spare a b = whole_written spare lists d e t u v x y pages o c.in-Ok.placed c.requires.buffers opened c.requires.ready stands free c.requires.pages ranges c.requires.fits c.requires.number w.lasts w.ready w.numbers (λ (honest : d.honest ≡ true). (w.writes honest).grows) ok w.ends.1 tells adds
+    let whole : IsWhole spare a b = whole_written spare lists d e t u v x y pages o c.in-Ok.placed c.requires.buffers opened c.requires.ready stands free c.requires.pages ranges c.requires.fits c.requires.number w.lasts w.ready w.numbers w.writes ok w.ends.1 tells adds
     c.settle.ensures.settles c.settle.ensures.agree c.settle.ensures.counts a.last b.pages b.last c.settle.ensures.empty c.settle.ensures.written in
     let none : e.failures ≡ d.failures + 0 = w.ends.0 ∙ ap (λ s. d.failures + (if s then 1 else 0)) c.if-placed.false in
     (leaves_committed spare a b whole.commits whole.empty, (whole, omega (arith, none)))
@@ -244,7 +245,7 @@ returns-in-Err-Gone-clause-attempts g c = λ spare stands free.
     let a : BufferedLog = in_parts g.N.Nand.state c.args.device.now c.args.blocks.now c.args.index.now c.args.buffer.now in
     let b : BufferedLog = in_parts g.N.Nand.state c.write_group.new.device c.write_group.new.blocks c.args.index.now c.args.buffer.now in
     let pages : List FreshPage = buffered c.args.buffer.now in (
-      leaves_gone spare d e t u x pages o lists stands free c.requires.number opened c.requires.buffers c.requires.ready w.table w.lasts w.ready w.numbers w.ends.0 (λ (honest : d.honest ≡ true). (w.writes honest).grows)
+      leaves_gone spare d e t u x pages o lists stands free c.requires.number opened c.requires.buffers c.requires.pages c.requires.ready w.table w.lasts w.ready w.numbers w.ends.0 w.writes
           (subst (λ (xs : List FreshPage). d.honest ≡ true → GroupsAfter (next_group t (length xs) o) (fresh_name xs t.next_group) (fresh_bytes xs) d.flash e.flash (Err groups.Gone)) c.pages-pages.ensures (λ honest. w.groups honest o opened))
           a.last,
       w.ends.0,
@@ -258,3 +259,75 @@ returns-else-placed-clause-keeps_open g c =
     let trusted : OkTable false (length c.pages-pages.result.now) t u = subst (λ s. OkTable s (length c.pages-pages.result.now) t u) c.if-placed.false c.in-Ok.ensures.table in
     let takes : OkTable false (length (buffered c.args.buffer.now)) t u = subst (λ (xs : List FreshPage). OkTable false (length xs) t u) same trusted in
     stays_open (length (buffered c.args.buffer.now)) c.in-Some.block t u (table c.settle.new.blocks) _ _ (sym c.in-Some.ensures) c.requires.fits takes c.settle.ensures.counts
+
+pub returns-then-placed-clause-mountable : goal.returns-then-placed-clause-mountable
+returns-then-placed-clause-mountable g c =
+    let d : Device = g.N.Nand.state c.args.device.now in
+    let e : Device = g.N.Nand.state c.write_group.new.device in
+    let t : Table = table c.args.blocks.now in
+    let u : Table = table c.write_group.new.blocks in
+    let pages : List FreshPage = buffered c.args.buffer.now in
+    let same : c.pages-pages.result.now ≡ pages = c.pages-pages.ensures in
+    let o : ℕ = c.in-Some.block in
+    let opened : t.open_block ≡ Some o = sym c.in-Some.ensures in
+    let lists : ListsAreWhole = let l = c.the_list_of_a_block_is_whole.ensures in record { kept = l.kept; here = l.here; count = l.count; all = l.all; once = l.once } in
+    let w = c.in-Ok.ensures in
+    let ok = subst (λ (xs : List FreshPage). OkTable c.in-Ok.placed.suspect (length xs) t u) same w.table in
+    let tells = subst (λ (xs : List FreshPage). TellsGroup (next_group t (length xs) o) c.in-Ok.placed) same (w.placed o opened) in
+    let adds = subst (λ (xs : List FreshPage). d.honest ≡ true → AddsPages (next_group t (length xs) o) (fresh_name xs t.next_group) (fresh_bytes xs) d.flash e.flash) same (λ honest. w.groups honest o opened) in
+    mountable_whole d e t u c.args.index.now pages o c.requires.ready opened c.requires.buffers c.requires.pages w.lasts w.numbers w.writes c.in-Ok.placed adds lists (table c.settle.new.blocks) c.settle.new.index _ tells.block
+    c.settle.ensures.settles c.requires.stands.1.tables.counts c.settle.ensures.agree c.settle.ensures.counts ok
+
+pub returns-else-placed-clause-mountable : goal.returns-else-placed-clause-mountable
+returns-else-placed-clause-mountable g c =
+    let d : Device = g.N.Nand.state c.args.device.now in
+    let e : Device = g.N.Nand.state c.write_group.new.device in
+    let t : Table = table c.args.blocks.now in
+    let u : Table = table c.write_group.new.blocks in
+    let pages : List FreshPage = buffered c.args.buffer.now in
+    let same : c.pages-pages.result.now ≡ pages = c.pages-pages.ensures in
+    let o : ℕ = c.in-Some.block in
+    let opened : t.open_block ≡ Some o = sym c.in-Some.ensures in
+    let lists : ListsAreWhole = let l = c.the_list_of_a_block_is_whole.ensures in record { kept = l.kept; here = l.here; count = l.count; all = l.all; once = l.once } in
+    let w = c.in-Ok.ensures in
+    let ok = subst (λ (xs : List FreshPage). OkTable c.in-Ok.placed.suspect (length xs) t u) same w.table in
+    let tells = subst (λ (xs : List FreshPage). TellsGroup (next_group t (length xs) o) c.in-Ok.placed) same (w.placed o opened) in
+    let adds = subst (λ (xs : List FreshPage). d.honest ≡ true → AddsPages (next_group t (length xs) o) (fresh_name xs t.next_group) (fresh_bytes xs) d.flash e.flash) same (λ honest. w.groups honest o opened) in
+    mountable_whole d e t u c.args.index.now pages o c.requires.ready opened c.requires.buffers c.requires.pages w.lasts w.numbers w.writes c.in-Ok.placed adds lists (table c.settle.new.blocks) c.settle.new.index _ tells.block
+    c.settle.ensures.settles c.requires.stands.1.tables.counts c.settle.ensures.agree c.settle.ensures.counts ok
+
+pub returns-in-Err-Failed-clause-mountable : goal.returns-in-Err-Failed-clause-mountable
+returns-in-Err-Failed-clause-mountable g c =
+    let d : Device = g.N.Nand.state c.args.device.now in
+    let e : Device = g.N.Nand.state c.write_group.new.device in
+    let t : Table = table c.args.blocks.now in
+    let u : Table = table c.write_group.new.blocks in
+    let o : ℕ = c.in-Some.block in
+    let opened : t.open_block ≡ Some o = sym c.in-Some.ensures in
+    let w = rw c.in-Err-Failed.field-0-is at c.in-Err-Failed.ensures in
+    let after = subst (λ (xs : List FreshPage). d.honest ≡ true → GroupsAfter (next_group t (length xs) o) (fresh_name xs t.next_group) (fresh_bytes xs) d.flash e.flash (Err groups.Failed)) c.pages-pages.ensures (λ honest. w.groups honest o opened) in
+    mountable_short d e t u c.args.index.now (buffered c.args.buffer.now) o c.requires.ready opened c.requires.buffers c.requires.pages w.lasts w.numbers w.writes groups.Failed after w.table
+
+pub returns-in-Err-Lost-clause-mountable : goal.returns-in-Err-Lost-clause-mountable
+returns-in-Err-Lost-clause-mountable g c =
+    let d : Device = g.N.Nand.state c.args.device.now in
+    let e : Device = g.N.Nand.state c.write_group.new.device in
+    let t : Table = table c.args.blocks.now in
+    let u : Table = table c.write_group.new.blocks in
+    let o : ℕ = c.in-Some.block in
+    let opened : t.open_block ≡ Some o = sym c.in-Some.ensures in
+    let w = rw c.in-Err-Lost.field-0-is at c.in-Err-Lost.ensures in
+    let after = subst (λ (xs : List FreshPage). d.honest ≡ true → GroupsAfter (next_group t (length xs) o) (fresh_name xs t.next_group) (fresh_bytes xs) d.flash e.flash (Err groups.Lost)) c.pages-pages.ensures (λ honest. w.groups honest o opened) in
+    mountable_short d e t u c.args.index.now (buffered c.args.buffer.now) o c.requires.ready opened c.requires.buffers c.requires.pages w.lasts w.numbers w.writes groups.Lost after w.table
+
+pub returns-in-Err-Gone-clause-mountable : goal.returns-in-Err-Gone-clause-mountable
+returns-in-Err-Gone-clause-mountable g c =
+    let d : Device = g.N.Nand.state c.args.device.now in
+    let e : Device = g.N.Nand.state c.write_group.new.device in
+    let t : Table = table c.args.blocks.now in
+    let u : Table = table c.write_group.new.blocks in
+    let o : ℕ = c.in-Some.block in
+    let opened : t.open_block ≡ Some o = sym c.in-Some.ensures in
+    let w = rw c.in-Err-Gone.field-0-is at c.in-Err-Gone.ensures in
+    let after = subst (λ (xs : List FreshPage). d.honest ≡ true → GroupsAfter (next_group t (length xs) o) (fresh_name xs t.next_group) (fresh_bytes xs) d.flash e.flash (Err groups.Gone)) c.pages-pages.ensures (λ honest. w.groups honest o opened) in
+    mountable_short d e t u c.args.index.now (buffered c.args.buffer.now) o c.requires.ready opened c.requires.buffers c.requires.pages w.lasts w.numbers w.writes groups.Gone after w.table

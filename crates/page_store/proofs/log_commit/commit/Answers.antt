@@ -1,4 +1,4 @@
-use Rattle.std.proofs.Common.{◌≡◌, ◌+◌, ◌*◌, [], length, sym, ap, subst, ◌∙◌, arith, inr, refl}
+use Rattle.std.proofs.Common.{◌≡◌, ◌+◌, ◌*◌, [], length, sym, ap, subst, ◌∙◌, arith, inl, inr, refl}
 use Rattle.std.proofs.lemmas.Bool.{eqb-true}
 use Rattle.std.proofs.lemmas.List.{nil_from_length}
 use Rattle.nand_model.specs.Calls.{Device}
@@ -7,11 +7,14 @@ use Rattle.block_state.specs.Kept.{bad_count}
 use Rattle.block_state.specs.Table.{Table}
 use Rattle.page_store.specs.BufferOf.{buffered}
 use Rattle.page_store.specs.laws.Buffering.{buffers_empty}
+use Rattle.transactions.specs.Checking.{log_of}
 use Rattle.transactions.specs.laws.Handing.{hands_nothing}
+use Rattle.flash_log.specs.laws.Mountable.{mountable_on}
 use Rattle.page_store.specs.Buffered.{BufferedLog, held, in_parts}
 use Rattle.page_store.specs.Committing.{StaysOpen}
 use Rattle.page_store.proofs.Costing.{costs_more, costs_none}
 use Rattle.page_store.proofs.Staying.{stays_recounted}
+use Rattle.page_store.proofs.Findable.{finds_kept, mountable_empty}
 use Rattle.page_store.proofs.GroupCounts.{ListsAreWhole}
 use Rattle.page_store.proofs.Settling.{bad_empty, carries_empty, free_empty, hands_counted, kept_before, kept_empty, ready_counted, stands_empty}
 use Rattle.page_store.proofs.Turning.{carries_either, keeps_or_shows, shown_kept, whole_committed}
@@ -35,6 +38,8 @@ invariant_of-log g c =
       ready = ready_counted d t v _ _ settled.counts c.args.log.now.ready;
       stands = stands_empty c.args.log.now.spare lists w d t v a.index b.index a.pages none r.buffers c.args.log.now.ready c.args.log.now.stands r.free settles settled.agree settled.counts;
       room_size = c.args.log.now.room_size;
+      mountable = mountable_on c.args.log.now.origin.first (log_of d t) (log_of d v) a.index b.index (lasts_here d)
+          (mountable_empty lists w d t v a.index b.index a.pages none r.buffers settles c.args.log.now.stands.tables.counts settled.agree settled.counts) c.args.log.now.mountable;
     }
 
 pub returns-then-is_empty-clause-log : goal.returns-then-is_empty-clause-log
@@ -56,7 +61,14 @@ returns-then-is_empty-clause-log g c =
       ready = ready_counted d t v _ _ settled.counts c.args.log.now.ready;
       stands = stands_empty c.args.log.now.spare lists w d t v a.index b.index a.pages none r.buffers c.args.log.now.ready c.args.log.now.stands r.free settles settled.agree settled.counts;
       numbers = hands_counted d d t t v _ _ settled.counts (hands_nothing d t);
+      mountable = mountable_empty lists w d t v a.index b.index a.pages none r.buffers settles c.args.log.now.stands.tables.counts settled.agree settled.counts;
     }
+
+pub returns-then-is_empty-clause-newest : goal.returns-then-is_empty-clause-newest
+returns-then-is_empty-clause-newest g c = λ honest carried.
+    let log = c.args.log.now in
+    let d : Device = g.N.Nand.state log.device in
+    inl (record { carried = carried; found = λ was. finds_kept d log.index d.flash was.found })
 
 pub returns-then-is_empty-clause-pays : goal.returns-then-is_empty-clause-pays
 returns-then-is_empty-clause-pays g c =

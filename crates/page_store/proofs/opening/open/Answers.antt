@@ -1,7 +1,7 @@
 use Rattle.std.proofs.Common.{◌∙◌, inl, inr, IsTrue, subst, false}
 use Rattle.std.proofs.lemmas.Bool.{cases_Bool}
 use Rattle.block_state.specs.TableOf.{table}
-use Rattle.page_store.proofs.Tables.{have_names, noted_table, seqs_are, tells_read, greatest_read, opened}
+use Rattle.page_store.proofs.Tables.{have_names, tells_read, greatest_read, opened, counted_unwritten}
 use Rattle.page_store.proofs.opening.open.Goals as goal
 
 pub returns-then-not-have_names-clause-fault : goal.returns-then-not-have_names-clause-fault
@@ -25,7 +25,8 @@ returns-clause-opened g c =
     (tells_read old new _ reads c.in_ok-newest.ensures.newest)
     (greatest_read old new _ reads c.in_ok-newest.ensures.numbers)
     (c.have_names.ensures.0 c.if-not-have_names.false)
-    (noted_table new _ _ _ c.note_seqs.ensures.only c.in_ok-blocks.ensures.table)
-    (seqs_are new _ _ (table c.in_ok-blocks.blocks) (table c.note_seqs.new.blocks) (tells_read old new _ reads c.in_ok-newest.ensures.newest) (greatest_read old new _ reads c.in_ok-newest.ensures.numbers) c.in_ok-blocks.ensures.table c.in_ok-blocks.ensures.seqs
-    c.note_seqs.ensures.notes)
+    c.in_ok-blocks.ensures.table
     c.in_ok-index.ensures.indexes c.in_ok-index.ensures.agree c.in_ok-index.ensures.counts
+
+pub returns-clause-unwritten : goal.returns-clause-unwritten
+returns-clause-unwritten g c = counted_unwritten _ _ (table c.in_ok-blocks.blocks) (table c.in_ok-index.blocks) c.in_ok-index.ensures.counts c.in_ok-blocks.ensures.unwritten

@@ -2,6 +2,9 @@ use Rattle.std.proofs.Common.{length, refl, ap, ◌∙◌, arith, inl, inr}
 use Rattle.std.proofs.lemmas.Result.{err_from_is_err_and}
 use Rattle.flash_tree.specs.laws.Truth.{none_after}
 use Rattle.nand_model.specs.declared.geometry.Geometry.{Geometry}
+use Rattle.block_state.specs.TableOf.{table}
+use Rattle.transactions.specs.Checking.{log_of}
+use Rattle.flash_log.specs.laws.Mountable.{mountable_on}
 use Rattle.flash_log.specs.laws.Room.{same_page}
 use Rattle.flash_log.specs.laws.Steps.{step_on}
 use Rattle.page_store.specs.Buffered.{BufferedLog, held, in_parts}
@@ -26,6 +29,8 @@ invariant_of-log g c =
         copies = omega (arith, log.room_size.copies, pages);
         scratch = same_page log.room.scratch.len c.write_buffered.new.scratch _ (omega arith) ∙ omega (arith, log.room_size.scratch, bytes);
       };
+      mountable = mountable_on log.origin.first (log_of (g.N.Nand.state log.device) (table log.blocks)) (log_of (g.N.Nand.state c.write_buffered.new.device) (table c.write_buffered.new.blocks)) log.index c.write_buffered.new.index
+          c.write_buffered.ensures.lasts c.write_buffered.ensures.mountable log.mountable;
     }
 
 pub returns-in_err-write_buffered-clause-leaves : goal.returns-in_err-write_buffered-clause-leaves

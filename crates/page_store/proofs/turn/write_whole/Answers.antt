@@ -14,7 +14,7 @@ use Rattle.page_store.proofs.turn.write_whole.Goals as goal
 
 pub loop-init : goal.loop-init
 loop-init g c = record {
-  spare = refl;
+  terms = record { spare = refl; first = refl };
   step = step_none c.args.log.now.spare (g.N.Nand.state c.args.log.now.device) (table c.args.log.now.blocks) c.args.log.now.index c.args.log.now.ready c.args.log.now.stands;
   buffers = c.requires.buffers;
   same = refl;
@@ -41,7 +41,7 @@ loop-preserved g c =
     let b : BufferedLog = held c.loop.log c.loop.buffer in
     let d : BufferedLog = held c.take_turn.new.log c.take_turn.new.buffer in
     let so_far = c.loop.invariant in
-    let again = rw c.loop.invariant.spare at (rw c.in-Again.is at c.in_ok-take_turn.ensures) in
+    let again = rw c.loop.invariant.terms.spare at (rw c.in-Again.is at c.in_ok-take_turn.ensures) in
     let waits = again.ends.0 in
     let failed = had_failure b.log d.log again.ends.2 again.pays.pays.marks in
     let size : b.log.device.geometry.pages ≡ a.log.device.geometry.pages = ap (λ (z : Geometry). z.pages) so_far.step.lasts.geometry in
@@ -49,7 +49,7 @@ loop-preserved g c =
     let turn : Costs 0 (3 * a.log.device.geometry.pages + 3) 0 b.log.device d.log.device =
     costs_again (b.log.device.geometry.pages + 1 + length b.pages) (b.log.device.geometry.pages + 2) (3 * a.log.device.geometry.pages + 3) b.log.device d.log.device (omega (arith, long, size)) failed again.pays.pays.costs in
     record {
-      spare = again.spare;
+      terms = record { spare = again.terms.spare; first = c.take_turn.ensures.terms.first ∙ so_far.terms.first };
       step = step_on c.args.log.now.spare a.log b.log d.log a.index b.index d.index so_far.step waits.step;
       buffers = again.leaves.buffers;
       same = waits.pages ∙ so_far.same;
@@ -69,7 +69,7 @@ returns-in_err-take_turn-clause-leaves g c =
     let b : BufferedLog = held c.loop.log c.loop.buffer in
     let d : BufferedLog = held c.take_turn.new.log c.take_turn.new.buffer in
     let so_far = c.loop.invariant in
-    leaves_on c.args.log.now.spare a b d c.args.log.now.stands so_far.step so_far.same (rw c.loop.invariant.spare at c.take_turn.ensures).leaves
+    leaves_on c.args.log.now.spare a b d c.args.log.now.stands so_far.step so_far.same (rw c.loop.invariant.terms.spare at c.take_turn.ensures).leaves
 
 pub returns-in-Written-clause-leaves : goal.returns-in-Written-clause-leaves
 returns-in-Written-clause-leaves g c =
@@ -77,7 +77,7 @@ returns-in-Written-clause-leaves g c =
     let b : BufferedLog = held c.loop.log c.loop.buffer in
     let d : BufferedLog = held c.take_turn.new.log c.take_turn.new.buffer in
     let so_far = c.loop.invariant in
-    leaves_on c.args.log.now.spare a b d c.args.log.now.stands so_far.step so_far.same (rw c.loop.invariant.spare at c.take_turn.ensures).leaves
+    leaves_on c.args.log.now.spare a b d c.args.log.now.stands so_far.step so_far.same (rw c.loop.invariant.terms.spare at c.take_turn.ensures).leaves
 
 pub returns-in-Written-clause-pays : goal.returns-in-Written-clause-pays
 returns-in-Written-clause-pays g c =
@@ -85,10 +85,10 @@ returns-in-Written-clause-pays g c =
     let b : BufferedLog = held c.loop.log c.loop.buffer in
     let d : BufferedLog = held c.take_turn.new.log c.take_turn.new.buffer in
     let so_far = c.loop.invariant in
-    let turn = (rw c.loop.invariant.spare at (rw c.in-Written.is at c.in_ok-take_turn.ensures)).pays in
+    let turn = (rw c.loop.invariant.terms.spare at (rw c.in-Written.is at c.in_ok-take_turn.ensures)).pays in
     let many = ap length so_far.same in
     let first = so_far.step.lasts in
-    let then = (rw c.loop.invariant.spare at c.take_turn.ensures).leaves.log.lasts in
+    let then = (rw c.loop.invariant.terms.spare at c.take_turn.ensures).leaves.log.lasts in
     record {
       costs = costs_last (length a.pages) (length b.pages) c.args.log.now.spare a.log b.log d.log many first then so_far.first so_far.costs turn.pays.costs;
       marks = let marks = turn.pays.marks in omega (arith, so_far.marks, marks);
@@ -104,10 +104,10 @@ returns-in_err-take_turn-clause-pays g c =
     let b : BufferedLog = held c.loop.log c.loop.buffer in
     let d : BufferedLog = held c.take_turn.new.log c.take_turn.new.buffer in
     let so_far = c.loop.invariant in
-    let turn = (rw c.loop.invariant.spare at c.in_err-take_turn.ensures).pays in
+    let turn = (rw c.loop.invariant.terms.spare at c.in_err-take_turn.ensures).pays in
     let many = ap length so_far.same in
     let first = so_far.step.lasts in
-    let then = (rw c.loop.invariant.spare at c.take_turn.ensures).leaves.log.lasts in
+    let then = (rw c.loop.invariant.terms.spare at c.take_turn.ensures).leaves.log.lasts in
     let p = err_from_is_err_and c.from_residual.result c.from_residual.ensures.1 in
     rw p.1 (record {
       costs = costs_last (length a.pages) (length b.pages) c.args.log.now.spare a.log b.log d.log many first then so_far.first so_far.costs turn.pays.costs;
@@ -124,7 +124,7 @@ returns-in-Written-clause-well g c =
     let b : BufferedLog = held c.loop.log c.loop.buffer in
     let d : BufferedLog = held c.take_turn.new.log c.take_turn.new.buffer in
     let so_far = c.loop.invariant in
-    well_written (length a.pages) (length b.pages) a.log b.log d.log (ap length so_far.same) so_far.step.lasts (rw c.loop.invariant.spare at c.take_turn.ensures).leaves.log.lasts so_far.first _ _ (rw c.loop.invariant.spare at (rw c.in-Written.is at c.in_ok-take_turn.ensures)).well
+    well_written (length a.pages) (length b.pages) a.log b.log d.log (ap length so_far.same) so_far.step.lasts (rw c.loop.invariant.terms.spare at c.take_turn.ensures).leaves.log.lasts so_far.first _ _ (rw c.loop.invariant.terms.spare at (rw c.in-Written.is at c.in_ok-take_turn.ensures)).well
 
 pub returns-in_err-take_turn-clause-well : goal.returns-in_err-take_turn-clause-well
 returns-in_err-take_turn-clause-well g c =
@@ -133,18 +133,18 @@ returns-in_err-take_turn-clause-well g c =
     let d : BufferedLog = held c.take_turn.new.log c.take_turn.new.buffer in
     let so_far = c.loop.invariant in
     let p = err_from_is_err_and c.from_residual.result c.from_residual.ensures.1 in
-    rw p.1 (well_short (length a.pages) (length b.pages) a.log b.log d.log (ap length so_far.same) so_far.step.lasts (rw c.loop.invariant.spare at c.take_turn.ensures).leaves.log.lasts so_far.first _ _ (rw c.loop.invariant.spare at c.in_err-take_turn.ensures).well)
+    rw p.1 (well_short (length a.pages) (length b.pages) a.log b.log d.log (ap length so_far.same) so_far.step.lasts (rw c.loop.invariant.terms.spare at c.take_turn.ensures).leaves.log.lasts so_far.first _ _ (rw c.loop.invariant.terms.spare at c.in_err-take_turn.ensures).well)
 
 pub returns-in-Written-clause-sizes : goal.returns-in-Written-clause-sizes
 returns-in-Written-clause-sizes g c =
     let so_far = c.loop.invariant in
-    let turn = (rw c.loop.invariant.spare at c.take_turn.ensures).sizes in
+    let turn = (rw c.loop.invariant.terms.spare at c.take_turn.ensures).sizes in
     record { most = turn.most ∙ so_far.sizes.most; bytes = turn.bytes ∙ so_far.sizes.bytes }
 
 pub returns-in_err-take_turn-clause-sizes : goal.returns-in_err-take_turn-clause-sizes
 returns-in_err-take_turn-clause-sizes g c =
     let so_far = c.loop.invariant in
-    let turn = (rw c.loop.invariant.spare at c.take_turn.ensures).sizes in
+    let turn = (rw c.loop.invariant.terms.spare at c.take_turn.ensures).sizes in
     record { most = turn.most ∙ so_far.sizes.most; bytes = turn.bytes ∙ so_far.sizes.bytes }
 
 pub returns-in-Written-clause-ends : goal.returns-in-Written-clause-ends
@@ -153,7 +153,7 @@ returns-in-Written-clause-ends g c =
     let b : BufferedLog = held c.loop.log c.loop.buffer in
     let d : BufferedLog = held c.take_turn.new.log c.take_turn.new.buffer in
     let so_far = c.loop.invariant in
-    let done = (rw c.loop.invariant.spare at (rw c.in-Written.is at c.in_ok-take_turn.ensures)).ends in
+    let done = (rw c.loop.invariant.terms.spare at (rw c.in-Written.is at c.in_ok-take_turn.ensures)).ends in
     (whole_after c.args.log.now.spare a b d c.args.log.now.stands so_far.step so_far.same done.0, done.1, answered_after c.args.log.now.spare a b d so_far.step done.2)
 
 pub returns-in_err-take_turn-clause-ends : goal.returns-in_err-take_turn-clause-ends
@@ -165,4 +165,4 @@ returns-in_err-take_turn-clause-ends g c =
     let p = err_from_is_err_and c.from_residual.result c.from_residual.ensures.1 in
     let fault = c.in_err-take_turn.field-0.0 in
     rw (p.1, p.2) (why_before (length a.pages) c.args.log.now.spare d.log.device a.log.table b.log.table d.log.table fault so_far.step.geometry so_far.step.kept_count so_far.few
-    (subst (λ n. WhyNoRoom n c.args.log.now.spare d.log.device b.log.table d.log.table fault) (ap length so_far.same) (rw c.loop.invariant.spare at c.in_err-take_turn.ensures).ends))
+    (subst (λ n. WhyNoRoom n c.args.log.now.spare d.log.device b.log.table d.log.table fault) (ap length so_far.same) (rw c.loop.invariant.terms.spare at c.in_err-take_turn.ensures).ends))

@@ -4,7 +4,7 @@ use Rattle.block_state.specs.TableOf.{table}
 use Rattle.page_store.specs.BufferOf.{buffered}
 use Rattle.page_store.specs.Buffering.{Buffers}
 use Rattle.nand_model.specs.Counts.{Costs, ReadsFew}
-use Rattle.flash_log.specs.LogOf.{log_state}
+use Rattle.flash_log.specs.LogOf.{SameTerms, log_state, terms_of}
 use Rattle.flash_log.specs.Moving.{AnswersFailures, MarksFailures}
 use Rattle.flash_log.specs.Standing.{HasFreeBlocks}
 use Rattle.flash_log.specs.Steps.{Step}
@@ -13,7 +13,7 @@ use Rattle.page_store.proofs.turn.write_whole.Given as goal
 
 abbrev pub invariant-loop : goal.invariant-loop
 invariant-loop g l = record {
-  spare : l.log.spare ≡ l.fn.log.spare;
+  terms : SameTerms (terms_of l.fn.log) (terms_of l.log);
   step : Step l.fn.log.spare (log_state l.fn.log) (log_state l.log) l.fn.log.index l.log.index;
   buffers : Buffers l.log.index (buffered l.buffer);
   same : buffered l.buffer ≡ buffered l.fn.buffer;

@@ -13,7 +13,7 @@ use Rattle.page_store.specs.Caching.{LacksPages}
 use Rattle.page_store.specs.StoreState.{StoreState, current_in, waiting}
 use Rattle.page_store.specs.StateOf.{state_of}
 use Rattle.page_store.specs.Buffering.{AreReady}
-use Rattle.page_store.proofs.Carried.{store_carries}
+use Rattle.page_store.proofs.Carried.{store_finds}
 use Rattle.page_store.proofs.Changed.{broken_ends, broken_made, carried_made, commits_none, commits_not, commits_not_after, committed_made, current_before, lasts_made, lasts_prepared, lasts_still, open_made, pays_done, pays_failed, pays_here, pays_made, refused_made, same_here, whole_made}
 use Rattle.page_store.proofs.Steps.{fits_on, ready_prepared, few_new}
 use Rattle.page_store.proofs.store.Store.change.Goals as goal
@@ -44,7 +44,7 @@ returns-in_err-prepare-clause-carried g c =
     let p = c.prepare.new.self in
     let b : StoreState = state_of p in
     carried_made (state_of c.args.self.now) b b b c.prepare.ensures.same (same_here b)
-    (λ whole honest. inl (store_carries p.log.spare b.log.device b.log.table p.log.index c.the_counts_are_of_the_keys.ensures.none p.log.ready p.log.stands.tables (p.newest whole honest)))
+    (λ whole honest. inl (store_finds p.log.spare b.log.device b.log.table p.log.index c.the_counts_are_of_the_keys.ensures.none p.log.ready p.log.stands.tables (p.newest whole honest)))
 
 pub returns-in_err-prepare-clause-ends : goal.returns-in_err-prepare-clause-ends
 returns-in_err-prepare-clause-ends g c =

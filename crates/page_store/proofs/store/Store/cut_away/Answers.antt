@@ -5,13 +5,14 @@ use Rattle.page_store.specs.Shown.{present_data}
 use Rattle.pages.specs.declared.change.Cut.{Cut}
 use Rattle.page_store.specs.declared.store.Found.TheVariants as places
 use Rattle.page_store.proofs.Carried.{newest_kept}
+use Rattle.page_store.proofs.Findable.{mountable_kept_since}
 use Rattle.page_store.proofs.Steps.{stands_kept, known_cut, objects_cut, shown_cut}
 use Rattle.page_store.proofs.store.Store.cut_away.Goals as goal
 
 pub invariant_of-self : goal.invariant_of-self
 invariant_of-self g c =
     let log = c.args.self.now.log in
-    (log.ready, (stands_kept log.index c.cut_all.new.index c.cut_all.ensures.kept _ _ _ log.stands, (log.room_size, tt)))
+    (log.ready, (stands_kept log.index c.cut_all.new.index c.cut_all.ensures.kept _ _ _ log.stands, (log.room_size, (mountable_kept_since _ _ log.index c.cut_all.new.index c.cut_all.ensures.kept log.mountable, tt))))
 
 pub invariant_of-self-2 : goal.invariant_of-self-2
 invariant_of-self-2 g c =

@@ -8,6 +8,7 @@ use Rattle.page_store.specs.BufferOf.{buffered}
 use Rattle.page_store.specs.StoreState.{StoreState}
 use Rattle.page_store.specs.StateOf.{state_of}
 use Rattle.page_store.specs.declared.store.Found.TheVariants as places
+use Rattle.page_store.proofs.Findable.{mountable_read_since}
 use Rattle.page_store.proofs.Steps.{numbered_on}
 use Rattle.page_store.proofs.ReadOnly.{lies, stands_read, newest_read, shown_read, load_fails}
 use Rattle.page_store.proofs.store.Store.find_kept.Goals as goal
@@ -16,7 +17,7 @@ pub invariant_of-self : goal.invariant_of-self
 invariant_of-self g c =
     let log = c.args.self.now.log in
     let reads = c.load_kept.ensures.reads in
-    (ready_read _ _ _ log.ready reads, (stands_read _ _ _ _ log.index reads log.stands, (subst (λ (k : Geometry). IsRoomFor k log.room) (sym reads.lasts.geometry) log.room_size, tt)))
+    (ready_read _ _ _ log.ready reads, (stands_read _ _ _ _ log.index reads log.stands, (subst (λ (k : Geometry). IsRoomFor k log.room) (sym reads.lasts.geometry) log.room_size, (mountable_read_since _ _ _ _ log.index reads log.mountable, tt))))
 
 pub invariant_of-self-in-Ok : goal.invariant_of-self-in-Ok
 invariant_of-self-in-Ok g c =

@@ -8,6 +8,7 @@ use Rattle.page_store.specs.Slots.{Held}
 use Rattle.page_store.specs.Caching.{LacksCuts, LacksPages, KeepsUncut}
 use Rattle.page_store.specs.declared.store.Found.TheVariants as places
 use Rattle.page_store.proofs.Carried.{newest_kept}
+use Rattle.page_store.proofs.Findable.{mountable_kept_since}
 use Rattle.page_store.proofs.Shown.{lacks_on}
 use Rattle.page_store.proofs.Steps.{stands_kept, known_changed, objects_changed, shown_changed}
 use Rattle.page_store.proofs.store.Store.make.Goals as goal
@@ -15,7 +16,7 @@ use Rattle.page_store.proofs.store.Store.make.Goals as goal
 pub invariant_of-self : goal.invariant_of-self
 invariant_of-self g c =
     let log = c.args.self.now.log in
-    (log.ready, (stands_kept log.index c.apply.new.index c.apply.ensures.kept _ _ _ log.stands, (log.room_size, tt)))
+    (log.ready, (stands_kept log.index c.apply.new.index c.apply.ensures.kept _ _ _ log.stands, (log.room_size, (mountable_kept_since _ _ log.index c.apply.new.index c.apply.ensures.kept log.mountable, tt))))
 
 pub invariant_of-self-2 : goal.invariant_of-self-2
 invariant_of-self-2 g c =

@@ -5,7 +5,7 @@ use Rattle.page_store.specs.BufferOf.{buffered}
 use Rattle.block_state.specs.TableOf.{table}
 use Rattle.page_store.specs.StoreState.{StoreState, waiting}
 use Rattle.page_store.specs.StateOf.{state_of}
-use Rattle.page_store.proofs.Carried.{store_carries}
+use Rattle.page_store.proofs.Carried.{store_finds}
 use Rattle.page_store.proofs.Changed.{lasts_still, pays_commit, pays_done, pays_failed, pays_here}
 use Rattle.page_store.proofs.Steps.{room_after}
 use Rattle.page_store.proofs.store.Store.make_room.Goals as goal
@@ -19,7 +19,7 @@ returns-then-has_room-clause-pays g c = let old : StoreState = state_of c.args.s
 pub returns-then-has_room-clause-carried : goal.returns-then-has_room-clause-carried
 returns-then-has_room-clause-carried g c = λ whole honest.
     let self = c.args.self.now in
-    inl (store_carries self.log.spare (g.N.Nand.state self.log.device) (table self.log.blocks) self.log.index c.the_counts_are_of_the_keys.ensures.none self.log.ready self.log.stands.tables (self.newest whole honest))
+    inl (store_finds self.log.spare (g.N.Nand.state self.log.device) (table self.log.blocks) self.log.index c.the_counts_are_of_the_keys.ensures.none self.log.ready self.log.stands.tables (self.newest whole honest))
 
 pub returns-then-has_room-clause-enough : goal.returns-then-has_room-clause-enough
 returns-then-has_room-clause-enough g c = λ _. record { log = refl; index = refl; commits = refl }

@@ -2,13 +2,14 @@ use Rattle.std.proofs.Common.{◌∙◌}
 use Rattle.page_store.specs.BufferOf.{buffered}
 use Rattle.page_store.specs.laws.Buffering.{buffers_same}
 use Rattle.page_store.proofs.Carried.{newest_kept}
+use Rattle.page_store.proofs.Findable.{mountable_kept_since}
 use Rattle.page_store.proofs.Steps.{stands_kept, shown_same}
 use Rattle.page_store.proofs.store.Store.prepare.Goals as goal
 
 pub invariant_of-self : goal.invariant_of-self
 invariant_of-self g c =
     let log = c.args.self.now.log in
-    (log.ready, (stands_kept log.index c.prepare_all.new.index c.prepare_all.ensures.kept _ _ _ log.stands, (log.room_size, tt)))
+    (log.ready, (stands_kept log.index c.prepare_all.new.index c.prepare_all.ensures.kept _ _ _ log.stands, (log.room_size, (mountable_kept_since _ _ log.index c.prepare_all.new.index c.prepare_all.ensures.kept log.mountable, tt))))
 
 pub invariant_of-self-in-Ok : goal.invariant_of-self-in-Ok
 invariant_of-self-in-Ok g c =

@@ -14,11 +14,11 @@ use Rattle.page_store.specs.Shown.{kept_data, present_data}
 use Rattle.page_store.specs.Refreshing.{IsRefreshFault}
 use Rattle.page_store.specs.StateOf.{state_of}
 use Rattle.page_store.specs.StoreState.{StoreState}
-use Rattle.page_store.proofs.Carried.{carried_known, kept_is_carried}
+use Rattle.page_store.proofs.Carried.{found_known, store_finds}
 use Rattle.flash_log.specs.laws.Steps.{step_none}
 use Rattle.page_store.proofs.Changed.{lasts_still}
 use Rattle.page_store.proofs.Following.{buffers_moved}
-use Rattle.page_store.proofs.Refreshed.{carried_moved, current_refreshed, kept_now, kept_refreshed, leaves_known, leaves_none, leaves_refreshed, none_outside, pays_refresh, pays_refreshed, power_now, refresh_fails}
+use Rattle.page_store.proofs.Refreshed.{current_refreshed, found_moved, kept_now, kept_refreshed, leaves_known, leaves_none, leaves_refreshed, none_outside, pays_refresh, pays_refreshed, power_now, refresh_fails}
 use Rattle.page_store.proofs.Steps.{known_on, numbered_on}
 use Rattle.page_store.proofs.store.Store.refresh_block.Goals as goal
 
@@ -29,7 +29,7 @@ pub returns-in-Ok-clause-keeps : goal.returns-in-Ok-clause-keeps
 returns-in-Ok-clause-keeps g c =
     let r = c.in-Ok.ensures in
     record {
-      lasts = record { device = r.step.lasts; numbers = r.step.numbers; spare = r.spare; counts = record { refused = omega arith; commits = omega arith } };
+      lasts = record { device = r.step.lasts; numbers = r.step.numbers; spare = r.terms.spare; counts = record { refused = omega arith; commits = omega arith } };
       buffer = refl;
       cache = refl;
       counts = refl;
@@ -47,8 +47,8 @@ returns-in-Ok-clause-carried g c = λ whole honest.
     let self = c.args.self.now in
     let d : Device = g.N.Nand.state self.log.device in
     let e : Device = g.N.Nand.state c.refresh.new.self.device in
-    carried_known d.honest e self.log.spare (kept_data self.log.index d.flash)
-    (carried_moved self.log.spare d e (table self.log.blocks) (table c.refresh.new.self.blocks) self.log.index c.refresh.new.self.index c.in-Ok.ensures.step self.log.ready self.log.stands
+    found_known (log_of d (table self.log.blocks)) self.log.index d.honest e self.log.spare (kept_data self.log.index d.flash)
+    (found_moved self.log.spare d e (table self.log.blocks) (table c.refresh.new.self.blocks) self.log.index c.refresh.new.self.index c.in-Ok.ensures.step self.log.ready self.log.stands
     c.the_counts_are_of_the_keys.ensures.none honest (self.newest whole honest))
 
 pub returns-in-Ok-clause-nothing : goal.returns-in-Ok-clause-nothing
@@ -86,7 +86,7 @@ pub returns-in-Err-clause-keeps : goal.returns-in-Err-clause-keeps
 returns-in-Err-clause-keeps g c =
     let r = c.in-Err.ensures in
     record {
-      lasts = record { device = r.step.lasts; numbers = r.step.numbers; spare = r.spare; counts = record { refused = omega arith; commits = omega arith } };
+      lasts = record { device = r.step.lasts; numbers = r.step.numbers; spare = r.terms.spare; counts = record { refused = omega arith; commits = omega arith } };
       buffer = refl;
       cache = refl;
       counts = refl;
@@ -104,8 +104,8 @@ returns-in-Err-clause-carried g c = λ whole honest.
     let self = c.args.self.now in
     let d : Device = g.N.Nand.state self.log.device in
     let e : Device = g.N.Nand.state c.refresh.new.self.device in
-    carried_known d.honest e self.log.spare (kept_data self.log.index d.flash)
-    (carried_moved self.log.spare d e (table self.log.blocks) (table c.refresh.new.self.blocks) self.log.index c.refresh.new.self.index c.in-Err.ensures.step self.log.ready self.log.stands
+    found_known (log_of d (table self.log.blocks)) self.log.index d.honest e self.log.spare (kept_data self.log.index d.flash)
+    (found_moved self.log.spare d e (table self.log.blocks) (table c.refresh.new.self.blocks) self.log.index c.refresh.new.self.index c.in-Err.ensures.step self.log.ready self.log.stands
     c.the_counts_are_of_the_keys.ensures.none honest (self.newest whole honest))
 
 pub returns-in-Err-clause-nothing : goal.returns-in-Err-clause-nothing
@@ -133,8 +133,7 @@ pub returns-then-block-blocks-clause-carried : goal.returns-then-block-blocks-cl
 returns-then-block-blocks-clause-carried g c = λ whole honest.
     let self = c.args.self.now in
     let d : Device = g.N.Nand.state self.log.device in
-    carried_known d.honest d self.log.spare (kept_data self.log.index d.flash)
-    (kept_is_carried self.log.spare d (table self.log.blocks) self.log.index c.the_counts_are_of_the_keys.ensures.none self.log.ready self.log.stands.tables (self.newest whole honest))
+    store_finds self.log.spare d (table self.log.blocks) self.log.index c.the_counts_are_of_the_keys.ensures.none self.log.ready self.log.stands.tables (self.newest whole honest)
 
 pub returns-then-block-blocks-clause-ends : goal.returns-then-block-blocks-clause-ends
 returns-then-block-blocks-clause-ends g c =
@@ -175,8 +174,8 @@ invariant_of-self g c =
       buffer_size = self.buffer_size ∙ sym bytes;
       cache_size = self.cache_size ∙ sym bytes;
       place = self.place;
-      few = λ whole. subst (λ s. bad_count u ≤ s) (sym r.spare) r.ends.few;
-      free = λ whole. subst (HasFreeBlocks u) (sym r.spare) (r.ends.free (self.free whole));
+      few = λ whole. subst (λ s. bad_count u ≤ s) (sym r.terms.spare) r.ends.few;
+      free = λ whole. subst (HasFreeBlocks u) (sym r.terms.spare) (r.ends.free (self.free whole));
       newest = λ whole honest. now whole (sym r.step.lasts.honest ∙ honest);
       shown = λ whole honest.
           let before = sym r.step.lasts.honest ∙ honest in

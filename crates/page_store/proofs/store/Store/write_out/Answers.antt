@@ -41,8 +41,8 @@ invariant_of-self g c =
       buffer_size = k.buffer_sizes.1 ∙ w.sizes.bytes ∙ self.buffer_size ∙ sym bytes;
       cache_size = k.sizes.page_bytes ∙ self.cache_size ∙ sym bytes;
       place = λ i is. absurd (let two : places.Nowhere ≡ places.Buffered i = is in cc);
-      few = λ _. subst (λ s. bad_count (table c.commit.new.log.blocks) ≤ s) (sym w.spare) done.few;
-      free = λ _. subst (HasFreeBlocks (table c.commit.new.log.blocks)) (sym w.spare) done.free;
+      few = λ _. subst (λ s. bad_count (table c.commit.new.log.blocks) ≤ s) (sym w.terms.spare) done.few;
+      free = λ _. subst (HasFreeBlocks (table c.commit.new.log.blocks)) (sym w.terms.spare) done.free;
       newest = λ whole honest.
           let before = sym w.log.lasts.honest ∙ honest in
           newest_committed (buffered self.buffer) old new self.log.index y (λ none. (w.nothing none).device) (λ none. (w.nothing none).kept) (self.newest whole before) done.power (w.log.stands.newest honest);
@@ -60,7 +60,7 @@ returns-in-Err-clause-carried g c = λ whole honest.
     let self = c.args.self.now in
     let d = g.N.Nand.state self.log.device in
     let carried = kept_is_carried self.log.spare d (table self.log.blocks) self.log.index c.the_counts_are_of_the_keys.ensures.none self.log.ready self.log.stands.tables (self.newest whole honest) in
-    either_known d.honest (g.N.Nand.state c.commit.new.log.device) self.log.spare (kept_data self.log.index d.flash) (present_data self.log.index (buffered self.buffer) d.flash) (c.commit.ensures.newest honest carried)
+    either_known (log_of d (table self.log.blocks)) self.log.index d.honest (g.N.Nand.state c.commit.new.log.device) self.log.spare (kept_data self.log.index d.flash) (present_data self.log.index (buffered self.buffer) d.flash) (c.commit.ensures.newest honest carried)
 
 pub commit-requires-clause-few : goal.commit-requires-clause-few
 commit-requires-clause-few g c = c.args.self.now.few c.if-self.false
@@ -86,7 +86,7 @@ returns-in-Ok-clause-carried g c = λ whole honest.
     let self = c.args.self.now in
     let d = g.N.Nand.state self.log.device in
     let carried = kept_is_carried self.log.spare d (table self.log.blocks) self.log.index c.the_counts_are_of_the_keys.ensures.none self.log.ready self.log.stands.tables (self.newest whole honest) in
-    either_known d.honest (g.N.Nand.state c.commit.new.log.device) self.log.spare (kept_data self.log.index d.flash) (present_data self.log.index (buffered self.buffer) d.flash) (c.commit.ensures.newest honest carried)
+    either_known (log_of d (table self.log.blocks)) self.log.index d.honest (g.N.Nand.state c.commit.new.log.device) self.log.spare (kept_data self.log.index d.flash) (present_data self.log.index (buffered self.buffer) d.flash) (c.commit.ensures.newest honest carried)
 
 pub returns-then-self-clause-keeps : goal.returns-then-self-clause-keeps
 returns-then-self-clause-keeps g c = record { lasts = lasts_still (state_of c.args.self.now); counts = record { refused = refl; commits = omega arith; none = λ _. refl }; keys = λ _ _ is. is; cache = λ _ _ is. is }

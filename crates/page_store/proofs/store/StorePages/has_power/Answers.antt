@@ -3,6 +3,7 @@ use Rattle.nand_model.specs.declared.geometry.Geometry.{Geometry}
 use Rattle.transactions.specs.laws.Ready.{ready_read}
 use Rattle.flash_log.specs.Room.{IsRoomFor}
 use Rattle.page_store.specs.BufferOf.{buffered}
+use Rattle.page_store.proofs.Findable.{mountable_read_since}
 use Rattle.page_store.proofs.Steps.{numbered_on}
 use Rattle.page_store.proofs.ReadOnly.{stands_read, newest_read, still_shown}
 use Rattle.page_store.proofs.store.StorePages.has_power.Goals as goal
@@ -13,7 +14,7 @@ invariant_of-self g c =
     let log = self.log in
     let reads = c.has_power.ensures.reads in
     let bytes = ap (λ (k : Geometry). k.bytes) reads.lasts.geometry in (
-      (ready_read _ _ _ log.ready reads, (stands_read _ _ _ _ log.index reads log.stands, (subst (λ (k : Geometry). IsRoomFor k log.room) (sym reads.lasts.geometry) log.room_size, tt))),
+      (ready_read _ _ _ log.ready reads, (stands_read _ _ _ _ log.index reads log.stands, (subst (λ (k : Geometry). IsRoomFor k log.room) (sym reads.lasts.geometry) log.room_size, (mountable_read_since _ _ _ _ log.index reads log.mountable, tt)))),
       (
         self.buffers,
         (

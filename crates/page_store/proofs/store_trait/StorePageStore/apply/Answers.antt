@@ -8,7 +8,7 @@ use Rattle.pages.specs.Stores.{AreNear, IsCarried}
 use Rattle.page_store.specs.StoreOf.{next_numbers}
 use Rattle.page_store.specs.StoreState.{committed_in, current_in, seen_of, StoreState}
 use Rattle.page_store.specs.StateOf.{lent_by, state_of}
-use Rattle.page_store.proofs.Carried.{has_page, store_carries}
+use Rattle.page_store.proofs.Carried.{either_carried, has_page, store_carries}
 use Rattle.page_store.proofs.Steps.{few_new}
 use Rattle.page_store.specs.laws.Sound.{sound_whole}
 use Rattle.page_store.proofs.ReadOnly.{near_buffered, sound_honest}
@@ -70,7 +70,7 @@ returns-clause-kept g c = λ sound.
     (when_changed change r a b e.ends (λ is. is.committed)) (stops_told r b.log.device.honest b.broken (stops_changed change r a b e.ends))
     (λ none. let is = unchanged change r a b e.ends none in (is_sound b.log.device.honest b.broken (e.lasts.device.honest ∙ honest) (is.broken ∙ whole), is.committed)))
     (λ is. store_carries b.spare b.log.device b.log.table b.index c.the_counts_are_of_the_keys.ensures.none new.log.ready new.log.stands.tables (new.newest (sound_whole b.log.device.honest b.broken is) (sound_honest b.log.device.honest b.broken is)))
-    (subst (λ k. IsCarried b.log.device k m ⊎ IsCarried b.log.device k n) (sym e.lasts.spare) (e.carried whole honest))
+    (subst (λ k. IsCarried b.log.device k m ⊎ IsCarried b.log.device k n) (sym e.lasts.spare) (either_carried a.log a.index b.log.device a.spare m n (e.carried whole honest)))
 
 pub returns-clause-refused : goal.returns-clause-refused
 returns-clause-refused g c = λ none.

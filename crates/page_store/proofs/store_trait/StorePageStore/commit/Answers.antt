@@ -6,7 +6,7 @@ use Rattle.page_store.specs.BufferOf.{buffered, most_pages}
 use Rattle.pages.specs.Stores.{IsCarried, SamePages}
 use Rattle.page_store.specs.StoreState.{committed_in, current_in, seen_of, StoreState}
 use Rattle.page_store.specs.StateOf.{lent_by, state_of}
-use Rattle.page_store.proofs.Carried.{has_page, store_carries}
+use Rattle.page_store.proofs.Carried.{either_carried, has_page, store_carries}
 use Rattle.page_store.specs.laws.Sound.{sound_whole}
 use Rattle.page_store.proofs.ReadOnly.{sound_honest}
 use Rattle.page_store.proofs.Told.{both_whole, commit_told, none_buffered, committed, failed_stays, hands_told, keeps_either, limits_told, marks_told, sound_on, sound_stays, stays_broken, stopped, stops_either, stops_told, stops_written, takes_none, ways, when_written}
@@ -64,7 +64,7 @@ returns-clause-kept g c = λ sound.
     (when_written {A = SamePages q.kept m ⊎ SamePages q.kept n} r a b e.ends (λ is. inr is.committed))
     (stops_told r b.log.device.honest b.broken (stops_either r b.broken (stops_written r a b e.ends))) (λ none. absurd (takes_none r a b e.ends none)))
     (λ is. store_carries b.spare b.log.device b.log.table b.index c.the_counts_are_of_the_keys.ensures.none new.log.ready new.log.stands.tables (new.newest (sound_whole b.log.device.honest b.broken is) (sound_honest b.log.device.honest b.broken is)))
-    (subst (λ k. IsCarried b.log.device k m ⊎ IsCarried b.log.device k n) (sym e.keeps.lasts.spare) (e.carried whole honest))
+    (subst (λ k. IsCarried b.log.device k m ⊎ IsCarried b.log.device k n) (sym e.keeps.lasts.spare) (either_carried a.log a.index b.log.device a.spare m n (e.carried whole honest)))
 
 pub returns-clause-committed : goal.returns-clause-committed
 returns-clause-committed g c = λ sound.

@@ -49,7 +49,7 @@ returns g c =
           let honest = sound_honest a.log.device.honest a.broken sound in
           let whole = sound_whole a.log.device.honest a.broken sound in
           record {
-            kept = kept_seen r block a b (lent_by new) e.ends (subst (λ k. IsCarried b.log.device k (committed_in a)) (sym lasts.spare) (e.carried whole honest));
+            kept = kept_seen r block a b (lent_by new) e.ends (subst (λ k. IsCarried b.log.device k (committed_in a)) (sym lasts.spare) (e.carried whole honest).carried);
             done = refreshed_seen r block a b (lent_by self) (lent_by new) lasts.device honest e.ends;
             cause = refresh_told r block a b (lent_by new) lasts.spare new.log.ready whole e.ends;
             idle = λ none. e.nothing (none_held block a (lent_by self) honest (self.newest whole honest) none);

@@ -1,7 +1,7 @@
 //! What a search finds.
 
 use crate::laid::{Laid, checkpoint, empty, entry, write};
-use mount_scan::{ScanFault, find_checkpoint};
+use mount_scan::{FirstPage, ScanFault, find_checkpoint};
 use nand_model::{MemNand, Nand};
 use std::alloc::Global;
 use std::process::Abort;
@@ -23,7 +23,16 @@ fn a_whole_checkpoint_is_found(rt: HostRuntime) {
     nand.power_up();
     let search = find_checkpoint(rt.alloc(), &mut nand).expect(&rt, "a search");
     assert_eq!(rt; nand.calls(), 10);
-    assert!(rt; search.seqs.as_slice() == &[0, 0, 0, 5, 0, 0, 0, 0][..]);
+    for block in 0..8usize {
+        let first = match block {
+            3 => FirstPage::Tagged { seq: 5 },
+            _ => FirstPage::Erased,
+        };
+        assert!(rt;
+            search.firsts.pages.get(block) == Some(&first),
+            "block {block}"
+        );
+    }
     let found = search.checkpoint.expect(&rt, "a checkpoint");
     assert_eq!(rt;
         (found.block, found.size, found.number, found.seq),

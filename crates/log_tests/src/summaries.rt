@@ -1,12 +1,14 @@
-//! A scan by a block summary that is put together by hand.
+//! A block summary that is put together by hand: a scan by it, and the same page as it is written.
 
 use crate::laid::{Laid, empty, write};
 use crate::same::assert_same;
 use crate::scans::pages_of;
+use crate::volumes::Volume;
 use crate::worked::tag;
-use flash_tree::{CHECK_OBJECT, TagNumbers};
-use mount_scan::{NewestScan, PageCopy, ScanFault, scan_newest, scan_summaries};
-use nand_model::MemNand;
+use flash_tree::{CHECK_OBJECT, FreshPage, Key, TagNumbers};
+use mount_scan::{NewestScan, PageCopy, ScanFault, find_checkpoint, scan_newest, scan_summaries};
+use nand_model::{MemNand, Nand, PageKind};
+use page_tags::CheckEntry;
 use std::alloc::Global;
 use std::process::Abort;
 
@@ -103,11 +105,21 @@ fn found_all(rt: &impl Abort, alloc: Global, found: &NewestScan, what: &str) {
     assert_same!(rt; found.numbers, numbers, what);
 }
 
-/// How many pages a scan by summaries reads of the flash on which block 5 begins with this page. It finds what a scan of all tags does.
+/// What is found by the first pages and the summaries of blocks.
+fn scan_by(alloc: Global, nand: &mut MemNand) -> Result<NewestScan, ScanFault> {
+    let search = find_checkpoint(alloc, nand)?;
+    scan_summaries(alloc, nand, &search.firsts)
+}
+
+/// How many pages a scan by summaries reads of the flash on which block 5 begins with this page.
 fn reads_of(rt: &impl Abort, alloc: Global, page: [u8; 512], what: &str) -> u64 {
-    let mut nand = flash(rt, alloc, page);
+    reads_on(rt, alloc, flash(rt, alloc, page), what)
+}
+
+/// How many pages a scan by summaries reads of a flash. It finds what a scan of all tags does.
+fn reads_on(rt: &impl Abort, alloc: Global, mut nand: MemNand, what: &str) -> u64 {
     let before = nand.calls();
-    let found = scan_summaries(alloc, &mut nand).expect(rt, "a scan");
+    let found = scan_by(alloc, &mut nand).expect(rt, "a scan");
     let reads = nand.calls().saturating_sub(before);
     found_all(rt, alloc, &found, what);
     let all = scan_newest(alloc, &mut nand).expect(rt, "a scan");
@@ -137,8 +149,60 @@ fn a_cut_scan_reports_gone_and_changes_nothing(rt: HostRuntime) {
     let alloc = rt.alloc();
     for call in 0..73u64 {
         let mut cut = flash(&rt, alloc, summary()).with_fuse(call + 1, Vec::new(alloc));
-        let fault = scan_summaries(alloc, &mut cut).err();
+        let fault = scan_by(alloc, &mut cut).err();
         assert_same!(rt; fault, Some(ScanFault::Gone), call);
         assert_same!(rt; cut.changes(), 0, call);
     }
+}
+
+/// Entry k of the summary: of chunk k of object 1.
+fn entry(k: u32) -> CheckEntry {
+    CheckEntry {
+        object: 1,
+        chunk: u64::from(k),
+        version: 1 + u64::from(k),
+        block: 2,
+        page: k,
+    }
+}
+
+/// Commits a page of a chunk of object 1, all bytes the same.
+fn commit(rt: &impl Abort, alloc: Global, volume: &mut Volume, chunk: u64, fill: u8) {
+    let page = FreshPage {
+        key: Key { object: 1, chunk },
+        bytes: vec![in alloc; fill; 512].expect(rt, "memory"),
+    };
+    let pages = vec![in alloc; page].expect(rt, "memory");
+    volume.commit(rt, &pages).expect(rt, "a commit");
+}
+
+/// The flash of the summary, written by groups.
+fn written(rt: &impl Abort, alloc: Global) -> MemNand {
+    let mut volume = Volume::new(rt, alloc);
+    volume.take(rt, 2).expect(rt, "a block");
+    commit(rt, alloc, &mut volume, 0, 7);
+    commit(rt, alloc, &mut volume, 1, 8);
+    volume.take(rt, 5).expect(rt, "a block");
+    let entries = [entry(0), entry(1)];
+    volume.summarize(rt, 2, 1, &entries).expect(rt, "a summary");
+    commit(rt, alloc, &mut volume, 0, 9);
+    let mut nand = volume.into_nand();
+    nand.power_up();
+    nand
+}
+
+/// The page that was put together by hand, with its tag; and a scan reads as few pages.
+#[test]
+fn a_summary_is_written_as_it_is_read(rt: HostRuntime) {
+    let mut nand = written(&rt, rt.alloc());
+    let geometry = nand.geometry();
+    assert!(rt; geometry.blocks() == 8 && geometry.pages() == 32 && geometry.bytes() == 512);
+    let (mut page, mut tag) = ([0; 512], [0; 48]);
+    let kind = nand
+        .read_page(5, 0, &mut page, &mut tag)
+        .expect(&rt, "a read");
+    assert_same!(rt; kind, PageKind::Written);
+    assert_same!(rt; page, summary());
+    assert_same!(rt; tag, next_block(page).first_tag.encode());
+    assert_same!(rt; reads_on(&rt, rt.alloc(), nand, "written"), 73);
 }

@@ -9,11 +9,15 @@ ghost use Rattle.transactions.specs.Naming.{AreOrdinary};
 ghost use Rattle.transactions.specs.Ready.{IsReady};
 
 use block_state::Blocks;
+use flash_log::SummarySource;
 use flash_tree::{CHECK_OBJECT, FreshPage, Key, TagNumbers};
 use nand_model::{EraseFault, Geometry, MemNand, Nand};
+use page_tags::CheckEntry;
 use std::alloc::Global;
 use std::process::Abort;
-use transactions::{Fresh, GroupFault, Placed, erase_and_open, table_of, write_group};
+use transactions::{
+    Fresh, GroupFault, Placed, erase_and_open, table_of, write_checkpoint, write_group,
+};
 
 /// A device in memory with its table.
 #[derive(Drop)]
@@ -73,6 +77,22 @@ impl Volume {
             &Fresh { pages },
             &mut scratch,
         )
+    }
+
+    /// Writes the summary of a block, as it was allocated with a number, as one group.
+    pub(crate) fn summarize(
+        &mut self,
+        rt: &impl Abort,
+        block: u32,
+        seq: u64,
+        entries: &[CheckEntry],
+    ) -> Result<Placed, GroupFault> {
+        assert!(rt; self.blocks.next_group() < 1 << 62);
+        let mut scratch = [0; 512];
+        assert!(rt; self.nand.geometry().bytes() == 512);
+        let source = SummarySource::new(block, seq, entries, self.nand.geometry());
+        let source = source.expect(rt, "pages enough");
+        write_checkpoint(&mut self.nand, &mut self.blocks, &source, &mut scratch)
     }
 }
 

@@ -106,10 +106,10 @@ fn reads_for(rt: &impl Abort, alloc: Global, appends: u32) -> u64 {
         append(rt, alloc, &mut store, &mut text, (number % 251) as u8);
     }
     let nand = store.into_device();
-    // Each page of a good block is read at the opening.
+    // Each page of a good block is read at the opening, and the first one before.
     nand.calls()
         .saturating_sub(nand.changes())
-        .saturating_sub(256 * 20)
+        .saturating_sub((256 + 1) * 20)
 }
 
 #[test]

@@ -1,5 +1,5 @@
 // A store on a device in memory, as a scan finds it.
-ghost use Rattle.std.specs.Prelude.{◌≡◌, List, ℕ};
+ghost use Rattle.std.specs.Prelude.{◌≡◌};
 ghost use Rattle.store_tests.specs.Stamped.{stamp_in};
 
 use crate::plain::Stamps;
@@ -10,7 +10,7 @@ use page_store::{NewestPages, Store, open, the_opened_pages_are_the_newest};
 use std::alloc::Global;
 use std::num::NonZeroUsize;
 use std::process::Abort;
-use test_devices::{open_each, open_kept};
+use test_devices::{open_each, open_kept, open_noted};
 
 /// What is to go wrong with a device.
 #[derive(Clone, Copy, Debug)]
@@ -39,7 +39,7 @@ pub(crate) fn troubled(rt: &impl Abort, alloc: Global, nand: MemNand, trouble: T
 /// How many calls a device has counted once a store on it is opened.
 pub(crate) fn calls_when_opened(rt: &impl Abort, alloc: Global, nand: &MemNand) -> u64 {
     let mut copy = nand.copy().expect(rt, "memory");
-    let _opened = open(alloc, &mut copy).expect(rt, "an opening");
+    let _opened = open_noted(alloc, &mut copy).expect(rt, "an opening");
     copy.calls()
 }
 

@@ -14,7 +14,7 @@ use crate::keys::OrdinaryKeys;
 use crate::standing::may_stand;
 use block_state::Blocks;
 use chunk_index::Index;
-use flash_log::{Log, MoveRoom};
+use flash_log::{Log, MoveRoom, Origin};
 use mount_scan::scan_newest;
 use nand_model::{MemNand, Nand};
 use std::alloc::Global;
@@ -69,6 +69,7 @@ pub fn mount_log(alloc: Global, nand: MemNand, spare: u32) -> Result<Log<MemNand
         index: found.index,
         room: found.room,
         spare,
+        origin: Origin::as_chosen(),
     })
 }
 
@@ -101,5 +102,6 @@ pub fn mount_log_beside(
         index: found.index,
         room: found.room,
         spare,
+        origin: Origin::as_chosen(),
     })
 }

@@ -1,5 +1,5 @@
 // A store on a device, as a scan finds it.
-ghost use Rattle.std.specs.Prelude.{◌≡◌, ◌<◌, ◌≤◌, ℕ, IsTrue, true};
+ghost use Rattle.std.specs.Prelude.{◌<◌, ◌≤◌, ℕ, IfOk, IsTrue, true};
 ghost use Rattle.nand_model.specs.Calls.{Device};
 ghost use Rattle.flash_tree.specs.Places.{numbers_of};
 ghost use Rattle.block_state.specs.Kept.{bad_count};
@@ -15,8 +15,9 @@ use block_state::Blocks;
 use chunk_index::{Index, KeyFilter};
 use flash_log::Log;
 use flash_tree::{CHECK_OBJECT, Key};
+use mount_scan::find_checkpoint;
 use nand_model::Nand;
-use page_store::{Opened, Store, open};
+use page_store::{OpenFault, Opened, Store, note_firsts, open};
 use std::alloc::Global;
 use std::num::NonZeroUsize;
 use volume_terms::NUMBER_END;
@@ -31,6 +32,26 @@ impl KeyFilter for EachKey {
     fn keeps(&self, _key: Key) -> bool {
         true
     }
+}
+
+/// What a scan finds of a device. The first pages of its blocks are read before, and noted, as a mount does.
+pub fn open_noted<N: Nand>(alloc: Global, device: &mut N) -> Result<Opened, OpenFault>
+    ensures opened { IfOk result (λ opened. IsOpened (N.state device.new) (table opened.blocks) opened.index (numbers_of opened.numbers)) }
+{
+    let search = find_checkpoint(alloc, device)?;
+    let opened = open(alloc, device)?;
+    let Opened {
+        blocks,
+        index,
+        numbers,
+    } = opened;
+    let mut blocks = blocks;
+    note_firsts(&search.firsts.pages, &mut blocks);
+    Ok(Opened {
+        blocks,
+        index,
+        numbers,
+    })
 }
 
 /// Forgets all keys but those that a filter keeps.
@@ -105,7 +126,7 @@ pub fn open_kept<N: Nand + Drop, F: KeyFilter>(
     spare: u32,
     capacity: NonZeroUsize,
 ) -> Result<Store<N>, StandFault> {
-    let mut opened = open(alloc, &mut device)?;
+    let mut opened = open_noted(alloc, &mut device)?;
     forget(&mut opened, filter);
     if !may_stand(&opened, spare) {
         return Err(StandFault::Worn);

@@ -92,7 +92,9 @@ impl Measure {
         };
         let mut counts = store.into_device().counts();
         if self != Measure::Opening {
-            counts.reads = counts.reads.saturating_sub(blocks as u64 * PAGES as u64);
+            counts.reads = counts
+                .reads
+                .saturating_sub(blocks as u64 * (PAGES as u64 + 1));
         }
         Ok(Report {
             counts,

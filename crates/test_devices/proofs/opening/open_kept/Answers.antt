@@ -1,14 +1,16 @@
 use Rattle.std.proofs.Common.{refl}
+use Rattle.flash_log.specs.laws.Mountable.{mountable_unknown}
 use Rattle.test_devices.proofs.opening.open_kept.Goals as goal
 
-pub new-requires-clause-ready : goal.new-requires-clause-ready
-new-requires-clause-ready g c = c.if-not-may_stand.ensures.ready refl (g.N.Nand.state c.open.new.device) (c.forget.ensures (g.N.Nand.state c.open.new.device) c.in_ok-opened.ensures.opened)
-
-pub new-requires-clause-stands : goal.new-requires-clause-stands
-new-requires-clause-stands g c = c.if-not-may_stand.ensures.stands refl (g.N.Nand.state c.open.new.device) (c.forget.ensures (g.N.Nand.state c.open.new.device) c.in_ok-opened.ensures.opened)
+pub new-requires : goal.new-requires
+new-requires g c = λ κs within.
+    let d = g.N.Nand.state c.open_noted.new.device in
+    let opened = c.forget.ensures d c.in_ok-opened.ensures.opened in
+    let may = c.if-not-may_stand.ensures in
+    (within, (may.ready refl d opened, (may.stands refl d opened, mountable_unknown _ _)))
 
 pub new-requires-2-clause-kept : goal.new-requires-2-clause-kept
-new-requires-2-clause-kept g c = let made = c.in-Ok.ensures in rw (made.device, made.tables.1) ((c.forget.ensures (g.N.Nand.state c.open.new.device) c.in_ok-opened.ensures.opened).newest)
+new-requires-2-clause-kept g c = let made = c.in-Ok.ensures in rw (made.device, made.tables.1) ((c.forget.ensures (g.N.Nand.state c.open_noted.new.device) c.in_ok-opened.ensures.opened).newest)
 
 pub new-requires-2-clause-few : goal.new-requires-2-clause-few
 new-requires-2-clause-few g c = let made = c.in-Ok.ensures in rw (made.tables.0, made.spare) (c.if-not-may_stand.ensures.few refl)
@@ -17,4 +19,4 @@ pub new-requires-2-clause-free : goal.new-requires-2-clause-free
 new-requires-2-clause-free g c = let made = c.in-Ok.ensures in rw (made.tables.0, made.spare) (c.if-not-may_stand.ensures.free refl)
 
 pub new-requires-2-clause-none : goal.new-requires-2-clause-none
-new-requires-2-clause-none g c = let made = c.in-Ok.ensures in rw made.tables.1 ((c.forget.ensures (g.N.Nand.state c.open.new.device) c.in_ok-opened.ensures.opened).unbuffered)
+new-requires-2-clause-none g c = let made = c.in-Ok.ensures in rw made.tables.1 ((c.forget.ensures (g.N.Nand.state c.open_noted.new.device) c.in_ok-opened.ensures.opened).unbuffered)

@@ -7,6 +7,7 @@ pub mod Shown
 pub mod Standing
 pub mod Entering
 pub mod Noting
+pub mod Firsts
 pub mod Sure
 pub mod ReadsTree
 pub mod PagesMade
@@ -23,3 +24,4 @@ pub mod Listed
 pub mod Filtered
 pub mod VolumeSizes
 pub mod RootFaults
+pub mod Mountable

@@ -29,15 +29,17 @@ use Rattle.page_store.specs.Checked.{HasTrueFlash}
 use Rattle.page_store.specs.Opened.{IsOpenedBy}
 use Rattle.pages.specs.Maps.{PageMap, has}
 use Rattle.nand_model.specs.Trusting.{trusted_as}
+use Rattle.nand_model.specs.laws.Trusted.{honest_of}
 use Rattle.volume_terms.specs.Rounding.{ceiling}
 use Rattle.volume_terms.specs.Sizes.{Sizes, root_number}
 use Rattle.mounting.specs.Footprints.{KeepsFootprint}
 use Rattle.mounting.specs.NewestMaps.{IsNewestMap}
-use Rattle.mount_scan.specs.FoundCheckpoint.{HasForm, IsWholeOn, HasNoneWhole, TellsSeqs, AreFirstSeqs}
+use Rattle.mount_scan.specs.FoundCheckpoint.{HasForm, IsWholeOn, HasNoneWhole}
 use Rattle.mounting.specs.Going.{IsGoodOn, MayBeNoted, NotesFree}
 use Rattle.mounting.specs.Marked.{AreFitting}
 use Rattle.mounting.specs.Mounted.{IsTreeRead, IsTreeShown, HasRoomOn}
-use Rattle.mounting.specs.Named.{IsTrustedSince}
+use Rattle.mounting.specs.Named.{IsReadAs, IsTrustedSince}
+use Rattle.mounting.specs.Tables.{HoldsWhole, KnowsBlocks, KnowsFirstsOf}
 use Rattle.tree_walk.specs.Trees.{IsLookedUp, keeps_key, objects_listed}
 use Rattle.tree_walk.specs.declared.tree.Tree.{Tree}
 use Rattle.mounting.proofs.Entering.{KeysLaw, is_size}
@@ -181,18 +183,36 @@ checked_before a b at reads checked is =
     subst (λ (g : Geometry). IsChecked g a.flash at) reads.lasts.geometry
     (subst (λ (f : Flash). IsChecked b.geometry f at) (same_flash a b reads is.0) (checked (true_after a b reads is)))
 
+-- a whole checkpoint lies there still
+holds_after : (a b : Device) (at : Option ℕ) → OnlyReads a b → HoldsWhole a at → HoldsWhole b at
+holds_after a b at reads holds honest k is =
+    let was : a.honest ≡ true = sym reads.lasts.honest ∙ honest in
+    let (c, whole, same) = holds was k is in
+    (c, subst (λ (g : Geometry). IsWhole g b.flash c) (sym reads.lasts.geometry) (subst (λ (f : Flash). IsWhole a.geometry f c) (sym (same_flash a b reads was)) whole), same)
+
 -- the block may be noted still
 pub may_after : (a b : Device) (at : Option ℕ) → OnlyReads a b → MayBeNoted a at → MayBeNoted b at
 may_after a b at reads may = record {
   good = λ k is.
       let was = may.good k is in
       (subst (λ (g : Geometry). k < g.blocks) (sym reads.lasts.geometry) was.0, ap (λ (bad : ℕ → Bool). bad k) reads.bad ∙ was.1);
+  whole = holds_after a b at reads may.whole;
   only = λ is.
       let was = true_before a b reads is in
       subst (λ (g : Geometry). StandsOnly g b.flash at) (sym reads.lasts.geometry) (subst (λ (f : Flash). StandsOnly a.geometry f at) (sym (same_flash a b reads was.0)) (may.only was));
 }
 
 -- ---- a volume that goes on after a scan
+
+pub whole_noted : (d : Device) (at : Option ℕ) (t u : Table) → MayBeNoted d at → NotesFree at t u → HoldsWhole d t.checkpoint → HoldsWhole d u.checkpoint
+whole_noted d at t u may notes was = elim notes.is [
+  | inl same ↦ subst (λ (k : Table). HoldsWhole d k.checkpoint) (sym same) was
+  | inr (b, is, empty, noted) ↦ subst (λ (k : Table). HoldsWhole d k.checkpoint) (sym noted) may.whole
+]
+
+-- where no block is noted
+pub whole_none : (d : Device) (at : Option ℕ) → at ≡ None → HoldsWhole d at
+whole_none d at none honest k is = let two : None ≡ Some k = sym none ∙ is in absurd cc
 
 pub fitting_noted : (at : Option ℕ) (t u : Table) → NotesFree at t u → AreFitting t → AreFitting u
 fitting_noted at t u notes fits = elim notes.is [
@@ -270,18 +290,18 @@ whole_after a b c reads whole honest =
     let was : a.honest ≡ true = sym reads.lasts.honest ∙ honest in
     subst (λ (g : Geometry). IsWhole g b.flash c) (sym reads.lasts.geometry) (subst (λ (f : Flash). IsWhole a.geometry f c) (sym (same_flash a b reads was)) (whole was))
 
-pub seqs_after : (a b : Device) (seqs : List ℕ) → OnlyReads a b → TellsSeqs a seqs → TellsSeqs b seqs
-seqs_after a b seqs reads tells = record {
-  len = tells.len ∙ ap (λ (g : Geometry). g.blocks) (sym reads.lasts.geometry);
-  each = λ honest.
-      let was : a.honest ≡ true = sym reads.lasts.honest ∙ honest in
-      subst (λ (f : Flash). AreFirstSeqs f seqs) (sym (same_flash a b reads was)) (tells.each was);
-}
+-- a device that is read as it is trusted has the checkpoint that was whole
+pub whole_seen : (told : Bool) (a b seen : Device) (c : Checkpoint) (at : Option ℕ) → IsReadAs told a b seen → IsWholeOn a c → at ≡ Some c.block → HoldsWhole seen at
+whole_seen told a b seen c at read whole noted = subst (λ (d : Device). HoldsWhole d at) (sym read.seen_is) (λ both k is.
+    let honest : b.honest ≡ true = honest_of b.honest told both in
+    let same : Some c.block ≡ Some k = sym noted ∙ is in
+    (c, whole_after a b c read.reads whole honest, cc))
 
 -- where no checkpoint is whole none is noted
 pub none_noted : (a b : Device) → OnlyReads a b → HasNoneWhole a → MayBeNoted b None
 none_noted a b reads none = may_after a b None reads (record {
   good = λ k is. absurd cc;
+  whole = λ honest k is. absurd cc;
   only = λ (honest, is) c whole. absurd (none honest is c whole);
 })
 
@@ -289,6 +309,7 @@ none_noted a b reads none = may_after a b None reads (record {
 pub found_noted : (d : Device) (c : Checkpoint) → HasForm d c → IsWholeOn d c → MayBeNoted d (Some c.block)
 found_noted d c form whole = record {
   good = λ k is. let same : c.block ≡ k = cc in subst (IsGoodOn d) same (form.block, form.good);
+  whole = λ honest k is. (c, whole honest, cc);
   only = λ (honest, is) other there. ap Some (same_block d.geometry d.flash is c other (whole honest) there);
 }
 
@@ -305,3 +326,10 @@ err_map (Err e) to is = to e is
 pub ok_both : {T E : Type 0} {P Q R : T → Type 0} (r : Result T E) → ((x : T) → P x → Q x → R x) → IfOk r P → IfOk r Q → IfOk r R
 ok_both (Ok x) to p q = to x p q
 ok_both (Err e) to p q = tt
+
+-- what is known of the blocks of a device that was gone through by a checkpoint
+pub blocks_known : {T E : Type 0} (r : Result T E) (told : Bool) (a : Device) (c : Checkpoint) (new seen : T → Device) (t : T → Table) (n : T → Numbers) → IsWholeOn a c
+    → IfOk r (λ x. IsReadAs told a (new x) (seen x)) → IfOk r (λ x. (t x).checkpoint ≡ Some c.block) → IfOk r (λ x. KnowsFirstsOf (seen x) (t x) (n x))
+    → IfOk r (λ x. KnowsBlocks (seen x) (t x) (n x))
+blocks_known (Ok x) told a c new seen t n whole read noted firsts = record { firsts = firsts; whole = whole_seen told a (new x) (seen x) c (t x).checkpoint read whole noted }
+blocks_known (Err e) told a c new seen t n whole read noted firsts = tt

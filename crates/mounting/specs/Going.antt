@@ -4,6 +4,7 @@ use Rattle.std.specs.Prelude.{◌≡◌, ◌≤◌, ◌<◌, ◌⊎◌, ℕ, tru
 use Rattle.nand_model.specs.Calls.{Device}
 use Rattle.flash_tree.specs.Checkpoints.{StandsOnly}
 use Rattle.flash_tree.specs.Mount.{Answers, IsTreeOf, sizes_of}
+use Rattle.flash_tree.specs.Places.{numbers_of}
 use Rattle.block_state.specs.Table.{Table}
 use Rattle.block_state.specs.TableOf.{table}
 use Rattle.page_store.specs.Checked.{HasTrueFlash}
@@ -14,14 +15,17 @@ use Rattle.volume_terms.specs.VolumeSizes.{sizes_of as volume_sizes}
 use Rattle.mounting.specs.Marked.{AreFitting}
 use Rattle.mounting.specs.Mounted.{IsTreeShown, HasRoomOn}
 use Rattle.mounting.specs.Named.{IsNamedTree}
+use Rattle.mounting.specs.Tables.{HoldsWhole, KnowsBlocks}
 use Rattle.mounting.specs.declared.tree_on.Going.{Going}
 
--- The tree was read, has room, and fits into the volume of these sizes; of an honest device it is what a mount answers.
+-- The tree was read, has room, and fits into the volume of these sizes; of an honest device it is what a mount answers, and the table
+-- knows the first page of each block, and in which a whole checkpoint lies.
 pub record IsGoing {N : Type 0} (device : Device) (going : Going N) : Type 0 where
   pub named : IsNamedTree device going.named
   pub sizes : volume_sizes going.sizes ≡ sizes_of device.geometry going.named.on.spare
   pub fitting : AreFitting (table going.named.on.blocks)
   pub room : HasRoomOn device (table going.named.on.blocks) going.named.on.spare
+  pub blocks : KnowsBlocks device (table going.named.on.blocks) (numbers_of going.named.on.numbers)
   pub tree : device.honest ≡ true → (objects : Objects)
       × Answers device.geometry device.flash (IsTreeOf going.named.on.spare objects)
       × IsTreeShown device going.named.on.index going.named.on.spare going.named.on.tree objects
@@ -31,9 +35,10 @@ pub record IsGoing {N : Type 0} (device : Device) (going : Going N) : Type 0 whe
 abbrev pub IsGoodOn : Device → ℕ → Type 0
 IsGoodOn device b = (b < device.geometry.blocks) × (device.flash.bad b ≡ false)
 
--- The block may be noted: it is a good one, if there is one, and each whole checkpoint of a true flash lies in it.
+-- The block may be noted: it is a good one with a whole checkpoint, if there is one, and each whole checkpoint of a true flash lies in it.
 pub record MayBeNoted (device : Device) (at : Option ℕ) : Type 0 where
   pub good : (b : ℕ) → at ≡ Some b → IsGoodOn device b
+  pub whole : HoldsWhole device at
   pub only : HasTrueFlash device → StandsOnly device.geometry device.flash at
 
 -- The block is noted where it is free, and else nothing changes.

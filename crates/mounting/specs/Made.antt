@@ -4,9 +4,13 @@ use Rattle.std.specs.Prelude.{◌≡◌, ◌⊎◌, ◌<◌, ◌≤◌, ◌/◌,
 use Rattle.volume_terms.specs.Sizes.{number_end}
 use Rattle.nand_model.specs.Flash.{Flash}
 use Rattle.nand_model.specs.Calls.{Device}
+use Rattle.block_state.specs.Table.{Table}
 use Rattle.flash_tree.specs.Newest.{Numbers, AreGreatest}
 use Rattle.flash_tree.specs.Mount.{Answers, IsTreeOf}
+use Rattle.flash_tree.specs.MountableFlash.{IsMountableFlash}
 use Rattle.chunk_index.specs.declared.index.Index.{Index}
+use Rattle.transactions.specs.Checking.{log_of}
+use Rattle.flash_log.specs.Mountable.{IsMountable}
 use Rattle.page_store.specs.ReadOnly.{next_after}
 use Rattle.name_index.specs.declared.index.NameIndex.{NameIndex}
 use Rattle.object_store.specs.Stores.{CanHave}
@@ -24,6 +28,15 @@ use Rattle.tree_walk.specs.Covering.{CoversObjects}
 -- groups can be written: there are numbers left, and no more blocks are bad than there are to spare
 abbrev pub CanBeWritten : Device → Numbers → (spare : ℕ) → Type 0
 CanBeWritten device n spare = AreLeft n × (bad_on device ≤ spare)
+
+-- where a mount can go by the summaries of an honest device's flash, so can the next one by those of a log of these tables
+abbrev pub StaysMountable : Device → Table → Index → Type 0
+StaysMountable device t x = IsMountableFlash device.geometry device.flash → device.honest ≡ true → IsMountable (log_of device t) x
+
+-- Groups can be written, and a log of these tables lets the next mount go by summaries where this one could.
+pub record MayWrite (device : Device) (t : Table) (x : Index) (n : Numbers) (spare : ℕ) : Type 0 where
+  pub can : CanBeWritten device n spare
+  pub mountable : StaysMountable device t x
 
 -- The pages are those that the index keeps on the device, which is as it was. They are present, and the device keeps them.
 pub record ArePagesOn (device : Device) (x : Index) (n : Numbers) (spare : ℕ) (p : PagesState) : Type 0 where

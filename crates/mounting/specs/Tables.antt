@@ -1,12 +1,14 @@
 -- The tables of a device that is mounted: the newest pages of a tree are kept, and nothing else.
 -- From: this project.
-use Rattle.std.specs.Prelude.{◌≡◌, ◌<◌, ◌^◌, ℕ, Bool, true, false, Some, None}
+use Rattle.std.specs.Prelude.{◌≡◌, ◌<◌, ◌≤◌, ◌^◌, ℕ, Bool, true, false, Option, Some, None}
 use Rattle.nand_model.specs.Calls.{Device}
 use Rattle.flash_tree.specs.Newest.{Spot, IsNewest, Numbers}
+use Rattle.flash_tree.specs.Checkpoints.{Checkpoint, IsWhole}
 use Rattle.block_state.specs.Table.{Table}
 use Rattle.chunk_index.specs.declared.index.Index.{Index}
 use Rattle.chunk_index.specs.Maps.{kept_pages}
-use Rattle.page_store.specs.Opened.{IsOpenedBy, kept_at}
+use Rattle.page_store.specs.KnownFirsts.{KnowsFirsts}
+use Rattle.page_store.specs.Opened.{AreLeft, IsOpenedBy, kept_at}
 
 -- Of the keys that a test keeps an index has what the other had, and of no other key a page.
 pub record KeepsOnly (keeps : ℕ → ℕ → Bool) (old new : Index) : Type 0 where
@@ -19,3 +21,20 @@ pub record IsPruned (keeps : ℕ → ℕ → Bool) (device : Device) (t : Table)
   pub tables : IsOpenedBy t.checkpoint device t x n
   pub all : device.honest ≡ true → (o c : ℕ) (s : Spot) → c < 2 ^ 32 → keeps o c ≡ true → IsNewest device.flash o c s → kept_pages x o c ≡ Some (kept_at s)
   pub others : (o c : ℕ) → keeps o c ≡ false → kept_pages x o c ≡ None
+
+-- of an honest device the table knows the first page of each block, where numbers are left and one was handed out
+abbrev pub KnowsScanned : Device → Table → Numbers → Type 0
+KnowsScanned device t n = device.honest ≡ true → AreLeft n → 1 ≤ n.seq → KnowsFirsts device.flash t
+
+-- of an honest device a whole checkpoint lies in this block, if there is one
+abbrev pub HoldsWhole : Device → Option ℕ → Type 0
+HoldsWhole device at = device.honest ≡ true → (b : ℕ) → at ≡ Some b → (c : Checkpoint) × IsWhole device.geometry device.flash c × (c.block ≡ b)
+
+-- of an honest device it knows them where numbers are left
+abbrev pub KnowsFirstsOf : Device → Table → Numbers → Type 0
+KnowsFirstsOf device t n = device.honest ≡ true → AreLeft n → KnowsFirsts device.flash t
+
+-- What the table of a device knows of its blocks: the first page of each, and in which a whole checkpoint lies, if one is noted.
+pub record KnowsBlocks (device : Device) (t : Table) (n : Numbers) : Type 0 where
+  pub firsts : KnowsFirstsOf device t n
+  pub whole : HoldsWhole device t.checkpoint

@@ -5,18 +5,20 @@ ghost use Rattle.nand_model.specs.Flash.{IsWithin};
 ghost use Rattle.flash_tree.specs.Checkpoints.{IsChecked};
 ghost use Rattle.flash_tree.specs.Places.{numbers_of};
 ghost use Rattle.block_state.specs.TableOf.{table};
-ghost use Rattle.mount_scan.specs.FoundCheckpoint.{HasForm, IsWholeOn, TellsSeqs, checkpoint_of};
+ghost use Rattle.mount_scan.specs.FoundCheckpoint.{HasForm, IsWholeOn, checkpoint_of};
+ghost use Rattle.mount_scan.specs.FirstPages.{AreFirstsOf};
 ghost use Rattle.page_store.specs.Checked.{HasTrueFlash};
 ghost use Rattle.page_store.specs.Opened.{IsOpenedBy};
 ghost use Rattle.nand_model.specs.TrustedParts.{inner_of};
 ghost use Rattle.nand_model.specs.Trusting.{trusted_as};
 ghost use Rattle.mounting.specs.Named.{IsNamedTree, IsReadAs, IsTrustedSince};
 ghost use Rattle.mounting.specs.Reads.{EndsMount, ReadsThrough, WhyNotThrough};
+ghost use Rattle.mounting.specs.Tables.{KnowsBlocks, KnowsFirstsOf};
 
 use crate::prune::prune;
 use crate::reading::go_through;
 use crate::tree_on::{NamedTree, TreeOn};
-use mount_scan::FoundCheckpoint;
+use mount_scan::{FirstPages, FoundCheckpoint};
 use nand_model::{Nand, TrustedNand};
 use page_store::{Opened, open_kept};
 use std::alloc::Global;
@@ -41,6 +43,8 @@ fn go_by<N: Nand>(
     ensures read { IfOk result (λ named. IsReadAs told (N.state bounded.device) (N.state (inner_of named.on.device)) (⟦<TrustedNand<N> as Nand>⟧.state named.on.device)) }
     ensures named { IfOk result (λ named. IsNamedTree (⟦<TrustedNand<N> as Nand>⟧.state named.on.device) named) }
     ensures noted { IfOk result (λ named. (table named.on.blocks).checkpoint ≡ Some found.now.block) }
+    ensures firsts { KnowsFirstsOf (trusted_as told (N.state bounded.device)) (table opened.blocks) (numbers_of opened.numbers)
+        → IfOk result (λ named. KnowsFirstsOf (⟦<TrustedNand<N> as Nand>⟧.state named.on.device) (table named.on.blocks) (numbers_of named.on.numbers)) }
     ensures few { ((N.state bounded.device).honest && told) ≡ true
         → IfOk result (λ named. ReadsThrough (N.state bounded.device) (N.state (inner_of named.on.device)) named.on.spare named.on.tree) }
     ensures back { IfErr result (λ failed. OnlyReads (N.state bounded.device) (N.state failed.0)) }
@@ -79,13 +83,15 @@ pub(crate) fn open_entries<N: Nand>(
     alloc: Global,
     device: N,
     found: &FoundCheckpoint,
-    seqs: &[u64],
+    firsts: &FirstPages,
 ) -> Result<NamedTree<TrustedNand<N>>, (N, RootFault)>
     requires form { HasForm (N.state device) (checkpoint_of found.now) }
     requires whole { IsWholeOn (N.state device) (checkpoint_of found.now) }
-    requires seqs { TellsSeqs (N.state device) seqs.now }
+    requires firsts { AreFirstsOf (N.state device) firsts.now }
     ensures read { IfOk result (λ named. IsTrustedSince (N.state device) (N.state (inner_of named.on.device)) (⟦<TrustedNand<N> as Nand>⟧.state named.on.device)) }
     ensures named { IfOk result (λ named. IsNamedTree (⟦<TrustedNand<N> as Nand>⟧.state named.on.device) named) }
+    ensures blocks { IfOk result (λ named.
+        KnowsBlocks (⟦<TrustedNand<N> as Nand>⟧.state named.on.device) (table named.on.blocks) (numbers_of named.on.numbers)) }
     ensures checked { HasTrueFlash (N.state device)
         → IfOk result (λ named. IsChecked (N.state device).geometry (N.state device).flash (table named.on.blocks).checkpoint) }
     ensures few { HasTrueFlash (N.state device)
@@ -93,7 +99,7 @@ pub(crate) fn open_entries<N: Nand>(
     ensures back { IfErr result (λ failed. OnlyReads (N.state device) (N.state failed.0)) }
     ensures fault { HasTrueFlash (N.state device) → IfErr result (λ failed. EndsMount (N.state failed.0) failed.1) }
 {
-    match open_kept(alloc, &device, found, seqs) {
+    match open_kept(alloc, &device, found, firsts) {
         Ok(Some(opened)) => go_by(alloc, Bounded { device }, found, opened),
         Ok(None) => Err((device, RootFault::Damaged)),
         Err(_) => Err((device, RootFault::NoMemory)),

@@ -5,7 +5,8 @@ ghost use Rattle.nand_model.specs.Changes.{OnlyReads};
 ghost use Rattle.flash_tree.specs.Checkpoints.{IsChecked};
 ghost use Rattle.flash_tree.specs.Sound.{IsSoundFlash};
 ghost use Rattle.block_state.specs.TableOf.{table};
-ghost use Rattle.mount_scan.specs.FoundCheckpoint.{HasForm, IsWholeOn, TellsSeqs, checkpoint_of};
+ghost use Rattle.mount_scan.specs.FoundCheckpoint.{HasForm, IsWholeOn, checkpoint_of};
+ghost use Rattle.mount_scan.specs.FirstPages.{AreFirstsOf};
 ghost use Rattle.page_store.specs.Checked.{HasTrueFlash};
 ghost use Rattle.nand_model.specs.TrustedParts.{inner_of};
 ghost use Rattle.mounting.specs.Faults.{WhyNotMounted};
@@ -23,7 +24,7 @@ use crate::{a_volume_has_sizes, the_tree_looks_up_its_footprint};
 use block_state::Blocks;
 use chunk_index::the_counts_are_of_the_keys;
 use flash_tree::a_flash_has_one_answer_at_most;
-use mount_scan::{CheckpointSearch, FoundCheckpoint, find_checkpoint};
+use mount_scan::{CheckpointSearch, FirstPages, FoundCheckpoint, find_checkpoint};
 use nand_model::{Nand, TrustedNand};
 use pages::has_power;
 use std::alloc::Global;
@@ -50,11 +51,11 @@ fn by_entries<N: Nand>(
     alloc: Global,
     device: N,
     found: &FoundCheckpoint,
-    seqs: &[u64],
+    firsts: &FirstPages,
 ) -> Result<Going<TrustedNand<N>>, (N, RootFault)>
     requires form { HasForm (N.state device) (checkpoint_of found.now) }
     requires whole { IsWholeOn (N.state device) (checkpoint_of found.now) }
-    requires seqs { TellsSeqs (N.state device) seqs.now }
+    requires firsts { AreFirstsOf (N.state device) firsts.now }
     ensures read { IfOk result (λ going. IsTrustedSince (N.state device) (N.state (inner_of going.named.on.device)) (⟦<TrustedNand<N> as Nand>⟧.state going.named.on.device)) }
     ensures going { IfOk result (λ going. IsGoing (⟦<TrustedNand<N> as Nand>⟧.state going.named.on.device) going) }
     ensures checked { HasTrueFlash (N.state device)
@@ -67,20 +68,22 @@ fn by_entries<N: Nand>(
     a_flash_has_one_answer_at_most();
     a_volume_has_sizes();
     the_pages_of_a_tree_are_those_of_its_objects();
-    let named = open_entries(alloc, device, found, seqs)?;
+    let named = open_entries(alloc, device, found, firsts)?;
     match go_on(&named.on) {
         Some(sizes) => Ok(Going { named, sizes }),
         None => Err((named.on.device.into_inner(), RootFault::Damaged)),
     }
 }
 
-/// Goes on by a scan. The block that may have a checkpoint is noted, unless kept pages lie in it.
+/// Goes on by a scan. The first pages of blocks are noted, and the block that may have a checkpoint, unless kept pages lie in it.
 fn by_scan<N: Nand>(
     alloc: Global,
     device: N,
     noted: Option<u32>,
+    firsts: &FirstPages,
 ) -> Result<Going<TrustedNand<N>>, (N, MountFault)>
-    requires { MayBeNoted (N.state device) noted }
+    requires noted { MayBeNoted (N.state device) noted }
+    requires firsts { AreFirstsOf (N.state device) firsts.now }
     ensures read { IfOk result (λ going. IsTrustedSince (N.state device) (N.state (inner_of going.named.on.device)) (⟦<TrustedNand<N> as Nand>⟧.state going.named.on.device)) }
     ensures going { IfOk result (λ going. IsGoing (⟦<TrustedNand<N> as Nand>⟧.state going.named.on.device) going) }
     ensures checked { HasTrueFlash (N.state device)
@@ -95,7 +98,7 @@ fn by_scan<N: Nand>(
     the_headers_tell_the_keys();
     the_counts_are_of_the_keys();
     the_tree_looks_up_its_footprint();
-    let going = scan_going(alloc, device)?;
+    let going = scan_going(alloc, device, firsts)?;
     let Going { named, sizes } = going;
     let NamedTree { on, names } = named;
     let TreeOn {
@@ -126,8 +129,10 @@ fn scan_after<N: Nand>(
     device: N,
     block: u32,
     fault: RootFault,
+    firsts: &FirstPages,
 ) -> Result<Going<TrustedNand<N>>, (N, MountFault)>
-    requires { MayBeNoted (N.state device) (Some block) }
+    requires noted { MayBeNoted (N.state device) (Some block) }
+    requires firsts { AreFirstsOf (N.state device) firsts.now }
     ensures read { IfOk result (λ going. IsTrustedSince (N.state device) (N.state (inner_of going.named.on.device)) (⟦<TrustedNand<N> as Nand>⟧.state going.named.on.device)) }
     ensures power { IfOk result (λ going. (N.state (inner_of going.named.on.device)).gone ≡ false) }
     ensures going { IfOk result (λ going. IsGoing (⟦<TrustedNand<N> as Nand>⟧.state going.named.on.device) going) }
@@ -144,7 +149,7 @@ fn scan_after<N: Nand>(
     if fault == RootFault::NoMemory {
         return Err((device, MountFault::NoMemory));
     }
-    by_scan(alloc, device, Some(block))
+    by_scan(alloc, device, Some(block), firsts)
 }
 
 /// Finds the tree with which a volume goes on: by the entries of the checkpoint, where one is whole, and else, or where they do not
@@ -167,13 +172,13 @@ pub(crate) fn open_volume<N: Nand>(
         Ok(search) => search,
         Err(fault) => return Err(unmounted(device, search_fault(fault))),
     };
-    let CheckpointSearch { seqs, checkpoint } = search;
+    let CheckpointSearch { firsts, checkpoint } = search;
     let found = match checkpoint {
         Some(found) => found,
-        None => return by_scan(alloc, device, None),
+        None => return by_scan(alloc, device, None, &firsts),
     };
-    match by_entries(alloc, device, &found, &seqs) {
+    match by_entries(alloc, device, &found, &firsts) {
         Ok(going) => Ok(going),
-        Err((device, fault)) => scan_after(alloc, device, found.block, fault),
+        Err((device, fault)) => scan_after(alloc, device, found.block, fault, &firsts),
     }
 }

@@ -6,7 +6,7 @@ ghost use Rattle.page_store.specs.FlashParts.{device_in};
 ghost use Rattle.page_store.specs.ReadOnly.{IsWorn};
 ghost use Rattle.page_store.specs.NewestParts.{device_of, index_of};
 ghost use Rattle.flash_log.specs.Standing.{KeepsOrdinary};
-ghost use Rattle.mounting.specs.Made.{ArePagesOn, CanBeWritten};
+ghost use Rattle.mounting.specs.Made.{ArePagesOn, CanBeWritten, MayWrite};
 ghost use Rattle.mounting.specs.Marked.{AreFitting};
 ghost use Rattle.mounting.specs.Mounted.{IsTreeRead, HasRoomOn};
 ghost use Rattle.mounting.specs.Places.{HasTables};
@@ -32,7 +32,7 @@ pub(crate) fn is_worn<N: Nand>(on: &TreeOn<N>) -> bool
         || count_bad(&on.device) > u32::from(on.spare)
 }
 
-/// The pages of a device on which groups can be written.
+/// The pages of a device on which groups can be written. The log remembers the flash with which it begins.
 fn store_pages<N: Nand>(
     alloc: Global,
     on: TreeOn<N>,
@@ -42,7 +42,7 @@ fn store_pages<N: Nand>(
     requires fitting { AreFitting (table on.blocks) }
     requires room { HasRoomOn (N.state on.device) (table on.blocks) on.spare }
     requires ordinary { (N.state on.device).honest ≡ true → KeepsOrdinary on.index }
-    requires can { CanBeWritten (N.state on.device) (numbers_of on.numbers) on.spare }
+    requires can { MayWrite (N.state on.device) (table on.blocks) on.index (numbers_of on.numbers) on.spare }
     ensures made { IfOk result (λ store. ArePagesOn (N.state on.device) on.index (numbers_of on.numbers) on.spare (⟦<Store<N> as Pages>⟧.state store)) }
     ensures worn { IfOk result (λ store. (⟦<Store<N> as Pages>⟧.state store).worn ≡ false) }
     ensures device { IfOk result (λ store. store.log.device ≡ on.device) }
@@ -106,7 +106,7 @@ pub(crate) fn make_pages<N: Nand>(
     requires room { HasRoomOn (N.state on.device) (table on.blocks) on.spare }
     requires worn { worn ≡ true → IsWorn (N.state on.device) (numbers_of on.numbers) on.spare }
     requires ordinary { (N.state on.device).honest ≡ true → KeepsOrdinary on.index }
-    requires can { worn ≡ false → CanBeWritten (N.state on.device) (numbers_of on.numbers) on.spare }
+    requires can { worn ≡ false → MayWrite (N.state on.device) (table on.blocks) on.index (numbers_of on.numbers) on.spare }
     ensures made { IfOk result (λ pages. ArePagesOn (N.state on.device) on.index (numbers_of on.numbers) on.spare (⟦<FlashPages<N> as Pages>⟧.state pages)) }
     ensures worn { IfOk result (λ pages. (⟦<FlashPages<N> as Pages>⟧.state pages).worn ≡ worn) }
     ensures device { IfOk result (λ pages. device_in pages ≡ on.device) }

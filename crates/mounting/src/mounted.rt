@@ -10,10 +10,11 @@ ghost use Rattle.mounting.specs.Places.{ArePlaced};
 use crate::making::{is_worn, make_pages};
 use crate::tree_on::{Going, NamedTree};
 use crate::{a_volume_has_sizes, the_footprint_holds_the_tree};
+use chunk_index::the_counts_are_of_the_keys;
 use name_index::NameIndex;
 use nand_model::Nand;
 use object_store::ObjectTable;
-use page_store::FlashPages;
+use page_store::{FlashPages, a_table_of_first_pages_knows_erased_blocks};
 use pages::Pages;
 use std::alloc::Global;
 use std::num::NonZeroUsize;
@@ -51,6 +52,8 @@ pub(crate) fn make_mounted<N: Nand>(
     ensures back { IfErr result (λ device. device ≡ going.named.on.device) }
 {
     a_volume_has_sizes();
+    a_table_of_first_pages_knows_erased_blocks();
+    the_counts_are_of_the_keys();
     the_footprint_holds_the_tree();
     the_names_of_a_tree_are_those_of_its_objects();
     let Going { named, sizes } = going;

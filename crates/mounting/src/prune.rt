@@ -5,7 +5,8 @@ ghost use Rattle.nand_model.specs.Changes.{OnlyReads};
 ghost use Rattle.flash_tree.specs.Newest.{Numbers};
 ghost use Rattle.block_state.specs.Kept.{unkept_count};
 ghost use Rattle.block_state.specs.TableOf.{table};
-ghost use Rattle.chunk_index.specs.Maps.{CountsAgree};
+ghost use Rattle.chunk_index.specs.Counts.{Recounts};
+ghost use Rattle.chunk_index.specs.Maps.{CountsAgree, kept_in};
 ghost use Rattle.page_store.specs.Opened.{IsOpenedBy};
 ghost use Rattle.tree_walk.specs.Trees.{keeps_key};
 ghost use Rattle.pages.specs.Stores.{bad_on};
@@ -26,6 +27,7 @@ pub(crate) fn prune(tree: &Tree, index: &mut Index, blocks: &mut Blocks)
     ensures opened { (noted : Option ℕ) (a b : Device) (n : Numbers) → OnlyReads a b → IsOpenedBy noted a (table blocks.old) index.old n
         → IsOpenedBy noted b (table blocks.new) index.new n }
     ensures only { KeepsOnly (keeps_key tree.now) index.old index.new }
+    ensures counts { Recounts (kept_in index.old) (kept_in index.new) (table blocks.old) (table blocks.new) }
 {
     the_counts_are_of_the_keys();
     index.retain(&TreeKeys { tree }, blocks);

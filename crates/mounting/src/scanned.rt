@@ -1,12 +1,14 @@
 // The tree of a device that is scanned.
-ghost use Rattle.std.specs.Prelude.{◌≡◌, true, false, IfOk, IfErr};
+ghost use Rattle.std.specs.Prelude.{◌≡◌, true, false, None, IfOk, IfErr};
 ghost use Rattle.nand_model.specs.Changes.{OnlyReads};
 ghost use Rattle.flash_tree.specs.Places.{numbers_of};
 ghost use Rattle.block_state.specs.TableOf.{table};
+ghost use Rattle.mount_scan.specs.FirstPages.{AreFirstsOf};
 ghost use Rattle.mounting.specs.Faults.{WhyNotMounted};
 ghost use Rattle.mounting.specs.Going.{IsGoing};
 ghost use Rattle.mounting.specs.Mounted.{IsTreeRead, CoversNewest};
 ghost use Rattle.mounting.specs.Reads.{ReadsScanned};
+ghost use Rattle.mounting.specs.Tables.{KnowsScanned};
 
 use crate::fault::MountFault;
 use crate::going_on::go_on;
@@ -15,23 +17,31 @@ use crate::prune::prune;
 use crate::reading::read_tree;
 use crate::scanning::scan;
 use crate::tree_on::{Going, NamedTree, TreeOn};
+use mount_scan::FirstPages;
 use nand_model::Nand;
 use page_store::{Opened, the_opened_pages_are_the_newest};
 use std::alloc::Global;
 
-/// Scans a device and goes through its tree, whose pages alone are kept then.
-fn open_tree<N: Nand>(alloc: Global, device: N) -> Result<NamedTree<N>, (N, MountFault)>
+/// Scans a device and goes through its tree, whose pages alone are kept then. The first pages of blocks are noted.
+fn open_tree<N: Nand>(
+    alloc: Global,
+    device: N,
+    firsts: &FirstPages,
+) -> Result<NamedTree<N>, (N, MountFault)>
+    requires { AreFirstsOf (N.state device) firsts.now }
     ensures reads { IfOk result (λ named. OnlyReads (N.state device) (N.state named.on.device)) }
     ensures few { (N.state device).honest ≡ true → IfOk result (λ named. ReadsScanned (N.state device) (N.state named.on.device) named.on.spare named.on.tree) }
     ensures power { (N.state device).gone ≡ false → IfOk result (λ named. (N.state named.on.device).gone ≡ false) }
     ensures read { IfOk result (λ named. IsTreeRead (N.state named.on.device) (table named.on.blocks) named.on.index (numbers_of named.on.numbers)
         named.on.spare named.on.tree) }
+    ensures firsts { IfOk result (λ named. KnowsScanned (N.state named.on.device) (table named.on.blocks) (numbers_of named.on.numbers)) }
+    ensures none { IfOk result (λ named. (table named.on.blocks).checkpoint ≡ None) }
     ensures names { (N.state device).honest ≡ true → IfOk result (λ named. CoversNewest named.names (N.state named.on.device) named.on.spare named.on.tree) }
     ensures back { IfErr result (λ failed. OnlyReads (N.state device) (N.state failed.0)) }
     ensures fault { IfErr result (λ failed. WhyNotMounted (N.state failed.0) failed.1) }
 {
     the_opened_pages_are_the_newest();
-    let (device, opened) = scan(alloc, device)?;
+    let (device, opened) = scan(alloc, device, firsts)?;
     let Opened {
         blocks,
         index,
@@ -56,7 +66,12 @@ fn open_tree<N: Nand>(alloc: Global, device: N) -> Result<NamedTree<N>, (N, Moun
 }
 
 /// Scans a device for the tree with which a volume goes on.
-pub(crate) fn scan_going<N: Nand>(alloc: Global, device: N) -> Result<Going<N>, (N, MountFault)>
+pub(crate) fn scan_going<N: Nand>(
+    alloc: Global,
+    device: N,
+    firsts: &FirstPages,
+) -> Result<Going<N>, (N, MountFault)>
+    requires { AreFirstsOf (N.state device) firsts.now }
     ensures reads { IfOk result (λ going. OnlyReads (N.state device) (N.state going.named.on.device)) }
     ensures few { (N.state device).honest ≡ true
         → IfOk result (λ going. ReadsScanned (N.state device) (N.state going.named.on.device) going.named.on.spare going.named.on.tree) }
@@ -65,7 +80,7 @@ pub(crate) fn scan_going<N: Nand>(alloc: Global, device: N) -> Result<Going<N>, 
     ensures back { IfErr result (λ failed. OnlyReads (N.state device) (N.state failed.0)) }
     ensures fault { IfErr result (λ failed. WhyNotMounted (N.state failed.0) failed.1) }
 {
-    let named = open_tree(alloc, device)?;
+    let named = open_tree(alloc, device, firsts)?;
     match go_on(&named.on) {
         Some(sizes) => Ok(Going { named, sizes }),
         None => Err(unmounted(named.on.device, MountFault::Damaged)),

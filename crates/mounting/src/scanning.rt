@@ -1,30 +1,64 @@
 // The scan of a device that is mounted.
-ghost use Rattle.std.specs.Prelude.{◌≡◌, ◌≤◌, ◌+◌, false, IfOk, IfErr};
+ghost use Rattle.std.specs.Prelude.{◌≡◌, ◌≤◌, ◌+◌, false, IfOk, IfErr, length};
+ghost use Rattle.nand_model.specs.Calls.{Device};
 ghost use Rattle.nand_model.specs.Changes.{OnlyReads};
 ghost use Rattle.flash_tree.specs.Places.{numbers_of};
 ghost use Rattle.block_state.specs.TableOf.{table};
+ghost use Rattle.mount_scan.specs.FirstPages.{AreFirstsOf};
+ghost use Rattle.page_store.specs.KnownFirsts.{AreUnwritten};
 ghost use Rattle.page_store.specs.Opened.{IsOpened};
 ghost use Rattle.mounting.specs.Faults.{WhyNotMounted};
 ghost use Rattle.mounting.specs.Reads.{all_pages};
+ghost use Rattle.mounting.specs.Tables.{KnowsScanned};
 
 use crate::fault::MountFault;
 use crate::naming::{scan_fault, unmounted};
+use mount_scan::FirstPages;
 use nand_model::Nand;
-use page_store::{Opened, open};
+use page_store::{Opened, note_firsts, open};
 use std::alloc::Global;
 
-/// Scans a device, which is given back with what was found, or with the reason why nothing was.
-pub(crate) fn scan<N: Nand>(alloc: Global, device: N) -> Result<(N, Opened), (N, MountFault)>
+/// Notes the first pages of blocks in the table that a scan found.
+fn with_firsts(opened: Opened, firsts: &FirstPages) -> Opened
+    requires { length firsts.now.pages.items ≡ (table opened.blocks).geometry.blocks }
+    ensures opened { (d : Device) → IsOpened d (table opened.blocks) opened.index (numbers_of opened.numbers)
+        → IsOpened d (table result.blocks) result.index (numbers_of result.numbers) }
+    ensures knows { (d : Device) → AreFirstsOf d firsts.now → AreUnwritten (table opened.blocks)
+        → IsOpened d (table opened.blocks) opened.index (numbers_of opened.numbers) → KnowsScanned d (table result.blocks) (numbers_of result.numbers) }
+{
+    let Opened {
+        blocks,
+        index,
+        numbers,
+    } = opened;
+    let mut blocks = blocks;
+    note_firsts(&firsts.pages, &mut blocks);
+    Opened {
+        blocks,
+        index,
+        numbers,
+    }
+}
+
+/// Scans a device, which is given back with what was found, or with the reason why nothing was. What was read of first pages before is
+/// noted.
+pub(crate) fn scan<N: Nand>(
+    alloc: Global,
+    device: N,
+    firsts: &FirstPages,
+) -> Result<(N, Opened), (N, MountFault)>
+    requires { AreFirstsOf (N.state device) firsts.now }
     ensures reads { IfOk result (λ scanned. OnlyReads (N.state device) (N.state scanned.0)) }
     ensures asked { IfOk result (λ scanned. (N.state scanned.0).reads ≤ (N.state device).reads + all_pages (N.state device)) }
     ensures power { (N.state device).gone ≡ false → IfOk result (λ scanned. (N.state scanned.0).gone ≡ false) }
     ensures opened { IfOk result (λ scanned. IsOpened (N.state scanned.0) (table scanned.1.blocks) scanned.1.index (numbers_of scanned.1.numbers)) }
+    ensures firsts { IfOk result (λ scanned. KnowsScanned (N.state scanned.0) (table scanned.1.blocks) (numbers_of scanned.1.numbers)) }
     ensures back { IfErr result (λ failed. OnlyReads (N.state device) (N.state failed.0)) }
     ensures fault { IfErr result (λ failed. WhyNotMounted (N.state failed.0) failed.1) }
 {
     let mut device = device;
     match open(alloc, &mut device) {
-        Ok(opened) => Ok((device, opened)),
+        Ok(opened) => Ok((device, with_firsts(opened, firsts))),
         Err(fault) => Err(unmounted(device, scan_fault(fault))),
     }
 }

@@ -5,6 +5,8 @@ use Rattle.block_state.specs.TableOf.{table}
 use Rattle.nand_model.specs.Trusting.{trusted_as}
 use Rattle.mounting.specs.Mounted.{IsTreeRead, CoversNewest}
 use Rattle.mounting.proofs.Entering.{tree_read, names_read}
+use Rattle.mounting.proofs.Firsts.{known_after}
+use Rattle.mounting.specs.Tables.{KnowsFirstsOf}
 use Rattle.mounting.proofs.Lent.{reads_trusted}
 use Rattle.mounting.proofs.entries.go_by.Goals as goal
 
@@ -32,3 +34,11 @@ returns-clause-noted g c =
     let a = g.N.Nand.state c.args.bounded.device in
     let b = g.N.Nand.state c.in_ok-device.device in
     (c.prune.ensures.opened (Some c.args.found.now.block) (trusted_as g.told a) (trusted_as g.told b) (numbers_of c.args.opened.numbers) (reads_trusted g.told a b c.in_ok-device.ensures.reads) c.requires.1).noted
+
+pub returns-clause-firsts : goal.returns-clause-firsts
+returns-clause-firsts g c known =
+    let a = g.N.Nand.state c.args.bounded.device in
+    let b = g.N.Nand.state c.in_ok-device.device in
+    let n = numbers_of c.args.opened.numbers in
+    subst (λ (d : Device). KnowsFirstsOf d (table c.prune.new.blocks) n) (sym c.new.ensures.state)
+    (known_after (trusted_as g.told a) (trusted_as g.told b) _ _ (table c.args.opened.blocks) (table c.prune.new.blocks) n (reads_trusted g.told a b c.in_ok-device.ensures.reads) c.prune.ensures.counts known)

@@ -12,14 +12,16 @@ use Rattle.mounting.specs.Mounted.{IsTreeRead, IsTreeShown, HasRoomOn, CoversNew
 use Rattle.nand_model.specs.Trusting.{trusted_as}
 use Rattle.mounting.specs.Named.{IsTrustedSince}
 use Rattle.mounting.specs.Reads.{ReadsAll}
+use Rattle.mounting.specs.Tables.{KnowsBlocks}
+use Rattle.mounting.proofs.Firsts.{known_noted}
 use Rattle.mounting.proofs.ReadsTree.{ReadLaws, reads_all}
-use Rattle.mounting.proofs.Noting.{trusted_is, noted_read, fitting_noted, room_noted, may_after, scan_checked, checked_before}
+use Rattle.mounting.proofs.Noting.{trusted_is, noted_read, fitting_noted, room_noted, whole_noted, may_after, scan_checked, checked_before}
 use Rattle.mounting.proofs.going.by_scan.Goals as goal
 
 pub note_free-requires-clause-block : goal.note_free-requires-clause-block
 note_free-requires-clause-block g c = λ b is.
     let e = c.in_ok-going.ensures in
-    let placed = (c.requires.good b is).0 in
+    let placed = (c.requires.noted.good b is).0 in
     let same = e.going.named.tree.tables.tables.geometry ∙ e.reads.lasts.geometry in
     subst (λ (k : Geometry). b < k.blocks) (sym same) placed
 
@@ -46,7 +48,7 @@ returns-clause-going g c =
     let n = numbers_of on.numbers in
     let a = g.N.Nand.state c.args.device in
     let sizes = volume.sizes_of c.in_ok-going.going.sizes in
-    let may = may_after a b c.args.noted e.reads c.requires in
+    let may = may_after a b c.args.noted e.reads c.requires.noted in
     let seen = c.new.ensures.state ∙ trusted_is b in
     record {
       named = record {
@@ -56,6 +58,10 @@ returns-clause-going g c =
       sizes = subst (λ (d : Device). sizes ≡ sizes_of d.geometry on.spare) (sym seen) e.going.sizes;
       fitting = fitting_noted c.args.noted t u c.note_free.ensures e.going.fitting;
       room = subst (λ (d : Device). HasRoomOn d u on.spare) (sym seen) (room_noted b on.spare c.args.noted t u c.note_free.ensures e.going.room);
+      blocks = subst (λ (d : Device). KnowsBlocks d u n) (sym seen) (record {
+        firsts = known_noted b c.args.noted t u n c.note_free.ensures e.going.blocks.firsts;
+        whole = whole_noted b c.args.noted t u may c.note_free.ensures e.going.blocks.whole;
+      });
       tree = subst (λ (d : Device). d.honest ≡ true → (objects : Objects) × Answers d.geometry d.flash (IsTreeOf on.spare objects) × IsTreeShown d on.index on.spare on.tree objects × (costs.charge sizes objects ≤ capacity sizes))
           (sym seen) e.going.tree;
     }
@@ -71,7 +77,7 @@ returns-clause-checked g c =
     (λ is.
     let told = e.going.tree is.0 in
     scan_checked c.the_headers_tell_the_keys.ensures c.the_tree_looks_up_its_footprint.ensures.test b (table on.blocks) u on.index (numbers_of on.numbers) on.spare on.tree told.0 c.args.noted
-    (c.the_counts_are_of_the_keys.ensures.zero on.index) is (may_after a b c.args.noted e.reads c.requires) c.note_free.ensures e.going.named.tree told.2)
+    (c.the_counts_are_of_the_keys.ensures.zero on.index) is (may_after a b c.args.noted e.reads c.requires.noted) c.note_free.ensures e.going.named.tree told.2)
 
 pub returns-clause-scans : goal.returns-clause-scans
 returns-clause-scans g c = λ is.

@@ -2,6 +2,7 @@ use Rattle.std.proofs.Common.{Some, subst}
 use Rattle.std.specs.Prelude.{IfSome}
 use Rattle.nand_model.specs.laws.Changes.{only_reads_on}
 use Rattle.mount_scan.specs.FoundCheckpoint.{HasForm, IsWholeOn, checkpoint_of}
+use Rattle.mount_scan.specs.laws.CheckpointReads.{firsts_read}
 use Rattle.mounting.proofs.Noting.{form_after, whole_after, may_after, found_noted, since_before, since_with, checked_before, true_after, ok_map, ok_both}
 use Rattle.nand_model.specs.TrustedParts.{inner_of}
 use Rattle.mounting.specs.Reads.{EndsMount}
@@ -18,8 +19,8 @@ returns-in-Ok-by_entries-clause-read g c = since_before _ _ _ _ c.in-Ok.ensures.
 pub returns-in-Ok-by_entries-clause-checked : goal.returns-in-Ok-by_entries-clause-checked
 returns-in-Ok-by_entries-clause-checked g c = checked_before _ _ _ c.in-Ok.ensures.reads.only c.in-Ok-by_entries.ensures.checked
 
-pub scan_after-requires : goal.scan_after-requires
-scan_after-requires g c =
+pub scan_after-requires-clause-noted : goal.scan_after-requires-clause-noted
+scan_after-requires-clause-noted g c =
     let a = g.N.Nand.state c.args.device in
     let b = g.N.Nand.state c.find_checkpoint.new.device in
     let k = checkpoint_of c.in-Some.found in
@@ -28,6 +29,16 @@ scan_after-requires g c =
     let whole = subst (λ m. IfSome m (λ f. IsWholeOn a (checkpoint_of f))) c.in-Some.is c.in-Ok.ensures.found in
     may_after b (g.N.Nand.state c.in-Err-by_entries.device) (Some c.in-Some.found.block) c.in-Err-by_entries.ensures.back
     (found_noted b k (form_after a b k reads form) (whole_after a b k reads whole))
+
+pub by_scan-requires-clause-firsts : goal.by_scan-requires-clause-firsts
+by_scan-requires-clause-firsts g c = firsts_read (g.N.Nand.state c.args.device) (g.N.Nand.state c.find_checkpoint.new.device) _ c.in-Ok.ensures.reads.only c.in-Ok.ensures.firsts
+
+pub by_entries-requires-clause-firsts : goal.by_entries-requires-clause-firsts
+by_entries-requires-clause-firsts g c = firsts_read (g.N.Nand.state c.args.device) (g.N.Nand.state c.find_checkpoint.new.device) _ c.in-Ok.ensures.reads.only c.in-Ok.ensures.firsts
+
+pub scan_after-requires-clause-firsts : goal.scan_after-requires-clause-firsts
+scan_after-requires-clause-firsts g c =
+    firsts_read (g.N.Nand.state c.args.device) (g.N.Nand.state c.in-Err-by_entries.device) _ (only_reads_on _ _ _ c.in-Ok.ensures.reads.only c.in-Err-by_entries.ensures.back) c.in-Ok.ensures.firsts
 
 pub returns-clause-read : goal.returns-clause-read
 returns-clause-read g c =

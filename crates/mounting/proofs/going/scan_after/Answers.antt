@@ -1,11 +1,15 @@
 use Rattle.std.proofs.Common.{Some, sym, ◌∙◌}
 use Rattle.std.proofs.lemmas.Bool.{not-true}
 use Rattle.nand_model.specs.laws.Changes.{only_reads_on}
+use Rattle.mount_scan.specs.laws.CheckpointReads.{firsts_read}
 use Rattle.mounting.proofs.Noting.{may_after, since_before, checked_before, true_after, ok_map, err_map}
 use Rattle.mounting.proofs.going.scan_after.Goals as goal
 
-pub by_scan-requires : goal.by_scan-requires
-by_scan-requires g c = may_after (g.N.Nand.state c.args.device) (g.N.Nand.state c.has_power.new.device) (Some c.args.block) c.has_power.ensures.reads c.requires
+pub by_scan-requires-clause-noted : goal.by_scan-requires-clause-noted
+by_scan-requires-clause-noted g c = may_after (g.N.Nand.state c.args.device) (g.N.Nand.state c.has_power.new.device) (Some c.args.block) c.has_power.ensures.reads c.requires.noted
+
+pub by_scan-requires-clause-firsts : goal.by_scan-requires-clause-firsts
+by_scan-requires-clause-firsts g c = firsts_read (g.N.Nand.state c.args.device) (g.N.Nand.state c.has_power.new.device) c.args.firsts.now c.has_power.ensures.reads c.requires.firsts
 
 pub returns-clause-read : goal.returns-clause-read
 returns-clause-read g c =

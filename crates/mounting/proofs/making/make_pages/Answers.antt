@@ -12,7 +12,7 @@ returns-clause-tables g c =
     let blocks = table c.in_ok-store.store.log.blocks in
     let told = c.in_ok-store.ensures.tables in
     let opened = c.requires.read.tables.tables in
-    let ready = opened.ready (c.requires.can c.if-worn.false).0 in
+    let ready = opened.ready (c.requires.can c.if-worn.false).can.0 in
     record {
       index = told.0;
       marks = λ t is. of_table (HasMarks flash) t blocks (table on.blocks) told.1 is (λ b lt. ready.marks b);

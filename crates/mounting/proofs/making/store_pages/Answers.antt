@@ -9,35 +9,40 @@ use Rattle.page_store.specs.Shown.{present_data}
 use Rattle.page_store.specs.StoreOf.{kept_map}
 use Rattle.page_store.specs.StateOf.{lent_by, state_of}
 use Rattle.tree_walk.specs.Trees.{keeps_key}
+use Rattle.mounting.proofs.Mountable.{mountable_since}
 use Rattle.mounting.proofs.PagesMade.{ready, stands, few, free, store_pages}
 use Rattle.mounting.proofs.making.store_pages.Goals as goal
 
-pub new-requires-clause-ready : goal.new-requires-clause-ready
-new-requires-clause-ready g c =
-    let on = c.args.on in
-    let d = g.N.Nand.state on.device in
-    ready (keeps_key on.tree) d (table on.blocks) on.index (numbers_of on.numbers) on.spare c.requires.read.tables c.requires.fitting c.requires.room c.requires.can
-
-pub new-requires-clause-stands : goal.new-requires-clause-stands
-new-requires-clause-stands g c =
+pub new-requires : goal.new-requires
+new-requires g c = λ κs within.
     let on = c.args.on in
     let d = g.N.Nand.state on.device in
     let same : on.spare ≡ c.from.result = search rules in
-    subst (λ s. Stands s d (table on.blocks) on.index) same (stands (keeps_key on.tree) d (table on.blocks) on.index (numbers_of on.numbers) on.spare c.requires.read.tables c.requires.fitting c.requires.room c.requires.can c.requires.ordinary)
+    let read = c.requires.read.tables in
+    let can = c.requires.can.can in (
+      within,
+      (
+        ready (keeps_key on.tree) d (table on.blocks) on.index (numbers_of on.numbers) on.spare read c.requires.fitting c.requires.room can,
+        (
+          subst (λ s. Stands s d (table on.blocks) on.index) same (stands (keeps_key on.tree) d (table on.blocks) on.index (numbers_of on.numbers) on.spare read c.requires.fitting c.requires.room can c.requires.ordinary),
+          mountable_since d (table on.blocks) on.index (g.met.N.Nand.within on.device) c.requires.can.mountable,
+        ),
+      ),
+    )
 
 pub new-requires-2-clause-few : goal.new-requires-2-clause-few
 new-requires-2-clause-few g c =
     let on = c.args.on in
     let d = g.N.Nand.state on.device in
     let same : on.spare ≡ c.from.result = search rules in
-    rw (c.in-Ok.ensures.tables.0, c.in-Ok.ensures.spare) (subst (λ s. bad_count (table on.blocks) ≤ s) same (few (keeps_key on.tree) d (table on.blocks) on.index (numbers_of on.numbers) on.spare c.requires.read.tables c.requires.fitting c.requires.room c.requires.can))
+    rw (c.in-Ok.ensures.tables.0, c.in-Ok.ensures.spare) (subst (λ s. bad_count (table on.blocks) ≤ s) same (few (keeps_key on.tree) d (table on.blocks) on.index (numbers_of on.numbers) on.spare c.requires.read.tables c.requires.fitting c.requires.room c.requires.can.can))
 
 pub new-requires-2-clause-free : goal.new-requires-2-clause-free
 new-requires-2-clause-free g c =
     let on = c.args.on in
     let d = g.N.Nand.state on.device in
     let same : on.spare ≡ c.from.result = search rules in
-    rw (c.in-Ok.ensures.tables.0, c.in-Ok.ensures.spare) (subst (λ s. HasFreeBlocks (table on.blocks) s) same (free (keeps_key on.tree) d (table on.blocks) on.index (numbers_of on.numbers) on.spare c.requires.read.tables c.requires.fitting c.requires.room c.requires.can))
+    rw (c.in-Ok.ensures.tables.0, c.in-Ok.ensures.spare) (subst (λ s. HasFreeBlocks (table on.blocks) s) same (free (keeps_key on.tree) d (table on.blocks) on.index (numbers_of on.numbers) on.spare c.requires.read.tables c.requires.fitting c.requires.room c.requires.can.can))
 
 pub new-requires-2-clause-kept : goal.new-requires-2-clause-kept
 new-requires-2-clause-kept g c = rw (c.in-Ok.ensures.device, c.in-Ok.ensures.tables.1) c.requires.read.tables.tables.newest
@@ -52,7 +57,7 @@ returns-in-Ok-new-clause-made g c =
     let stored = c.in-Ok-new.ensures in
     let same : c.from.result ≡ on.spare = search rules in
     let device : g.N.Nand.state log.device ≡ d = ap g.N.Nand.state logged.device in
-    store_pages (keeps_key on.tree) d (table on.blocks) on.index (numbers_of on.numbers) on.spare c.requires.read.tables c.requires.fitting c.requires.room c.requires.can (c.the_counts_are_of_the_keys.ensures.none on.index)
+    store_pages (keeps_key on.tree) d (table on.blocks) on.index (numbers_of on.numbers) on.spare c.requires.read.tables c.requires.fitting c.requires.room c.requires.can.can (c.the_counts_are_of_the_keys.ensures.none on.index)
     (state_of s) (lent_by s) (ap (λ l. g.N.Nand.state l.device) stored.log ∙ device)
     (ap (λ l. table l.blocks) stored.log ∙ ap table logged.tables.0, ap (λ l. l.spare) stored.log ∙ logged.spare ∙ same) stored.whole
     (stored.most ∙ ap (λ (e : Device). e.geometry.pages / 4) device)

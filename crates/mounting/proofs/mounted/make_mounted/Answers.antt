@@ -1,6 +1,8 @@
 use Rattle.flash_tree.specs.Places.{numbers_of}
 use Rattle.volume_terms.specs.VolumeSizes as volume
 use Rattle.flash_tree.specs.Mount.{sizes_of}
+use Rattle.block_state.specs.TableOf.{table}
+use Rattle.mounting.proofs.Mountable.{is_mountable}
 use Rattle.mounting.proofs.Standing.{ordinary_shown}
 use Rattle.mounting.proofs.Giving.{ShownLaws, only_read_where, are_next, mounted_with}
 use Rattle.mounting.proofs.Placed.{are_placed}
@@ -47,3 +49,17 @@ returns-in-Ok-make_pages-clause-placed g c = λ honest.
     let told = c.requires.tree honest in
     let made = c.in-Ok-make_pages.ensures.made in
     are_placed (g.N.Nand.state on.device) _ on.index on.spare _ c.in-Ok-make_pages.pages told.0 made.device_is made.spare_is c.in-Ok-make_pages.ensures.tables told.1 told.2.places
+
+pub make_pages-requires-clause-can : goal.make_pages-requires-clause-can
+make_pages-requires-clause-can g c = λ written.
+    let on = c.args.going.named.on in
+    let d = g.N.Nand.state on.device in
+    let can = c.is_worn-read_only.ensures.left written in
+    let opened = c.requires.named.tree.tables.tables in
+    record {
+      can = can;
+      mountable = λ began honest.
+          let shown = c.requires.tree honest in
+          is_mountable d (table on.blocks) on.index on.spare shown.0 honest began shown.1 shown.2.places (opened.newest honest) _ (numbers_of on.numbers) opened (opened.ready can.0)
+          (g.met.N.Nand.within on.device) (c.requires.blocks.firsts honest can.0) c.requires.blocks.whole (c.the_counts_are_of_the_keys.ensures.zero on.index) c.a_table_of_first_pages_knows_erased_blocks.ensures;
+    }

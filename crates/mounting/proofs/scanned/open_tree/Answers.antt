@@ -4,6 +4,7 @@ use Rattle.block_state.specs.TableOf.{table}
 use Rattle.mounting.proofs.Answering.{tree_after}
 use Rattle.tree_walk.specs.Trees.{keeps_key}
 use Rattle.mounting.proofs.Covering.{covers_after}
+use Rattle.mounting.proofs.Firsts.{scan_after}
 use Rattle.mounting.proofs.Pruning.{scan_pruned}
 use Rattle.mounting.proofs.ReadsTree.{reads_scanned}
 use Rattle.mounting.proofs.scanned.open_tree.Goals as goal
@@ -45,3 +46,16 @@ returns-clause-few g c = λ honest.
     let found = c.in_ok-device-2.found in
     let scanned = c.in_ok-device.ensures in
     reads_scanned a b (g.N.Nand.state c.in_ok-device-2.device) found.spare found.tree scanned.reads scanned.asked (c.in_ok-device-2.ensures.few (scanned.reads.lasts.honest ∙ honest))
+
+pub returns-clause-firsts : goal.returns-clause-firsts
+returns-clause-firsts g c =
+    let a = g.N.Nand.state c.in_ok-device.device in
+    let b = g.N.Nand.state c.in_ok-device-2.device in
+    let was = c.in_ok-device.opened in
+    scan_after a b _ _ (table was.blocks) (table c.prune.new.blocks) (numbers_of was.numbers) c.in_ok-device-2.ensures.reads c.prune.ensures.counts c.in_ok-device.ensures.firsts
+
+pub returns-clause-none : goal.returns-clause-none
+returns-clause-none g c =
+    let a = g.N.Nand.state c.in_ok-device.device in
+    let b = g.N.Nand.state c.in_ok-device-2.device in
+    (c.prune.ensures.opened None a b (numbers_of c.in_ok-device.opened.numbers) c.in_ok-device-2.ensures.reads c.in_ok-device.ensures.opened.tables).noted

@@ -1,5 +1,8 @@
 use Rattle.std.proofs.Common.{sym, ◌∙◌}
 use Rattle.nand_model.specs.laws.Changes.{only_reads_on}
+use Rattle.block_state.specs.TableOf.{table}
+use Rattle.mounting.proofs.Firsts.{tree_knows}
+use Rattle.mounting.proofs.Noting.{whole_none}
 use Rattle.mounting.proofs.scanned.scan_going.Goals as goal
 
 pub returns-in-Some-clause-going : goal.returns-in-Some-clause-going
@@ -11,6 +14,10 @@ returns-in-Some-clause-going g c =
       sizes = told.sizes;
       fitting = told.fitting;
       room = told.room;
+      blocks = record {
+        firsts = tree_knows _ _ c.in_ok-named.named.on.index _ c.in_ok-named.named.on.spare c.in_ok-named.named.on.tree e.read e.firsts;
+        whole = whole_none (g.N.Nand.state c.in_ok-named.named.on.device) (table c.in_ok-named.named.on.blocks).checkpoint e.none;
+      };
       tree = told.tree;
     }
 

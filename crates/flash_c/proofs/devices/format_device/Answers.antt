@@ -13,7 +13,7 @@ returns-in-Ok g c = let ensured = c.in-Ok.ensures in record {
       power = ensured.has_power;
       few_bad = ensured.few_bad;
       sound = ensured.formatted;
-      true_flash = ensured.true_flash;
+      true_flash = λ honest. (ensured.true_flash honest).checkpoints;
     },
   );
 }

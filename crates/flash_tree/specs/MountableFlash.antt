@@ -1,6 +1,6 @@
 -- Flashes from which a mount may go by summaries.
 -- From: this project.
-use Rattle.std.specs.Prelude.{ℕ}
+use Rattle.std.specs.Prelude.{ℕ, Option, Some, None}
 use Rattle.nand_model.specs.Flash.{Flash}
 use Rattle.nand_model.specs.declared.geometry.Geometry.{Geometry}
 use Rattle.posix_profile.specs.State.{Objects}
@@ -23,3 +23,12 @@ pub record IsMountableFlash (g : Geometry) (flash : Flash) : Type 0 where
   pub summarized : IsSummarized g flash
   pub found : IsTreeFindable g flash
   pub checkpoints : (c : Checkpoint) → IsWhole g flash c → GoesFirst flash c.block
+
+-- that a flash is so, by whatever proof
+abbrev pub MayBeMountable : Geometry → Flash → Type 0
+MayBeMountable g flash = ∥ IsMountableFlash g flash ∥₁
+
+-- a flash is remembered, and a mount could go by its summaries
+abbrev pub BeganMountable : Geometry → Option Flash → Type 0
+BeganMountable g None = ⊥
+BeganMountable g (Some first) = MayBeMountable g first

@@ -1,11 +1,8 @@
 -- What holds after the writing of a checkpoint.
 use Rattle.std.proofs.Common.{◌≡◌, ◌+◌, ◌<◌, ℕ, false, true, Some, None, Ok, Err, Result, sym, ◌∙◌, ap, subst, arith, inl, inr}
-use Rattle.nand_model.specs.Flash.{Written}
 use Rattle.nand_model.specs.Calls.{Device, Lasts}
 use Rattle.nand_model.specs.Changes.{Grows}
 use Rattle.nand_model.specs.declared.geometry.Geometry.{Geometry}
-use Rattle.page_tags.specs.declared.tag.Tag.{Tag}
-use Rattle.page_tags.specs.Tags.{tag_bytes, IsTag}
 use Rattle.page_tags.specs.Checks.{check_page}
 use Rattle.flash_tree.specs.Checkpoints.{Checkpoint, check_group, check_tag, IsChecked, AddsCheckpoint, ListsTree}
 use Rattle.flash_tree.specs.Groups.{Group, SameGroups, AddsGroup, AllThere}
@@ -21,6 +18,7 @@ use Rattle.transactions.specs.Groups.{next_group, AddsPages, GroupsAfter, Stays,
 use Rattle.transactions.specs.Ready.{IsReady}
 use Rattle.transactions.specs.Written.{tag_in}
 use Rattle.transactions.specs.laws.Handing.{below_greater}
+use Rattle.transactions.proofs.GroupLaws.{same_there}
 
 module _ {T : Type 0} (pages : Ghosts T) (source : T) (d e : Device) (t : Table) (writes : WritesCheckpoint pages source d t) (tree : ListsTree d.geometry d.flash writes.entries) (ready : IsReady d t) (lasts : Lasts d e)
     (grows : Grows d.flash e.flash) (stays : Stays t d e) (honest : d.honest ≡ true) (below : BelowAfter t writes.block d.flash e.flash) where
@@ -42,10 +40,7 @@ module _ {T : Type 0} (pages : Ghosts T) (source : T) (d e : Device) (t : Table)
 
   -- its pages are there where the group's are
   all_there : AllThere group (tag_in group name) (pages.bytes source d.flash) e.flash → AllThere (check_group written) (check_tag written) (check_page d.geometry.bytes writes.entries) e.flash
-  all_there there i lt =
-      let page = there i lt in
-      let at : e.flash.page writes.block (0 + i) ≡ Written (pages.bytes source d.flash i) (tag_bytes (tag_in group name i)) = ap (λ s. e.flash.page writes.block (s + i)) (sym writes.first) ∙ page.0 in
-      (at ∙ ap (λ xs. Written xs (tag_bytes (tag_in group name i))) (writes.bytes i lt) ∙ ap (λ (x : Tag). Written (check_page d.geometry.bytes writes.entries i) (tag_bytes x)) (same_tag i lt), subst IsTag (same_tag i lt) page.1)
+  all_there = same_there group (check_group written) (tag_in group name) (check_tag written) (pages.bytes source d.flash) (check_page d.geometry.bytes writes.entries) e.flash same_group same_tag writes.bytes
 
   good : e.flash.bad writes.block ≡ false
   good = ap (λ f. f writes.block) stays.bad ∙ (ready.open_block writes.block writes.open_block).good

@@ -6,7 +6,7 @@ use Rattle.page_tags.specs.declared.tag.Tag.{Tag}
 use Rattle.page_tags.specs.Tags.{tag_bytes, IsTag}
 use Rattle.page_tags.specs.laws.Tag.{same_tag}
 use Rattle.nand_model.specs.Changes.{Grows}
-use Rattle.flash_tree.specs.Groups.{HasTag, Group, IsPart, IsGroup, SameGroups, AddsGroup}
+use Rattle.flash_tree.specs.Groups.{HasTag, Group, IsPart, IsGroup, SameGroups, AddsGroup, AllThere}
 use Rattle.flash_tree.specs.Numbering.{AreBelow}
 use Rattle.transactions.specs.Written.{Wrote, tag_in, page_in}
 use Rattle.transactions.specs.declared.source.PageName.{PageName}
@@ -46,6 +46,15 @@ groups_grow old new bad grows g whole = record {
         seq = part.seq;
       };
 }
+
+-- the pages of a group are there where those of the same group are, with the same tags and data
+pub same_there : (x y : Group) (tag tag' : ℕ → Tag) (bytes bytes' : ℕ → List ℕ) (f : Flash) → x ≡ y → ((i : ℕ) → i < x.size → tag i ≡ tag' i)
+    → ((i : ℕ) → i < x.size → bytes i ≡ bytes' i) → AllThere x tag bytes f → AllThere y tag' bytes' f
+same_there x y tag tag' bytes bytes' f group tags same there i lt =
+    let within : i < x.size = subst (λ (k : Group). i < k.size) (sym group) lt in
+    let page = there i within in
+    let at : f.page y.block (y.start + i) ≡ Written (bytes i) (tag_bytes (tag i)) = ap (λ (k : Group). f.page k.block (k.start + i)) (sym group) ∙ page.0 in
+    (at ∙ ap (λ xs. Written xs (tag_bytes (tag i))) (same i within) ∙ ap (λ (t : Tag). Written (bytes' i) (tag_bytes t)) (tags i within), subst IsTag (tags i within) page.1)
 
 module _ (g : Group) (name : ℕ → PageName) (bytes : ℕ → List ℕ) (old new : Flash) (wrote : Wrote g name bytes old new)
     (erased : (i : ℕ) → i < g.size → old.page g.block (g.start + i) ≡ Erased) (fresh : IsFresh old g.block g.number) where

@@ -20,7 +20,7 @@ use Rattle.transactions.specs.declared.page.LastPage.TheVariants as lasts
 use Rattle.flash_tree.specs.Numbering.{AreBelow}
 use Rattle.transactions.specs.Ready.{IsOpenOn, IsReady, IsPlaceIn, IsWrittenInOrder}
 use Rattle.transactions.specs.Handing.{HandsNumbers}
-use Rattle.flash_tree.specs.Summaries.{AreSummariesRight, BeginsSummary}
+use Rattle.flash_tree.specs.Summaries.{AreSummariesRight}
 use Rattle.flash_tree.specs.Summarizing.{WritesIn}
 use Rattle.flash_tree.specs.laws.Summarizing.{right_none}
 use Rattle.flash_tree.specs.Truth.{KeepsTrue}

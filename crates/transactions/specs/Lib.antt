@@ -12,4 +12,5 @@ pub mod Handing
 pub mod Marking
 pub mod Checking
 pub mod CopyingOne
+pub mod SummaryWriting
 pub mod laws

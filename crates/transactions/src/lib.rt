@@ -11,6 +11,7 @@ mod open;
 mod page;
 mod place;
 mod source;
+mod summary;
 mod table;
 
 pub use checkpoint::write_checkpoint;
@@ -24,4 +25,5 @@ pub use law::{
 pub use mark::mark_block;
 pub use open::erase_and_open;
 pub use source::{LentPage, PageName, PageSource, SourceFault};
+pub use summary::write_summary;
 pub use table::{marked_table, table_of};

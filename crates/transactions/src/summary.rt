@@ -1,0 +1,42 @@
+// The writing of a block summary.
+ghost use Rattle.std.specs.Prelude.{◌≡◌, ◌<◌, ◌^◌, ℕ, length, true};
+ghost use Rattle.volume_terms.specs.Sizes.{number_end};
+ghost use Rattle.nand_model.specs.Calls.{Lasts};
+ghost use Rattle.block_state.specs.TableOf.{table};
+ghost use Rattle.transactions.specs.Ready.{IsReady};
+ghost use Rattle.flash_tree.specs.Summarizing.{AddsSummary};
+ghost use Rattle.transactions.specs.Checking.{log_of, WritesGroup};
+ghost use Rattle.transactions.specs.Handing.{HandsOut};
+ghost use Rattle.transactions.specs.SummaryWriting.{WritesSummary};
+
+use crate::group::{GroupFault, Placed, write_any};
+use crate::source::PageSource;
+use block_state::Blocks;
+use nand_model::Nand;
+
+/// Writes the pages of a block summary as one group, with which the open block begins.
+///
+/// After a fault other than `NoRoom`, and after a suspect group, the block is open no longer.
+pub fn write_summary<N: Nand, S: PageSource>(
+    device: &mut N,
+    blocks: &mut Blocks,
+    source: &S,
+    scratch: &mut [u8],
+) -> Result<Placed, GroupFault>
+    requires ready { IsReady (N.state device.old) (table blocks.old) }
+    requires number { (table blocks.old).next_group < number_end }
+    requires size { length scratch.old ≡ (N.state device.old).geometry.bytes }
+    requires source { S.ready source.now (N.state device.old).geometry (table blocks.old).next_group }
+    requires has { (N.state device.old).honest ≡ true → (i : ℕ) → i < S.count source.now → S.has source.now (N.state device.old).flash i }
+    requires summary { (N.state device.old).honest ≡ true → WritesSummary S.PageSource source.now (N.state device.old) (table blocks.old) }
+    ensures lasts { Lasts (N.state device.old) (N.state device.new) }
+    ensures ready { IsReady (N.state device.new) (table blocks.new) }
+    ensures group { WritesGroup S.PageSource source.now (log_of (N.state device.old) (table blocks.old)) (log_of (N.state device.new) (table blocks.new)) result }
+    // Each whole checkpoint stays right, and so does each summary, the new one too.
+    ensures numbers { HandsOut (N.state device.old) (N.state device.new) (table blocks.old) (table blocks.new) }
+    // The group that is added, if one is, is that summary.
+    ensures adds { (N.state device.old).honest ≡ true → (writes : WritesSummary S.PageSource source.now (N.state device.old) (table blocks.old))
+        → AddsSummary (N.state device.old).geometry (N.state device.old).flash (N.state device.new).flash writes.summary }
+{
+    write_any(device, blocks, source, scratch)
+}

@@ -40,7 +40,7 @@ use Rattle.flash_log.specs.declared.copying.Target.{Target}
 use Rattle.flash_log.proofs.KeptPages.{listed_or_not, name_is}
 use Rattle.flash_log.specs.Passing.{KeepsFound}
 use Rattle.flash_log.specs.Erased.{KeepsErased}
-use Rattle.flash_log.specs.laws.Erased.{LeavesBlank, knows_as}
+use Rattle.flash_log.specs.laws.Erased.{LeavesBlank, knows_as, leads_as}
 use Rattle.flash_log.specs.laws.Found.{findable_moved, findable_still}
 use Rattle.flash_log.specs.laws.FreeBlocks.{free_where_stands}
 use Rattle.flash_tree.specs.laws.Place.{had_power}
@@ -326,7 +326,7 @@ module _ (spare v : ℕ) (target : Target) (d0 d1 : Device) (t0 t1 t2 : Table) (
   erased_moved : d1.gone ≡ false → KeepsErased d0 d1 t0 t2
   erased_moved power honest was =
       let after = keeps.erased honest was in
-      record { first = after.first; known = λ _. knows_as d1.flash t1 t2 (leaves honest) (after.known power) } where
+      record { first = after.first; leads = leads_as d1.flash t1 t2 (leaves honest) after.leads; known = λ _. knows_as d1.flash t1 t2 (leaves honest) (after.known power) } where
         leaves : d0.honest ≡ true → LeavesBlank d1.flash t1 t2
         leaves honest = record {
           geometry = tells.counts.geometry;

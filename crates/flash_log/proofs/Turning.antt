@@ -12,7 +12,7 @@ use Rattle.transactions.specs.Opening.{MayLose, Opens}
 use Rattle.transactions.specs.Ready.{IsReady}
 use Rattle.flash_tree.specs.ErasedBlocks.{GoesFirst}
 use Rattle.flash_log.proofs.Free.{was_unkept}
-use Rattle.flash_log.specs.Erased.{KnowsErased}
+use Rattle.flash_log.specs.Erased.{KnowsErased, LeadsErased}
 use Rattle.flash_log.specs.Passing.{Passes}
 use Rattle.flash_log.specs.Taking.{CouldBeTaken, IsItsTurn, LiesApart, NoneGoesFirst, SameTurns}
 
@@ -123,8 +123,8 @@ turns_marked b flash t u notes bad = record {
   left k ne = grind (arith, ne)
 
 -- the block that is allocated next goes first of those that begin erased
-pub goes_next : (d : Device) (t : Table) (b : ℕ) → IsReady d t → LiesApart t → t.open_block ≡ None → IsNextTaken t t.geometry.blocks b → KnowsErased d.flash t → GoesFirst d.flash b
-goes_next d t b ready apart closed next knows = go t.checkpoint refl where
+pub goes_next : (d : Device) (t : Table) (b : ℕ) → IsReady d t → LiesApart t → t.open_block ≡ None → IsNextTaken t t.geometry.blocks b → KnowsErased d.flash t → LeadsErased d.flash t → GoesFirst d.flash b
+goes_next d t b ready apart closed next knows leads = go t.checkpoint refl where
   in_turn : IsNextFree t t.geometry.blocks b → GoesFirst d.flash b
   in_turn turn k ne begins = elim (cases_lt k t.geometry.blocks) [
     | inr out ↦ let within = turn.within in (
@@ -155,7 +155,7 @@ goes_next d t b ready apart closed next knows = go t.checkpoint refl where
     ]
 
   go : (x : Option ℕ) → t.checkpoint ≡ x → GoesFirst d.flash b
-  go (Some c) is = subst (GoesFirst d.flash) (sym (next.first c is (first_is_free d t c ready apart is))) (knows.noted c is)
+  go (Some c) is = subst (GoesFirst d.flash) (sym (next.first c is (first_is_free d t c ready apart is))) (leads.noted c is)
   go None is = in_turn (next.turn (λ c at. let two : None ≡ Some c = sym is ∙ at in absurd cc))
 
 -- and no other may have a checkpoint

@@ -26,17 +26,22 @@ pub record IsFirstBlank (t : Table) (b : ℕ) : Type 0 where
 
 -- The table knows the blocks that begin erased, in the order in which they are allocated: nothing was programmed in them and no page of
 -- them is committed, and one that has a tag, since its erase was cut, is the first. A block in which pages were programmed has the number
--- of its allocation; and the block that may have a checkpoint goes first, and so does the open one before its first page.
+-- of its allocation.
 pub record KnowsErased (flash : Flash) (t : Table) : Type 0 where
   pub unwritten : (b : ℕ) → b < t.geometry.blocks → BeginsErased flash b → IsUnwritten t b
   pub torn : (b l : ℕ) (u : Tag) → BeginsErased flash b → HasTag flash b l u → IsFirstBlank t b
   pub aged : (b : ℕ) → 1 ≤ (t.entry b).next → 1 ≤ (t.entry b).seq
+
+-- The block that may have a checkpoint goes first of those that begin erased, and so does the open one before its first page.
+pub record LeadsErased (flash : Flash) (t : Table) : Type 0 where
   pub noted : (c : ℕ) → t.checkpoint ≡ Some c → GoesFirst flash c
   pub opened : (o : ℕ) → t.open_block ≡ Some o → (t.entry o).next ≡ 0 → GoesFirst flash o
 
--- Of the blocks that begin erased the first alone has tags, and as long as the device has power the table knows them.
+-- Of the blocks that begin erased the first alone has tags, and those go first that are next to be erased or written; and as long as the
+-- device has power the table knows them all.
 pub record TracksErased (device : Device) (t : Table) : Type 0 where
   pub first : OnlyFirstHasTags device.flash
+  pub leads : LeadsErased device.flash t
   pub known : device.gone ≡ false → KnowsErased device.flash t
 
 -- on an honest device that is so still, wherever the power went, if it was so before

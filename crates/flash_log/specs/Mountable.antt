@@ -1,14 +1,13 @@
 -- What lets the next mount go by the summaries of a flash, of a log at one moment.
 -- From: this project.
-use Rattle.std.specs.Prelude.{◌≡◌, true, Option, Some, None}
-use Rattle.nand_model.specs.declared.geometry.Geometry.{Geometry}
-use Rattle.flash_tree.specs.MountableFlash.{IsMountableFlash}
+use Rattle.std.specs.Prelude.{◌≡◌, true, Option}
+use Rattle.flash_tree.specs.MountableFlash.{BeganMountable}
 use Rattle.flash_tree.specs.Summaries.{AreSummariesRight}
 use Rattle.chunk_index.specs.declared.index.Index.{Index}
 use Rattle.chunk_index.specs.Maps.{kept_pages}
 use Rattle.transactions.specs.Checking.{LogState}
 use Rattle.flash_log.specs.Erased.{TracksErased}
-use Rattle.flash_log.specs.Snapshots.{Snapshot, flash_of}
+use Rattle.flash_log.specs.Snapshots.{Snapshot, remembered_flash}
 use Rattle.flash_log.specs.Standing.{AreFound}
 
 -- Each summary is right; the table knows the blocks that begin erased; and a mount by summaries finds each committed page.
@@ -17,14 +16,9 @@ pub record IsMountable (log : LogState) (x : Index) : Type 0 where
   pub erased : TracksErased log.device log.table
   pub found : AreFound log.device.geometry log.device.flash (kept_pages x)
 
--- a flash is remembered, and a mount could go by its summaries
-abbrev pub BeganMountable : Geometry → Option Snapshot → Type 0
-BeganMountable g None = ⊥
-BeganMountable g (Some first) = IsMountableFlash g (flash_of first)
-
 -- of an honest device it is so, where it was so of the flash with which the log began
 abbrev pub IsMountableSince : Option Snapshot → LogState → Index → Type 0
-IsMountableSince first log x = BeganMountable log.device.geometry first → log.device.honest ≡ true → ∥ IsMountable log x ∥₁
+IsMountableSince first log x = BeganMountable log.device.geometry (remembered_flash first) → log.device.honest ≡ true → ∥ IsMountable log x ∥₁
 
 -- of an honest device it is so still, wherever power goes, if it was so before
 abbrev pub KeepsMountable : LogState → LogState → Index → Index → Type 0

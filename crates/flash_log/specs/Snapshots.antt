@@ -1,6 +1,6 @@
 -- A flash as lists, so that a contract can remember one.
 -- From: this project.
-use Rattle.std.specs.Prelude.{ℕ, Bool, false, List, [], Option, None, get_or}
+use Rattle.std.specs.Prelude.{ℕ, Bool, false, List, [], Option, Some, None, get_or}
 use Rattle.nand_model.specs.Flash.{Flash, Page, Erased}
 
 -- For each block whether it is bad, which page is next, and its pages.
@@ -16,3 +16,8 @@ flash_of s = record {
   next = λ b. get_or s.next b None;
   page = λ b p. get_or (get_or s.pages b []) p Erased;
 }
+
+-- the flash that is remembered, if one is
+abbrev pub remembered_flash : Option Snapshot → Option Flash
+remembered_flash None = None
+remembered_flash (Some first) = Some (flash_of first)

@@ -30,7 +30,7 @@ use Rattle.transactions.specs.declared.group.GroupFault.{GroupFault}
 use Rattle.transactions.specs.declared.group.GroupFault.TheVariants as groups
 use Rattle.transactions.specs.declared.group.Placed.{Placed}
 use Rattle.transactions.specs.declared.source.PageName.{PageName}
-use Rattle.flash_log.specs.Erased.{IsBlank, IsUnwritten, KnowsErased, TracksErased, KeepsErased}
+use Rattle.flash_log.specs.Erased.{IsBlank, IsUnwritten, KnowsErased, LeadsErased, TracksErased, KeepsErased}
 
 -- ---- of the blocks that begin erased the first alone has tags
 
@@ -55,8 +55,8 @@ only_known flash t marks knows a k l u lt begins begins' has =
     absurd (omega (arith, lt, le))
 
 -- a device with power, whose table knows them
-pub tracks_known : (d : Device) (t : Table) → IsReady d t → KnowsErased d.flash t → TracksErased d t
-tracks_known d t ready knows = record { first = only_known d.flash t ready.marks knows; known = λ power. knows }
+pub tracks_known : (d : Device) (t : Table) → IsReady d t → KnowsErased d.flash t → LeadsErased d.flash t → TracksErased d t
+tracks_known d t ready knows leads = record { first = only_known d.flash t ready.marks knows; leads = leads; known = λ power. knows }
 
 -- ---- no block begins erased that did not
 
@@ -75,8 +75,12 @@ knows_on old new t none knows = record {
   unwritten = λ b within begins. knows.unwritten b within (none b begins).0;
   torn = λ b l u begins has. let was = none b begins in knows.torn b l u was.0 (was.1 l u has);
   aged = knows.aged;
-  noted = λ c is. goes_on old new c none (knows.noted c is);
-  opened = λ o is next. goes_on old new o none (knows.opened o is next);
+}
+
+pub leads_on : (old new : Flash) (t : Table) → ErasesNone old new → LeadsErased old t → LeadsErased new t
+leads_on old new t none leads = record {
+  noted = λ c is. goes_on old new c none (leads.noted c is);
+  opened = λ o is next. goes_on old new o none (leads.opened o is next);
 }
 
 pub only_on : (old new : Flash) → ErasesNone old new → OnlyFirstHasTags old → OnlyFirstHasTags new
@@ -128,8 +132,6 @@ knows_as flash t u leaves knows = record {
       let was = knows.torn b l x begins has in
       record { within = subst (λ (g : Geometry). b < g.blocks) (sym leaves.geometry) was.within; lowest = λ j blank. was.lowest j (blank_was j blank) };
   aged = λ b some. let next = leaves.next b in let seq = leaves.seq b in let was = knows.aged b (omega (arith, next, some)) in omega (arith, seq, was);
-  noted = λ c is. knows.noted c (leaves.noted c is);
-  opened = λ o is next. knows.opened o (leaves.opened o is) (sym (leaves.next o) ∙ next);
 } where
   blank_was : (j : ℕ) → IsBlank u j → IsBlank t j
   blank_was j blank = record {
@@ -137,6 +139,12 @@ knows_as flash t u leaves knows = record {
     good = good_was (t.entry j).bad (u.entry j).bad (leaves.marks j) blank.good;
     next = sym (leaves.next j) ∙ blank.next;
   }
+
+pub leads_as : (flash : Flash) (t u : Table) → LeavesBlank flash t u → LeadsErased flash t → LeadsErased flash u
+leads_as flash t u leaves leads = record {
+  noted = λ c is. leads.noted c (leaves.noted c is);
+  opened = λ o is next. leads.opened o (leaves.opened o is) (sym (leaves.next o) ∙ next);
+}
 
 -- no block is open, and numbers are other
 pub leaves_closed : (flash : Flash) (t u : Table) → u.entry ≡ t.entry → u.geometry ≡ t.geometry → u.checkpoint ≡ t.checkpoint → u.open_block ≡ None → LeavesBlank flash t u
@@ -199,12 +207,6 @@ knows_taken flash t u o count opened seq some begun takes knows = record {
         let was = knows.aged b (omega (arith, next, more)) in
         omega (arith, age, was)
   ];
-  noted = λ c is. knows.noted c (sym takes.checkpoint ∙ is);
-  opened = λ k is none.
-      let both : Some o ≡ Some k = sym opened ∙ sym takes.open_block ∙ is in
-      let at : o ≡ k = cc in
-      let there : (u.entry o).next ≡ 0 = ap (λ n. (u.entry n).next) at ∙ none in
-      absurd (omega (arith, there, more_there, some));
 } where
   same : (b : ℕ) → b ≢ o → u.entry b ≡ t.entry b
   same b ne = takes.others b (λ at. let both : Some o ≡ Some b = sym opened ∙ at in let is : o ≡ b = cc in ne (sym is))
@@ -221,6 +223,24 @@ knows_taken flash t u o count opened seq some begun takes knows = record {
         next = ap (λ (x : BlockEntry). x.next) (sym (same j ne)) ∙ blank.next;
       }
 
+pub leads_taken : (flash : Flash) (t u : Table) (o count : ℕ) → t.open_block ≡ Some o → 1 ≤ count → TakesPages count t u → LeadsErased flash t → LeadsErased flash u
+leads_taken flash t u o count opened some takes leads = record {
+  noted = λ c is. leads.noted c (sym takes.checkpoint ∙ is);
+  opened = λ k is none.
+      let both : Some o ≡ Some k = sym opened ∙ sym takes.open_block ∙ is in
+      let at : o ≡ k = cc in
+      let there : (u.entry o).next ≡ 0 = ap (λ n. (u.entry n).next) at ∙ none in
+      let more : (u.entry o).next ≡ (t.entry o).next + count = ap (λ (x : BlockEntry). x.next) (takes.here o opened) in
+      absurd (omega (arith, there, more, some));
+}
+
+-- one in which no block is open, and none may have a checkpoint but one that goes first
+pub leads_one : (flash : Flash) (t : Table) (b : ℕ) → t.open_block ≡ None → ((c : ℕ) → t.checkpoint ≡ Some c → c ≡ b) → GoesFirst flash b → LeadsErased flash t
+leads_one flash t b closed one goes = record {
+  noted = λ c is. subst (GoesFirst flash) (sym (one c is)) goes;
+  opened = λ o is next. let two : None ≡ Some o = sym closed ∙ is in absurd cc;
+}
+
 -- ---- calls
 
 pub erased_here : (d : Device) (t : Table) → KeepsErased d d t t
@@ -228,33 +248,38 @@ erased_here d t honest was = was
 
 -- the table alone changes
 pub erased_as : (d : Device) (t u : Table) → LeavesBlank d.flash t u → KeepsErased d d t u
-erased_as d t u leaves honest was = record { first = was.first; known = λ power. knows_as d.flash t u leaves (was.known power) }
+erased_as d t u leaves honest was = record { first = was.first; leads = leads_as d.flash t u leaves was.leads; known = λ power. knows_as d.flash t u leaves (was.known power) }
 
 pub erased_on : (a b c : Device) (t u v : Table) → b.honest ≡ a.honest → KeepsErased a b t u → KeepsErased b c u v → KeepsErased a c t v
 erased_on a b c t u v same first later honest was = later (same ∙ honest) (first honest was)
 
 -- no block begins erased that did not
 pub erased_none : (d e : Device) (t u : Table) → Lasts d e → (d.honest ≡ true → ErasesNone d.flash e.flash)
+    → (d.honest ≡ true → LeadsErased e.flash t → LeadsErased e.flash u)
     → (d.honest ≡ true → e.gone ≡ false → KnowsErased d.flash t → KnowsErased e.flash t → KnowsErased e.flash u) → KeepsErased d e t u
-erased_none d e t u lasts none after honest was = record {
+erased_none d e t u lasts none leads after honest was = record {
   first = only_on d.flash e.flash (none honest) was.first;
+  leads = leads honest (leads_on d.flash e.flash t (none honest) was.leads);
   known = λ power. let knows = was.known (had_power d e lasts power) in after honest power knows (knows_on d.flash e.flash t (none honest) knows);
 }
 
 -- it is enough to say what a device with power keeps
-pub erased_with_power : (d e : Device) (t u : Table) → Lasts d e → (d.honest ≡ true → KnowsErased d.flash t → OnlyFirstHasTags e.flash × (e.gone ≡ false → KnowsErased e.flash u)) → KeepsErased d e t u
-erased_with_power d e t u lasts step honest was = elim (cases_Bool d.gone) [
+pub erased_with_power : (d e : Device) (t u : Table) → Lasts d e → (d.gone ≡ true → LeadsErased d.flash t → LeadsErased d.flash u)
+    → (d.honest ≡ true → KnowsErased d.flash t → LeadsErased d.flash t → OnlyFirstHasTags e.flash × LeadsErased e.flash u × (e.gone ≡ false → KnowsErased e.flash u)) → KeepsErased d e t u
+erased_with_power d e t u lasts leads step honest was = elim (cases_Bool d.gone) [
   | inl gone ↦ record {
     first = subst (λ (x : Device). OnlyFirstHasTags x.flash) (sym (lasts.gone gone)) was.first;
+    leads = subst (λ (x : Device). LeadsErased x.flash u) (sym (lasts.gone gone)) (leads gone was.leads);
     known = λ power. let two : true ≡ false = sym gone ∙ had_power d e lasts power in absurd cc;
   }
-  | inr power ↦ let after = step honest (was.known power) in record { first = after.0; known = after.1 }
+  | inr power ↦ let after = step honest (was.known power) was.leads in record { first = after.0; leads = after.1; known = after.2 }
 ]
 
 -- a mark of any block
 pub erased_marked : (v : ℕ) (d e : Device) (t u : Table) (result : Result (Unit {0}) Gone) → ((t.entry v).bad ≡ true → e.flash.bad v ≡ true) → Marks v d e result → NotesMark v e.flash t u → KeepsErased d e t u
 erased_marked v d e t u result still marks notes =
-    erased_none d e t u marks.lasts (λ honest. none_marked v d e result honest marks) (λ honest power was. knows_as e.flash t u (leaves_marked v d e t u result still marks notes))
+    erased_none d e t u marks.lasts (λ honest. none_marked v d e result honest marks) (λ honest. leads_as e.flash t u (leaves_marked v d e t u result still marks notes))
+    (λ honest power was. knows_as e.flash t u (leaves_marked v d e t u result still marks notes))
 
 -- ---- a block that goes first is taken
 
@@ -268,12 +293,14 @@ pub goes_erased : (b : ℕ) (d e : Device) (result : Result (Unit {0}) EraseFaul
 goes_erased b d e result honest does = goes_faded b d.flash e.flash (fades_erase b d.flash e.flash (shrinks-erase b d e result honest does))
 
 -- a cut of its erase
-pub erased_cut : (b : ℕ) (d e : Device) (t u : Table) (result : Result (Unit {0}) EraseFault) → (d.honest ≡ true → KnowsErased d.flash t → GoesFirst d.flash b) → Erases b d e result → e.gone ≡ true
-    → KeepsErased d e t u
-erased_cut b d e t u result goes does gone = erased_with_power d e t u does.lasts (λ honest knows. (
-  only_goes e.flash b (goes_erased b d e result honest does (goes honest knows)),
-  λ still. let two : true ≡ false = sym gone ∙ still in absurd cc,
-))
+pub erased_cut : (b : ℕ) (d e : Device) (t u : Table) (result : Result (Unit {0}) EraseFault) → (d.honest ≡ true → KnowsErased d.flash t → LeadsErased d.flash t → GoesFirst d.flash b)
+    → ((c : ℕ) → t.checkpoint ≡ Some c → c ≡ b) → t.open_block ≡ None → u ≡ t → Erases b d e result → e.gone ≡ true → KeepsErased d e t u
+erased_cut b d e t u result goes noted closed same does gone = erased_with_power d e t u does.lasts (λ _. subst (LeadsErased d.flash) (sym same)) (λ honest knows leads.
+    let first = goes_erased b d e result honest does (goes honest knows leads) in (
+      only_goes e.flash b first,
+      subst (LeadsErased e.flash) (sym same) (leads_one e.flash t b closed noted first),
+      λ still. let two : true ≡ false = sym gone ∙ still in absurd cc,
+    ))
 
 -- of all but one block nothing is other, and that one has no tag or is bad
 module _ (b : ℕ) (old new : Flash) (t u : Table) (goes : GoesFirst new b) (bads : (k : ℕ) → k ≢ b → new.bad k ≡ old.bad k) (pages : (k l : ℕ) → k ≢ b → new.page k l ≡ old.page k l)
@@ -312,6 +339,10 @@ module _ (b : ℕ) (old new : Flash) (t u : Table) (goes : GoesFirst new b) (bad
           absurd (omega (arith, zero_there, some))
       | inr ne ↦ was_aged k ne some
     ];
+  }
+
+  pub leads_opened : Opens b t u → LeadsErased new u
+  leads_opened opens = record {
     noted = λ c at. let two : None ≡ Some c = sym opens.checkpoint ∙ at in absurd cc;
     opened = λ o at next.
         let both : Some b ≡ Some o = sym opens.open_block ∙ at in
@@ -319,9 +350,9 @@ module _ (b : ℕ) (old new : Flash) (t u : Table) (goes : GoesFirst new b) (bad
         subst (GoesFirst new) same goes;
   }
 
-  -- it is marked, and no other may have a checkpoint
-  pub knows_marked : new.bad b ≡ true → u.open_block ≡ None → u.checkpoint ≡ None → ((u.entry b).next ≡ (t.entry b).next) → ((u.entry b).seq ≡ (t.entry b).seq) → KnowsErased new u
-  knows_marked bad closed none next seq = record {
+  -- it is marked
+  pub knows_marked : new.bad b ≡ true → ((u.entry b).next ≡ (t.entry b).next) → ((u.entry b).seq ≡ (t.entry b).seq) → KnowsErased new u
+  knows_marked bad next seq = record {
     unwritten = λ k within begins. elim (cases_eq k b) [
       | inl is ↦ let two : true ≡ false = sym bad ∙ ap new.bad (sym is) ∙ begins.0 in absurd cc
       | inr ne ↦ was_known k ne within begins
@@ -338,44 +369,49 @@ module _ (b : ℕ) (old new : Flash) (t u : Table) (goes : GoesFirst new b) (bad
           omega (arith, age, was)
       | inr ne ↦ was_aged k ne some
     ];
-    noted = λ c at. let two : None ≡ Some c = sym none ∙ at in absurd cc;
-    opened = λ o at. let two : None ≡ Some o = sym closed ∙ at in absurd cc;
   }
 
 -- its erase is done, and it is opened
-pub erased_opened : (b : ℕ) (d e : Device) (t u : Table) (done : Unit {0}) → (d.honest ≡ true → KnowsErased d.flash t → GoesFirst d.flash b) → (t.entry b).kept ≡ 0 → Erases b d e (Ok done) → Opens b t u
-    → KeepsErased d e t u
-erased_opened b d e t u done goes none does opens = erased_with_power d e t u does.lasts (λ honest knows.
-    let first = goes_erased b d e (Ok done) honest does (goes honest knows) in (
+pub erased_opened : (b : ℕ) (d e : Device) (t u : Table) (done : Unit {0}) → (d.honest ≡ true → KnowsErased d.flash t → LeadsErased d.flash t → GoesFirst d.flash b) → (t.entry b).kept ≡ 0
+    → Erases b d e (Ok done) → Opens b t u → KeepsErased d e t u
+erased_opened b d e t u done goes none does opens = erased_with_power d e t u does.lasts (λ gone. let two : true ≡ false = sym gone ∙ does.ends.was in absurd cc) (λ honest knows leads.
+    let first = goes_erased b d e (Ok done) honest does (goes honest knows leads) in (
       only_goes e.flash b first,
+      leads_opened b d.flash e.flash t u first (λ k ne. ap (λ f. f k) does.bad) (does.other_blocks honest) opens.sets.others opens.sets.geometry knows opens,
       λ still. knows_opened b d.flash e.flash t u first (λ k ne. ap (λ f. f k) does.bad) (does.other_blocks honest) opens.sets.others opens.sets.geometry knows none opens (does.pages honest),
     ))
 
 -- its erase failed, and it is marked
-pub erased_failed : (b : ℕ) (d m e : Device) (t u : Table) (erase : Result (Unit {0}) EraseFault) (result : Result (Unit {0}) Gone) → (d.honest ≡ true → KnowsErased d.flash t → GoesFirst d.flash b)
+pub erased_failed : (b : ℕ) (d m e : Device) (t u : Table) (erase : Result (Unit {0}) EraseFault) (result : Result (Unit {0}) Gone)
+    → (d.honest ≡ true → KnowsErased d.flash t → LeadsErased d.flash t → GoesFirst d.flash b)
     → ((c : ℕ) → t.checkpoint ≡ Some c → c ≡ b) → t.open_block ≡ None → Erases b d m erase → Marks b m e result → NotesMark b e.flash t u → KeepsErased d e t u
-erased_failed b d m e t u erase result goes noted closed does marks notes = erased_with_power d e t u (lasts_on d m e does.lasts marks.lasts) go where
-  go : d.honest ≡ true → KnowsErased d.flash t → OnlyFirstHasTags e.flash × (e.gone ≡ false → KnowsErased e.flash u)
-  go honest knows = (only_goes e.flash b first, after result marks.ends marks.bad) where
+erased_failed b d m e t u erase result goes noted closed does marks notes = erased_with_power d e t u (lasts_on d m e does.lasts marks.lasts) lost go where
+  same : (c : ℕ) → u.checkpoint ≡ Some c → t.checkpoint ≡ Some c
+  same c is = noted_before b c t.checkpoint (e.flash.bad b) (sym notes.checkpoint ∙ is)
+
+  still_closed : u.open_block ≡ None
+  still_closed = notes.open_block ∙ closed
+
+  lost : d.gone ≡ true → LeadsErased d.flash t → LeadsErased d.flash u
+  lost gone leads = record {
+    noted = λ c is. leads.noted c (same c is);
+    opened = λ o is. let two : None ≡ Some o = sym still_closed ∙ is in absurd cc;
+  }
+
+  go : d.honest ≡ true → KnowsErased d.flash t → LeadsErased d.flash t → OnlyFirstHasTags e.flash × LeadsErased e.flash u × (e.gone ≡ false → KnowsErased e.flash u)
+  go honest knows leads = (only_goes e.flash b first, leads_one e.flash u b still_closed (λ c is. noted c (same c is)) first, after result marks.ends marks.bad) where
     known : m.honest ≡ true
     known = does.lasts.honest ∙ honest
 
     first : GoesFirst e.flash b
-    first = goes_faded b m.flash e.flash (fades_mark b m e result known marks) (goes_erased b d m erase honest does (goes honest knows))
+    first = goes_faded b m.flash e.flash (fades_mark b m e result known marks) (goes_erased b d m erase honest does (goes honest knows leads))
 
     after : (r : Result (Unit {0}) Gone) → MarkEnds m e r → MarkLeaves r (m.flash.bad b) (e.flash.bad b) → e.gone ≡ false → KnowsErased e.flash u
     after (Err gone) ends leaves still = let two : true ≡ false = sym ends.is ∙ still in absurd cc
     after (Ok done) ends bad still = knows_marked b d.flash e.flash t u first
         (λ k ne. marks.other_bads k ne ∙ ap (λ f. f k) does.bad)
         (λ k l ne. ap (λ f. f k l) (marks.page known) ∙ does.other_blocks honest k l ne)
-        notes.sets.others notes.sets.geometry knows bad (notes.open_block ∙ closed) (none u.checkpoint refl)
-        (ap (λ (x : BlockEntry). x.next) notes.sets.here) (ap (λ (x : BlockEntry). x.seq) notes.sets.here) where
-          none : (x : Option ℕ) → u.checkpoint ≡ x → u.checkpoint ≡ None
-          none None is = is
-          none (Some c) is =
-              let now : u.checkpoint ≡ other_than b t.checkpoint = notes.checkpoint ∙ ap (λ x. if x then other_than b t.checkpoint else t.checkpoint) bad in
-              let other = other_is_other b c t.checkpoint (sym now ∙ is) in
-              absurd (other.1 (noted c other.0))
+        notes.sets.others notes.sets.geometry knows bad (ap (λ (x : BlockEntry). x.next) notes.sets.here) (ap (λ (x : BlockEntry). x.seq) notes.sets.here)
 
 -- ---- a group is written in the open block
 
@@ -386,7 +422,7 @@ module _ (d e : Device) (t : Table) (o count : ℕ) (name : ℕ → PageName) (b
 
   -- as long as the table stays, or another is told of the pages
   pub erased_pages : (u : Table) → KeepsErased d e u u
-  erased_pages u = erased_none d e u u lasts none (λ honest power was knows. knows)
+  erased_pages u = erased_none d e u u lasts none (λ honest leads. leads) (λ honest power was knows. knows)
 
   -- where a group is added the first page of the block is written
   pub begun : d.honest ≡ true → AddsPages (next_group t count o) name bytes d.flash e.flash → (1 ≤ count) × (e.flash.page o 0 ≢ Erased)
@@ -412,26 +448,40 @@ module _ (d e : Device) (t : Table) (o count : ℕ) (name : ℕ → PageName) (b
   knows_ends u (Err groups.Lost) honest same table = knows_closed u table
   knows_ends u (Err groups.Gone) honest same table = knows_closed u table
 
+  leads_closed : (u : Table) → u ≡ closed t → LeadsErased e.flash t → LeadsErased e.flash u
+  leads_closed u is = leads_as e.flash t u (leaves_closed e.flash t u (ap (λ (x : Table). x.entry) is) (ap (λ (x : Table). x.geometry) is) (ap (λ (x : Table). x.checkpoint) is) (ap (λ (x : Table). x.open_block) is))
+
+  leads_ends : (u : Table) (result : Result Placed GroupFault) → d.honest ≡ true → GroupsAfter (next_group t count o) name bytes d.flash e.flash result → TableEnds count t u result
+      → LeadsErased e.flash t → LeadsErased e.flash u
+  leads_ends u (Ok placed) honest adds table = go placed.suspect table where
+    go : (suspect : Bool) → OkTable suspect count t u → LeadsErased e.flash t → LeadsErased e.flash u
+    go true is = leads_closed u is
+    go false takes = leads_taken e.flash t u o count opened (begun honest adds).0 takes
+  leads_ends u (Err groups.NoRoom) honest same table = subst (LeadsErased e.flash) (sym table)
+  leads_ends u (Err groups.Failed) honest same table = leads_closed u table
+  leads_ends u (Err groups.Lost) honest same table = leads_closed u table
+  leads_ends u (Err groups.Gone) honest same table = leads_closed u table
+
   -- however it ends
   pub erased_written : (u : Table) (result : Result Placed GroupFault) → (d.honest ≡ true → GroupsAfter (next_group t count o) name bytes d.flash e.flash result) → TableEnds count t u result
       → KeepsErased d e t u
-  erased_written u result after table = erased_none d e t u lasts none (λ honest power was. knows_ends u result honest (after honest) table)
+  erased_written u result after table = erased_none d e t u lasts none (λ honest. leads_ends u result honest (after honest) table) (λ honest power was. knows_ends u result honest (after honest) table)
 
   -- and once its block is noted, where no page was written in it before
   pub erased_noted : (u v : Table) (result : Result Placed GroupFault) → (d.honest ≡ true → GroupsAfter (next_group t count o) name bytes d.flash e.flash result) → TableEnds count t u result
       → (d.honest ≡ true → (t.entry o).next ≡ 0) → v ≡ record u { open_block = None; checkpoint = Some o } → KeepsErased d e t v
-  erased_noted u v result after table first is = erased_none d e t v lasts none (λ honest power was knows.
-      subst (KnowsErased e.flash) (sym is) (noted (knows.opened o opened (first honest)) (knows_ends u result honest (after honest) table knows))) where
-        noted : GoesFirst e.flash o → KnowsErased e.flash u → KnowsErased e.flash (record u { open_block = None; checkpoint = Some o })
-        noted goes ends = record {
+  erased_noted u v result after table first is = erased_none d e t v lasts none leads
+      (λ honest power was knows. subst (KnowsErased e.flash) (sym is) (noted (knows_ends u result honest (after honest) table knows))) where
+        leads : d.honest ≡ true → LeadsErased e.flash t → LeadsErased e.flash v
+        leads honest was = leads_one e.flash v o (ap (λ (x : Table). x.open_block) is)
+            (λ c at. let both : Some o ≡ Some c = ap (λ (x : Table). x.checkpoint) (sym is) ∙ at in let same : o ≡ c = cc in sym same)
+            (was.opened o opened (first honest))
+
+        noted : KnowsErased e.flash u → KnowsErased e.flash (record u { open_block = None; checkpoint = Some o })
+        noted ends = record {
           unwritten = λ b within begins. let was = ends.unwritten b within begins in record { next = was.next; kept = was.kept };
           torn = λ b l x begins has.
               let was = ends.torn b l x begins has in
               record { within = was.within; lowest = λ j blank. was.lowest j (record { within = blank.within; good = blank.good; next = blank.next }) };
           aged = ends.aged;
-          noted = λ c at.
-              let both : Some o ≡ Some c = at in
-              let same : o ≡ c = cc in
-              subst (GoesFirst e.flash) same goes;
-          opened = λ k at. let two : None ≡ Some k = at in absurd cc;
         }

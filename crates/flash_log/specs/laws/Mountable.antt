@@ -6,8 +6,9 @@ use Rattle.nand_model.specs.declared.geometry.Geometry.{Geometry}
 use Rattle.chunk_index.specs.declared.index.Index.{Index}
 use Rattle.transactions.specs.Checking.{LogState}
 use Rattle.flash_log.specs.CheckpointKeeping.{Seals}
-use Rattle.flash_log.specs.Mountable.{IsMountable, IsMountableSince, BeganMountable, KeepsMountable}
-use Rattle.flash_log.specs.Snapshots.{Snapshot}
+use Rattle.flash_tree.specs.MountableFlash.{BeganMountable}
+use Rattle.flash_log.specs.Mountable.{IsMountable, IsMountableSince, KeepsMountable}
+use Rattle.flash_log.specs.Snapshots.{Snapshot, remembered_flash}
 use Rattle.flash_log.specs.Steps.{Step}
 
 -- a call that moves what is committed
@@ -31,7 +32,7 @@ pub mountable_on : (first : Option Snapshot) (old new : LogState) (x y : Index) 
     → IsMountableSince first old x → IsMountableSince first new y
 mountable_on first old new x y lasts keeps was began honest =
     let before : old.device.honest ≡ true = sym lasts.honest ∙ honest in
-    ∥∥₁_elim (was (subst (λ (g : Geometry). BeganMountable g first) lasts.geometry began) before) (λ a b. squash₁ a b) (λ (is : IsMountable old x). ∣ keeps before is ∣₁)
+    ∥∥₁_elim (was (subst (λ (g : Geometry). BeganMountable g (remembered_flash first)) lasts.geometry began) before) (λ a b. squash₁ a b) (λ (is : IsMountable old x). ∣ keeps before is ∣₁)
 
 -- and so does a call that moves what is committed
 pub mountable_after : (first : Option Snapshot) (spare : ℕ) (old new : LogState) (x y : Index) → Step spare old new x y

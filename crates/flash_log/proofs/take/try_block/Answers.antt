@@ -95,7 +95,8 @@ returns-in-Err-Gone-clause-passes g c =
     let free = was_unkept t c.in-Some.block c.in-Some.ensures.found.free in
     let erased = rw c.in-Err-Gone.field-0-is at c.in-Err-Gone.ensures in
     passes_erased c.in-Some.block _ _ t _ _ erased.unchanged free.1 erased.erases erased.newest
-    (erased_cut c.in-Some.block _ _ t _ _ (λ honest. goes_next _ t c.in-Some.block c.requires.ready c.requires.some.1.apart c.requires.closed c.in-Some.ensures.found) erased.erases erased.erases.ends.is)
+    (erased_cut c.in-Some.block _ _ t _ _ (λ honest. goes_next _ t c.in-Some.block c.requires.ready c.requires.some.1.apart c.requires.closed c.in-Some.ensures.found)
+    (noted_next _ t c.in-Some.block c.requires.ready c.requires.some.1.apart c.in-Some.ensures.found) c.requires.closed erased.unchanged erased.erases erased.erases.ends.is)
 
 pub returns-in-Ok-clause-costs : goal.returns-in-Ok-clause-costs
 returns-in-Ok-clause-costs g c = let erase = erase_costs _ _ _ _ c.erase_and_open.ensures.erases in omega (arith, erase, c.erase_and_open.ensures.erases.lasts.failures)

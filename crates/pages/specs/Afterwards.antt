@@ -33,6 +33,7 @@ after earlier p = record {
   spare = p.spare;
   worn = p.worn;
   checkpoint = p.checkpoint;
+  first = p.first;
 }
 
 -- the bytes of a page, or what was lent where there is none

@@ -26,6 +26,7 @@ kept it = record {
   spare = 0;
   worn = false;
   checkpoint = None;
+  first = None;
 }
 
 -- the look-up that it is told to refuse

@@ -1,6 +1,7 @@
 -- What is known of a store's pages at one moment, and what a look-up leaves of it.
 use Rattle.std.specs.Prelude.{◌≡◌, ◌<◌, ◌≤◌, ℕ, Bool, true, List, Option, Some, None}
 use Rattle.nand_model.specs.Calls.{Device}
+use Rattle.nand_model.specs.Flash.{Flash}
 use Rattle.nand_model.specs.Changes.{OnlyReads}
 use Rattle.pages.specs.Maps.{PageMap}
 use Rattle.pages.specs.declared.store.Presence.{Presence}
@@ -20,8 +21,8 @@ no_numbers = record { group = 0; seq = 0 }
 -- The bytes of a page, how many pages a change has at most, the page of each key now and at the last commit, the page that
 -- was found last, of which keys a look-up makes no call of the device, and how many pages the next commit is to write; whether
 -- the store keeps what it is told, whether its device has failed, how many growths were refused to it, how many commits of
--- buffered pages it began, and how many pages it has asked for so far; and its device, the numbers that come next, how many blocks may be bad, whether it can only be read, and the block
--- that may have a checkpoint.
+-- buffered pages it began, and how many pages it has asked for so far; and its device, the numbers that come next, how many blocks may be
+-- bad, whether it can only be read, the block that may have a checkpoint, and the flash with which it began, where that is remembered.
 pub record PagesState : Type 0 where
   pub page_bytes : ℕ
   pub most : ℕ
@@ -40,6 +41,7 @@ pub record PagesState : Type 0 where
   pub spare : ℕ
   pub worn : Bool
   pub checkpoint : Option ℕ
+  pub first : Option Flash
 
 -- a call that only looks for pages keeps all but the page that was found last, and which pages are near
 pub record OnlyFinds (old new : PagesState) : Type 0 where
@@ -58,6 +60,7 @@ pub record OnlyFinds (old new : PagesState) : Type 0 where
   pub spare : new.spare ≡ old.spare
   pub worn : new.worn ≡ old.worn
   pub checkpoint : new.checkpoint ≡ old.checkpoint
+  pub first : new.first ≡ old.first
 
 -- the device has power where it had it
 abbrev pub KeepsPower : PagesState → PagesState → Type 0

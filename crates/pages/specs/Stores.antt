@@ -2,11 +2,15 @@
 use Rattle.std.specs.Prelude.{◌≡◌, ◌⊎◌, ◌<◌, ◌≤◌, ℕ, ◌+◌, ◌-◌, ◌*◌, true, false, List, length, slice_get, Some}
 use Rattle.nand_model.specs.Flash.{Flash}
 use Rattle.nand_model.specs.Calls.{Device, Lasts}
+use Rattle.nand_model.specs.Changes.{OnlyReads}
 use Rattle.nand_model.specs.Counts.{Costs}
 use Rattle.flash_tree.specs.Newest.{HasNewest, AreAbove}
 use Rattle.flash_tree.specs.Numbering.{AreBelow}
+use Rattle.flash_tree.specs.ErasedBlocks.{OnlyFirstHasTags, GoesFirst}
 use Rattle.flash_tree.specs.Mount.{bad_blocks}
 use Rattle.flash_tree.specs.FreeBlocks.{LeavesFree}
+use Rattle.flash_tree.specs.MountableFlash.{BeganMountable}
+use Rattle.flash_tree.specs.Summarizing.{IsFindable}
 use Rattle.flash_tree.specs.Truth.{KeepsTrue}
 use Rattle.flash_tree.specs.declared.place.FreshPage.{FreshPage}
 use Rattle.flash_tree.specs.declared.place.Key.{Key}
@@ -53,9 +57,37 @@ pub record HandsOutNumbers (old new : Device) (n n' : NextNumbers) : Type 0 wher
 abbrev pub bad_on : Device → ℕ
 bad_on device = bad_blocks device.geometry device.flash
 
+-- a mount that goes by summaries finds each key of the map on the device
+abbrev pub FindsAll : Device → PageMap → Type 0
+FindsAll device m = (o c : ℕ) → HasPage m o c → IsFindable device.geometry device.flash o c
+
+-- the device is honest, and a mount could go by the summaries of the flash with which the store began
+abbrev pub BeganMountably : PagesState → Type 0
+BeganMountably p = (p.device.honest ≡ true) × BeganMountable p.device.geometry p.first
+
+-- then a mount by summaries finds each key of the map
+abbrev pub FindsSince : PagesState → PageMap → Type 0
+FindsSince p m = BeganMountably p → ∥ FindsAll p.device m ∥₁
+
+-- Of the blocks that begin erased the first alone has tags, and the one that may have a checkpoint goes first.
+pub record IsOrdered (p : PagesState) : Type 0 where
+  pub first : OnlyFirstHasTags p.device.flash
+  pub noted : (c : ℕ) → p.checkpoint ≡ Some c → GoesFirst p.device.flash c
+
+-- if it was so, it is so still
+abbrev pub StaysOrdered : PagesState → PagesState → Type 0
+StaysOrdered old new = BeganMountably old → IsOrdered old → ∥ IsOrdered new ∥₁
+
+-- What lets the next mount go by summaries, where one could before: the flash with which the store began is remembered, and the blocks that
+-- begin erased stay ordered; and what can only be read is only read.
+pub record StaysMountable (old new : PagesState) : Type 0 where
+  pub first : new.first ≡ old.first
+  pub ordered : StaysOrdered old new
+  pub reads : old.worn ≡ true → OnlyReads old.device new.device
+
 -- What every call of a store keeps, whatever its device does: the sizes, whether it can only be read, and what calls of the
 -- device keep. Each block that goes bad answers a failure that the device counted. No number of 2^62 is written. Checkpoints
--- stay right.
+-- stay right, and a next mount may go by summaries.
 pub record GoesOn (old new : PagesState) : Type 0 where
   pub page_bytes : new.page_bytes ≡ old.page_bytes
   pub most : new.most ≡ old.most
@@ -69,11 +101,14 @@ pub record GoesOn (old new : PagesState) : Type 0 where
   pub marks : bad_on new.device + old.device.failures ≤ bad_on old.device + new.device.failures
   pub limits : old.device.honest ≡ true → HasNumbersLeft old.device.flash → HasNumbersLeft new.device.flash
   pub truth : KeepsTrue old.device new.device old.checkpoint new.checkpoint
+  pub mountable : StaysMountable old new
 
--- Where the store is sound still, these are the pages of its last commit; an honest device has them, in either case.
+-- Where the store is sound still, these are the pages of its last commit; an honest device has them, in either case, and a mount by
+-- summaries finds them, where one could go by the flash with which the store began.
 pub record KeptAs (new : PagesState) (m : PageMap) : Type 0 where
   pub carried : new.device.honest ≡ true → IsCarried new.device new.spare m
   pub kept : new.sound ≡ true → SamePages new.kept m
+  pub found : FindsSince new m
 
 -- The pages that were kept are so still, or those are that were present: all of the ones, or all of the others.
 abbrev pub KeepsEither : PagesState → PagesState → Type 0
@@ -101,6 +136,7 @@ pub record StaysSame (old new : PagesState) : Type 0 where
   pub device : new.device ≡ old.device
   pub next : new.next ≡ old.next
   pub checkpoint : new.checkpoint ≡ old.checkpoint
+  pub first : new.first ≡ old.first
 
 -- More is kept than leaves room for a change: with so many pages in each of all blocks that are not to spare but one, there
 -- are more.

@@ -5,3 +5,4 @@ pub mod Known
 pub mod Maps
 pub mod State
 pub mod Low
+pub mod Mountable

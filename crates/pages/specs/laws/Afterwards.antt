@@ -23,6 +23,7 @@ finds_after earlier a b x = record {
   spare = x.spare;
   worn = x.worn;
   checkpoint = x.checkpoint;
+  first = x.first;
 }
 
 -- pages of so many bytes

@@ -20,6 +20,7 @@ finds_none a = record {
   spare = refl;
   worn = refl;
   checkpoint = refl;
+  first = refl;
 }
 
 pub finds_on : (a b c : PagesState) → OnlyFinds a b → OnlyFinds b c → OnlyFinds a c
@@ -39,4 +40,5 @@ finds_on a b c x y = record {
   spare = y.spare ∙ x.spare;
   worn = y.worn ∙ x.worn;
   checkpoint = y.checkpoint ∙ x.checkpoint;
+  first = y.first ∙ x.first;
 }

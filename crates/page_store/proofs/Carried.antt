@@ -71,9 +71,6 @@ either_same log other x y d spare m n m' n' mounts first then is = elim is [
   | inr present ↦ inr (found_same log other x y d spare n n' mounts then present)
 ]
 
-pub either_carried : (log : LogState) (x : Index) (d : Device) (spare : ℕ) (m n : PageMap) → CarriesFound log x d spare m ⊎ CarriesFound log x d spare n → IsCarried d spare m ⊎ IsCarried d spare n
-either_carried log x d spare m n is = elim is [ inl kept ↦ inl kept.carried | inr present ↦ inr present.carried ]
-
 -- a kept key is one that has a page
 pub kept_of_data : (f : Flash) (m : Option KeptPage) (xs : List ℕ) → option_and_then (data_at f) m ≡ Some xs → (p : KeptPage) × (m ≡ Some p)
 kept_of_data f None xs is = absurd (let two : None ≡ Some xs = is in cc)

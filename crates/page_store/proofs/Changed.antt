@@ -63,10 +63,10 @@ StaysOrOpen old new count = (new.table ≡ old.table) ⊎ KeepsOpen count old ne
 
 -- what nothing was done to lasts
 pub lasts_still : (a : StoreState) → StoreLasts a a
-lasts_still a = record { device = lasts_here a.log.device; numbers = hands_nothing a.log.device a.log.table; spare = refl; counts = record { refused = omega arith; commits = omega arith } }
+lasts_still a = record { device = lasts_here a.log.device; numbers = hands_nothing a.log.device a.log.table; spare = refl; first = refl; counts = record { refused = omega arith; commits = omega arith } }
 
 pub same_here : (a : StoreState) → SameBeside a a
-same_here a = record { log = refl; spare = refl; broken = refl; counts = refl }
+same_here a = record { log = refl; spare = refl; first = refl; broken = refl; counts = refl }
 
 -- A store before all, with room in its tables, with room in its buffer, and after all.
 module _ (a b c d : StoreState) (before : Prepares a b) (after : SameBeside c d) where
@@ -96,6 +96,7 @@ module _ (a b c d : StoreState) (before : Prepares a b) (after : SameBeside c d)
     device = subst (λ (k : Device). Lasts a.log.device k) (sym still_after) (subst (λ (k : Device). Lasts k c.log.device) still lasts.device);
     numbers = subst (λ (l : LogState). HandsOut a.log.device l.device a.log.table l.table) (sym after.log) (subst (λ (l : LogState). HandsOut l.device c.log.device l.table c.log.table) before.log.log lasts.numbers);
     spare = after.spare ∙ lasts.spare ∙ before.log.spare;
+    first = after.first ∙ lasts.first ∙ before.log.first;
     counts = record {
       refused = let one = before.counts.refused in let two = lasts.counts.refused in let three = refused_after in omega (arith, one, two, three);
       commits = let one = before.counts.commits in let two = lasts.counts.commits in let three = commits_after in omega (arith, one, two, three);

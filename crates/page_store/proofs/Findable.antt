@@ -37,7 +37,7 @@ use Rattle.transactions.specs.declared.group.GroupFault.TheVariants as group_fau
 use Rattle.transactions.specs.declared.group.Placed.{Placed}
 use Rattle.transactions.specs.declared.source.PageName.{PageName}
 use Rattle.transactions.specs.laws.Newest.{commit_comes_last}
-use Rattle.flash_log.specs.Erased.{KnowsErased, TracksErased}
+use Rattle.flash_log.specs.Erased.{KnowsErased, LeadsErased, TracksErased}
 use Rattle.flash_log.specs.Mountable.{IsMountable, IsMountableSince, KeepsMountable}
 use Rattle.flash_log.specs.Snapshots.{Snapshot}
 use Rattle.flash_log.specs.Standing.{AreFound, IsKept}
@@ -46,8 +46,9 @@ use Rattle.flash_log.specs.laws.Erased.{erased_written}
 use Rattle.flash_log.specs.laws.Keeping.{same_ends}
 use Rattle.flash_log.specs.laws.Mountable.{mountable_on}
 use Rattle.pages.specs.Maps.{PageMap}
+use Rattle.pages.specs.Stores.{FindsAll}
 use Rattle.page_store.specs.Buffering.{Buffers}
-use Rattle.page_store.specs.Carrying.{AreWritable, FindsAll}
+use Rattle.page_store.specs.Carrying.{AreWritable}
 use Rattle.page_store.specs.Shown.{data_by, kept_data, present_data}
 use Rattle.page_store.proofs.Carried.{kept_of_data}
 use Rattle.page_store.proofs.Following.{on_flash_kept}
@@ -89,6 +90,7 @@ mountable_read a b t x reads honest was =
       summaries = subst (λ (z : Geometry). AreSummariesRight z b.flash) geometry (subst (AreSummariesRight a.geometry) flash was.summaries);
       erased = record {
         first = subst OnlyFirstHasTags flash was.erased.first;
+        leads = subst (λ (f : Flash). LeadsErased f t) flash was.erased.leads;
         known = λ power. subst (λ (f : Flash). KnowsErased f t) flash (was.erased.known (had_power a b reads.lasts power));
       };
       found = subst (λ (z : Geometry). AreFound z b.flash (kept_pages x)) geometry (subst (λ (f : Flash). AreFound a.geometry f (kept_pages x)) flash was.found);
@@ -101,7 +103,14 @@ mountable_read_since first a b t x reads = mountable_on first (log_of a t) (log_
 
 pub tracks_counted : (d : Device) (t v : Table) (before after : ℕ → ℕ) → Recounts before after t v
     → ((b : ℕ) → BeginsErased d.flash b → (t.entry b).kept ≡ 0 → (v.entry b).kept ≡ 0) → TracksErased d t → TracksErased d v
-tracks_counted d t v before after counts none was = record { first = was.first; known = λ power. recounted (was.known power) } where
+tracks_counted d t v before after counts none was = record {
+  first = was.first;
+  leads = record {
+    noted = λ c is. was.leads.noted c (sym counts.checkpoint ∙ is);
+    opened = λ k is next. was.leads.opened k (sym counts.open_block ∙ is) (sym (counts.next k) ∙ next);
+  };
+  known = λ power. recounted (was.known power);
+} where
   recounted : KnowsErased d.flash t → KnowsErased d.flash v
   recounted knows = record {
     unwritten = λ b within begins.
@@ -122,8 +131,6 @@ tracks_counted d t v before after counts none was = record { first = was.first; 
         let seq = counts.seq b in
         let one = knows.aged b (omega (arith, some, next)) in
         omega (arith, one, seq);
-    noted = λ c is. knows.noted c (sym counts.checkpoint ∙ is);
-    opened = λ k is next. knows.opened k (sym counts.open_block ∙ is) (sym (counts.next k) ∙ next);
   }
 
 -- ---- the group of the buffered pages

@@ -29,7 +29,8 @@ use Rattle.flash_log.specs.Passing.{KeepsFound}
 use Rattle.flash_log.specs.Standing.{AreFound, AreHeld, HasFreeBlocks, HasVersion, IsKept, Stands, TablesAgree}
 use Rattle.flash_log.specs.laws.Keeping.{same_ends, same_closed, limits_ends}
 use Rattle.page_store.specs.Buffered.{BufferedLog}
-use Rattle.page_store.specs.Carrying.{AreWritable, FindsAll, HaveRanges, StaysOrShows}
+use Rattle.pages.specs.Stores.{FindsAll}
+use Rattle.page_store.specs.Carrying.{AreWritable, HaveRanges, StaysOrShows}
 use Rattle.page_store.specs.Shown.{present_data}
 use Rattle.transactions.specs.Checking.{log_of}
 use Rattle.flash_log.specs.Steps.{Step}

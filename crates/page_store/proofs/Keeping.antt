@@ -1,21 +1,24 @@
 -- A device that is only read keeps what it has.
-use Rattle.std.specs.Prelude.{◌≡◌, ◌⊎◌, ◌<◌, ◌≤◌, ◌+◌, ◌*◌, ℕ, Bool, true, false, count_by}
+use Rattle.std.specs.Prelude.{◌≡◌, ◌⊎◌, ◌<◌, ◌≤◌, ◌+◌, ◌*◌, ℕ, Bool, true, false, Option, None, count_by}
 use Rattle.std.specs.List.{range_with_len}
-use Rattle.std.proofs.Common.{refl, arith, inl, inr}
+use Rattle.std.proofs.Common.{refl, subst, arith, inl, inr}
 use Rattle.std.proofs.lemmas.Bool.{cases_lt}
 use Rattle.nand_model.specs.Calls.{Device}
 use Rattle.nand_model.specs.Flash.{Flash}
 use Rattle.nand_model.specs.laws.Calls.{lasts_here}
+use Rattle.nand_model.specs.laws.Changes.{only_reads_here}
 use Rattle.nand_model.specs.declared.geometry.Geometry.{Geometry}
 use Rattle.volume_terms.specs.Sizes.{number_end, number_limit}
 use Rattle.flash_tree.specs.Newest.{Numbers}
 use Rattle.flash_tree.specs.Mount.{bad_blocks}
 use Rattle.flash_tree.specs.FreeBlocks.{LeavesFree}
+use Rattle.flash_tree.specs.MountableFlash.{BeganMountable}
 use Rattle.flash_tree.specs.laws.Truth.{true_same}
 use Rattle.transactions.specs.laws.Handing.{below_greater}
 use Rattle.pages.specs.State.{PagesState}
 use Rattle.pages.specs.Refreshing.{CostsAMove}
 use Rattle.pages.specs.Stores.{GoesOn, HasPage, HasNumbersLeft, KeptAs, bad_on}
+use Rattle.pages.specs.laws.Mountable.{mountable_read}
 use Rattle.page_store.specs.ReadOnly.{IsWorn, HasGreatest, IsCarrying, only_read}
 
 -- where more blocks are bad than there are to spare, none has to be free
@@ -33,15 +36,16 @@ too_many_bad p n spare worn greatest honest left =
     let least = (greatest honest).least (record { version = number_limit; group = number_limit; seq = number_limit }) left in
     worn (omega (arith, least.1)) (omega (arith, least.2))
 
--- what is there is kept
-pub keeps_all : (p : PagesState) (n : Numbers) (spare most : ℕ) (refused_change : Bool) → IsWorn p.device n spare → HasGreatest p.device n → IsCarrying p
+-- what is there is kept, where no flash is remembered
+pub keeps_all : (p : PagesState) (n : Numbers) (spare most : ℕ) (refused_change : Bool) → IsWorn p.device n spare → HasGreatest p.device n → IsCarrying p → p.first ≡ None
     → KeptAs (only_read p n spare most refused_change) p.present
-keeps_all p n spare most refused_change worn greatest carrying = record {
+keeps_all p n spare most refused_change worn greatest carrying first = record {
   carried = λ honest. record {
     newest = carrying honest;
     free = λ left. none_free p.device.geometry p.device.flash spare (HasPage p.present) (too_many_bad p n spare worn greatest honest left);
   };
   kept = λ sound o c. refl;
+  found = λ begun. absurd (subst (λ (f : Option Flash). BeganMountable p.device.geometry f) first begun.1);
 }
 
 -- nor does the device change, nor the numbers that come next
@@ -66,6 +70,7 @@ goes_on p n spare most was is = record {
   marks = omega arith;
   limits = λ honest left. left;
   truth = true_same p.device p.checkpoint p.checkpoint refl;
+  mountable = mountable_read (only_read p n spare most was) (only_read p n spare most is) (only_reads_here p.device) refl refl;
 }
 
 -- on a worn device a number is missing, or too many blocks are bad

@@ -22,7 +22,7 @@ use Rattle.mount_scan.specs.FoundCheckpoint.{HasForm}
 use Rattle.mount_scan.specs.declared.first_page.FirstPage.{FirstPage}
 use Rattle.mount_scan.specs.declared.first_page.FirstPage.TheVariants as firsts
 use Rattle.transactions.specs.laws.Ready.{above_below}
-use Rattle.flash_log.specs.Erased.{KnowsErased}
+use Rattle.flash_log.specs.Erased.{KnowsErased, TracksErased}
 use Rattle.page_store.specs.Checked.{numbers_at}
 use Rattle.page_store.specs.KnownFirsts.{KnowsFirsts, MayKnowErased, IsUnwrittenOf, AreUnwritten, NotesFirsts, number_of_first}
 use Rattle.page_store.specs.Opened.{AreLeft, IsTableOf, OnlySeqs}
@@ -169,7 +169,7 @@ erased_or Erased = inl refl
 erased_or (Written bytes tag) = inr (λ same. absurd cc)
 erased_or Uncorrectable = inr (λ same. absurd cc)
 
-pub knows_erased : (d : Device) (t : Table) → KnowsFirsts d.flash t → MayKnowErased d t → KnowsErased d.flash t
+knows_erased : (d : Device) (t : Table) → KnowsFirsts d.flash t → MayKnowErased d t → KnowsErased d.flash t
 knows_erased d t known may = record {
   unwritten = λ b lt begins. record { next = (known.erased b lt begins).0; kept = may.kept b begins };
   torn = λ b l u begins has. record {
@@ -190,6 +190,12 @@ knows_erased d t known may = record {
     ];
   };
   aged = known.aged;
-  noted = may.noted;
-  opened = λ o at. let two : None ≡ Some o = sym may.closed ∙ at in absurd cc;
+}
+
+-- and those go first that are next to be erased or written
+pub tracks_erased : (d : Device) (t : Table) → KnowsFirsts d.flash t → MayKnowErased d t → TracksErased d t
+tracks_erased d t known may = record {
+  first = may.first;
+  leads = record { noted = may.noted; opened = λ o at. let two : None ≡ Some o = sym may.closed ∙ at in absurd cc };
+  known = λ power. knows_erased d t known may;
 }

@@ -9,6 +9,7 @@ use Rattle.nand_model.specs.Calls.{Device, Lasts}
 use Rattle.flash_tree.specs.laws.Place.{same_flash, had_power}
 use Rattle.block_state.specs.Table.{Table}
 use Rattle.transactions.specs.Ready.{IsReady}
+use Rattle.flash_log.specs.Snapshots.{Snapshot, remembered_flash}
 use Rattle.flash_log.specs.Standing.{IsKeptAt, AreKept, MayLie, Stands}
 use Rattle.nand_model.specs.Changes.{OnlyReads}
 use Rattle.nand_model.specs.declared.geometry.Geometry.{Geometry}
@@ -143,6 +144,7 @@ finds_seen a b lent lent' looks = record {
   spare = looks.spare;
   worn = refl;
   checkpoint = ap (λ (t : Table). t.checkpoint) looks.table;
+  first = ap (λ (f : Option Snapshot). remembered_flash f) looks.first;
 } where
   d : Device
   d = a.log.device

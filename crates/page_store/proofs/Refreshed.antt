@@ -40,7 +40,7 @@ use Rattle.volume_terms.specs.declared.fault.StoreFault.TheVariants as faults
 use Rattle.page_store.proofs.Carried.{has_page, known_there}
 use Rattle.page_store.proofs.Findable.{finds_kept, found_unmoved}
 use Rattle.page_store.proofs.Following.{carries_kept, same_kept, same_present}
-use Rattle.page_store.proofs.Told.{is_sound, kept_still, not_sound}
+use Rattle.page_store.proofs.Told.{CarriesSince, is_sound, kept_still, not_sound}
 use Rattle.page_store.proofs.Turning.{data_kept, kept_moved}
 
 -- a step of the log from one state to another, with the committed pages where they were
@@ -162,9 +162,9 @@ breaks_refreshed (Ok done) block a b ends is = absurd (let two : true ≡ false 
 breaks_refreshed (Err fault) block a b ends is = ends.0
 
 -- what was kept is kept
-pub kept_seen : (result : Result (Unit {0}) StoreFault) (block : ℕ) (a b : StoreState) (lent : List ℕ) → RefreshEnds block a b result → IsCarried b.log.device b.spare (committed_in a) → KeptAs (seen_of b lent) (committed_in a)
-kept_seen (Ok done) block a b lent ends carried = record { carried = λ _. carried; kept = λ _. ends.committed }
-kept_seen (Err fault) block a b lent ends carried = kept_still (seen_of b lent) (committed_in a) (not_sound b.log.device.honest b.broken ends.0) carried
+pub kept_seen : (result : Result (Unit {0}) StoreFault) (block : ℕ) (a b : StoreState) (lent : List ℕ) → RefreshEnds block a b result → CarriesSince (seen_of b lent) (committed_in a) → KeptAs (seen_of b lent) (committed_in a)
+kept_seen (Ok done) block a b lent ends carries = record { carried = λ _. carries.carried; kept = λ _. ends.committed; found = carries.found }
+kept_seen (Err fault) block a b lent ends carries = kept_still (seen_of b lent) (committed_in a) (not_sound b.log.device.honest b.broken ends.0) carries
 
 pub refreshed_seen : (result : Result (Unit {0}) StoreFault) (block : ℕ) (a b : StoreState) (lent lent' : List ℕ) → Lasts a.log.device b.log.device → a.log.device.honest ≡ true → RefreshEnds block a b result
     → OnOk result (refreshing.IsRefreshed block (seen_of a lent) (seen_of b lent'))

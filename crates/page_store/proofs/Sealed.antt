@@ -3,9 +3,11 @@ use Rattle.std.specs.Prelude.{◌≡◌, ◌≤◌, ◌||◌, ℕ, Bool, true, f
 use Rattle.std.specs.Option.{option_and_then}
 use Rattle.std.proofs.Common.{refl, sym, ◌∙◌, ap, subst, inl, inr, arith}
 use Rattle.std.proofs.lemmas.Bool.{or_left}
+use mathlib.Core.Logic.{∥∥₁_elim}
 use Rattle.nand_model.specs.Flash.{Flash}
 use Rattle.nand_model.specs.Calls.{Device}
 use Rattle.nand_model.specs.laws.Calls.{lasts_here}
+use Rattle.nand_model.specs.laws.Changes.{only_reads_here}
 use Rattle.flash_tree.specs.Newest.{HasNewest}
 use Rattle.block_state.specs.Kept.{bad_count}
 use Rattle.block_state.specs.Table.{Table}
@@ -18,13 +20,16 @@ use Rattle.transactions.specs.Handing.{HandsNumbers}
 use Rattle.transactions.specs.Ready.{IsReady}
 use Rattle.transactions.specs.laws.Handing.{hands_nothing}
 use Rattle.posix_profile.specs.State.{Objects}
+use Rattle.flash_log.specs.Mountable.{IsMountable, IsMountableSince}
 use Rattle.flash_log.specs.Moving.{MarksFailures}
 use Rattle.flash_log.specs.Standing.{AreKept, IsKept, IsKeptAt, HasVersion, SameData, Stands}
 use Rattle.flash_log.specs.laws.FreeBlocks.{leaves_fewer, leaves_unkept, same_bad_blocks}
+use Rattle.flash_log.specs.laws.Mountable.{mountable_on, mountable_seals}
 use Rattle.flash_log.specs.laws.Moves.{are_held}
 use Rattle.page_store.specs.Shown.{data_of, data_at, kept_data}
 use Rattle.pages.specs.State.{PagesState}
-use Rattle.pages.specs.Stores.{Carries, HandsOutNumbers, HasPage, IsCarried, KeptAs, StaysSame, bad_on}
+use Rattle.pages.specs.Stores.{Carries, FindsSince, HandsOutNumbers, HasPage, IsCarried, KeptAs, StaysMountable, StaysSame, bad_on}
+use Rattle.pages.specs.laws.Mountable.{begun_on, mountable_read}
 use Rattle.flash_log.specs.CheckpointDue.{IsDue}
 use Rattle.flash_log.specs.CheckpointKeeping as writing
 use Rattle.flash_log.specs.Sealing as endings
@@ -36,6 +41,7 @@ use Rattle.page_store.specs.Sealing.{IsExact, IsSealed, KeepsTree, LeavesOne, Se
 use Rattle.page_store.specs.StoreOf.{kept_map, next_numbers}
 use Rattle.page_store.specs.StoreState.{StoreState, seen_of}
 use Rattle.page_store.proofs.Carried.{carried_known, has_page, kept_of_data, known_there}
+use Rattle.page_store.proofs.Findable.{finds_kept}
 use Rattle.page_store.proofs.ReadOnly.{sound_honest}
 use Rattle.page_store.proofs.Told.{hands_told, is_sound, limits_told, marks_told, not_sound}
 
@@ -120,6 +126,7 @@ module _ (a : StoreState) (lent : List ℕ) where
       marks = omega arith;
       limits = λ honest left. left;
       summaries = λ honest right. right;
+      mountable = mountable_read seen seen (only_reads_here d) refl refl;
     };
     checked = λ _ honest was. was;
     kept = λ sound. absurd (let two : false ≡ true = sym (not_sound d.honest broken is) ∙ sound in cc);
@@ -128,13 +135,31 @@ module _ (a : StoreState) (lent : List ℕ) where
   }
 
   module _ (e : Device) (u : Table) (before : IsReady d t) (stands : Stands spare d t x) (whole : broken ≡ false) (newest : broken ≡ false → d.honest ≡ true → AreKept d.flash (kept_pages x)) (none : (y : Index) (b : ℕ) → kept_in y b ≡ 0 → HoldsNone (kept_pages y) b)
-      (seals : writing.Seals spare x (log_of d t) (log_of e u)) (marks : MarksFailures 0 0 d e t u) where
+      (seals : writing.Seals spare x (log_of d t) (log_of e u)) (marks : MarksFailures 0 0 d e t u) (was : IsMountableSince a.first (log_of d t) x) where
     still_carried : d.honest ≡ true → IsCarried e spare (kept_map d x)
     still_carried honest = carried_known d.honest e spare (kept_data x d.flash) (record {
       newest = carries_still d.flash e.flash x (newest whole honest) (seals.same_data honest);
       free = λ left. leaves_fewer e.geometry e.flash spare (IsKept (kept_pages x)) (HasPage (kept_data x d.flash)) (λ o c has. kept_of_data d.flash (kept_pages x o c) has.0 has.1)
           (seals.free honest (leaves_unkept spare d t x before stands.tables (are_held t x (none x) stands.tables.counts) (newest whole honest)));
     })
+
+    -- the blocks that begin erased are ordered, and the kept pages are found
+    since : IsMountableSince a.first (log_of e u) x
+    since = mountable_on a.first (log_of d t) (log_of e u) x x seals.keeps.lasts (mountable_seals spare x (log_of d t) (log_of e u) seals) was
+
+    left_mountable : StaysMountable seen (left_by seen e u)
+    left_mountable = record {
+      first = refl;
+      ordered = λ begun _.
+          let now = begun_on seen (left_by seen e u) seals.keeps.lasts refl begun in
+          ∥∥₁_elim (since now.1 now.0) (λ m n. squash₁ m n) (λ (is : IsMountable (log_of e u) x). ∣ record { first = is.erased.first; noted = is.erased.leads.noted } ∣₁);
+      reads = λ worn. let two : false ≡ true = worn in absurd cc;
+    }
+
+    left_found : FindsSince (left_by seen e u) (kept_map d x)
+    left_found begun =
+        ∥∥₁_elim (since begun.1 begun.0) (λ m n. squash₁ m n) (λ (is : IsMountable (log_of e u) x).
+        ∣ (λ o c (xs, has). finds_kept e x d.flash is.found o c (xs, known_there d.honest (kept_data x d.flash) o c xs has)) ∣₁)
 
     left_on : EndsOn seen (left_by seen e u)
     left_on = record {
@@ -150,13 +175,14 @@ module _ (a : StoreState) (lent : List ℕ) where
       marks = marks_told d e t u before seals.keeps.ready marks;
       limits = λ honest left. limits_told e u seals.keeps.ready seals.stands.limits (seals.keeps.lasts.honest ∙ honest);
       summaries = seals.keeps.summaries;
+      mountable = left_mountable;
     }
 
     left_right : IsExact seen → StaysRight seen (left_by seen e u)
     left_right exact honest = seals.checked (exact_kept whole newest exact) honest
 
     left_kept : seen.sound ≡ true → KeptAs (left_by seen e u) seen.kept
-    left_kept sound = record { carried = λ honest. still_carried (sound_honest d.honest broken sound); kept = λ yes o c. refl }
+    left_kept sound = record { carried = λ honest. still_carried (sound_honest d.honest broken sound); kept = λ yes o c. refl; found = left_found }
 
     stays_same : log_of e u ≡ log_of d t → StaysSame seen (left_by seen e u)
     stays_same same = record {
@@ -166,6 +192,7 @@ module _ (a : StoreState) (lent : List ℕ) where
       device = ap (λ (l : LogState). l.device) same;
       next = ap (λ (l : LogState). next_numbers l.table) same;
       checkpoint = ap (λ (l : LogState). l.table.checkpoint) same;
+      first = refl;
     }
 
     leaves_one : endings.LeavesOne x (log_of d t) (log_of e u) → (e.gone ≡ false) × LeavesOne seen (left_by seen e u)

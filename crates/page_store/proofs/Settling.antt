@@ -37,8 +37,8 @@ use Rattle.flash_log.specs.Standing.{AreKept, KeepsOrdinary, HasFreeBlocks, IsKe
 use Rattle.flash_log.specs.laws.FreeBlocks.{leaves_fewer}
 use Rattle.flash_tree.specs.laws.Place.{had_power}
 use Rattle.flash_log.specs.laws.Moves.{may_lie_later}
-use Rattle.page_store.specs.Carrying.{AreWritable, FindsAll, HaveRanges}
-use Rattle.pages.specs.Stores.{HasPage, IsCarried}
+use Rattle.page_store.specs.Carrying.{AreWritable, HaveRanges}
+use Rattle.pages.specs.Stores.{FindsAll, HasPage, IsCarried}
 use Rattle.page_store.specs.CommitKeeping.{Commits}
 use Rattle.transactions.specs.Checking.{log_of}
 use Rattle.page_store.proofs.GroupCounts.{ListsAreWhole, held_lists, settled_most, settled_elsewhere}

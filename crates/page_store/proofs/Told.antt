@@ -3,6 +3,7 @@ use Rattle.std.specs.Prelude.{◌≡◌, ◌⊎◌, ◌<◌, ◌≤◌, ℕ, ◌
 use Rattle.std.specs.Option.{option_map}
 use Rattle.std.proofs.Common.{refl, sym, ◌∙◌, ap, subst, inl, inr, arith}
 use Rattle.std.proofs.lemmas.Bool.{cases_Bool, cases_lt, cases_order, or_left, or_right}
+use mathlib.Core.Logic.{∥∥₁_elim}
 use Rattle.std.proofs.lemmas.Option.{slice_get-map}
 use Rattle.flash_tree.specs.declared.place.FreshPage.{FreshPage}
 use Rattle.nand_model.specs.Calls.{Device, Lasts}
@@ -17,21 +18,27 @@ use Rattle.chunk_index.specs.declared.form.KeptPage.{KeptPage}
 use Rattle.chunk_index.specs.declared.index.Index.{Index}
 use Rattle.transactions.specs.Handing.{HandsOut}
 use Rattle.transactions.specs.Ready.{IsReady}
+use Rattle.flash_log.specs.Mountable.{IsMountable, IsMountableSince}
 use Rattle.flash_log.specs.Moving.{MarksFailures}
+use Rattle.flash_log.specs.Snapshots.{Snapshot, remembered_flash}
 use Rattle.flash_log.specs.Standing.{IsWithinLimits}
 use Rattle.flash_log.specs.laws.FreeBlocks.{same_bad_blocks}
 use Rattle.pages.specs.Maps.{PageMap}
 use Rattle.pages.specs.State.{PagesState}
 use Rattle.pages.specs.Stores as stores
-use Rattle.pages.specs.Stores.{HandsOutNumbers, HasNumbersLeft, HasPage, IsCarried, Begins, IsCrowded, KeptAs, SamePages, ChangeFailsBy, CommitFailsBy, bad_on}
+use Rattle.pages.specs.Stores.{HandsOutNumbers, BeganMountably, HasNumbersLeft, HasPage, FindsSince, IsCarried, IsOrdered, IsCrowded, KeptAs, SamePages, StaysMountable, ChangeFailsBy, CommitFailsBy, bad_on}
+use Rattle.pages.specs.laws.Mountable.{begun_before, begun_on, finds_as}
 use Rattle.volume_terms.specs.declared.fault.StoreFault.{StoreFault}
 use Rattle.volume_terms.specs.declared.fault.StoreFault.TheVariants as faults
-use Rattle.page_store.specs.Changing.{ChangeEnds, HasNothingLeft, IsChanged, IsCommitted, IsUnchanged, StaysWhole, WriteOutEnds}
+use Rattle.page_store.specs.Carrying.{CarriesFound}
+use Rattle.page_store.specs.Changing.{ChangeEnds, HasNothingLeft, IsChanged, IsCommitted, IsUnchanged, StaysWhole, StoreLasts, WriteOutEnds}
+use Rattle.page_store.specs.Shown.{kept_data}
 use Rattle.page_store.specs.StoreState.{committed_in, seen_of, StoreState, waiting}
 use Rattle.page_store.specs.BufferOf.{most_pages}
 use Rattle.pages.specs.declared.change.Change.{Change}
 use Rattle.page_store.specs.StoreOf.{next_numbers}
-use Rattle.page_store.proofs.Carried.{carried_same}
+use Rattle.page_store.proofs.Carried.{carried_same, known_there}
+use Rattle.page_store.proofs.Findable.{finds_kept}
 use Rattle.page_store.proofs.Steps.{same_back, hands_still}
 
 -- ---- what every call keeps
@@ -70,6 +77,37 @@ failed_stays d e a b lasts breaks is = elim (cases_Bool d.gone) [
       ])
 ]
 
+-- ---- what lets the next mount go by summaries
+
+-- the blocks that begin erased are ordered, as the log has them
+pub ordered_now : (b : StoreState) (lent : List ℕ) → IsMountableSince b.first b.log b.index → BeganMountably (seen_of b lent) → ∥ IsOrdered (seen_of b lent) ∥₁
+ordered_now b lent since begun =
+    ∥∥₁_elim (since begun.1 begun.0) (λ s t. squash₁ s t) (λ (is : IsMountable b.log b.index). ∣ record { first = is.erased.first; noted = is.erased.leads.noted } ∣₁)
+
+-- and the committed pages are found
+pub finds_now : (b : StoreState) (lent : List ℕ) → IsMountableSince b.first b.log b.index → FindsSince (seen_of b lent) (committed_in b)
+finds_now b lent since begun =
+    let d : Device = b.log.device in
+    ∥∥₁_elim (since begun.1 begun.0) (λ s t. squash₁ s t) (λ (is : IsMountable b.log b.index).
+    ∣ (λ o c (xs, has). finds_kept d b.index d.flash is.found o c (xs, known_there d.honest (kept_data b.index d.flash) o c xs has)) ∣₁)
+
+-- what is found where those were found that were committed before a call
+pub finds_since : (a b : StoreState) (lent lent' : List ℕ) (spare : ℕ) (m : PageMap) → StoreLasts a b → IsMountableSince a.first a.log a.index → CarriesFound a.log a.index b.log.device spare m
+    → FindsSince (seen_of b lent') m
+finds_since a b lent lent' spare m lasts since carries begun =
+    let before = begun_before (seen_of a lent) (seen_of b lent') lasts.device (ap (λ (f : Option Snapshot). remembered_flash f) lasts.first) begun in
+    ∥∥₁_elim (since before.1 before.0) (λ s t. squash₁ s t) (λ (is : IsMountable a.log a.index). ∣ carries.found is ∣₁)
+
+-- so a call keeps what lets a mount do so
+pub stays_mountable : (a b : StoreState) (lent lent' : List ℕ) → Lasts a.log.device b.log.device → b.first ≡ a.first → IsMountableSince b.first b.log b.index → StaysMountable (seen_of a lent) (seen_of b lent')
+stays_mountable a b lent lent' lasts first since =
+    let same = ap (λ (f : Option Snapshot). remembered_flash f) first in
+    record {
+      first = same;
+      ordered = λ begun _. ordered_now b lent' since (begun_on (seen_of a lent) (seen_of b lent') lasts same begun);
+      reads = λ worn. let two : false ≡ true = worn in absurd cc;
+    }
+
 -- ---- what is sound
 
 pub is_sound : (h w : Bool) → h ≡ true → w ≡ false → (h && not w) ≡ true
@@ -103,17 +141,44 @@ stops_told (Err fault) h b stops = elim stops [
 
 -- ---- what is kept
 
+-- The device carries the pages of the map; and a mount by summaries finds them, if one could go by the flash with which the store began.
+pub record CarriesSince (q : PagesState) (m : PageMap) : Type 0 where
+  pub carried : IsCarried q.device q.spare m
+  pub found : FindsSince q m
+
+-- what a call leaves of pages that were committed or current
+pub carries_since : (a b : StoreState) (lent lent' : List ℕ) (m : PageMap) → StoreLasts a b → IsMountableSince a.first a.log a.index → CarriesFound a.log a.index b.log.device a.spare m → CarriesSince (seen_of b lent') m
+carries_since a b lent lent' m lasts since carries = record {
+  carried = subst (λ n. IsCarried b.log.device n m) (sym lasts.spare) carries.carried;
+  found = finds_since a b lent lent' a.spare m lasts since carries;
+}
+
+pub either_since : (a b : StoreState) (lent lent' : List ℕ) (m n : PageMap) → StoreLasts a b → IsMountableSince a.first a.log a.index
+    → CarriesFound a.log a.index b.log.device a.spare m ⊎ CarriesFound a.log a.index b.log.device a.spare n → CarriesSince (seen_of b lent') m ⊎ CarriesSince (seen_of b lent') n
+either_since a b lent lent' m n lasts since is = elim is [
+  | inl kept ↦ inl (carries_since a b lent lent' m lasts since kept)
+  | inr present ↦ inr (carries_since a b lent lent' n lasts since present)
+]
+
 -- the store is sound, and has the pages of a map as its kept ones, which its device carries
-pub kept_as : (q : PagesState) (m : PageMap) → SamePages q.kept m → IsCarried q.device q.spare q.kept → KeptAs q m
-kept_as q m same carried = record { carried = λ _. carried_same q.device q.spare q.kept m (same_back q.kept m same) carried; kept = λ _. same }
+pub kept_as : (q : PagesState) (m : PageMap) → SamePages q.kept m → CarriesSince q q.kept → KeptAs q m
+kept_as q m same carries = record {
+  carried = λ _. carried_same q.device q.spare q.kept m (same_back q.kept m same) carries.carried;
+  kept = λ _. same;
+  found = finds_as q q.kept m same carries.found;
+}
 
 -- it is not, and its device carries the pages of the map
-pub kept_still : (q : PagesState) (m : PageMap) → q.sound ≡ false → IsCarried q.device q.spare m → KeptAs q m
-kept_still q m stopped carried = record { carried = λ _. carried; kept = λ sound. absurd (let two : true ≡ false = sym sound ∙ stopped in cc) }
+pub kept_still : (q : PagesState) (m : PageMap) → q.sound ≡ false → CarriesSince q m → KeptAs q m
+kept_still q m stopped carries = record {
+  carried = λ _. carries.carried;
+  kept = λ sound. absurd (let two : true ≡ false = sym sound ∙ stopped in cc);
+  found = carries.found;
+}
 
 -- the pages that were kept or all that were present, as they are kept now where the store is sound
-pub keeps_either : (q : PagesState) (m n : PageMap) → (q.sound ≡ false) ⊎ ((q.sound ≡ true) × (SamePages q.kept m ⊎ SamePages q.kept n)) → (q.sound ≡ true → IsCarried q.device q.spare q.kept)
-    → IsCarried q.device q.spare m ⊎ IsCarried q.device q.spare n → KeptAs q m ⊎ KeptAs q n
+pub keeps_either : (q : PagesState) (m n : PageMap) → (q.sound ≡ false) ⊎ ((q.sound ≡ true) × (SamePages q.kept m ⊎ SamePages q.kept n)) → (q.sound ≡ true → CarriesSince q q.kept)
+    → CarriesSince q m ⊎ CarriesSince q n → KeptAs q m ⊎ KeptAs q n
 keeps_either q m n ways now carried = elim ways [
   | inr sound ↦ elim sound.1 [
     | inl same ↦ inl (kept_as q m same (now sound.0))
@@ -285,7 +350,7 @@ stopped (Ok done) h b stops = tt
 stopped (Err fault) h b stops = not_sound h b stops
 
 -- after a commit that is done what was present is kept
-pub committed : (result : Result (Unit {0}) StoreFault) (q : PagesState) (n : PageMap) → OnOk result (q.sound ≡ true) → OnOk result (SamePages q.kept n) → (q.sound ≡ true → IsCarried q.device q.spare q.kept) → OnOk result (KeptAs q n)
+pub committed : (result : Result (Unit {0}) StoreFault) (q : PagesState) (n : PageMap) → OnOk result (q.sound ≡ true) → OnOk result (SamePages q.kept n) → (q.sound ≡ true → CarriesSince q q.kept) → OnOk result (KeptAs q n)
 committed (Ok done) q n sound same now = kept_as q n same (now sound)
 committed (Err fault) q n sound same now = tt
 

@@ -20,7 +20,7 @@ use Rattle.page_store.specs.Buffering.{Buffers, IsUnbuffered}
 use Rattle.page_store.specs.Shown.{data_at, data_by, kept_data, present_data}
 use Rattle.page_store.specs.laws.Buffering.{buffers_empty}
 use Rattle.pages.specs.Maps.{PageMap}
-use Rattle.pages.specs.Stores.{HasNumbersLeft, HasPage, IsCarried}
+use Rattle.pages.specs.Stores.{FindsAll, HasNumbersLeft, HasPage, IsCarried}
 use Rattle.transactions.specs.Ready.{IsReady}
 use Rattle.transactions.specs.laws.Handing.{hands_on}
 use Rattle.flash_log.specs.Mountable.{IsMountable}
@@ -34,7 +34,7 @@ use Rattle.flash_log.specs.RoomMaking.{LeavesRoom, WhyNoRoom}
 use Rattle.flash_log.specs.declared.room_fault.RoomFault.{RoomFault}
 use Rattle.flash_log.specs.declared.room_fault.RoomFault.TheVariants as faults
 use Rattle.page_store.specs.Buffered.{BufferedLog, committed, current}
-use Rattle.page_store.specs.Carrying.{CarriesEither, CarriesFree, FindsAll, KeepsOrShows, ShowsCurrent, StaysOrShows}
+use Rattle.page_store.specs.Carrying.{CarriesEither, CarriesFree, KeepsOrShows, ShowsCurrent, StaysOrShows}
 use Rattle.page_store.specs.Committing.{CommitEnds}
 use Rattle.page_store.specs.CommitKeeping.{Commits, IsAnswered, IsSettled, KeepsLog, Leaves}
 use Rattle.page_store.specs.GroupWriting.{AttemptEnds, IsWhole, IsWaiting, TurnEnds, WholeEnds}

@@ -4,21 +4,16 @@ use Rattle.nand_model.specs.Calls.{Device}
 use Rattle.nand_model.specs.Flash.{Flash}
 use Rattle.flash_tree.specs.FreeBlocks.{LeavesFree}
 use Rattle.flash_tree.specs.Slots.{check_object}
-use Rattle.flash_tree.specs.Summarizing.{IsFindable}
 use Rattle.flash_tree.specs.declared.place.FreshPage.{FreshPage}
 use Rattle.flash_tree.specs.declared.place.Key.{Key}
 use Rattle.pages.specs.Maps.{PageMap}
-use Rattle.pages.specs.Stores.{Carries, HasPage, IsCarried}
+use Rattle.pages.specs.Stores.{Carries, FindsAll, HasPage, IsCarried}
 use Rattle.chunk_index.specs.Maps.{kept_pages}
 use Rattle.chunk_index.specs.declared.index.Index.{Index}
 use Rattle.transactions.specs.Checking.{LogState}
 use Rattle.flash_log.specs.Mountable.{IsMountable}
 use Rattle.flash_log.specs.Standing.{AreFound, IsKept, SameData}
 use Rattle.page_store.specs.Buffered.{BufferedLog, committed, current}
-
--- a mount that goes by summaries finds each key of the map on the device
-abbrev pub FindsAll : Device → PageMap → Type 0
-FindsAll device m = (o c : ℕ) → HasPage m o c → IsFindable device.geometry device.flash o c
 
 -- The device carries the pages of the map; and a mount by summaries finds their keys, if it would have found what was committed on this log.
 pub record CarriesFound (log : LogState) (x : Index) (device : Device) (spare : ℕ) (m : PageMap) : Type 0 where

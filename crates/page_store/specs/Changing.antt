@@ -44,11 +44,13 @@ IsCommitFault old new faults.NoMemory = ⊥
 IsCommitFault old new faults.Device = (new.log.device.gone ≡ true) ⊎ (new.log.device.honest ≡ false) ⊎ (old.broken ≡ true)
 IsCommitFault old new faults.Worn = HasNothingLeft old.spare (waiting old) new.log.device old.log.table new.log.table
 
--- What every call of a store keeps: what its device keeps, the numbers that are handed out, and the reserve; and no count falls.
+-- What every call of a store keeps: what its device keeps, the numbers that are handed out, the reserve, and the flash with which its log
+-- began; and no count falls.
 pub record StoreLasts (old new : StoreState) : Type 0 where
   pub device : Lasts old.log.device new.log.device
   pub numbers : HandsOut old.log.device new.log.device old.log.table new.log.table
   pub spare : new.spare ≡ old.spare
+  pub first : new.first ≡ old.first
   pub counts : NoneFalls old.counts new.counts
 
 -- What a commit keeps of a store besides, wherever it ends: it is the only one that is counted, and is of what is buffered; each key has
@@ -96,10 +98,11 @@ WriteOutEnds old new (Err fault) = IsBroken old new fault
 abbrev pub HasNoHindrance : StoreState → StoreState → Type 0
 HasNoHindrance old new = (buffered old.buffer ≡ []) ⊎ IsUnhindered (waiting old) old.log new.log
 
--- the log, the reserve and whether a commit failed are as they were, and no commit was begun
+-- the log, the reserve, the flash with which it began and whether a commit failed are as they were, and no commit was begun
 pub record SameLog (old new : StoreState) : Type 0 where
   pub log : new.log ≡ old.log
   pub spare : new.spare ≡ old.spare
+  pub first : new.first ≡ old.first
   pub broken : new.broken ≡ old.broken
   pub commits : new.counts.commits.total ≡ old.counts.commits.total
 
@@ -121,6 +124,7 @@ pub record SamePlaces (old new : StoreState) : Type 0 where
 pub record SameBeside (old new : StoreState) : Type 0 where
   pub log : new.log ≡ old.log
   pub spare : new.spare ≡ old.spare
+  pub first : new.first ≡ old.first
   pub broken : new.broken ≡ old.broken
   pub counts : new.counts ≡ old.counts
 

@@ -28,4 +28,5 @@ seen device x page = record {
   spare = 0;
   worn = true;
   checkpoint = None;
+  first = None;
 }

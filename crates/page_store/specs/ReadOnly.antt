@@ -42,4 +42,5 @@ only_read p n spare most refused_change = record {
   spare = spare;
   worn = true;
   checkpoint = p.checkpoint;
+  first = p.first;
 }

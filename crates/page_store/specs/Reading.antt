@@ -35,6 +35,7 @@ pub record Looks (old new : StoreState) : Type 0 where
   pub index : new.index ≡ old.index
   pub buffer : new.buffer ≡ old.buffer
   pub spare : new.spare ≡ old.spare
+  pub first : new.first ≡ old.first
   pub broken : new.broken ≡ old.broken
   pub counts : NoneFalls old.counts new.counts
   pub commits : new.counts.commits.total ≡ old.counts.commits.total

@@ -9,7 +9,7 @@ use Rattle.flash_tree.specs.Newest.{HasNewest}
 use Rattle.flash_tree.specs.Truth.{KeepsSummaries}
 use Rattle.flash_tree.specs.Tree.{Shows, InFootprint}
 use Rattle.pages.specs.State.{PagesState}
-use Rattle.pages.specs.Stores.{HandsOutNumbers, HasFailed, HasNumbersLeft, HasPage, KeptAs, StaysSame, bad_on}
+use Rattle.pages.specs.Stores.{HandsOutNumbers, HasFailed, HasNumbersLeft, HasPage, KeptAs, StaysMountable, StaysSame, bad_on}
 use Rattle.flash_log.specs.declared.seal_fault.SealFault.{SealFault}
 use Rattle.flash_log.specs.declared.seal_fault.SealFault.TheVariants as causes
 use Rattle.volume_terms.specs.declared.fault.StoreFault.{StoreFault}
@@ -40,6 +40,7 @@ pub record EndsOn (old new : PagesState) : Type 0 where
   pub marks : bad_on new.device + old.device.failures ≤ bad_on old.device + new.device.failures
   pub limits : old.device.honest ≡ true → HasNumbersLeft old.device.flash → HasNumbersLeft new.device.flash
   pub summaries : old.device.honest ≡ true → KeepsSummaries old.device new.device
+  pub mountable : StaysMountable old new
 
 -- If each whole checkpoint of an honest device was right and in the block that was noted, each is right and in the one that is now.
 abbrev pub StaysRight : PagesState → PagesState → Type 0

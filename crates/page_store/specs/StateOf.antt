@@ -16,6 +16,7 @@ state_of store = record {
   buffer = store.buffer;
   cache = store.cache;
   spare = store.log.spare;
+  first = store.log.origin.first;
   broken = store.broken;
   counts = store.counts;
 }

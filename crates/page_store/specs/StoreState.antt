@@ -1,8 +1,9 @@
 -- What contracts say of a store at one moment.
 -- From: this project.
-use Rattle.std.specs.Prelude.{ℕ, Bool, false, not, ◌&&◌, ◌||◌, List, length}
+use Rattle.std.specs.Prelude.{ℕ, Bool, false, not, ◌&&◌, ◌||◌, List, length, Option}
 use Rattle.chunk_index.specs.declared.index.Index.{Index}
 use Rattle.chunk_index.specs.Maps.{present}
+use Rattle.flash_log.specs.Snapshots.{Snapshot, remembered_flash}
 use Rattle.page_store.specs.BufferOf.{buffered, most_pages}
 use Rattle.page_store.specs.declared.buffer.Buffer.{Buffer}
 use Rattle.page_store.specs.declared.cache.PageCache.{PageCache}
@@ -13,13 +14,15 @@ use Rattle.transactions.specs.Checking.{LogState}
 use Rattle.page_store.specs.StoreOf.{is_near, kept_map, next_numbers, present_map}
 use Rattle.page_store.specs.declared.counts.StoreCounts.{StoreCounts}
 
--- A store's log, the index of its pages, the buffer and the cache; how many blocks may be bad, whether a commit failed, and its counts.
+-- A store's log, the index of its pages, the buffer and the cache; how many blocks may be bad, the flash with which its log began, where
+-- that is remembered, whether a commit failed, and its counts.
 pub record StoreState : Type 0 where
   pub log : LogState
   pub index : Index
   pub buffer : Buffer
   pub cache : PageCache
   pub spare : ℕ
+  pub first : Option Snapshot
   pub broken : Bool
   pub counts : StoreCounts
 
@@ -56,4 +59,5 @@ seen_of s lent = record {
   spare = s.spare;
   worn = false;
   checkpoint = s.log.table.checkpoint;
+  first = remembered_flash s.first;
 }

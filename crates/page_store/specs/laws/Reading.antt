@@ -46,6 +46,7 @@ finds_seen a b x y page page' reads index = record {
   spare = refl;
   worn = refl;
   checkpoint = refl;
+  first = refl;
 } where
   failed : (a.gone || not a.honest) ≡ true → (b.gone || not b.honest) ≡ true
   failed is = elim (cases_Bool a.gone) [

@@ -18,4 +18,5 @@ ends_going p q goes = record {
   marks = goes.marks;
   limits = goes.limits;
   summaries = goes.truth.summaries;
+  mountable = goes.mountable;
 }

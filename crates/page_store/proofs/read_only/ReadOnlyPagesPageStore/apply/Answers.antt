@@ -1,4 +1,4 @@
-use Rattle.std.proofs.Common.{inl, true}
+use Rattle.std.proofs.Common.{refl, inl, true}
 use Rattle.flash_tree.specs.Places.{numbers_of}
 use Rattle.page_store.specs.Newest.{seen}
 use Rattle.page_store.proofs.Keeping.{goes_on, keeps_all}
@@ -7,7 +7,7 @@ use Rattle.page_store.proofs.read_only.ReadOnlyPagesPageStore.apply.Goals as goa
 pub returns-clause-kept : goal.returns-clause-kept
 returns-clause-kept g c = λ sound.
     let self = c.args.self.now in
-    inl (keeps_all (record (seen (g.N.Nand.state self.pages.device) self.pages.index self.pages.page.items) { checkpoint = self.checkpoint }) (numbers_of self.greatest) self.spare self.most true self.worn self.numbers self.carrying)
+    inl (keeps_all (record (seen (g.N.Nand.state self.pages.device) self.pages.index self.pages.page.items) { checkpoint = self.checkpoint }) (numbers_of self.greatest) self.spare self.most true self.worn self.numbers self.carrying refl)
 
 pub returns-clause-goes_on : goal.returns-clause-goes_on
 returns-clause-goes_on g c =

@@ -29,7 +29,7 @@ pub returns-in-Ok-clause-keeps : goal.returns-in-Ok-clause-keeps
 returns-in-Ok-clause-keeps g c =
     let r = c.in-Ok.ensures in
     record {
-      lasts = record { device = r.step.lasts; numbers = r.step.numbers; spare = r.terms.spare; counts = record { refused = omega arith; commits = omega arith } };
+      lasts = record { device = r.step.lasts; numbers = r.step.numbers; spare = r.terms.spare; first = r.terms.first; counts = record { refused = omega arith; commits = omega arith } };
       buffer = refl;
       cache = refl;
       counts = refl;
@@ -86,7 +86,7 @@ pub returns-in-Err-clause-keeps : goal.returns-in-Err-clause-keeps
 returns-in-Err-clause-keeps g c =
     let r = c.in-Err.ensures in
     record {
-      lasts = record { device = r.step.lasts; numbers = r.step.numbers; spare = r.terms.spare; counts = record { refused = omega arith; commits = omega arith } };
+      lasts = record { device = r.step.lasts; numbers = r.step.numbers; spare = r.terms.spare; first = r.terms.first; counts = record { refused = omega arith; commits = omega arith } };
       buffer = refl;
       cache = refl;
       counts = refl;

@@ -1,18 +1,19 @@
-use Rattle.std.specs.Prelude.{◌≡◌, ◌⊎◌, ◌≤◌, ◌/◌, length, not, ◌&&◌}
-use Rattle.std.proofs.Common.{refl, ◌∙◌, sym, ap, subst, arith}
+use Rattle.std.specs.Prelude.{◌≡◌, ◌≤◌, ◌/◌, Option, length, not, ◌&&◌}
+use Rattle.std.proofs.Common.{refl, ◌∙◌, sym, ap, arith}
 use Rattle.nand_model.specs.Calls.{Device}
 use Rattle.nand_model.specs.declared.geometry.Geometry.{Geometry}
 use Rattle.block_state.specs.Table.{Table}
+use Rattle.flash_log.specs.Snapshots.{Snapshot, remembered_flash}
 use Rattle.page_store.specs.BufferOf.{buffered, most_pages}
-use Rattle.pages.specs.Stores.{AreNear, IsCarried}
+use Rattle.pages.specs.Stores.{AreNear}
 use Rattle.page_store.specs.StoreOf.{next_numbers}
 use Rattle.page_store.specs.StoreState.{committed_in, current_in, seen_of, StoreState}
 use Rattle.page_store.specs.StateOf.{lent_by, state_of}
-use Rattle.page_store.proofs.Carried.{either_carried, has_page, store_carries}
+use Rattle.page_store.proofs.Carried.{has_page, store_carries}
 use Rattle.page_store.proofs.Steps.{few_new}
 use Rattle.page_store.specs.laws.Sound.{sound_whole}
 use Rattle.page_store.proofs.ReadOnly.{near_buffered, sound_honest}
-use Rattle.page_store.proofs.Told.{both_whole, change_told, failed_stays, hands_told, is_sound, keeps_either, limits_told, marks_told, sound_on, sound_stays, stays_broken_changed, stops_changed, stops_told, unchanged, ways, when_changed}
+use Rattle.page_store.proofs.Told.{both_whole, change_told, either_since, failed_stays, finds_now, hands_told, is_sound, keeps_either, limits_told, marks_told, sound_on, sound_stays, stays_broken_changed, stays_mountable, stops_changed, stops_told, unchanged, ways, when_changed}
 use Rattle.page_store.proofs.store_trait.StorePageStore.apply.Goals as goal
 
 pub returns-clause-goes_on : goal.returns-clause-goes_on
@@ -35,6 +36,7 @@ returns-clause-goes_on g c =
       marks = marks_told a.log.device b.log.device a.log.table b.log.table c.args.self.now.log.ready new.log.ready e.pays.pays.marks;
       limits = λ honest _. limits_told b.log.device b.log.table new.log.ready new.log.stands.limits (lasts.device.honest ∙ honest);
       truth = lasts.numbers.truth;
+      mountable = stays_mountable a b (lent_by c.args.self.now) (lent_by new) lasts.device lasts.first new.log.mountable;
     }
 
 pub returns-clause-sound : goal.returns-clause-sound
@@ -69,8 +71,11 @@ returns-clause-kept g c = λ sound.
     (ways r q m n (sound_on r a.log.device b.log.device a.broken b.broken e.lasts.device (when_changed change r a b e.ends (λ is. both_whole a b is.whole)) honest)
     (when_changed change r a b e.ends (λ is. is.committed)) (stops_told r b.log.device.honest b.broken (stops_changed change r a b e.ends))
     (λ none. let is = unchanged change r a b e.ends none in (is_sound b.log.device.honest b.broken (e.lasts.device.honest ∙ honest) (is.broken ∙ whole), is.committed)))
-    (λ is. store_carries b.spare b.log.device b.log.table b.index c.the_counts_are_of_the_keys.ensures.none new.log.ready new.log.stands.tables (new.newest (sound_whole b.log.device.honest b.broken is) (sound_honest b.log.device.honest b.broken is)))
-    (subst (λ k. IsCarried b.log.device k m ⊎ IsCarried b.log.device k n) (sym e.lasts.spare) (either_carried a.log a.index b.log.device a.spare m n (e.carried whole honest)))
+    (λ is. record {
+      carried = store_carries b.spare b.log.device b.log.table b.index c.the_counts_are_of_the_keys.ensures.none new.log.ready new.log.stands.tables (new.newest (sound_whole b.log.device.honest b.broken is) (sound_honest b.log.device.honest b.broken is));
+      found = finds_now b (lent_by new) new.log.mountable;
+    })
+    (either_since a b (lent_by c.args.self.now) (lent_by new) m n e.lasts c.args.self.now.log.mountable (e.carried whole honest))
 
 pub returns-clause-refused : goal.returns-clause-refused
 returns-clause-refused g c = λ none.
@@ -84,6 +89,7 @@ returns-clause-refused g c = λ none.
       device = is.device;
       next = ap next_numbers is.table;
       checkpoint = ap (λ (u : Table). u.checkpoint) is.table;
+      first = ap (λ (f : Option Snapshot). remembered_flash f) c.change.ensures.lasts.first;
     }
 
 pub returns-clause-stops : goal.returns-clause-stops

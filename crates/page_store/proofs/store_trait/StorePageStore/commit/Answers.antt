@@ -1,15 +1,15 @@
 use Rattle.std.specs.Prelude.{◌≡◌, ◌⊎◌, ◌≤◌, ◌/◌, List, length}
-use Rattle.std.proofs.Common.{refl, ◌∙◌, sym, ap, subst, inl, inr, arith}
+use Rattle.std.proofs.Common.{refl, ◌∙◌, sym, ap, inl, inr, arith}
 use Rattle.flash_tree.specs.declared.place.FreshPage.{FreshPage}
 use Rattle.nand_model.specs.declared.geometry.Geometry.{Geometry}
 use Rattle.page_store.specs.BufferOf.{buffered, most_pages}
-use Rattle.pages.specs.Stores.{IsCarried, SamePages}
+use Rattle.pages.specs.Stores.{SamePages}
 use Rattle.page_store.specs.StoreState.{committed_in, current_in, seen_of, StoreState}
 use Rattle.page_store.specs.StateOf.{lent_by, state_of}
-use Rattle.page_store.proofs.Carried.{either_carried, has_page, store_carries}
+use Rattle.page_store.proofs.Carried.{has_page, store_carries}
 use Rattle.page_store.specs.laws.Sound.{sound_whole}
 use Rattle.page_store.proofs.ReadOnly.{sound_honest}
-use Rattle.page_store.proofs.Told.{both_whole, commit_told, none_buffered, committed, failed_stays, hands_told, keeps_either, limits_told, marks_told, sound_on, sound_stays, stays_broken, stopped, stops_either, stops_told, stops_written, takes_none, ways, when_written}
+use Rattle.page_store.proofs.Told.{both_whole, commit_told, none_buffered, committed, either_since, failed_stays, finds_now, hands_told, keeps_either, limits_told, marks_told, sound_on, sound_stays, stays_broken, stays_mountable, stopped, stops_either, stops_told, stops_written, takes_none, ways, when_written}
 use Rattle.page_store.proofs.store_trait.StorePageStore.commit.Goals as goal
 
 pub returns-clause-goes_on : goal.returns-clause-goes_on
@@ -32,6 +32,7 @@ returns-clause-goes_on g c =
       marks = marks_told a.log.device b.log.device a.log.table b.log.table c.args.self.now.log.ready new.log.ready e.pays.marks;
       limits = λ honest _. limits_told b.log.device b.log.table new.log.ready new.log.stands.limits (lasts.device.honest ∙ honest);
       truth = lasts.numbers.truth;
+      mountable = stays_mountable a b (lent_by c.args.self.now) (lent_by new) lasts.device lasts.first new.log.mountable;
     }
 
 pub returns-clause-sound : goal.returns-clause-sound
@@ -63,8 +64,11 @@ returns-clause-kept g c = λ sound.
     (ways r q m n (sound_on r a.log.device b.log.device a.broken b.broken e.keeps.lasts.device (when_written r a b e.ends (λ is. both_whole a b is.whole)) honest)
     (when_written {A = SamePages q.kept m ⊎ SamePages q.kept n} r a b e.ends (λ is. inr is.committed))
     (stops_told r b.log.device.honest b.broken (stops_either r b.broken (stops_written r a b e.ends))) (λ none. absurd (takes_none r a b e.ends none)))
-    (λ is. store_carries b.spare b.log.device b.log.table b.index c.the_counts_are_of_the_keys.ensures.none new.log.ready new.log.stands.tables (new.newest (sound_whole b.log.device.honest b.broken is) (sound_honest b.log.device.honest b.broken is)))
-    (subst (λ k. IsCarried b.log.device k m ⊎ IsCarried b.log.device k n) (sym e.keeps.lasts.spare) (either_carried a.log a.index b.log.device a.spare m n (e.carried whole honest)))
+    (λ is. record {
+      carried = store_carries b.spare b.log.device b.log.table b.index c.the_counts_are_of_the_keys.ensures.none new.log.ready new.log.stands.tables (new.newest (sound_whole b.log.device.honest b.broken is) (sound_honest b.log.device.honest b.broken is));
+      found = finds_now b (lent_by new) new.log.mountable;
+    })
+    (either_since a b (lent_by c.args.self.now) (lent_by new) m n e.keeps.lasts c.args.self.now.log.mountable (e.carried whole honest))
 
 pub returns-clause-committed : goal.returns-clause-committed
 returns-clause-committed g c = λ sound.
@@ -76,7 +80,10 @@ returns-clause-committed g c = λ sound.
     let honest = sound_honest a.log.device.honest a.broken sound in
     committed r (seen_of b (lent_by new)) (current_in a)
     (sound_on r a.log.device b.log.device a.broken b.broken e.keeps.lasts.device (when_written r a b e.ends (λ is. both_whole a b is.whole)) honest) (when_written r a b e.ends (λ is. is.committed))
-    (λ is. store_carries b.spare b.log.device b.log.table b.index c.the_counts_are_of_the_keys.ensures.none new.log.ready new.log.stands.tables (new.newest (sound_whole b.log.device.honest b.broken is) (sound_honest b.log.device.honest b.broken is)))
+    (λ is. record {
+      carried = store_carries b.spare b.log.device b.log.table b.index c.the_counts_are_of_the_keys.ensures.none new.log.ready new.log.stands.tables (new.newest (sound_whole b.log.device.honest b.broken is) (sound_honest b.log.device.honest b.broken is));
+      found = finds_now b (lent_by new) new.log.mountable;
+    })
 
 pub returns-clause-stops : goal.returns-clause-stops
 returns-clause-stops g c =

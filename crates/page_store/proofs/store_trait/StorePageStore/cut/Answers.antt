@@ -15,7 +15,7 @@ use Rattle.page_store.proofs.Carried.{store_carries}
 use Rattle.page_store.specs.laws.Sound.{sound_whole}
 use Rattle.page_store.proofs.ReadOnly.{sound_honest}
 use Rattle.page_store.proofs.Steps.{hands_still}
-use Rattle.page_store.proofs.Told.{cut_stopped, cut_takes_none, cut_told, failed_stays, hands_none, kept_as, marks_none}
+use Rattle.page_store.proofs.Told.{cut_stopped, cut_takes_none, cut_told, failed_stays, finds_now, hands_none, kept_as, marks_none, stays_mountable}
 use Rattle.page_store.proofs.store_trait.StorePageStore.cut.Goals as goal
 
 pub returns-clause-goes_on : goal.returns-clause-goes_on
@@ -41,6 +41,7 @@ returns-clause-goes_on g c =
       marks = marks_none old now (table self.log.blocks) (table new.log.blocks) still tables;
       limits = λ _ left. subst (λ (k : Device). HasNumbersLeft k.flash) (sym still) left;
       truth = (hands_still old now (table self.log.blocks) (table new.log.blocks) still tables).truth;
+      mountable = stays_mountable (state_of self) (state_of new) (lent_by self) (lent_by new) lasts same.first new.log.mountable;
     }
 
 pub returns-clause-present : goal.returns-clause-present
@@ -56,7 +57,10 @@ returns-clause-kept g c = λ sound.
     let honest : now.honest ≡ true = ap (λ (l : LogState). l.device.honest) e.same.log ∙ sound_honest old.honest self.broken sound in
     let whole : new.broken ≡ false = e.same.broken ∙ sound_whole old.honest self.broken sound in
     let q : PagesState = seen_of (state_of new) (lent_by new) in
-    kept_as q (kept_map old self.log.index) e.committed (store_carries new.log.spare now (table new.log.blocks) new.log.index c.the_counts_are_of_the_keys.ensures.none new.log.ready new.log.stands.tables (new.newest whole honest))
+    kept_as q (kept_map old self.log.index) e.committed (record {
+      carried = store_carries new.log.spare now (table new.log.blocks) new.log.index c.the_counts_are_of_the_keys.ensures.none new.log.ready new.log.stands.tables (new.newest whole honest);
+      found = finds_now (state_of new) (lent_by new) new.log.mountable;
+    })
 
 pub returns-clause-stops : goal.returns-clause-stops
 returns-clause-stops g c =

@@ -1,7 +1,6 @@
 use Rattle.std.specs.Prelude.{◌/◌, length}
-use Rattle.std.proofs.Common.{refl, ◌∙◌, sym, ap, subst}
+use Rattle.std.proofs.Common.{refl, ◌∙◌, sym, ap}
 use Rattle.nand_model.specs.declared.geometry.Geometry.{Geometry}
-use Rattle.pages.specs.Stores.{IsCarried}
 use Rattle.page_store.specs.BufferOf.{buffered}
 use Rattle.page_store.specs.StoreState.{committed_in, StoreState}
 use Rattle.page_store.specs.StateOf.{lent_by, state_of}
@@ -10,7 +9,7 @@ use Rattle.page_store.specs.declared.counts.StoreCounts.{StoreCounts}
 use Rattle.page_store.specs.laws.Sound.{sound_whole}
 use Rattle.page_store.proofs.ReadOnly.{sound_honest}
 use Rattle.page_store.proofs.Refreshed.{breaks_refreshed, kept_seen, none_held, refresh_told, refreshed_seen, stops_refreshed, when_refreshed}
-use Rattle.page_store.proofs.Told.{failed_stays, hands_told, limits_told, marks_told, stopped}
+use Rattle.page_store.proofs.Told.{carries_since, failed_stays, hands_told, limits_told, marks_told, stays_mountable, stopped}
 use Rattle.page_store.proofs.store_trait.StorePageStore.refresh.Goals as goal
 
 pub returns : goal.returns
@@ -37,6 +36,7 @@ returns g c =
         marks = marks_told a.log.device b.log.device a.log.table b.log.table self.log.ready new.log.ready e.pays.marks;
         limits = λ honest _. limits_told b.log.device b.log.table new.log.ready new.log.stands.limits (lasts.device.honest ∙ honest);
         truth = lasts.numbers.truth;
+        mountable = stays_mountable a b (lent_by self) (lent_by new) lasts.device lasts.first new.log.mountable;
       };
       commits = ap (λ (k : StoreCounts). k.commits.total) e.keeps.counts;
       buffered = ap (λ (k : Buffer). length (buffered k)) e.keeps.buffer;
@@ -49,7 +49,7 @@ returns g c =
           let honest = sound_honest a.log.device.honest a.broken sound in
           let whole = sound_whole a.log.device.honest a.broken sound in
           record {
-            kept = kept_seen r block a b (lent_by new) e.ends (subst (λ k. IsCarried b.log.device k (committed_in a)) (sym lasts.spare) (e.carried whole honest).carried);
+            kept = kept_seen r block a b (lent_by new) e.ends (carries_since a b (lent_by self) (lent_by new) (committed_in a) lasts self.log.mountable (e.carried whole honest));
             done = refreshed_seen r block a b (lent_by self) (lent_by new) lasts.device honest e.ends;
             cause = refresh_told r block a b (lent_by new) lasts.spare new.log.ready whole e.ends;
             idle = λ none. e.nothing (none_held block a (lent_by self) honest (self.newest whole honest) none);

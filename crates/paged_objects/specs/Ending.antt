@@ -27,6 +27,7 @@ pub record StaysAs (old new : PagesState) : Type 0 where
   pub device : OnlyReads old.device new.device
   pub next : new.next ≡ old.next
   pub checkpoint : new.checkpoint ≡ old.checkpoint
+  pub first : new.first ≡ old.first
 
 -- a mount shows the tree that it did, or the settled objects
 abbrev pub Turns : Sizes → Objects → PagesState → PagesState → Type 0

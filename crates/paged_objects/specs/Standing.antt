@@ -6,7 +6,7 @@ use Rattle.posix_profile.specs.State.{Objects}
 use Rattle.object_store.specs.Stores.{settled}
 use Rattle.pages.specs.Maps.{PageMap}
 use Rattle.pages.specs.State.{PagesState}
-use Rattle.pages.specs.Stores.{SamePages, IsCarried}
+use Rattle.pages.specs.Stores.{SamePages, FindsSince, IsCarried}
 use Rattle.paged_objects.specs.Holding.{HoldsObjects}
 use Rattle.object_store.specs.Stores.{CanHave}
 
@@ -15,13 +15,15 @@ abbrev pub volume_of : PagesState → Sizes
 volume_of p = sizes_of p.device.geometry p.spare
 
 -- The tree is that of some pages which hold objects of a volume: those of them that names keep. An honest device has these
--- pages, and where the store is sound they are the ones that it kept last.
+-- pages, and where the store is sound they are the ones that it kept last; and a mount by summaries finds them, where one could go by the
+-- flash with which the store began.
 pub record Shown (z : Sizes) (p : PagesState) (tree : Objects) : Type 0 where
   pub pages : PageMap
   pub objects : Objects
   pub sizes : volume_of p ≡ z
   pub carried : p.device.honest ≡ true → IsCarried p.device p.spare pages
   pub kept : p.sound ≡ true → SamePages p.kept pages
+  pub found : FindsSince p pages
   pub holds : HoldsObjects z pages objects
   pub can : CanHave z objects
   pub settles : tree ≡ settled objects

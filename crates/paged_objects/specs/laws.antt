@@ -5,3 +5,4 @@ pub mod OnFlash
 pub mod Holding
 pub mod Settled
 pub mod Counting
+pub mod Findable

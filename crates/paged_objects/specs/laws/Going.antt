@@ -14,6 +14,7 @@ use Rattle.flash_tree.specs.Mount.{bad_blocks, sizes_of}
 use Rattle.flash_tree.specs.Numbering.{AreBelow}
 use Rattle.pages.specs.State.{PagesState, NextNumbers, OnlyFinds}
 use Rattle.pages.specs.Stores.{GoesOn, StaysSame, HandsOutNumbers, HasNumbersLeft, bad_on}
+use Rattle.pages.specs.laws.Mountable.{mountable_read, mountable_then}
 use Rattle.paged_objects.specs.Standing.{volume_of}
 use Rattle.paged_objects.specs.Ending.{HasEnded, HasEndedAt, StaysAs}
 
@@ -33,6 +34,7 @@ finds_stay p q x = record {
   device = x.device;
   next = x.next;
   checkpoint = x.checkpoint;
+  first = x.first;
 }
 
 -- and so does a change that was refused memory
@@ -51,6 +53,7 @@ refused_stays p q goes x = record {
   device = subst (OnlyReads p.device) (sym x.device) (only_reads_here p.device);
   next = x.next;
   checkpoint = x.checkpoint;
+  first = x.first;
 }
 
 pub stays_here : (p : PagesState) → StaysAs p p
@@ -68,6 +71,7 @@ stays_here p = record {
   device = only_reads_here p.device;
   next = refl;
   checkpoint = refl;
+  first = refl;
 }
 
 pub stays_on : (a b c : PagesState) → StaysAs a b → StaysAs b c → StaysAs a c
@@ -85,6 +89,7 @@ stays_on a b c x y = record {
   device = only_reads_on a.device b.device c.device x.device y.device;
   next = y.next ∙ x.next;
   checkpoint = y.checkpoint ∙ x.checkpoint;
+  first = y.first ∙ x.first;
 }
 
 -- reads mark no block
@@ -141,6 +146,7 @@ stays_goes p q x =
       marks = omega (arith, bad, failures);
       limits = λ honest left. subst (λ (f : Flash). HasNumbersLeft f) (sym (same_flash p.device q.device x.device honest)) left;
       truth = true_read p.device q.device p.checkpoint q.checkpoint x.device x.checkpoint;
+      mountable = mountable_read p q x.device x.first x.checkpoint;
     }
 
 -- so they do where nothing is done
@@ -191,6 +197,7 @@ goes_on a b c x y = record {
   marks = omega (arith, x.marks, y.marks);
   limits = λ honest left. y.limits (x.device.honest ∙ honest) (x.limits honest left);
   truth = true_on a.device b.device c.device a.checkpoint b.checkpoint c.checkpoint x.device x.truth y.truth;
+  mountable = mountable_then a b c x.device x.worn x.mountable y.mountable;
 }
 
 -- the volume stays the same

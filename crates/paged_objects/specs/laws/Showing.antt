@@ -13,6 +13,7 @@ use Rattle.object_store.specs.Stores.{settled}
 use Rattle.pages.specs.Maps.{PageMap}
 use Rattle.pages.specs.State.{PagesState}
 use Rattle.pages.specs.Stores.{Carries, HasPage, HasNumbersLeft, HasFailed, IsCarried, SamePages, GoesOn, KeptAs, KeepsEither}
+use Rattle.pages.specs.laws.Mountable.{finds_read}
 use Rattle.paged_objects.specs.Holding.{HoldsObjects, HoldsIn}
 use Rattle.object_store.specs.Stores.{CanHave}
 use Rattle.paged_objects.specs.laws.Holding.{same_objects}
@@ -40,6 +41,7 @@ stays_shown z p q tree stays shown = record {
       let before : p.device.honest ≡ true = sym stays.device.lasts.honest ∙ honest in
       subst (λ spare. IsCarried q.device spare shown.pages) (sym stays.spare) (carried_read p.device q.device p.spare shown.pages stays.device before (shown.carried before));
   kept = λ sound o c. stays.kept o c ∙ shown.kept (sym stays.sound ∙ sound) o c;
+  found = finds_read p q shown.pages stays.device stays.first shown.found;
   holds = shown.holds;
   can = shown.can;
   settles = shown.settles;
@@ -85,6 +87,7 @@ kept_shown z q m objects sizes kept holds can = record {
   sizes = sizes;
   carried = kept.carried;
   kept = kept.kept;
+  found = kept.found;
   holds = holds;
   can = can;
   settles = refl;
@@ -98,6 +101,7 @@ still_shown z p q tree goes sound kept shown = record {
   sizes = volume_on p q goes ∙ shown.sizes;
   carried = kept.carried;
   kept = kept.kept;
+  found = kept.found;
   holds = same_objects z shown.pages p.kept shown.objects shown.holds (shown.kept sound);
   can = shown.can;
   settles = shown.settles;

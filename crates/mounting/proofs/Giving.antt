@@ -53,13 +53,13 @@ module _ (d : Device) (x : Index) (n : Numbers) (spare : ℕ) (p : PagesState) (
   abbrev z : Sizes
   z = sizes_of d.geometry spare
 
-  volume_is : volume_of p ≡ z
+  pub volume_is : volume_of p ≡ z
   volume_is = ap (λ (k : Device). sizes_of k.geometry p.spare) pages.device_is ∙ ap (λ s. sizes_of d.geometry s) pages.spare_is
 
-  page_bytes_is : p.page_bytes ≡ p.device.geometry.bytes
+  pub page_bytes_is : p.page_bytes ≡ p.device.geometry.bytes
   page_bytes_is = pages.page_bytes ∙ sym (ap (λ (k : Device). k.geometry.bytes) pages.device_is)
 
-  most_is : p.most ≡ p.device.geometry.pages / 4
+  pub most_is : p.most ≡ p.device.geometry.pages / 4
   most_is = pages.most ∙ sym (ap (λ (k : Device). k.geometry.pages / 4) pages.device_is)
 
   worn_reads : IsWorn d n spare → CanOnlyBeRead p

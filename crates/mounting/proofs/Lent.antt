@@ -82,6 +82,7 @@ finds_lent told told' a b x y page page' reads index same = subst (λ t. OnlyFin
       spare = f.spare;
       worn = f.worn;
       checkpoint = f.checkpoint;
+      first = f.first;
     })
 
 -- the data of a page that is kept there

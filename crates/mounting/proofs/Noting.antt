@@ -7,7 +7,6 @@ use Rattle.nand_model.specs.Calls.{Device}
 use Rattle.nand_model.specs.Changes.{OnlyReads}
 use Rattle.nand_model.specs.declared.geometry.Geometry.{Geometry}
 use Rattle.nand_model.specs.laws.Changes.{only_reads_on}
-use Rattle.page_tags.specs.Headers.{Fields}
 use Rattle.page_tags.specs.declared.check.CheckEntry.{CheckEntry}
 use Rattle.posix_profile.specs.State.{Objects}
 use Rattle.flash_tree.specs.Checkpoints.{Checkpoint, IsWhole, IsRight, IsTrueFlash, IsChecked, StandsOnly}
@@ -15,7 +14,6 @@ use Rattle.flash_tree.specs.Mount.{Wholly, GoesThrough, sizes_of, IsVolume}
 use Rattle.flash_tree.specs.Newest.{Spot, IsNewest, HasNewest, Numbers}
 use Rattle.flash_tree.specs.Tree.{Shows, InFootprint, IsSingle}
 use Rattle.flash_tree.specs.laws.Checking.{same_block}
-use Rattle.flash_tree.specs.laws.Finding.{same_header}
 use Rattle.flash_tree.specs.laws.Newest.{one_newest, one_spot}
 use Rattle.flash_tree.specs.laws.OneTree.{one_tree}
 use Rattle.flash_tree.specs.laws.Place.{same_flash}
@@ -27,6 +25,7 @@ use Rattle.chunk_index.specs.declared.index.Index.{Index}
 use Rattle.flash_log.specs.Standing.{AreKept}
 use Rattle.page_store.specs.Checked.{HasTrueFlash}
 use Rattle.page_store.specs.Opened.{IsOpenedBy}
+use Rattle.paged_objects.specs.laws.Findable.{one_spare}
 use Rattle.pages.specs.Maps.{PageMap, has}
 use Rattle.nand_model.specs.Trusting.{trusted_as}
 use Rattle.nand_model.specs.laws.Trusted.{honest_of}
@@ -102,12 +101,6 @@ noted_read d t u x n spare tree at may notes read = elim notes.is [
 ]
 
 -- ---- on a true flash the pages of the tree lie apart from a whole checkpoint
-
--- the spare blocks of a volume are one number
-pub one_spare : (g : Geometry) (m : ℕ → ℕ → List ℕ → Type 0) → IsSingle m → (s t : ℕ) → IsVolume g m s → IsVolume g m t → s ≡ t
-one_spare g m single s t v w =
-    let same : v.fields ≡ w.fields = same_header (sizes_of g s) (is_size g s) m single _ v.fields w.fields v.has w.has in
-    sym v.spare_is ∙ ap (λ (f : Fields). f.spare) same ∙ w.spare_is
 
 module _ (g : Geometry) (flash : Flash) (c : Checkpoint) (right : IsRight g flash c) (m : PageMap) (newest : IsNewestMap flash m) (spare : ℕ) (objects : Objects) (volume : IsVolume g (has m) spare)
     (shows : Shows (sizes_of g spare) (has m) objects) where

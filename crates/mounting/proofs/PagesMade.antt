@@ -24,12 +24,12 @@ use Rattle.page_store.specs.BufferOf.{buffered, most_pages}
 use Rattle.page_store.specs.Shown.{data_at, data_by, kept_data, present_data}
 use Rattle.pages.specs.Maps.{PageMap, known_pages}
 use Rattle.pages.specs.State.{PagesState}
-use Rattle.pages.specs.Stores.{bad_on, Carries, HasPage, HasNumbersLeft, IsCarried}
+use Rattle.pages.specs.Stores.{bad_on, Carries, FindsSince, HasPage, HasNumbersLeft, IsCarried}
 use Rattle.page_store.specs.StoreOf.{kept_map, next_numbers}
 use Rattle.page_store.specs.StoreState.{StoreState, committed_in, seen_of}
 use Rattle.page_store.specs.Newest.{seen}
 use Rattle.page_store.specs.ReadOnly.{IsWorn, only_read, next_after}
-use Rattle.mounting.specs.Made.{ArePagesOn, CanBeWritten}
+use Rattle.mounting.specs.Made.{ArePagesOn, CanBeWritten, Remembers}
 use Rattle.mounting.specs.Marked.{marked, AreFitting}
 use Rattle.mounting.specs.Mounted.{HasRoomOn}
 use Rattle.mounting.specs.Tables.{IsPruned}
@@ -37,7 +37,7 @@ use Rattle.mounting.proofs.Shown.{kept_newest}
 use Rattle.mounting.proofs.Standing.{stands_pruned, tables_pruned}
 
 -- a key with data is kept
-kept_of_data : (flash : Flash) (xs : List ℕ) (m : Option KeptPage) → option_and_then (data_at flash) m ≡ Some xs → (p : KeptPage) × (m ≡ Some p)
+pub kept_of_data : (flash : Flash) (xs : List ℕ) (m : Option KeptPage) → option_and_then (data_at flash) m ≡ Some xs → (p : KeptPage) × (m ≡ Some p)
 kept_of_data flash xs None is = absurd cc
 kept_of_data flash xs (Some p) is = (p, refl)
 
@@ -97,8 +97,9 @@ module _ (keeps : ℕ → ℕ → Bool) (d : Device) (t : Table) (x : Index) (n 
 
       -- the pages of a new store
       pub store_pages : (a : StoreState) (lent : List ℕ) → a.log.device ≡ d → (a.log.table ≡ t) × (a.spare ≡ spare) → a.broken ≡ false → most_pages a.buffer ≡ d.geometry.pages / 4
-          → ((o c : ℕ) → committed_in a o c ≡ kept_map d x o c) → ((o c : ℕ) → present_data a.index (buffered a.buffer) d.flash o c ≡ present_data x [] d.flash o c) → ArePagesOn d x n spare (seen_of a lent)
-      store_pages a lent device same whole most kept pages = record {
+          → ((o c : ℕ) → committed_in a o c ≡ kept_map d x o c) → ((o c : ℕ) → present_data a.index (buffered a.buffer) d.flash o c ≡ present_data x [] d.flash o c)
+          → FindsSince (seen_of a lent) (kept_data x d.flash) → Remembers d (seen_of a lent) → ArePagesOn d x n spare (seen_of a lent)
+      store_pages a lent device same whole most kept pages finds remembers = record {
         device_is = device;
         spare_is = same.1;
         page_bytes = ap (λ (k : Device). k.geometry.bytes) device;
@@ -111,7 +112,9 @@ module _ (keeps : ℕ → ℕ → Bool) (d : Device) (t : Table) (x : Index) (n 
         kept = λ honest. record {
           carried = λ is. carried_as (seen_of a lent) d spare (kept_data x d.flash) device same.1 (carried honest);
           kept = λ sound o c. kept o c ∙ ap (λ h. known_pages h (kept_data x d.flash) o c) honest;
+          found = finds;
         };
+        remembers = remembers;
       }
 
   module _ (worn : IsWorn d n spare) where
@@ -149,6 +152,11 @@ module _ (keeps : ℕ → ℕ → Bool) (d : Device) (t : Table) (x : Index) (n 
       kept = λ honest. record {
         carried = λ is. carried_as (only_read (record (seen e y page) { checkpoint = at }) n spare (d.geometry.pages / 4) false) d spare (kept_data x d.flash) device refl (worn_carried honest);
         kept = λ sound o c. there honest o c;
+        found = λ begun. absurd begun.1;
+      };
+      remembers = record {
+        first = λ written. let two : true ≡ false = written in absurd cc;
+        ordered = λ written. let two : true ≡ false = written in absurd cc;
       };
     } where
       there : d.honest ≡ true → (o c : ℕ) → known_pages e.honest (kept_data y e.flash) o c ≡ kept_data x d.flash o c

@@ -25,7 +25,7 @@ use Rattle.volume_terms.specs.Sizes.{Sizes, root_number}
 use Rattle.mounting.specs.Reads.{WhyNotThrough, EndsMount}
 use Rattle.mounting.specs.TreeAnswers.{HasWrongTree, WhyNoTree}
 use Rattle.mounting.proofs.Entering.{is_size}
-use Rattle.mounting.proofs.Noting.{one_spare}
+use Rattle.paged_objects.specs.laws.Findable.{one_spare}
 use Rattle.mounting.proofs.Parting.{single}
 
 -- ---- where pages show the tree of a volume nothing is wrong

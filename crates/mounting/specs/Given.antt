@@ -8,7 +8,7 @@ use Rattle.flash_tree.specs.Checkpoints.{IsChecked}
 use Rattle.page_store.specs.declared.flash_pages.FlashPages.{FlashPages}
 use Rattle.page_store.specs.Checked.{HasTrueFlash}
 use Rattle.pages.specs.State.{PagesState}
-use Rattle.mounting.specs.Made.{AreNext, CanOnlyBeRead, HasSizes, IsMountedWith}
+use Rattle.mounting.specs.Made.{AreNext, CanOnlyBeRead, HasSizes, IsMountedWith, Remembers}
 use Rattle.mounting.specs.Named.{IsTrustedSince}
 use Rattle.mounting.specs.Places.{ArePlaced}
 use Rattle.mounting.specs.Reads.{ReadsAtMost}
@@ -25,9 +25,10 @@ pub record IsMade {N : Type 0} {nand : Ghosts N} (state : FlashPages N nand → 
   pub placed : (state m.pages).device.honest ≡ true → ArePlaced (state m.pages).device (state m.pages).spare m.pages
 
 -- What a mount of a device gives is made of it: it was only read, by so many pages, and is trusted where its flash was true; then the
--- block that is noted is the only one with a whole checkpoint, which is right.
+-- block that is noted is the only one with a whole checkpoint, which is right. The flash of an honest device is remembered.
 pub record IsGiven {N : Type 0} {nand : Ghosts N} (state : FlashPages N nand → PagesState) (device now : Device) (m : Mounted N nand) : Type 0 where
   pub since : IsTrustedSince device now (state m.pages).device
   pub made : IsMade state m
   pub checked : HasTrueFlash device → IsChecked device.geometry device.flash (state m.pages).checkpoint
   pub few : ReadsAtMost device (state m.pages).device
+  pub remembers : device.honest ≡ true → Remembers device (state m.pages)

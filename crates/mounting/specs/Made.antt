@@ -1,6 +1,6 @@
 -- The pages of a device that is mounted.
 -- From: this project.
-use Rattle.std.specs.Prelude.{◌≡◌, ◌⊎◌, ◌<◌, ◌≤◌, ◌/◌, ℕ, true}
+use Rattle.std.specs.Prelude.{◌≡◌, ◌⊎◌, ◌<◌, ◌≤◌, ◌/◌, ℕ, true, false, Some}
 use Rattle.volume_terms.specs.Sizes.{number_end}
 use Rattle.nand_model.specs.Flash.{Flash}
 use Rattle.nand_model.specs.Calls.{Device}
@@ -19,7 +19,7 @@ use Rattle.object_store.specs.Told.{table_sizes, Tells}
 use Rattle.object_store.specs.declared.table.ObjectTable.{ObjectTable}
 use Rattle.page_store.specs.Shown.{kept_data}
 use Rattle.pages.specs.State.{PagesState, NextNumbers}
-use Rattle.pages.specs.Stores.{bad_on, SamePages, KeptAs}
+use Rattle.pages.specs.Stores.{BeganMountably, IsOrdered, bad_on, SamePages, KeptAs}
 use Rattle.paged_objects.specs.Standing.{volume_of, StandsFor, Shown}
 use Rattle.posix_profile.specs.State.{Objects}
 use Rattle.page_store.specs.Opened.{AreLeft}
@@ -30,15 +30,21 @@ abbrev pub CanBeWritten : Device → Numbers → (spare : ℕ) → Type 0
 CanBeWritten device n spare = AreLeft n × (bad_on device ≤ spare)
 
 -- where a mount can go by the summaries of an honest device's flash, so can the next one by those of a log of these tables
-abbrev pub StaysMountable : Device → Table → Index → Type 0
-StaysMountable device t x = IsMountableFlash device.geometry device.flash → device.honest ≡ true → IsMountable (log_of device t) x
+abbrev pub LeavesMountable : Device → Table → Index → Type 0
+LeavesMountable device t x = IsMountableFlash device.geometry device.flash → device.honest ≡ true → IsMountable (log_of device t) x
 
 -- Groups can be written, and a log of these tables lets the next mount go by summaries where this one could.
 pub record MayWrite (device : Device) (t : Table) (x : Index) (n : Numbers) (spare : ℕ) : Type 0 where
   pub can : CanBeWritten device n spare
-  pub mountable : StaysMountable device t x
+  pub mountable : LeavesMountable device t x
 
--- The pages are those that the index keeps on the device, which is as it was. They are present, and the device keeps them.
+-- Pages that can be written remember the flash of the device; and if a mount could go by its summaries, its blocks are in order.
+pub record Remembers (device : Device) (p : PagesState) : Type 0 where
+  pub first : p.worn ≡ false → p.first ≡ Some device.flash
+  pub ordered : p.worn ≡ false → BeganMountably p → ∥ IsOrdered p ∥₁
+
+-- The pages are those that the index keeps on the device, which is as it was. They are present, and the device keeps them. Its flash is
+-- remembered.
 pub record ArePagesOn (device : Device) (x : Index) (n : Numbers) (spare : ℕ) (p : PagesState) : Type 0 where
   pub device_is : p.device ≡ device
   pub spare_is : p.spare ≡ spare
@@ -48,6 +54,7 @@ pub record ArePagesOn (device : Device) (x : Index) (n : Numbers) (spare : ℕ) 
   pub sound : device.honest ≡ true → p.sound ≡ true
   pub present : device.honest ≡ true → SamePages p.present (kept_data x device.flash)
   pub kept : device.honest ≡ true → KeptAs p (kept_data x device.flash)
+  pub remembers : Remembers device p
 
 -- nothing can be written: more blocks are bad than there are to spare, or a number of 2^62 or more stands on the device
 abbrev pub CanOnlyBeRead : PagesState → Type 0

@@ -1,11 +1,10 @@
 // What a mount gives.
-ghost use Rattle.std.specs.Prelude.{◌≡◌, ◌↔◌, true, IfOk, IfErr};
-ghost use Rattle.posix_profile.specs.State.{Objects};
+ghost use Rattle.std.specs.Prelude.{◌≡◌, IfOk, IfErr};
 ghost use Rattle.block_state.specs.TableOf.{table};
 ghost use Rattle.page_store.specs.FlashParts.{device_in};
 ghost use Rattle.mounting.specs.Going.{IsGoing};
-ghost use Rattle.mounting.specs.Made.{CanOnlyBeRead, AreNext, HasSizes, IsMountedWith};
-ghost use Rattle.mounting.specs.Places.{ArePlaced};
+ghost use Rattle.mounting.specs.Given.{IsMade};
+ghost use Rattle.mounting.specs.Made.{Remembers};
 
 use crate::making::{is_worn, make_pages};
 use crate::tree_on::{Going, NamedTree};
@@ -40,15 +39,8 @@ pub(crate) fn make_mounted<N: Nand>(
     ensures device { IfOk result (λ mounted. (⟦<FlashPages<N> as Pages>⟧.state mounted.pages).device ≡ N.state going.named.on.device) }
     ensures same { IfOk result (λ mounted. device_in mounted.pages ≡ going.named.on.device) }
     ensures checkpoint { IfOk result (λ mounted. (⟦<FlashPages<N> as Pages>⟧.state mounted.pages).checkpoint ≡ (table going.named.on.blocks).checkpoint) }
-    ensures sizes { IfOk result (λ mounted. HasSizes (⟦<FlashPages<N> as Pages>⟧.state mounted.pages) mounted.table) }
-    ensures worn { IfOk result (λ mounted. (⟦<FlashPages<N> as Pages>⟧.state mounted.pages).worn ≡ mounted.read_only) }
-    ensures read_only { IfOk result (λ mounted. (mounted.read_only ≡ true) ↔ CanOnlyBeRead (⟦<FlashPages<N> as Pages>⟧.state mounted.pages)) }
-    ensures next { (N.state going.named.on.device).honest ≡ true
-        → IfOk result (λ mounted. AreNext (⟦<FlashPages<N> as Pages>⟧.state mounted.pages).device.flash (⟦<FlashPages<N> as Pages>⟧.state mounted.pages).next) }
-    ensures tree { (N.state going.named.on.device).honest ≡ true
-        → IfOk result (λ mounted. (objects : Objects) × IsMountedWith (⟦<FlashPages<N> as Pages>⟧.state mounted.pages) mounted.table mounted.names objects) }
-    ensures placed { (N.state going.named.on.device).honest ≡ true
-        → IfOk result (λ mounted. ArePlaced (⟦<FlashPages<N> as Pages>⟧.state mounted.pages).device (⟦<FlashPages<N> as Pages>⟧.state mounted.pages).spare mounted.pages) }
+    ensures made { IfOk result (IsMade ⟦<FlashPages<N> as Pages>⟧.state) }
+    ensures remembers { IfOk result (λ mounted. Remembers (N.state going.named.on.device) (⟦<FlashPages<N> as Pages>⟧.state mounted.pages)) }
     ensures back { IfErr result (λ device. device ≡ going.named.on.device) }
 {
     a_volume_has_sizes();

@@ -1,38 +1,51 @@
+use Rattle.std.proofs.Common.{◌≡◌, true, sym, ◌∙◌, ap}
+use Rattle.nand_model.specs.Calls.{Device}
 use Rattle.flash_tree.specs.Places.{numbers_of}
 use Rattle.volume_terms.specs.VolumeSizes as volume
 use Rattle.flash_tree.specs.Mount.{sizes_of}
 use Rattle.block_state.specs.TableOf.{table}
 use Rattle.mounting.proofs.Mountable.{is_mountable}
 use Rattle.mounting.proofs.Standing.{ordinary_shown}
-use Rattle.mounting.proofs.Giving.{ShownLaws, only_read_where, are_next, mounted_with}
+use Rattle.mounting.proofs.Giving.{ShownLaws, only_read_where, are_next, most_is, mounted_with, page_bytes_is, volume_is}
 use Rattle.mounting.proofs.Placed.{are_placed}
 use Rattle.mounting.proofs.mounted.make_mounted.Goals as goal
 
-pub returns-in-Ok-make_pages-clause-read_only : goal.returns-in-Ok-make_pages-clause-read_only
-returns-in-Ok-make_pages-clause-read_only g c =
-    let on = c.args.going.named.on in
-    only_read_where (g.N.Nand.state on.device) on.index (numbers_of on.numbers) on.spare _ c.in-Ok-make_pages.ensures.made _ c.is_worn-read_only.ensures.worn c.is_worn-read_only.ensures.left
-
-pub returns-in-Ok-make_pages-clause-next : goal.returns-in-Ok-make_pages-clause-next
-returns-in-Ok-make_pages-clause-next g c = λ honest.
-    let on = c.args.going.named.on in
-    are_next (g.N.Nand.state on.device) on.index (numbers_of on.numbers) on.spare _ c.in-Ok-make_pages.ensures.made (c.requires.named.tree.tables.tables.numbers honest)
-
-pub returns-in-Ok-make_pages-clause-tree : goal.returns-in-Ok-make_pages-clause-tree
-returns-in-Ok-make_pages-clause-tree g c = λ honest.
+pub returns-in-Ok-make_pages-clause-made : goal.returns-in-Ok-make_pages-clause-made
+returns-in-Ok-make_pages-clause-made g c =
     let on = c.args.going.named.on in
     let d = g.N.Nand.state on.device in
-    let told = c.requires.tree honest in
+    let n = numbers_of on.numbers in
+    let e = c.in-Ok-make_pages.ensures in
+    let before = ap (λ (k : Device). k.honest) (sym e.made.device_is) in
     let laws : ShownLaws = record {
       sizes = λ k m spare volume. c.a_volume_has_sizes.ensures k.geometry m spare volume;
       forest = c.the_footprint_holds_the_tree.ensures.forest;
       settled = c.the_footprint_holds_the_tree.ensures.settled;
       names = c.the_names_of_a_tree_are_those_of_its_objects.ensures;
-    } in (
-      told.0,
-      mounted_with d on.index (numbers_of on.numbers) on.spare _ c.in-Ok-make_pages.ensures.made laws on.tree told.0 honest told.1 told.2 c.in-Ok.table (volume.sizes_of c.args.going.sizes)
-          c.requires.sizes c.in-Ok.ensures.tells told.3 c.args.going.named.names (c.requires.named.names honest) (c.requires.named.tree.tables.tables.newest honest) c.requires.named.tree.tables.tables.low,
-    )
+    } in
+    record {
+      sizes = record {
+        page_bytes = page_bytes_is d on.index n on.spare _ e.made;
+        most = most_is d on.index n on.spare _ e.made;
+        volume = c.in-Ok.ensures.size ∙ c.requires.sizes ∙ sym (volume_is d on.index n on.spare _ e.made);
+      };
+      worn = e.worn;
+      read_only = only_read_where d on.index n on.spare _ e.made _ c.is_worn-read_only.ensures.worn c.is_worn-read_only.ensures.left;
+      next = λ honest. are_next d on.index n on.spare _ e.made (c.requires.named.tree.tables.tables.numbers (before ∙ honest));
+      tree = λ is.
+          let honest = before ∙ is in
+          let told = c.requires.tree honest in (
+            told.0,
+            mounted_with d on.index n on.spare _ e.made laws on.tree told.0 honest told.1 told.2 c.in-Ok.table (volume.sizes_of c.args.going.sizes)
+                c.requires.sizes c.in-Ok.ensures.tells told.3 c.args.going.named.names (c.requires.named.names honest) (c.requires.named.tree.tables.tables.newest honest) c.requires.named.tree.tables.tables.low,
+          );
+      placed = λ is.
+          let told = c.requires.tree (before ∙ is) in
+          are_placed d _ on.index on.spare _ c.in-Ok-make_pages.pages told.0 e.made.device_is e.made.spare_is e.tables told.1 told.2.places;
+    }
+
+pub returns-in-Ok-make_pages-clause-remembers : goal.returns-in-Ok-make_pages-clause-remembers
+returns-in-Ok-make_pages-clause-remembers g c = c.in-Ok-make_pages.ensures.made.remembers
 
 pub make_pages-requires-clause-ordinary : goal.make_pages-requires-clause-ordinary
 make_pages-requires-clause-ordinary g c = λ honest.
@@ -42,13 +55,6 @@ make_pages-requires-clause-ordinary g c = λ honest.
     let shown = told.2 in
     ordinary_shown (sizes_of d.geometry on.spare) (sizes_of d.geometry on.spare) d.flash on.index told.0
     (c.the_footprint_holds_the_tree.ensures.forest _ shown.on.pages told.0 shown.shows) shown.holds (c.requires.named.tree.tables.tables.newest honest)
-
-pub returns-in-Ok-make_pages-clause-placed : goal.returns-in-Ok-make_pages-clause-placed
-returns-in-Ok-make_pages-clause-placed g c = λ honest.
-    let on = c.args.going.named.on in
-    let told = c.requires.tree honest in
-    let made = c.in-Ok-make_pages.ensures.made in
-    are_placed (g.N.Nand.state on.device) _ on.index on.spare _ c.in-Ok-make_pages.pages told.0 made.device_is made.spare_is c.in-Ok-make_pages.ensures.tables told.1 told.2.places
 
 pub make_pages-requires-clause-can : goal.make_pages-requires-clause-can
 make_pages-requires-clause-can g c = λ written.

@@ -5,6 +5,7 @@ use Rattle.nand_model.specs.laws.Changes.{only_reads_on}
 use Rattle.flash_tree.specs.Checkpoints.{IsChecked}
 use Rattle.nand_model.specs.TrustedParts.{inner_of}
 use Rattle.mounting.specs.Reads.{ReadsAtMost}
+use Rattle.mounting.proofs.Mountable.{remembers_since}
 use Rattle.mounting.proofs.Noting.{since_same}
 use Rattle.mounting.proofs.ReadsTree.{reads_seen, scans_seen}
 use Rattle.mounting.proofs.opening.mount.Goals as goal
@@ -15,12 +16,12 @@ returns-in-Ok-clause-given g c =
     let m = c.in-Ok.ensures in
     let e = c.in_ok-going.ensures in
     let same = m.device in
-    let honest = ap (λ (d : Device). d.honest) same in
     record {
       since = since_same a _ _ _ _ (ap (λ d. g.N.Nand.state (inner_of d)) m.same) same e.read;
-      made = record { sizes = m.sizes; worn = m.worn; read_only = m.read_only; next = λ is. m.next (sym honest ∙ is); tree = λ is. m.tree (sym honest ∙ is); placed = λ is. m.placed (sym honest ∙ is) };
+      made = m.made;
       checked = λ is. subst (IsChecked a.geometry a.flash) (sym m.checkpoint) (e.checked is);
       few = subst (ReadsAtMost a) (sym same) (record { by_checkpoint = reads_seen a _ _ e.read e.few; by_scan = scans_seen a _ _ e.read e.scans });
+      remembers = λ honest. remembers_since a _ _ _ e.read honest m.remembers;
     }
 
 pub returns-in-Err-clause-back : goal.returns-in-Err-clause-back

@@ -17,7 +17,7 @@ use Rattle.nand_model.specs.Calls.{Device}
 use Rattle.nand_model.specs.declared.nand.Nand.{Ghosts}
 use Rattle.page_store.specs.declared.flash_pages.FlashPages.{FlashPages}
 use Rattle.mounting.specs.Given.{IsGiven, IsMade}
-use Rattle.mounting.specs.Made.{CanOnlyBeRead, AreNext, IsMountedWith}
+use Rattle.mounting.specs.Made.{CanOnlyBeRead, AreNext, IsMountedWith, Remembers}
 use Rattle.mounting.specs.declared.mounted.Mounted.{Mounted}
 use Rattle.mounting.specs.Named.{IsTrustedSince}
 use Rattle.mounting.specs.Reads.{ReadsAtMost}
@@ -51,8 +51,9 @@ module _ {P : Type 0} (state : P → PagesState) (device now : Device) (p : Page
   since_there = subst (λ (q : PagesState). IsTrustedSince device now q.device) (sym there) since
 
   pub mounted_there : is_stopped v ≡ false → is_read_only v ≡ r → (r ≡ true) ↔ CanOnlyBeRead p → (p.device.honest ≡ true → AreNext p.device.flash p.next)
-      → (HasTrueFlash device → IsChecked device.geometry device.flash p.checkpoint) → ReadsAtMost device p.device → (p.device.honest ≡ true → (objects : Objects) × StandsForTree state v objects) → IsMounted state device v
-  mounted_there goes is read_only next checked few tree = record {
+      → (HasTrueFlash device → IsChecked device.geometry device.flash p.checkpoint) → ReadsAtMost device p.device → (device.honest ≡ true → Remembers device p)
+      → (p.device.honest ≡ true → (objects : Objects) × StandsForTree state v objects) → IsMounted state device v
+  mounted_there goes is read_only next checked few remembers tree = record {
     now = now;
     since = since_there;
     goes_on = goes;
@@ -61,6 +62,7 @@ module _ {P : Type 0} (state : P → PagesState) (device now : Device) (p : Page
     tree = λ honest. tree (sym (ap (λ (q : PagesState). q.device.honest) there) ∙ honest);
     checked = λ truth. subst (λ (q : PagesState). IsChecked device.geometry device.flash q.checkpoint) (sym there) (checked truth);
     few = subst (λ (q : PagesState). ReadsAtMost device q.device) (sym there) few;
+    remembers = λ honest. subst (Remembers device) (sym there) (remembers honest);
   }
 
 -- a volume over the objects of what a mount gives is mounted
@@ -75,7 +77,7 @@ module _ {M : Type 0} {nand : Ghosts M} (state : FlashPages M nand → PagesStat
       (subst (λ (t : ObjectTable). IsMountedWith (state m.pages) t (parts.names_of o) tree) (sym in_table) (subst (λ (n : NameIndex). IsMountedWith (state m.pages) m.table n tree) (sym in_names) is))
 
   pub mounted_over : is_stopped v ≡ false → is_read_only v ≡ m.read_only → ((tree : Objects) → AreMounted state o m.read_only tree → StandsForTree state v tree) → IsMounted state device v
-  mounted_over goes is stands = mounted_there state device now (state m.pages) v m.read_only (there ∙ ap state in_pages) given.since goes is made.read_only made.next given.checked given.few
+  mounted_over goes is stands = mounted_there state device now (state m.pages) v m.read_only (there ∙ ap state in_pages) given.since goes is made.read_only made.next given.checked given.few given.remembers
       (λ honest.
       let told = made.tree honest in
       let are : AreMounted state o m.read_only told.0 = record {

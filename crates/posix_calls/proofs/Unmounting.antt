@@ -63,6 +63,7 @@ sealed_shown z p q tree ends sound kept shown = record {
   sizes = ap (λ (g : Geometry). sizes_of g q.spare) ends.device.geometry ∙ ap (sizes_of p.device.geometry) ends.spare ∙ shown.sizes;
   carried = kept.carried;
   kept = kept.kept;
+  found = kept.found;
   holds = same_objects z shown.pages p.kept shown.objects shown.holds (shown.kept sound);
   can = shown.can;
   settles = shown.settles;

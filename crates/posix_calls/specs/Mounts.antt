@@ -5,7 +5,7 @@ use Rattle.flash_tree.specs.Checkpoints.{IsChecked}
 use Rattle.page_store.specs.declared.flash_pages.FlashPages.{FlashPages}
 use Rattle.flash_tree.specs.Mount.{Answers, IsTreeOf}
 use Rattle.lives.specs.Lives.{at_mount}
-use Rattle.mounting.specs.Made.{CanOnlyBeRead, AreNext, IsMountedWith}
+use Rattle.mounting.specs.Made.{CanOnlyBeRead, AreNext, IsMountedWith, Remembers}
 use Rattle.mounting.specs.Named.{IsTrustedSince}
 use Rattle.mounting.specs.Places.{ArePlaced}
 use Rattle.mounting.specs.Reads.{ReadsAtMost}
@@ -41,7 +41,7 @@ LieAsScanned state v = (state (pages_of v)).device.honest ≡ true → ArePlaced
 -- honest, the next numbers are above those on its flash, and the volume stands for the tree that it shows; and the block that is noted
 -- is the only one with a whole checkpoint, which is right. Where the flash was true and sound, so many pages were read: with a whole
 -- checkpoint at most a page of each block, those of the checkpoint and those that are looked up to see the tree; and without one at most
--- a page of each block, the pages of one, all pages of the good blocks and those that are looked up.
+-- a page of each block, the pages of one, all pages of the good blocks and those that are looked up. Its pages remember the flash of an honest device.
 pub record IsMounted {P : Type 0} (state : P → PagesState) (device : Device) (v : PageVolume P) : Type 0 where
   pub now : Device
   pub since : IsTrustedSince device now (state (pages_of v)).device
@@ -51,3 +51,4 @@ pub record IsMounted {P : Type 0} (state : P → PagesState) (device : Device) (
   pub tree : (state (pages_of v)).device.honest ≡ true → (objects : Objects) × StandsForTree state v objects
   pub checked : HasTrueFlash device → IsChecked device.geometry device.flash (state (pages_of v)).checkpoint
   pub few : ReadsAtMost device (state (pages_of v)).device
+  pub remembers : device.honest ≡ true → Remembers device (state (pages_of v))

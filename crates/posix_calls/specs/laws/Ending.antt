@@ -4,6 +4,7 @@ use Rattle.nand_model.specs.laws.Calls.{lasts_on}
 use Rattle.page_store.specs.Sealing.{EndsOn, StaysRight}
 use Rattle.pages.specs.State.{PagesState}
 use Rattle.pages.specs.Stores.{GoesOn}
+use Rattle.pages.specs.laws.Mountable.{mountable_then}
 use Rattle.paged_objects.specs.laws.Going.{numbers_on}
 
 -- an end after calls, or after an end
@@ -21,6 +22,7 @@ ends_after a b c x y = record {
   marks = omega (arith, x.marks, y.marks);
   limits = λ honest left. y.limits (x.device.honest ∙ honest) (x.limits honest left);
   summaries = λ honest right. y.summaries (x.device.honest ∙ honest) (x.summaries honest right);
+  mountable = mountable_then a b c x.device x.worn x.mountable y.mountable;
 }
 
 -- checkpoints stay right by calls that go on

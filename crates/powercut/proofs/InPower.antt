@@ -3,11 +3,13 @@ use Rattle.std.specs.Prelude.{◌≡◌, ◌↔◌, ◌⊎◌, ◌<◌, ◌≤�
 use Rattle.std.proofs.Common.{refl, sym, ◌∙◌, ap, subst, inl, inr, arith}
 use Rattle.std.proofs.lemmas.Bool.{cases_Bool, true≢false}
 use Rattle.std.proofs.lemmas.Option.{slice_get_within}
+use mathlib.Core.Logic.{∥∥₁_elim}
 use Rattle.volume_terms.specs.Sizes.{Sizes}
 use Rattle.nand_model.specs.Flash.{Flash}
 use Rattle.nand_model.specs.Calls.{Device, Lasts}
 use Rattle.nand_model.specs.Changes.{OnlyReads}
 use Rattle.nand_model.specs.laws.Calls.{lasts_on}
+use Rattle.nand_model.specs.laws.Changes.{only_reads_on}
 use Rattle.page_store.specs.Checked.{HasTrueFlash}
 use Rattle.nand_model.specs.declared.geometry.Geometry.{Geometry}
 use Rattle.posix_profile.specs.Losses.{Covers, settled_after}
@@ -19,27 +21,31 @@ use Rattle.posix_profile.specs.declared.reply.Errno.TheVariants as errors
 use Rattle.posix_profile.specs.declared.reply.Reply.{Reply}
 use Rattle.posix_profile.specs.declared.reply.Reply.TheVariants as replies
 use Rattle.flash_tree.specs.Checkpoints.{IsChecked}
+use Rattle.flash_tree.specs.MountableFlash.{BeganMountable, IsMountableFlash, IsTreeFindable, MayBeMountable}
 use Rattle.flash_tree.specs.Newest.{Numbers, AreGreatest}
 use Rattle.flash_tree.specs.Numbering.{AreBelow}
 use Rattle.flash_tree.specs.Mount.{Answer, Answers, IsTreeOf, sizes_of, bad_blocks}
 use Rattle.flash_tree.specs.Sound.{IsSoundFlash}
+use Rattle.flash_tree.specs.Summaries.{AreSummariesRight}
 use Rattle.flash_tree.specs.laws.Place.{same_flash}
 use Rattle.lives.specs.Lives.{Mounted, Gone, SessionRecord, at_mount, IsSessionFrom, IsLife}
 use Rattle.lives.specs.laws.Sessions.{loss_keeps}
 use Rattle.pages.specs.State.{PagesState, NextNumbers}
-use Rattle.pages.specs.Stores.{bad_on, HasFailed}
+use Rattle.pages.specs.Stores.{BeganMountably, IsOrdered, bad_on, HasFailed}
+use Rattle.pages.specs.laws.Mountable.{begun_on}
 use Rattle.nand_model.specs.Trusting.{trusted_as}
 use Rattle.posix_calls.specs.laws.Trusting.{read_since, left_as_seen, lasts_seen}
 use Rattle.page_store.specs.ReadOnly.{next_after}
-use Rattle.mounting.specs.Made.{CanOnlyBeRead, AreNext}
+use Rattle.mounting.specs.Made.{CanOnlyBeRead, AreNext, Remembers}
 use Rattle.mounting.specs.Named.{IsTrustedSince}
 use Rattle.page_store.specs.Sealing.{EndsOn}
 use Rattle.paged_objects.specs.Ending.{HasEndedAt}
 use Rattle.paged_objects.specs.Standing.{volume_of, Shown}
+use Rattle.paged_objects.specs.laws.Findable.{tree_findable}
 use Rattle.paged_objects.specs.laws.OnFlash.{shown_sound}
 use Rattle.powercut.specs.Commands.{Meaning, LeavesFrom, IsUsed}
 use Rattle.powercut.specs.Limits.{StaysWithin}
-use Rattle.powercut.specs.Living.{HasSame, AreWithin, IsTrueOn, TrulyLived, HasLived}
+use Rattle.powercut.specs.Living.{HasSame, AreWithin, IsMountableOn, IsTrueOn, TrulyLived, HasLived}
 use Rattle.powercut.specs.Sessions.{IsServedFrom, IsUsedUp}
 use Rattle.powercut.specs.laws.SameFlash.{same_back, greatest_same, sound_same, bad_same, answers_same}
 use Rattle.powercut.proofs.Living.{greatest_within, none_marked, marked_on}
@@ -238,6 +244,54 @@ module _ {V : Type 0} (m : Meaning V) (v : V) (d e : Device) (commands : List St
       subst (λ (g : Geometry). IsChecked g p.device.flash p.checkpoint) (sym reads.lasts.geometry)
       (subst (λ (f : Flash). IsChecked d.geometry f p.checkpoint) (sym (same_flash d p.device reads honest)) checked)
 
+  checked_now : IsChecked q.device.geometry q.device.flash q.checkpoint
+  checked_now = used.right goes (volume_of p) (at_mount objects) stands.volume p_honest checked_there
+
+  -- some tree is shown in the end
+  shown_left : (after : Objects) × Shown (volume_of p) q after
+  shown_left = elim (used.leaves goes (volume_of p) (at_mount objects) objects stands.volume stands.shown).losses [
+    | inl some ↦ (settled_after (volume_of p) (m.read_only v) (at_mount objects) commands told some.0, some.3)
+    | inr none ↦ (objects, none.1)
+  ]
+
+  module _ (remembers : Remembers d p) (may : IsMountableOn d) where
+    -- a device that is only read has the same flash
+    read_mountable : OnlyReads d q.device → IsMountableOn q.device
+    read_mountable all =
+        subst (λ (g : Geometry). MayBeMountable g q.device.flash) (sym all.lasts.geometry)
+        (subst (λ (f : Flash). MayBeMountable d.geometry f) (sym (same_flash d q.device all honest)) may)
+
+    began : p.worn ≡ false → BeganMountably p
+    began written = (
+      p_honest,
+      subst (λ (f : Option Flash). BeganMountable p.device.geometry f) (sym (remembers.first written)) (subst (λ (g : Geometry). MayBeMountable g d.flash) (sym reads.lasts.geometry) may),
+    )
+
+    right_now : AreSummariesRight d.geometry d.flash → AreSummariesRight q.device.geometry q.device.flash
+    right_now right =
+        used.ends_on.summaries p_honest (subst (λ (g : Geometry). AreSummariesRight g p.device.flash) (sym reads.lasts.geometry)
+        (subst (λ (f : Flash). AreSummariesRight d.geometry f) (sym (same_flash d p.device reads honest)) right))
+
+    -- of pages that can be written each part of it stays
+    written_mountable : p.worn ≡ false → IsMountableOn q.device
+    written_mountable written =
+        let begun = began written in
+        let since = begun_on p q used.ends_on.device used.ends_on.mountable.first begun in
+        ∥∥₁_elim (remembers.ordered written begun) (λ a b. squash₁ a b) (λ (first : IsOrdered p).
+        ∥∥₁_elim (used.ends_on.mountable.ordered begun first) (λ a b. squash₁ a b) (λ (last : IsOrdered q).
+        ∥∥₁_elim (tree_findable (volume_of p) q shown_left.0 shown_left.1 since) (λ a b. squash₁ a b) (λ (found : IsTreeFindable q.device.geometry q.device.flash).
+        ∥∥₁_elim may (λ a b. squash₁ a b) (λ (was : IsMountableFlash d.geometry d.flash). ∣ record {
+          summarized = record { right = right_now was.summarized.right; first = last.first };
+          found = found;
+          checkpoints = λ c whole. last.noted c.block (checked_now.only c whole);
+        } ∣₁))))
+
+    pub mountable_there : IsMountableOn q.device
+    mountable_there = elim (cases_Bool p.worn) [
+      | inl worn ↦ read_mountable (only_reads_on d p.device q.device reads (used.ends_on.mountable.reads worn))
+      | inr written ↦ written_mountable written
+    ]
+
   failed_gone : HasFailed q.device → q.device.gone ≡ true
   failed_gone (inl gone) = gone
   failed_gone (inr dishonest) = absurd (true≢false (sym (lasts.honest ∙ honest) ∙ dishonest))
@@ -301,7 +355,7 @@ module _ {V : Type 0} (m : Meaning V) (v : V) (d e : Device) (commands : List St
 
   pub truly_there : TrulyLived d q.device (mounted_record commands told unmounted q.device.gone ∷ [])
   truly_there = record {
-    truth = (used.right goes (volume_of p) (at_mount objects) stands.volume p_honest checked_there).right;
+    truth = checked_now.right;
     numbers = numbers;
     known = inr (n, at_first);
     life = life;
@@ -326,7 +380,7 @@ module _ {V : Type 0} (m : Meaning V) (v : V) (d e now : Device) (commands : Lis
       (goes : m.stopped v ≡ false) (read_only : (m.read_only v ≡ true) ↔ CanOnlyBeRead (m.pages v))
       (next : (m.pages v).device.honest ≡ true → AreNext (m.pages v).device.flash (m.pages v).next)
       (tree : (m.pages v).device.honest ≡ true → (objects : Objects) × Stands m v objects)
-      (checked : HasTrueFlash d → IsChecked d.geometry d.flash (m.pages v).checkpoint) where
+      (checked : HasTrueFlash d → IsChecked d.geometry d.flash (m.pages v).checkpoint) (remembers : Remembers d (m.pages v)) where
     module _ (truth : IsTrueOn d) where
       reads : OnlyReads d (m.pages v).device
       reads = read_since d now (m.pages v).device since (honest, truth)
@@ -342,6 +396,13 @@ module _ {V : Type 0} (m : Meaning V) (v : V) (d e now : Device) (commands : Lis
           let there = tree here in
           subst (λ (x : Device). TrulyLived d x (mounted_record commands told unmounted x.gone ∷ [])) left
           (truly_there m v d e commands told unmounted honest one reads goes read_only (next here) there.0 there.1 (checked (honest, truth)) used)
+
+      -- where the mount might go by summaries, the next one may
+      mountable : IsMountableOn d → IsMountableOn e
+      mountable is =
+          let there = tree here in
+          subst (λ (x : Device). IsMountableOn x) left
+          (mountable_there m v d e commands told unmounted honest one reads goes read_only (next here) there.0 there.1 (checked (honest, truth)) used remembers is)
 
     -- of a true flash
     pub used_right : IsTrueOn d → IsServedFrom d e commands told unmounted
@@ -360,4 +421,5 @@ module _ {V : Type 0} (m : Meaning V) (v : V) (d e now : Device) (commands : Lis
           marks = λ k is. seen.marks k (ap (λ (bad : ℕ → Bool). bad k) reads.bad ∙ is);
           answered = marked_on d now e (none_marked d now reads.lasts.geometry reads.failures reads.bad) marked_seen;
           truly = truly;
+          mountable = mountable;
         }

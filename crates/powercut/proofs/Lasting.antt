@@ -205,6 +205,7 @@ lived_named a b x y sessions lived = record {
   changes = lived.changes;
   marks = lived.marks;
   answered = lived.answered;
+  mountable = lived.mountable;
   truly = λ truth. let truly = lived.truly truth in record {
     truth = truly.truth;
     numbers = truly.numbers;

@@ -1,1 +1,2 @@
 pub mod SameFlash
+pub mod SameSummaries

@@ -28,10 +28,10 @@ same_back f g same = record { page = sym same.page; bad = sym same.bad }
 pub same_on : (f g h : Flash) → HasSame f g → HasSame g h → HasSame f h
 same_on f g h first then = record { page = then.page ∙ first.page; bad = then.bad ∙ first.bad }
 
-tag_same : (f g : Flash) → HasSame f g → (b p : ℕ) (t : Tag) → HasTag f b p t → HasTag g b p t
+pub tag_same : (f g : Flash) → HasSame f g → (b p : ℕ) (t : Tag) → HasTag f b p t → HasTag g b p t
 tag_same f g same b p t has = tag_stays f g b p t (ap (λ (page : ℕ → ℕ → _). page b p) same.page) has
 
-group_same : (f g : Flash) → HasSame f g → (x : Group) → IsGroup f x → IsGroup g x
+pub group_same : (f g : Flash) → HasSame f g → (x : Group) → IsGroup f x → IsGroup g x
 group_same f g same x is = record {
   good = ap (λ (bad : ℕ → Bool). bad x.block) same.bad ∙ is.good;
   some = is.some;
@@ -51,13 +51,13 @@ groups_same f g same x = (group_same g f (same_back f g same) x, group_same f g 
 grows_same : (f g : Flash) → HasSame f g → Grows f g
 grows_same f g same b p not = ap (λ (page : ℕ → ℕ → _). page b p) same.page
 
-spot_same : (f g : Flash) → HasSame f g → (o c : ℕ) (s : Spot) → IsNewest f o c s → IsNewest g o c s
+pub spot_same : (f g : Flash) → HasSame f g → (o c : ℕ) (s : Spot) → IsNewest f o c s → IsNewest g o c s
 spot_same f g same o c s newest = (same_groups_keep f g (groups_same f g same) (grows_same f g same) o c s newest).newest
 
-newest_same : (f g : Flash) → HasSame f g → (o c : ℕ) (bytes : List ℕ) → HasNewest f o c bytes → HasNewest g o c bytes
+pub newest_same : (f g : Flash) → HasSame f g → (o c : ℕ) (bytes : List ℕ) → HasNewest f o c bytes → HasNewest g o c bytes
 newest_same f g same o c bytes has = has_newest_stays f g o c bytes has (same_groups_keep f g (groups_same f g same) (grows_same f g same) o c has.spot has.newest)
 
-foot_same : (z : Sizes) (f g : Flash) → HasSame f g → (objects : Objects) (o c : ℕ) → InFootprint z (HasNewest f) objects o c → InFootprint z (HasNewest g) objects o c
+pub foot_same : (z : Sizes) (f g : Flash) → HasSame f g → (objects : Objects) (o c : ℕ) → InFootprint z (HasNewest f) objects o c → InFootprint z (HasNewest g) objects o c
 foot_same z f g same objects o c foot = record {
   object = foot.object;
   there = foot.there;
@@ -90,7 +90,7 @@ room_same g a b same spare objects room = record {
       };
 }
 
-volume_same : (g : Geometry) (a b : Flash) → HasSame a b → (spare : ℕ) → IsVolume g (HasNewest a) spare → IsVolume g (HasNewest b) spare
+pub volume_same : (g : Geometry) (a b : Flash) → HasSame a b → (spare : ℕ) → IsVolume g (HasNewest a) spare → IsVolume g (HasNewest b) spare
 volume_same g a b same spare volume = record {
   fields = volume.fields;
   has = (newest_same a b same _ 0 _ volume.has.0, volume.has.1);
@@ -130,7 +130,7 @@ sound_same g a b same spare objects sound = record {
 }
 
 -- and so whether it is true
-whole_same : (g : Geometry) (a b : Flash) → HasSame a b → (c : Checkpoint) → IsWhole g a c → IsWhole g b c
+pub whole_same : (g : Geometry) (a b : Flash) → HasSame a b → (c : Checkpoint) → IsWhole g a c → IsWhole g b c
 whole_same g a b same c whole = record {
   good = ap (λ (bad : ℕ → Bool). bad c.block) same.bad ∙ whole.good;
   size = whole.size;

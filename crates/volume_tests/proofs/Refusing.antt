@@ -1,13 +1,16 @@
 -- What a call leaves of pages that refuse memory.
 use Rattle.std.specs.Prelude.{◌≡◌, ◌≤◌, ◌+◌, ℕ, true, false, Result, Ok, Err, IfErr}
 use Rattle.std.proofs.Common.{refl, arith}
+use mathlib.Core.Logic.{∥∥₁_elim}
 use Rattle.nand_model.specs.Flash.{Flash}
 use Rattle.nand_model.specs.laws.Calls.{lasts_here}
+use Rattle.nand_model.specs.laws.Changes.{only_reads_here}
 use Rattle.flash_tree.specs.laws.Truth.{true_same}
 use Rattle.flash_tree.specs.Numbering.{AreBelow}
 use Rattle.pages.specs.State.{PagesState}
 use Rattle.pages.specs.Refreshing.{Refreshes}
-use Rattle.pages.specs.Stores.{GoesOn}
+use Rattle.pages.specs.Stores.{GoesOn, IsOrdered}
+use Rattle.pages.specs.laws.Mountable.{mountable_read}
 use Rattle.volume_terms.specs.declared.fault.StoreFault.{StoreFault}
 use Rattle.volume_tests.specs.Refusing.{refusing}
 
@@ -26,6 +29,12 @@ goes_on a b p q told x = record {
   marks = x.marks;
   limits = x.limits;
   truth = x.truth;
+  mountable = record {
+    first = x.mountable.first;
+    ordered = λ begun is.
+        ∥∥₁_elim (x.mountable.ordered begun (record { first = is.first; noted = is.noted })) (λ m n. squash₁ m n) (λ (r : IsOrdered q). ∣ record { first = r.first; noted = r.noted } ∣₁);
+    reads = x.mountable.reads;
+  };
 }
 
 -- what is below some numbers is below greater ones
@@ -54,6 +63,7 @@ goes_nowhere a b p told = record {
   marks = omega arith;
   limits = λ honest left. left;
   truth = true_same p.device p.checkpoint p.checkpoint refl;
+  mountable = mountable_read (refusing a p) (refusing b p) (only_reads_here p.device) refl refl;
 }
 
 -- a refresh

@@ -1,5 +1,5 @@
 -- Whether a mount may go by the summaries of a flash depends on pages and marks alone.
-use Rattle.std.specs.Prelude.{◌≡◌, ℕ, Bool, false}
+use Rattle.std.specs.Prelude.{◌≡◌, ◌+◌, ℕ, Bool, false}
 use Rattle.std.proofs.Common.{sym, ◌∙◌, ap}
 use mathlib.Core.Logic.{∥∥₁_elim}
 use Rattle.nand_model.specs.Flash.{Flash}

@@ -12,7 +12,7 @@ use Rattle.page_tags.specs.declared.summary_head.SummaryHead.{SummaryHead}
 use Rattle.flash_tree.specs.Checkpoints.{entry_of}
 use Rattle.flash_tree.specs.ErasedBlocks.{OnlyFirstHasTags}
 use Rattle.flash_tree.specs.Groups.{HasTag, Group, AllThere}
-use Rattle.flash_tree.specs.Newest.{Spot, Holds, IsAfter, IsNewest}
+use Rattle.flash_tree.specs.Newest.{Spot, IsAfter, IsNewest}
 use Rattle.flash_tree.specs.Slots.{check_object}
 
 -- the chunk of a summary's first page, which is of the object of checkpoints; a checkpoint's chunks are far below
@@ -78,13 +78,11 @@ abbrev pub IsListed : Summary → Spot → Type 0
 IsListed s p = Contains s.entries (entry_of p) × (p.tag.seq ≡ s.head.seq)
 
 -- What holds of each whole summary of a flash, wherever power was lost: its block was allocated after the one that it names, and no
--- version that it lists is above its number; and where it matches that block, the numbers of all tags there are below its own, and each
--- valid page there is listed, but those of checkpoints and summaries.
+-- version that it lists is above its number; and where it matches that block, the numbers of all tags there are below its own.
 pub record AreSummariesRight (g : Geometry) (flash : Flash) : Type 0 where
   pub older : (s : Summary) → IsWholeSummary g flash s → s.head.seq < s.seq
   pub versions : (s : Summary) (e : CheckEntry) → IsWholeSummary g flash s → Contains s.entries e → e.version < s.number
   pub below : (s : Summary) (l : ℕ) (t : Tag) → IsWholeSummary g flash s → MatchesBlock flash s → HasTag flash s.head.block l t → (t.group < s.number) × (t.seq < s.seq)
-  pub lists : (s : Summary) (o c : ℕ) (p : Spot) → IsWholeSummary g flash s → MatchesBlock flash s → Holds flash o c p → p.block ≡ s.head.block → o ≢ check_object → IsListed s p
 
 -- A mount may go by the summaries of the flash: each is right, and of the blocks that begin with an erased page the first alone has tags.
 pub record IsSummarized (g : Geometry) (flash : Flash) : Type 0 where
@@ -95,11 +93,12 @@ pub record IsSummarized (g : Geometry) (flash : Flash) : Type 0 where
 abbrev pub claimed : Summary → CheckEntry → Spot
 claimed s e = record { block = e.block; page = e.page; tag = record { index = 0; count = 0; object = e.object; chunk = e.chunk; version = e.version; group = 0; seq = s.head.seq } }
 
--- Each of these keys has a newest page, which a mount by summaries finds: no entry of a summary that matches its block comes after it,
--- and no erased page lies before it in its block.
+-- Each of these keys has a newest page, which a mount by summaries finds: a summary that matches its block lists it, no entry of such a
+-- summary comes after it, and no erased page lies before it in its block.
 pub record AreFindable (g : Geometry) (flash : Flash) (keys : ℕ → ℕ → Type 0) : Type 0 where
   pub ordinary : (o c : ℕ) → keys o c → o ≢ check_object
   pub there : (o c : ℕ) → keys o c → (p : Spot) × IsNewest flash o c p
+  pub listed : (s : Summary) (o c : ℕ) (p : Spot) → IsWholeSummary g flash s → MatchesBlock flash s → keys o c → IsNewest flash o c p → p.block ≡ s.head.block → IsListed s p
   pub latest : (s : Summary) (e : CheckEntry) (p : Spot) → IsWholeSummary g flash s → MatchesBlock flash s → Contains s.entries e
       → keys e.object e.chunk → IsNewest flash e.object e.chunk p → IsAfter (claimed s e) p → ⊥
   pub in_order : (o c l : ℕ) (p : Spot) → keys o c → IsNewest flash o c p → l < p.page → flash.page p.block l ≢ Erased

@@ -32,13 +32,15 @@ abbrev pub AddsNoSummary : Flash → Flash → Type 0
 AddsNoSummary old new = SameGroups old new
     ⊎ ((g : Group) × AddsGroup g old new × ((t : Tag) → HasTag new g.block g.start t → BeginsSummary t → ⊥))
 
--- The summary lists a block that was allocated before its own: each entry is of a valid page there, and each valid page there has one,
--- but those of checkpoints and summaries.
+-- The summary lists pages of a block that was allocated before its own: each entry is of a valid page there.
 pub record ListsBlock (flash : Flash) (s : Summary) : Type 0 where
   pub older : s.head.seq < s.seq
   pub seqs : (l : ℕ) (t : Tag) → HasTag flash s.head.block l t → t.seq ≡ s.head.seq
   pub only : (e : CheckEntry) → Contains s.entries e → (p : Spot) × Holds flash e.object e.chunk p × (p.block ≡ s.head.block) × (e ≡ entry_of p)
-  pub all : (o c : ℕ) (p : Spot) → Holds flash o c p → p.block ≡ s.head.block → o ≢ check_object → Contains s.entries (entry_of p)
+
+-- the summary has an entry of the newest page of the key, if that lies in the block that it lists
+abbrev pub ListsKey : Flash → Summary → ℕ → ℕ → Type 0
+ListsKey flash s o c = (p : Spot) → IsNewest flash o c p → p.block ≡ s.head.block → Contains s.entries (entry_of p)
 
 -- the group that is added, if one is, is that of a whole summary, which lists a block as it was
 pub record AddsSummary (g : Geometry) (old new : Flash) (s : Summary) : Type 0 where

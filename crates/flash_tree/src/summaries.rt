@@ -12,7 +12,7 @@ ghost use Rattle.flash_tree.specs.Newest.{Spot, spot_in, IsNewest};
 ghost use Rattle.flash_tree.specs.Fading.{Fades};
 ghost use Rattle.flash_tree.specs.Summaries.{Summary, AreSummariesRight, IsSummarized};
 ghost use Rattle.flash_tree.specs.ErasedBlocks.{BeginsErased, OnlyFirstHasTags, GoesFirst};
-ghost use Rattle.flash_tree.specs.Summarizing.{HasNoTags, WritesIn, AddsNoSummary, AddsSummary, AddsNamed, NamesOnce, NamesNot, IsFindable, Renews};
+ghost use Rattle.flash_tree.specs.Summarizing.{HasNoTags, WritesIn, AddsNoSummary, AddsSummary, ListsKey, AddsNamed, NamesOnce, NamesNot, IsFindable, Renews};
 
 /// A flash whose good blocks have no tags is summarized, and it is so over reads and power-ups, which leave its pages and marks.
 pub fn a_flash_without_tags_is_summarized()
@@ -66,10 +66,10 @@ pub fn the_same_groups_leave_keys_findable()
     ensures same { (g : Geometry) (old new : Flash) (o c : ℕ) → new.bad ≡ old.bad → new.page ≡ old.page → IsFindable g old o c → IsFindable g new o c }
 {}
 
-/// The group of a summary leaves each key findable.
+/// The group of a summary leaves each key findable whose newest page it lists, if that lies in the block that it lists.
 pub fn a_summary_leaves_keys_findable()
     ensures { (g : Geometry) (old new : Flash) (s : Summary) (o c : ℕ) → AddsSummary g old new s → AreSummariesRight g old
-        → IsFindable g old o c → IsFindable g new o c }
+        → ListsKey old s o c → IsFindable g old o c → IsFindable g new o c }
 {}
 
 /// After a group that is no summary a key is findable that it names once, by a page that renews it; and so is each that was findable

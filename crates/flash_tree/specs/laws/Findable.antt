@@ -12,18 +12,19 @@ use Rattle.flash_tree.specs.Groups.{HasTag, Group, IsGroup, SameGroups}
 use Rattle.flash_tree.specs.Keeping.{StaysNewest}
 use Rattle.flash_tree.specs.Newest.{Spot, spot_in, Holds, IsAfter, IsNewest}
 use Rattle.flash_tree.specs.Slots.{check_object}
-use Rattle.flash_tree.specs.Summaries.{BeginsSummary, Summary, summary_group, summary_tag, summary_page, IsWholeSummary, MatchesBlock, AreSummariesRight, claimed, AreFindable}
-use Rattle.flash_tree.specs.Summarizing.{WritesIn, AddsNoSummary, AddsSummary, AddsNamed, NamesOnce, NamesNot, IsKey, IsFindable, Renews}
+use Rattle.flash_tree.specs.Summaries.{BeginsSummary, Summary, summary_group, summary_tag, summary_page, IsWholeSummary, MatchesBlock, IsListed, AreSummariesRight, claimed, AreFindable}
+use Rattle.flash_tree.specs.Summarizing.{WritesIn, AddsNoSummary, ListsKey, AddsSummary, AddsNamed, NamesOnce, NamesNot, IsKey, IsFindable, Renews}
 use Rattle.flash_tree.specs.laws.Added.{newest_this, newest_other}
 use Rattle.flash_tree.specs.laws.Fading.{loses_fading}
 use Rattle.flash_tree.specs.laws.Newest.{one_tag, one_spot, group_before, keeps_elsewhere, same_groups_keep}
-use Rattle.flash_tree.specs.laws.Summarizing.{fades_same, whole_before, matches_before, matches_as, head_older, number_less, none_new, was_or_new, erased_before}
+use Rattle.flash_tree.specs.laws.Summarizing.{fades_same, whole_before, matches_before, matches_as, not_written, head_older, number_less, none_new, was_or_new, erased_before}
 
 -- The key has a newest page, which a mount by summaries finds.
 record FindsKey (g : Geometry) (flash : Flash) (o c : ℕ) : Type 0 where
   pub ordinary : o ≢ check_object
   pub spot : Spot
   pub newest : IsNewest flash o c spot
+  pub listed : (s : Summary) → IsWholeSummary g flash s → MatchesBlock flash s → spot.block ≡ s.head.block → IsListed s spot
   pub latest : (s : Summary) (e : CheckEntry) → IsWholeSummary g flash s → MatchesBlock flash s → Contains s.entries e
       → e.object ≡ o → e.chunk ≡ c → IsAfter (claimed s e) spot → ⊥
   pub in_order : (l : ℕ) → l < spot.page → flash.page spot.block l ≢ Erased
@@ -56,6 +57,7 @@ module _ (g : Geometry) (flash : Flash) (keys : ℕ → ℕ → Type 0) where
     ordinary = all.ordinary o c key;
     spot = there.0;
     newest = there.1;
+    listed = λ s whole matches at. all.listed s o c there.0 whole matches key there.1 at;
     latest = λ s e whole matches listed object chunk after. all.latest s e there.0 whole matches listed (same_key keys o c e.object e.chunk (sym object) (sym chunk) key)
         (same_key (λ k d. IsNewest flash k d there.0) o c e.object e.chunk (sym object) (sym chunk) there.1) after;
     in_order = λ l lt. all.in_order o c l there.0 key there.1 lt;
@@ -65,6 +67,10 @@ module _ (g : Geometry) (flash : Flash) (keys : ℕ → ℕ → Type 0) where
   of_keys each = record {
     ordinary = λ o c key. (each o c key).ordinary;
     there = λ o c key. ((each o c key).spot, (each o c key).newest);
+    listed = λ s o c p whole matches key newest at.
+        let found = each o c key in
+        let same : found.spot ≡ p = one_spot flash o c found.spot p found.newest newest in
+        subst (IsListed s) same (found.listed s whole matches (ap (λ (q : Spot). q.block) same ∙ at));
     latest = λ s e p whole matches listed key newest after.
         let found = each e.object e.chunk key in
         let same : p ≡ found.spot = one_spot flash e.object e.chunk p found.spot newest found.newest in
@@ -96,6 +102,7 @@ module _ (g : Geometry) (old new : Flash) where
     ordinary = found.ordinary;
     spot = found.spot;
     newest = stays.newest;
+    listed = λ s whole matches. let was = fewer s whole matches in found.listed s was.0 was.1;
     latest = λ s e whole matches. let was = fewer s whole matches in found.latest s e was.0 was.1;
     in_order = λ l lt is. found.in_order l lt (pages l lt is);
   }
@@ -163,14 +170,22 @@ module _ (g : Geometry) (old new : Flash) (s : Summary) (added : AddsSummary g o
         (λ i lt object chunk. found.ordinary (sym object)) found.newest
   ]
 
-  pub findable_summary : (keys : ℕ → ℕ → Type 0) → AreFindable g old keys → AreFindable g new keys
-  findable_summary keys all = of_keys g new keys (λ o c key.
+  -- each key stays findable whose newest page it lists, if that lies in its block
+  pub findable_summary : (keys : ℕ → ℕ → Type 0) → ((o c : ℕ) → keys o c → ListsKey old s o c) → AreFindable g old keys → AreFindable g new keys
+  findable_summary keys lists all = of_keys g new keys (λ o c key.
       let found = at_key g old keys all o c key in
       let stays = summary_stays keys o c found in
       record {
         ordinary = found.ordinary;
         spot = found.spot;
         newest = stays.newest;
+        listed = λ d whole matches at. elim (was_or_new g old new s added d whole) [
+          | inl was ↦ found.listed d was (matches_as s.block s.number s.seq old new writes g right d was matches) at
+          | inr is ↦
+              let here : found.spot.block ≡ s.head.block = at ∙ ap (λ (x : Summary). x.head.block) is in
+              subst (λ (x : Summary). IsListed x found.spot) (sym is)
+              (lists o c key found.spot found.newest here, added.lists.seqs found.spot.page found.spot.tag (subst (λ n. HasTag old n found.spot.page found.spot.tag) here found.newest.holds.has))
+        ];
         latest = λ d e whole matches listed object chunk after. elim (was_or_new g old new s added d whole) [
           | inl was ↦ found.latest d e was (matches_as s.block s.number s.seq old new writes g right d was matches) listed object chunk after
           | inr is ↦ listed_before e found.spot (subst (λ (x : Summary). Contains x.entries e) is listed)
@@ -179,6 +194,10 @@ module _ (g : Geometry) (old new : Flash) (s : Summary) (added : AddsSummary g o
         ];
         in_order = λ l lt is. found.in_order l lt (erased_before old new writes.grows found.spot.block l is);
       })
+
+  -- a key alone
+  pub summary_key : (o c : ℕ) → ListsKey old s o c → IsFindable g old o c → IsFindable g new o c
+  summary_key o c lists = findable_summary (IsKey o c) (λ k d is. same_key (ListsKey old s) o c k d (sym is.0) (sym is.1) lists)
 
 -- ---- a group that is no summary
 
@@ -245,6 +264,7 @@ module _ (g : Geometry) (x : Group) (tag : ℕ → Tag) (bytes : ℕ → List �
         spot = s;
         newest = (newest_this x tag bytes old new added.adds named_writes.grows added.all s.tag.object s.tag.chunk i names.within refl refl
             (λ k lt object chunk. names.once k lt (object ∙ names.object) (chunk ∙ names.chunk)) renews.last).newest;
+        listed = λ d whole matches at. absurd (not_written x.block x.number x.seq old new named_writes g right d (fewer d whole matches).0 matches (sym at));
         latest = λ d e whole matches. let was = fewer d whole matches in none_after d e was.0 was.1;
         in_order = λ l lt is. elim (cases_lt l x.start) [
           | inl before ↦ added.in_order l before (erased_before old new named_writes.grows x.block l is)

@@ -14,14 +14,13 @@ use Rattle.flash_tree.specs.Checkpoints.{Checkpoint, check_group, check_tag, Add
 use Rattle.flash_tree.specs.Fading.{Fades}
 use Rattle.flash_tree.specs.Groups.{HasTag, Group, IsPart, IsGroup}
 use Rattle.flash_tree.specs.Keeping.{Loses}
-use Rattle.flash_tree.specs.Newest.{Spot, Holds}
-use Rattle.flash_tree.specs.Slots.{check_object}
-use Rattle.flash_tree.specs.Summaries.{summary_chunk, Summary, summary_group, summary_tag, IsWholeSummary, MatchesBlock, IsListed, AreSummariesRight, IsSummarized}
+use Rattle.flash_tree.specs.Newest.{Holds}
+use Rattle.flash_tree.specs.Summaries.{summary_chunk, Summary, summary_group, summary_tag, IsWholeSummary, MatchesBlock, AreSummariesRight, IsSummarized}
 use Rattle.flash_tree.specs.ErasedBlocks.{BeginsErased, OnlyFirstHasTags, GoesFirst}
 use Rattle.flash_tree.specs.Summarizing.{HasNoTags, WritesIn, AddsNoSummary, ListsBlock, AddsSummary}
 use Rattle.flash_tree.specs.laws.Checking.{first_tag as checkpoint_tag}
 use Rattle.flash_tree.specs.laws.Fading.{loses_fading, fades_erase, fades_mark, written_before, good_before}
-use Rattle.flash_tree.specs.laws.Newest.{one_tag, tag_stays, tag_grows, holds_with, held_before, has_before, group_before}
+use Rattle.flash_tree.specs.laws.Newest.{one_tag, tag_stays, tag_grows, has_before}
 use Rattle.flash_tree.specs.laws.SameSummary.{first_tag, group_whole, same_summary}
 
 -- a page is erased or not
@@ -74,8 +73,6 @@ module _ (g : Geometry) where
       older = λ s whole. right.older s (whole_before s whole);
       versions = λ s e whole. right.versions s e (whole_before s whole);
       below = λ s l t whole matches has. right.below s l t (whole_before s whole) (matches_before s matches) (has_before b old new loses s.head.block l t has);
-      lists = λ s o c p whole matches holds. right.lists s o c p (whole_before s whole) (matches_before s matches)
-          (holds_with new old o c p holds (group_before b old new loses _ holds.whole) (has_before b old new loses _ _ _ holds.has));
     }
 
     -- where it is the first that may be torn, no other becomes so
@@ -119,7 +116,6 @@ module _ (g : Geometry) where
       older = λ s whole. absurd (no_summary s whole);
       versions = λ s e whole. absurd (no_summary s whole);
       below = λ s l t whole. absurd (no_summary s whole);
-      lists = λ s o c p whole. absurd (no_summary s whole);
     };
     first = λ a k l t lt begins begins' has. none k l t begins'.0 has;
   } where
@@ -151,14 +147,12 @@ record IsRightOne (flash : Flash) (s : Summary) : Type 0 where
   older : s.head.seq < s.seq
   versions : (e : CheckEntry) → Contains s.entries e → e.version < s.number
   below : (l : ℕ) (t : Tag) → MatchesBlock flash s → HasTag flash s.head.block l t → (t.group < s.number) × (t.seq < s.seq)
-  lists : (o c : ℕ) (p : Spot) → MatchesBlock flash s → Holds flash o c p → p.block ≡ s.head.block → o ≢ check_object → IsListed s p
 
 right_of : (g : Geometry) (flash : Flash) → ((s : Summary) → IsWholeSummary g flash s → IsRightOne flash s) → AreSummariesRight g flash
 right_of g flash each = record {
   older = λ s whole. (each s whole).older;
   versions = λ s e whole. (each s whole).versions e;
   below = λ s l t whole. (each s whole).below l t;
-  lists = λ s o c p whole. (each s whole).lists o c p;
 }
 
 module _ (o number seq : ℕ) (old new : Flash) (writes : WritesIn o number seq old new) where
@@ -167,18 +161,6 @@ module _ (o number seq : ℕ) (old new : Flash) (writes : WritesIn o number seq 
 
   pub good_stays : (k : ℕ) → new.bad k ≡ false → old.bad k ≡ false
   good_stays k is = ap (λ f. f k) (sym writes.bads) ∙ is
-
-  group_elsewhere : (x : Group) → x.block ≢ o → IsGroup new x → IsGroup old x
-  group_elsewhere x ne whole = record {
-    good = good_stays x.block whole.good;
-    some = whole.some;
-    each = λ i lt. let part : IsPart new x i = whole.each i lt in
-        record { tag = part.tag; has = tag_elsewhere x.block (x.start + i) part.tag ne part.has; index = part.index; count = part.count; group = part.group; seq = part.seq };
-  }
-
-  -- what is valid in another block was so before
-  pub holds_elsewhere : (k c : ℕ) (p : Spot) → p.block ≢ o → Holds new k c p → Holds old k c p
-  holds_elsewhere k c p ne holds = held_before old new writes.grows k c p holds (group_elsewhere holds.group (λ is. ne (holds.block ∙ is)) holds.whole)
 
   -- of the blocks that begin with an erased page the first alone has tags
   first_written : OnlyFirstHasTags old → OnlyFirstHasTags new
@@ -231,8 +213,6 @@ module _ (o number seq : ℕ) (old new : Flash) (writes : WritesIn o number seq 
       older = right.older s was;
       versions = λ e. right.versions s e was;
       below = λ l t matches has. right.below s l t was (matches_as right s was matches) (tag_elsewhere s.head.block l t (not_written right s was matches) has);
-      lists = λ k c p matches holds at. right.lists s k c p was (matches_as right s was matches)
-          (holds_elsewhere k c p (λ is. not_written right s was matches (sym at ∙ is)) holds) at;
     }
 
     -- a group that does not begin as a summary is none
@@ -296,9 +276,6 @@ module _ (g : Geometry) (old new : Flash) (s : Summary) (added : AddsSummary g o
         let was = tag_elsewhere s.block s.number s.seq old new writes s.head.block l t (not_own matches) has in
         let less = writes.below s.head.block l t (good_stays s.block s.number s.seq old new writes s.head.block matches.good) was in
         (less.1, let same = lists.seqs l t was in let older = lists.older in omega (arith, same, older));
-    lists = λ k c p matches holds at other.
-        let was = holds_elsewhere s.block s.number s.seq old new writes k c p (λ is. not_own matches (sym at ∙ is)) holds in
-        (lists.all k c p was at other, lists.seqs p.page p.tag (subst (λ n. HasTag old n p.page p.tag) at was.has));
   }
 
   pub right_summary : AreSummariesRight g old → AreSummariesRight g new

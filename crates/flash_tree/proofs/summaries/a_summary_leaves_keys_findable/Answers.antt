@@ -1,6 +1,5 @@
-use Rattle.flash_tree.specs.Summarizing.{IsKey}
-use Rattle.flash_tree.specs.laws.Findable.{findable_summary}
+use Rattle.flash_tree.specs.laws.Findable.{summary_key}
 use Rattle.flash_tree.proofs.summaries.a_summary_leaves_keys_findable.Goals as goal
 
 pub returns : goal.returns
-returns c = λ g old new s o d added right. findable_summary g old new s added right (IsKey o d)
+returns c = λ g old new s o d added right. summary_key g old new s added right o d

@@ -13,7 +13,7 @@ use Rattle.flash_tree.specs.laws.Newest.{one_spot}
 use Rattle.flash_tree.specs.laws.Place.{same_flash, tag_placed}
 use Rattle.flash_tree.specs.declared.place.Found.{Found}
 use Rattle.flash_tree.specs.Places.{spot_of}
-use Rattle.mount_scan.specs.Copies.{FitsCopy, copy_at, copy_of, spot_of_copy}
+use Rattle.mount_scan.specs.Copies.{FitsCopy, HasValidName, copy_at, copy_of, spot_of_copy}
 use Rattle.mount_scan.specs.Keys.{HaveOneKey, ThinsFound, AreLatest}
 use Rattle.mount_scan.specs.declared.page_copy.PageCopy.{PageCopy}
 use Rattle.mount_scan.specs.laws.Order.{not_after_on}
@@ -79,12 +79,16 @@ latest_none device list none = record {
 copy_low : (x : Found) (f : PageCopy) → FitsCopy x → copy_of x ≡ f → f.chunk < 2 ^ 32
 copy_low x f fits same = subst (λ (y : PageCopy). y.chunk < 2 ^ 32) same fits.0
 
+-- a page that counts has a valid tag
+pub held_named : (flash : Flash) (o c : ℕ) (s : Spot) → Holds flash o c s → HasValidName (copy_at s)
+held_named flash o c s holds = let valid = holds.has.valid in (valid.object.0, valid.object.1, valid.version.0)
+
 -- each place of a device fits
-pub place_fits : (g : Geometry) (x : Found) → x.tag.chunk < 2 ^ 32 → x.block < g.blocks → x.page < g.pages → FitsCopy x
-place_fits g x low block page =
+pub place_fits : (g : Geometry) (x : Found) → x.tag.chunk < 2 ^ 32 → x.block < g.blocks → x.page < g.pages → HasValidName (copy_of x) → FitsCopy x
+place_fits g x low block page named =
     let blocks = g.most_blocks in
     let pages = g.most_pages in
-    (low, omega (arith, block, blocks), omega (arith, page, pages))
+    (low, omega (arith, block, blocks), omega (arith, page, pages), named)
 
 pub latest_block : (device : Device) (b : ℕ) (one : List Found) (old new : List PageCopy) → b < device.geometry.blocks → TellsBlock device b one → ThinsFound one old new → HasLatestBelow device b old
     → HasLatestBelow device (b + 1) new
@@ -108,7 +112,7 @@ latest_block device b one old new within tells thins below = record {
     | inl here ↦
         let has = (tells.exact honest g).1 (here, holds) in
         let at = tells.placed g has in
-        thins.some (copy_of g) (inr (g, has, place_fits device.geometry g low (omega (arith, at.0, within)) at.1, refl))
+        thins.some (copy_of g) (inr (g, has, place_fits device.geometry g low (omega (arith, at.0, within)) at.1 (held_named device.flash g.tag.object g.tag.chunk (spot_of g) holds), refl))
     | inr ne ↦
         let was = below.some honest g (omega (arith, lt, ne)) low holds in
         let then = thins.some was.0 (inl was.1) in

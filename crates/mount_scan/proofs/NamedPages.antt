@@ -14,7 +14,7 @@ use Rattle.flash_tree.specs.Newest.{Spot}
 use Rattle.flash_tree.specs.Places.{spot_of}
 use Rattle.flash_tree.specs.Summaries.{Summary, IsEntryIn, HasSummaryForm, IsWholeSummary, MatchesBlock, claimed}
 use Rattle.flash_tree.specs.declared.place.Found.{Found}
-use Rattle.mount_scan.specs.Copies.{FitsCopy, copy_of, spot_of_copy, page_named, pages_named}
+use Rattle.mount_scan.specs.Copies.{FitsCopy, HasValidName, copy_of, spot_of_copy, page_named, pages_named}
 use Rattle.mount_scan.specs.Keys.{Thins, ThinsFound}
 use Rattle.mount_scan.specs.CheckpointCandidates.{IsGoodTag}
 use Rattle.mount_scan.specs.FirstPages.{BeginsWithTag, IsFirstPage, IsGoodFirst, AreFirstPages, AreGoodFirsts, AreNoted, HasSeqAt, first_tag, seq_of_first, tag_of_summary}
@@ -82,7 +82,7 @@ summarized_on g flash b added old new thins was = record {
   whole = was.whole;
   matches = was.matches;
   block = was.block;
-  pages = λ e has low. as_new_on added old new (claimed was.summary e) thins (was.pages e has low);
+  pages = λ e has may. as_new_on added old new (claimed was.summary e) thins (was.pages e has may);
 }
 
 -- ---- a summary was added
@@ -102,10 +102,11 @@ matches_first flash pages s noted (first, at, seq) =
     record { good = is.1.0; tag = is.0; has = is.1.1; seq = is.2 }
 
 module _ (d : Device) (s : Summary) (may : MayBeAdded d s) (matches : d.honest ≡ true → MatchesBlock d.flash s) (old new : List PageCopy) (thins : ThinsFound (pages_named s.head.seq s.entries) old new) where
+  entry_in : (e : CheckEntry) → Contains s.entries e → IsEntryIn d.geometry s.head e
+  entry_in e has = All-contains (IsEntryIn d.geometry s.head) s.entries e may.form.each has
+
   entry_placed : (e : CheckEntry) → Contains s.entries e → (e.block < d.geometry.blocks) × (e.page < d.geometry.pages)
-  entry_placed e has =
-      let is : IsEntryIn d.geometry s.head e = All-contains (IsEntryIn d.geometry s.head) s.entries e may.form.each has in
-      (omega (arith, is.block, may.form.block), is.page)
+  entry_placed e has = let is = entry_in e has in (omega (arith, is.block, may.form.block), is.page)
 
   -- what is known of the pages
   known_named : HasKnown d old → HasKnown d new
@@ -120,6 +121,10 @@ module _ (d : Device) (s : Summary) (may : MayBeAdded d s) (matches : d.honest �
       | inl was ↦ were.low f was
       | inr (x, there, fits, same) ↦ subst (λ (y : PageCopy). y.chunk < 2 ^ 32) same fits.0
     ];
+    named = λ f has. elim (thins.among f has) [
+      | inl was ↦ were.named f was
+      | inr (x, there, fits, same) ↦ subst HasValidName same fits.3
+    ];
     known = λ honest f has. elim (thins.among f has) [
       | inl was ↦ were.known honest f was
       | inr (x, there, fits, same) ↦
@@ -130,11 +135,12 @@ module _ (d : Device) (s : Summary) (may : MayBeAdded d s) (matches : d.honest �
 
   -- each that the summary names has one as new
   covers_named : CoversSummary s new
-  covers_named e has low =
+  covers_named e has (low, object, version) =
       let at = entry_placed e has in
       let blocks = d.geometry.most_blocks in
       let pages = d.geometry.most_pages in
-      as_new_added (pages_named s.head.seq s.entries) old new (page_named s.head.seq e) thins (named_of_entry s.head.seq s.entries e has) (low, omega (arith, at.0, blocks), omega (arith, at.1, pages))
+      as_new_added (pages_named s.head.seq s.entries) old new (page_named s.head.seq e) thins (named_of_entry s.head.seq s.entries e has)
+      (low, omega (arith, at.0, blocks), omega (arith, at.1, pages), (object, (entry_in e has).entry.object, version))
 
   -- one more block is summarized
   summarized_named : (done : List Bool) → d.honest ≡ true → AreSummarized d.geometry d.flash done old → AreSummarized d.geometry d.flash (slice_set done s.head.block true) new
@@ -168,7 +174,7 @@ no_true (suc n) (suc k) at = no_true n k at
 pub summarized_none : (d : Device) (blocks : ℕ) (summarized : SummaryPages) → d.geometry.blocks ≡ blocks → summarized.done.items ≡ replicate blocks false → ((f : PageCopy) → Contains (listed summarized.newest) f → ⊥) → AreSummaryPages d summarized
 summarized_none d blocks summarized same done none = record {
   len = ap (λ (bs : List Bool). length bs) done ∙ length-replicate blocks false ∙ sym same;
-  known = record { placed = λ f has. absurd (none f has); low = λ f has. absurd (none f has); known = λ honest f has. absurd (none f has) };
+  known = record { placed = λ f has. absurd (none f has); low = λ f has. absurd (none f has); named = λ f has. absurd (none f has); known = λ honest f has. absurd (none f has) };
   blocks = λ honest k at. absurd (no_true blocks k (sym (ap (λ bs. slice_get bs k) done) ∙ at));
 }
 

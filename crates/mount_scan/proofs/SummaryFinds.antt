@@ -12,14 +12,14 @@ use Rattle.nand_model.specs.declared.geometry.Geometry.{Geometry}
 use Rattle.page_tags.specs.declared.tag.Tag.{Tag}
 use Rattle.flash_tree.specs.Checkpoints.{entry_of}
 use Rattle.flash_tree.specs.Groups.{HasTag}
-use Rattle.flash_tree.specs.Newest.{Spot, Holds, IsAfter, IsNewest, Numbers, AreGreatest}
+use Rattle.flash_tree.specs.Newest.{Spot, Holds, IsAfter, IsNewest, Numbers, AreAbove, AreGreatest}
 use Rattle.flash_tree.specs.Summaries.{Summary, IsWholeSummary, IsSummarized, AreFindable, summary_tag}
 use Rattle.flash_tree.specs.laws.Place.{no_tag, tag_placed}
 use Rattle.mount_scan.specs.Blocks.{numbers_in, AreAtMost}
 use Rattle.mount_scan.specs.Copies.{copy_at, spot_of_copy}
 use Rattle.mount_scan.specs.Keys.{HaveOneKey, AreLatest}
 use Rattle.mount_scan.specs.Summarized.{HasSummarizedFlash, FindsNeeded, IsKey}
-use Rattle.mount_scan.specs.SummaryScan.{HasAsNew, IsSummarizedBlock, IsBehindErased, IsScannedBelow}
+use Rattle.mount_scan.specs.SummaryScan.{HasKnown, HasAsNew, IsSummarizedBlock, IsBehindErased, IsScannedBelow}
 use Rattle.mount_scan.specs.declared.page_copy.PageCopy.{PageCopy}
 use Rattle.mount_scan.specs.laws.Order.{not_after_on}
 
@@ -79,8 +79,9 @@ module _ (d : Device) (summarized : HasSummarizedFlash d) (within : IsWithin d.g
       (is : IsNewest d.flash o c s) where
     by_summary : IsSummarizedBlock d.geometry d.flash s.block list → HasAsNew list s
     by_summary sum =
-        let listed = right.right.lists sum.summary o c s sum.whole sum.matches is.holds (sym sum.block) (findable.ordinary o c key) in
-        let was = sum.pages (entry_of s) listed.0 (subst (λ k. k < 2 ^ 32) (sym is.holds.chunk) low) in
+        let listed = findable.listed sum.summary o c s sum.whole sum.matches key is (sym sum.block) in
+        let valid = is.holds.has.valid in
+        let was = sum.pages (entry_of s) listed.0 (subst (λ k. k < 2 ^ 32) (sym is.holds.chunk) low, valid.object.0, valid.version.0) in
         (was.0, was.1, was.2, λ after. was.3 (subst (λ q. IsAfter (record { block = s.block; page = s.page; tag = record { index = 0; count = 0; object = s.tag.object; chunk = s.tag.chunk; version = s.tag.version; group = 0; seq = q } }) (spot_of_copy was.0)) listed.1 after))
 
     not_erased : IsBehindErased d.flash s.block → ⊥
@@ -157,11 +158,28 @@ module _ (d : Device) (summarized : HasSummarizedFlash d) (within : IsWithin d.g
     least = λ m above. let is = below.least summarized.0 m above in (is.version, is.group, is.seq);
   }
 
+-- no version that is found is above the numbers of all groups
+version_most : (d : Device) (list : List PageCopy) (n : Numbers) → HasSummarizedFlash d → HasKnown d list → AreAbove d.flash n → (f : PageCopy) → Contains list f → f.version ≤ n.group
+version_most d list n summarized known above f has = elim (known.known summarized.0 f has) [
+  | inl counted ↦
+      let s : Spot = counted.spot in
+      let most = above s.block s.page s.tag (ap d.flash.bad counted.holds.block ∙ counted.holds.whole.good) counted.holds.has in
+      let version : s.tag.version ≡ f.version = ap (λ (y : PageCopy). y.version) counted.copied in
+      omega (arith, most.1, counted.holds.has.valid.version, version)
+  | inr named ↦
+      let less = summarized.1.right.versions named.summary named.entry named.whole named.has in
+      let most = above named.summary.block 0 (summary_tag named.summary 0) named.whole.good (first_of_summary d.geometry d.flash named.summary named.whole) in
+      let version : named.entry.version ≡ f.version = ap (λ (y : PageCopy). y.version) named.copied in
+      omega (arith, most.1, less, version)
+]
+
 -- the latest of what is found are what is needed
 pub finds_needed : (d : Device) (list newest : List PageCopy) (n : Numbers) → IsWithin d.geometry.pages d.geometry.blocks d.flash → IsScannedBelow d d.geometry.blocks list n → AreLatest list newest → FindsNeeded d newest
 finds_needed d list newest n within below latest = record {
   placed = λ k x lt. below.known.placed (get_or newest k x) (latest.among (get_or newest k x) (Contains-get_or newest k x lt));
   low = λ k x lt. below.known.low (get_or newest k x) (latest.among (get_or newest k x) (Contains-get_or newest k x lt));
+  named = λ k x lt. below.known.named (get_or newest k x) (latest.among (get_or newest k x) (Contains-get_or newest k x lt));
   order = latest.order;
   found = λ summarized o c findable k l s key low is. found_one d summarized within list n below (IsKey o c) findable newest latest k l s key low is;
+  versions = λ summarized m above k x lt. version_most d list m summarized below.known above (get_or newest k x) (latest.among (get_or newest k x) (Contains-get_or newest k x lt));
 }

@@ -10,6 +10,7 @@ use Rattle.flash_tree.specs.Newest.{Holds, Numbers}
 use Rattle.flash_tree.specs.Places.{spot_of, numbers_of}
 use Rattle.flash_tree.specs.ErasedBlocks.{BeginsErased}
 use Rattle.flash_tree.specs.declared.place.Found.{Found}
+use Rattle.mount_scan.specs.Copies.{HasValidName}
 use Rattle.mount_scan.specs.Blocks.{numbers_in, AreAtMost, RaisesBy}
 use Rattle.mount_scan.specs.FirstPages.{IsFirstPage, AreAboveFirsts, AreNoneAbove, FirstPagesBelow}
 use Rattle.mount_scan.specs.FoundCheckpoint.{ReadsAtMost}
@@ -26,7 +27,7 @@ use Rattle.mount_scan.specs.declared.first_page.FirstPages.{FirstPages}
 use Rattle.mount_scan.specs.declared.summary_pages.SummaryPages.{SummaryPages}
 use Rattle.mount_scan.specs.declared.summary_scan.Rest.{Rest}
 use Rattle.mount_scan.specs.laws.Scan.{found_of}
-use Rattle.mount_scan.proofs.Latest.{counted_copy, place_fits}
+use Rattle.mount_scan.proofs.Latest.{counted_copy, held_named, place_fits}
 use Rattle.mount_scan.proofs.NamedPages.{as_new_on, as_new_added, summarized_on}
 use Rattle.mount_scan.proofs.Raised.{at_most_on}
 use Rattle.mount_scan.proofs.ReadCount.{back_honest}
@@ -67,6 +68,10 @@ module _ (d : Device) (b : ℕ) (lt : b < d.geometry.blocks) (old new : List Pag
       | inl was ↦ were.low f was
       | inr (x, is, fits, same) ↦ subst (λ (y : PageCopy). y.chunk < 2 ^ 32) same fits.0
     ];
+    named = λ f has. elim (adds.thins.among f has) [
+      | inl was ↦ were.named f was
+      | inr (x, is, fits, same) ↦ subst HasValidName same fits.3
+    ];
     known = λ honest f has. elim (adds.thins.among f has) [
       | inl was ↦ were.known honest f was
       | inr (x, is, fits, same) ↦ inl (counted_copy d.flash x f same ((adds.tells.exact honest x).0 is).1)
@@ -77,7 +82,7 @@ module _ (d : Device) (b : ℕ) (lt : b < d.geometry.blocks) (old new : List Pag
   covers_block honest s here low holds =
       let has = (adds.tells.exact honest (found_of s)).1 (here, holds) in
       let at = adds.tells.placed (found_of s) has in
-      as_new_added adds.pages old new (found_of s) adds.thins has (place_fits d.geometry (found_of s) low (omega (arith, at.0, lt)) at.1)
+      as_new_added adds.pages old new (found_of s) adds.thins has (place_fits d.geometry (found_of s) low (omega (arith, at.0, lt)) at.1 (held_named d.flash s.tag.object s.tag.chunk s holds))
 
 -- and so it is the next block's turn
 pub rest_read :

@@ -1,5 +1,5 @@
 -- What is known in the midst of a scan by summaries.
-use Rattle.std.specs.Prelude.{◌≡◌, ◌⊎◌, ◌<◌, ◌^◌, ℕ, Bool, true, false, List, Some, length, slice_get, Contains}
+use Rattle.std.specs.Prelude.{◌≡◌, ◌⊎◌, ◌<◌, ◌≤◌, ◌^◌, ℕ, Bool, true, false, List, Some, length, slice_get, Contains}
 use Rattle.nand_model.specs.Flash.{Flash}
 use Rattle.nand_model.specs.Calls.{Device}
 use Rattle.nand_model.specs.declared.geometry.Geometry.{Geometry}
@@ -11,7 +11,7 @@ use Rattle.flash_tree.specs.Places.{numbers_of}
 use Rattle.flash_tree.specs.Summaries.{Summary, HasSummaryForm, IsWholeSummary, MatchesBlock, claimed}
 use Rattle.flash_tree.specs.ErasedBlocks.{BeginsErased}
 use Rattle.mount_scan.specs.Blocks.{numbers_in, AreAtMost}
-use Rattle.mount_scan.specs.Copies.{copy_at, spot_of_copy}
+use Rattle.mount_scan.specs.Copies.{HasValidName, copy_at, spot_of_copy}
 use Rattle.mount_scan.specs.Keys.{HaveOneKey}
 use Rattle.mount_scan.specs.Latest.{IsCountedCopy}
 use Rattle.mount_scan.specs.Listed.{listed}
@@ -32,11 +32,12 @@ pub record IsNamedCopy (g : Geometry) (flash : Flash) (x : PageCopy) : Type 0 wh
   pub has : Contains summary.entries entry
   pub copied : copy_at (claimed summary entry) ≡ x
 
--- What is known of the pages that were found: of any device they are places of it, of chunks that a tree may look up; of an honest one
--- each is valid, or an entry names it.
+-- What is known of the pages that were found: of any device they are places of it, of chunks that a tree may look up, and named as a
+-- valid tag may name them; of an honest one each is valid, or an entry names it.
 pub record HasKnown (device : Device) (list : List PageCopy) : Type 0 where
   pub placed : (f : PageCopy) → Contains list f → (f.block < device.geometry.blocks) × (f.page < device.geometry.pages)
   pub low : (f : PageCopy) → Contains list f → f.chunk < 2 ^ 32
+  pub named : (f : PageCopy) → Contains list f → HasValidName f
   pub known : device.honest ≡ true → (f : PageCopy) → Contains list f → IsCountedCopy device.flash f ⊎ IsNamedCopy device.geometry device.flash f
 
 -- the list has a page of the key of this one, which this one does not come after
@@ -47,9 +48,13 @@ HasAsNew list s = (f : PageCopy) × Contains list f × HaveOneKey f (copy_at s) 
 abbrev pub CoversBlock : Flash → ℕ → List PageCopy → Type 0
 CoversBlock flash b list = (s : Spot) → s.block ≡ b → s.tag.chunk < 2 ^ 32 → Holds flash s.tag.object s.tag.chunk s → HasAsNew list s
 
--- for each page that the summary names, of such a chunk
+-- the entry is of such a chunk, and of an object and a version that a valid tag may have
+abbrev pub MayBeFound : CheckEntry → Type 0
+MayBeFound e = (e.chunk < 2 ^ 32) × (1 ≤ e.object) × (1 ≤ e.version)
+
+-- for each page that the summary names so
 abbrev pub CoversSummary : Summary → List PageCopy → Type 0
-CoversSummary s list = (e : CheckEntry) → Contains s.entries e → e.chunk < 2 ^ 32 → HasAsNew list (claimed s e)
+CoversSummary s list = (e : CheckEntry) → Contains s.entries e → MayBeFound e → HasAsNew list (claimed s e)
 
 -- all tags of the block were read
 pub record IsReadBlock (flash : Flash) (b : ℕ) (list : List PageCopy) (n : Numbers) : Type 0 where

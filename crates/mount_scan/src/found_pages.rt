@@ -105,8 +105,8 @@ impl FoundPages {
         Ok(())
     }
 
-    /// Adds the pages that the entries of a summary name, but none of a chunk that no tree looks up. The block that they lie in was
-    /// allocated with this number.
+    /// Adds the pages that the entries of a summary name, but none of a chunk that no tree looks up, nor of an object or a version 0.
+    /// The block that they lie in was allocated with this number.
     pub(crate) fn add_named(&mut self, entries: &[CheckEntry], seq: u64) -> Result<(), AllocError>
         ensures { OnOk result (ThinsFound (pages_named seq entries.now) (listed self.old) (listed self.new)) }
     {

@@ -21,12 +21,16 @@ const _: () = prove!(size_of::<PageCopy>() == 32);
 impl PageCopy {
     ghost use Rattle.mount_scan.specs.Copies.{copy_of};
 
-    /// The copy of a page that counts, by its tag; none where the chunk is one that no tree looks up.
+    /// The copy of a page that counts, by its tag; none where the chunk is one that no tree looks up, or the object or the version
+    /// is 0, as of no valid tag.
     pub fn of(found: &Found) -> Option<PageCopy>
         ensures some { IfSome result (λ copy. (copy ≡ copy_of found.now) × FitsCopy found.now) }
         ensures none { IfNone result (FitsCopy found.now → ⊥) }
     {
         let tag = &found.tag;
+        if tag.object == 0 || tag.version == 0 {
+            return None;
+        }
         Some(PageCopy {
             object: tag.object,
             version: tag.version,

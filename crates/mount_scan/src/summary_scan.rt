@@ -6,7 +6,7 @@ ghost use Rattle.flash_tree.specs.Newest.{AreGreatest};
 ghost use Rattle.flash_tree.specs.Places.{numbers_of};
 ghost use Rattle.mount_scan.specs.FoundCheckpoint.{ReadsAtMost};
 ghost use Rattle.mount_scan.specs.FewReads.{IsOther, AreNotedSummarized, ReadsTwice, ReadsByNeed, most_pages, one_erased, one_other, sum_below};
-ghost use Rattle.mount_scan.specs.FirstPages.{AreFirstsOf};
+ghost use Rattle.mount_scan.specs.FirstPages.{AreFirstsOf, AreNoneAbove};
 ghost use Rattle.mount_scan.specs.Listed.{listed};
 ghost use Rattle.mount_scan.specs.Summarized.{HasSummarizedFlash, FindsNeeded};
 ghost use Rattle.mount_scan.specs.SummaryScan.{AreSummaryPages, IsLeft, IsNextBlock, IsRestBelow, IsScannedAll};
@@ -136,6 +136,7 @@ pub fn scan_summaries<N: Nand>(
     ensures few { ReadsByNeed (N.state device.old) (N.state device.new) }
     ensures newest { IfOk result (λ scan. FindsNeeded (N.state device.old) (listed scan.newest)) }
     ensures numbers { HasSummarizedFlash (N.state device.old) → IfOk result (λ scan. AreGreatest (N.state device.old).flash (numbers_of scan.numbers)) }
+    ensures least { (N.state device.old).honest ≡ true → IfOk result (λ scan. AreNoneAbove (N.state device.old).flash (numbers_of scan.numbers)) }
 {
     let summarized = read_summaries(alloc, device, &firsts.pages)?;
     let mut scan = find_rest(alloc, device, firsts, summarized)?;

@@ -13,6 +13,7 @@ one_findable : (g : Geometry) (flash : Flash) (keys : ℕ → ℕ → Type 0) (o
 one_findable g flash keys o c are key = record {
   ordinary = λ k l is. are.ordinary k l (moved k l is);
   there = λ k l is. are.there k l (moved k l is);
+  listed = λ s k l p whole matches is. are.listed s k l p whole matches (moved k l is);
   latest = λ s e p whole matches has is. are.latest s e p whole matches has (moved e.object e.chunk is);
   in_order = λ k l i p is. are.in_order k l i p (moved k l is);
 } where

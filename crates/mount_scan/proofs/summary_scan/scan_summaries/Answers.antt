@@ -26,6 +26,13 @@ returns-clause-numbers g c summarized =
     let scanned : IsScannedAll d c.in_ok-scan.scan = c.in_ok-scan.ensures.scanned d c.in_ok-summarized.ensures.reads.only c.requires (c.in_ok-summarized.ensures.summarized d (only_reads_here d) noted) in
     greatest_summarized d summarized (g.met.N.Nand.within c.args.device.now) (listed c.in_ok-scan.scan.newest) (numbers_of c.in_ok-scan.scan.numbers) scanned
 
+pub returns-clause-least : goal.returns-clause-least
+returns-clause-least g c honest =
+    let d : Device = g.N.Nand.state c.args.device.now in
+    let noted : AreNoted d d.geometry.blocks c.deref.result.now = subst (AreNoted d d.geometry.blocks) (sym c.deref.ensures.value) c.requires.noted in
+    let scanned : IsScannedAll d c.in_ok-scan.scan = c.in_ok-scan.ensures.scanned d c.in_ok-summarized.ensures.reads.only c.requires (c.in_ok-summarized.ensures.summarized d (only_reads_here d) noted) in
+    scanned.least honest
+
 pub returns-in_err-summarized-clause-few : goal.returns-in_err-summarized-clause-few
 returns-in_err-summarized-clause-few g c honest these sizes have fits =
     let d : Device = g.N.Nand.state c.args.device.now in

@@ -11,7 +11,7 @@ use Rattle.flash_tree.specs.laws.Newest.{one_tag, one_is_after}
 use Rattle.flash_tree.specs.laws.Place.{tag_placed}
 use Rattle.flash_tree.specs.declared.place.Found.{Found}
 use Rattle.flash_tree.specs.Places.{spot_of}
-use Rattle.mount_scan.specs.Copies.{FitsCopy, copy_at, spot_of_copy}
+use Rattle.mount_scan.specs.Copies.{FitsCopy, HasValidName, copy_at, copy_of, spot_of_copy}
 use Rattle.mount_scan.specs.Keys.{HaveOneKey, ThinsFound, AreLatest}
 use Rattle.mount_scan.specs.declared.page_copy.PageCopy.{PageCopy}
 use Rattle.mount_scan.specs.laws.Order.{not_after_on}
@@ -56,17 +56,17 @@ lie_block pages b added old new lies thins lie = record {
 }
 
 -- each place of a device fits
-place_fits : (g : Geometry) (f : Found) → f.tag.chunk < 2 ^ 32 → f.block < g.blocks → f.page < g.pages → FitsCopy f
-place_fits g f low block page =
+place_fits : (g : Geometry) (f : Found) → f.tag.chunk < 2 ^ 32 → f.block < g.blocks → f.page < g.pages → HasValidName (copy_of f) → FitsCopy f
+place_fits g f low block page named =
     let blocks = g.most_blocks in
     let pages = g.most_pages in
-    (low, omega (arith, block, blocks), omega (arith, page, pages))
+    (low, omega (arith, block, blocks), omega (arith, page, pages), named)
 
 -- exactly the pages of the kind in a block were added
-pub latest_block : (kind : Spot → Type 0) (g : Geometry) (b : ℕ) (added : List Found) (old new : List PageCopy) → b < g.blocks
+pub latest_block : (kind : Spot → Type 0) → ((s : Spot) → kind s → HasValidName (copy_at s)) → (g : Geometry) (b : ℕ) (added : List Found) (old new : List PageCopy) → b < g.blocks
     → ((f : Found) → Contains added f → (f.block ≡ b) × (f.page < g.pages)) → ((f : Found) → Contains added f ↔ ((f.block ≡ b) × kind (spot_of f)))
     → ThinsFound added old new → HasLatestBelow kind b old → HasLatestBelow kind (b + 1) new
-latest_block kind g b added old new within lies exact thins below = record {
+latest_block kind named g b added old new within lies exact thins below = record {
   only = λ x has. elim (thins.among x has) [
     | inl was ↦ below.only x was
     | inr is ↦ let (f, there, fits, same) = is in (spot_of f, ((exact f).0 there).1, same)
@@ -75,7 +75,7 @@ latest_block kind g b added old new within lies exact thins below = record {
     | inl here ↦
         let has : Contains added (found_of s) = (exact (found_of s)).1 (here, is) in
         let at = lies (found_of s) has in
-        let (x, there, key, last) = thins.some (copy_at s) (inr (found_of s, has, place_fits g (found_of s) low (omega (arith, at.0, within)) at.1, refl)) in
+        let (x, there, key, last) = thins.some (copy_at s) (inr (found_of s, has, place_fits g (found_of s) low (omega (arith, at.0, within)) at.1 (named s is), refl)) in
         record { copy = x; has = there; key = key; last = last }
     | inr ne ↦
         let was = below.some s (omega (arith, lt, ne)) low is in

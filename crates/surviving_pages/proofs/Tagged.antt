@@ -172,4 +172,4 @@ module _ (d : Device) (b : ℕ) (tags : List (Option Tag)) (len : length tags �
       → HasLatestBelow (IsSurvivor d.flash) b old → HasLatestBelow (IsSurvivor d.flash) (b + 1) new
   survivors_latest within told good lt =
       let same = survivor_told d.flash b d.geometry.pages d.geometry.blocks tags within len told in
-      latest_block (IsSurvivor d.flash) d.geometry b added old new lt lies (λ f. (λ has. (same f good).1 ((lists f).0 has), λ is. (lists f).1 ((same f good).0 is))) thins
+      latest_block (IsSurvivor d.flash) (λ s is. let valid = is.has.valid in (valid.object.0, valid.object.1, valid.version.0)) d.geometry b added old new lt lies (λ f. (λ has. (same f good).1 ((lists f).0 has), λ is. (lists f).1 ((same f good).0 is))) thins

@@ -32,6 +32,7 @@ pub mod Buckets
 pub mod Tables
 pub mod Entries
 pub mod TrueTables
+pub mod SummaryTables
 pub mod Data
 pub mod Keeping
 pub mod FlashSealed

@@ -80,7 +80,7 @@ counted_unwritten before after t t' recounts is b = (recounts.next b ∙ (is b).
 
 -- ---- what was found is named
 
-contains_at : (list : List PageCopy) (i : ℕ) (f : PageCopy) → slice_get list i ≡ Some f → Contains list f
+pub contains_at : (list : List PageCopy) (i : ℕ) (f : PageCopy) → slice_get list i ≡ Some f → Contains list f
 contains_at list i f at = (i, slice_get_within list i f at, get_or_from_slice_get list i f f at)
 
 -- a page that was found is the newest of its key
@@ -231,13 +231,15 @@ module _ (list : List PageCopy) (x : Index) (indexes : Indexes list (length list
       let there : IsNewest d.flash o c is.spot = subst (λ k. IsNewest d.flash o k is.spot) of.1 (subst (λ k. IsNewest d.flash k f.chunk is.spot) of.0 is.newest) in
       subst (λ (q : KeptPage). IsKeptAt d.flash o c q) (ap page_of is.copied ∙ was.4) (record { tag = is.spot.tag; newest = there; version = refl })
 
-  -- and each newest page is kept
-  pub all_kept : (d : Device) → TellsNewest d list → d.honest ≡ true → (o c : ℕ) (s : Spot) → c < 2 ^ 32 → IsNewest d.flash o c s → kept_pages x o c ≡ Some (kept_at s)
-  all_kept d tells honest o c s low newest =
-      let has = (tells.exact honest).each o c s low newest in
+  -- a page that is listed is kept
+  pub listed_kept : (o c : ℕ) (s : Spot) → s.tag.object ≡ o → s.tag.chunk ≡ c → Contains list (copy_at s) → kept_pages x o c ≡ Some (kept_at s)
+  listed_kept o c s object chunk has =
       let at : slice_get list has.0 ≡ Some (copy_at s) = subst (λ y. slice_get list has.0 ≡ Some y) has.2 (slice_get-get_or list has.0 (copy_at s) has.1) in
-      let here = kept_found has.0 (copy_at s) at in
-      sym (ap (λ k. kept_pages x k s.tag.chunk) newest.holds.object ∙ ap (kept_pages x o) newest.holds.chunk) ∙ here
+      sym (ap (λ k. kept_pages x k s.tag.chunk) object ∙ ap (kept_pages x o) chunk) ∙ kept_found has.0 (copy_at s) at
+
+  -- and so is each newest page
+  pub all_kept : (d : Device) → TellsNewest d list → d.honest ≡ true → (o c : ℕ) (s : Spot) → c < 2 ^ 32 → IsNewest d.flash o c s → kept_pages x o c ≡ Some (kept_at s)
+  all_kept d tells honest o c s low newest = listed_kept o c s newest.holds.object newest.holds.chunk ((tells.exact honest).each o c s low newest)
 
 -- a table with the marks of the device and numbers above its tags is ready, with no block open
 pub ready_from : (d : Device) (n : Numbers) (t : Table) → t.geometry ≡ d.geometry → ((b : ℕ) → (t.entry b).bad ≡ d.flash.bad b) → t.open_block ≡ None → ((c : ℕ) → t.checkpoint ≡ Some c → IsWaiting d t c)

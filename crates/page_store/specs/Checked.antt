@@ -3,9 +3,11 @@
 use Rattle.std.specs.Prelude.{◌≡◌, ◌≢◌, ◌<◌, ◌≤◌, ◌^◌, ℕ, Bool, true, false, Some, slice_get}
 use Rattle.nand_model.specs.Calls.{Device}
 use Rattle.nand_model.specs.Flash.{Flash}
+use Rattle.nand_model.specs.declared.geometry.Geometry.{Geometry}
 use Rattle.page_tags.specs.declared.check.CheckEntry.{CheckEntry}
 use Rattle.posix_profile.specs.State.{Objects}
 use Rattle.flash_tree.specs.Checkpoints.{Checkpoint, IsChecked, IsTrueFlash}
+use Rattle.flash_tree.specs.MountableFlash.{MayBeMountable}
 use Rattle.flash_tree.specs.Mount.{sizes_of, IsVolume}
 use Rattle.flash_tree.specs.Newest.{Spot, IsNewest, HasNewest, Numbers, AreAbove}
 use Rattle.flash_tree.specs.Places.{numbers_of}
@@ -55,9 +57,18 @@ abbrev pub IsOpenedFor : Device → Checkpoint → Opened → Type 0
 IsOpenedFor device c opened = (told : Bool) → IsTrustedFor c told device
     → IsOpenedBy (Some c.block) (trusted_as told device) (table opened.blocks) opened.index (numbers_of opened.numbers)
 
--- the device is honest and its flash true
+-- The flash shows a tree, and a mount finds it by whichever way it goes: each whole checkpoint is right, and it may go by the summaries.
+pub record IsConsistent (g : Geometry) (flash : Flash) : Type 0 where
+  pub truth : IsTrueFlash g flash
+  pub mountable : MayBeMountable g flash
+  pub spare : ℕ
+  pub objects : Objects
+  pub volume : IsVolume g (HasNewest flash) spare
+  pub shows : Shows (sizes_of g spare) (HasNewest flash) objects
+
+-- the device is honest and its flash true: a mount finds its tree by whichever way it goes
 abbrev pub HasTrueFlash : Device → Type 0
-HasTrueFlash device = (device.honest ≡ true) × IsTrueFlash device.geometry device.flash
+HasTrueFlash device = (device.honest ≡ true) × IsConsistent device.geometry device.flash
 
 -- of an honest device with no tag of a number above the checkpoint's the table knows the first pages, where numbers are left
 abbrev pub KnowsFirstsBy : Device → Checkpoint → Opened → Type 0

@@ -24,6 +24,7 @@ pub mod Buffering
 pub mod Opened
 pub mod KnownFirsts
 pub mod Checked
+pub mod FoundTables
 pub mod NewestParts
 pub mod Newest
 pub mod ReadOnly

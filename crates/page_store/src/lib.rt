@@ -31,6 +31,7 @@ mod sealing;
 mod slot;
 mod store;
 mod store_trait;
+mod summary_opening;
 mod turn;
 
 pub use buffer::Buffer;
@@ -50,3 +51,4 @@ pub use opening::{OpenFault, Opened, open};
 pub use pages::Change;
 pub use read_only::ReadOnlyPages;
 pub use store::Store;
+pub use summary_opening::open_summarized;

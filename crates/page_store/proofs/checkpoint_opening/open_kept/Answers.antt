@@ -17,7 +17,7 @@ use Rattle.page_store.proofs.checkpoint_opening.open_kept.Goals as goal
 pub returns-then-not-may_all_be_kept-clause-some : goal.returns-then-not-may_all_be_kept-clause-some
 returns-then-not-may_all_be_kept-clause-some g c = λ (honest, true_flash).
     absurd (not_true c.may_all_be_kept.result c.if-not-may_all_be_kept.true
-    (c.may_all_be_kept.ensures.1 (all_may (g.N.Nand.state c.args.device.now) (checkpoint_of c.args.found.now) honest (c.requires.whole honest) true_flash (g.met.N.Nand.within c.args.device.now))))
+    (c.may_all_be_kept.ensures.1 (all_may (g.N.Nand.state c.args.device.now) (checkpoint_of c.args.found.now) honest (c.requires.whole honest) true_flash.truth (g.met.N.Nand.within c.args.device.now))))
 
 pub from_kept-requires-clause-rise : goal.from_kept-requires-clause-rise
 from_kept-requires-clause-rise g c = subst (λ (es : List CheckEntry). KeyRises (map entry_key es)) (sym c.deref-2.ensures.value) (keys_rise c.args.found.now.entries.items c.requires.form.rise)
@@ -61,7 +61,7 @@ returns-clause-tree g c = λ (honest, true_flash).
     let d = g.N.Nand.state c.args.device.now in
     let placed = c.may_all_be_kept.ensures.0 c.if-not-may_all_be_kept.false in
     let list = subst (λ (es : List CheckEntry). IsListOf (kept_pages c.in_ok-index.index) (map entry_key es)) c.deref-2.ensures.value c.in_ok-index.ensures.list in
-    keeps_tree d (checkpoint_of c.args.found.now) honest (c.requires.whole honest) true_flash _ (table c.in_ok-index.blocks) c.requires.form placed list c.note_checkpoint.ensures
+    keeps_tree d (checkpoint_of c.args.found.now) honest (c.requires.whole honest) true_flash.truth _ (table c.in_ok-index.blocks) c.requires.form placed list c.note_checkpoint.ensures
 
 pub returns-clause-firsts : goal.returns-clause-firsts
 returns-clause-firsts g c =

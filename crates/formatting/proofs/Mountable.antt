@@ -71,6 +71,7 @@ module _ (spare : ℕ) (d : Device) (only : HoldsOnlyRoot spare d) (head : IsHea
   root_findable = record {
     ordinary = λ o c key same. let object : check_object ≡ root_number = sym same ∙ key.0 in omega (arith, object);
     there = λ o c key. (there.spot, subst (λ k. IsNewest f o k there.spot) (sym key.1) (subst (λ k. IsNewest f k 0 there.spot) (sym key.0) there.newest));
+    listed = λ s o c p whole matches key newest at. absurd (none_whole s whole);
     latest = λ s e p whole matches listed key newest after. none_whole s whole;
     in_order = λ o c l p key newest lt erased.
         let page : p.page ≡ 0 = ap (λ (s : Spot). s.page) (only_spot f bytes tag valid only.alone o c p newest.holds) in
@@ -101,7 +102,6 @@ module _ (spare : ℕ) (d : Device) (only : HoldsOnlyRoot spare d) (head : IsHea
         older = λ s whole. absurd (none_whole s whole);
         versions = λ s e whole listed. absurd (none_whole s whole);
         below = λ s l t whole matches has. absurd (none_whole s whole);
-        lists = λ s o c p whole matches holds block other. absurd (none_whole s whole);
       };
       first = first;
     };

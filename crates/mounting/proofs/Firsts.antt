@@ -47,7 +47,7 @@ known_after a b before after t u n reads recounts known honest left =
     flash_after a b reads honest u (known_counted a.flash before after t u recounts (known (sym reads.lasts.honest ∙ honest) left))
 
 -- a device with a tree has a tag, whose number was handed out
-some_number : (d : Device) (t : Table) (x : Index) (n : Numbers) (spare : ℕ) (tree : Tree) → d.honest ≡ true → IsTreeRead d t x n spare tree → 1 ≤ n.seq
+pub some_number : (d : Device) (t : Table) (x : Index) (n : Numbers) (spare : ℕ) (tree : Tree) → d.honest ≡ true → IsTreeRead d t x n spare tree → 1 ≤ n.seq
 some_number d t x n spare tree honest read =
     let on = read.tree_on honest in
     let volume = on.through.volume in

@@ -25,3 +25,8 @@ pub mod Filtered
 pub mod VolumeSizes
 pub mod RootFaults
 pub mod Mountable
+pub mod Zeros
+pub mod Narrowing
+pub mod Deciding
+pub mod SureFound
+pub mod Found

@@ -23,7 +23,7 @@ use Rattle.chunk_index.specs.Kept.{HoldsNone}
 use Rattle.chunk_index.specs.Maps.{kept_pages, kept_in}
 use Rattle.chunk_index.specs.declared.index.Index.{Index}
 use Rattle.flash_log.specs.Standing.{AreKept}
-use Rattle.page_store.specs.Checked.{HasTrueFlash}
+use Rattle.page_store.specs.Checked.{HasTrueFlash, IsConsistent}
 use Rattle.page_store.specs.Opened.{IsOpenedBy}
 use Rattle.paged_objects.specs.laws.Findable.{one_spare}
 use Rattle.pages.specs.Maps.{PageMap, has}
@@ -163,18 +163,24 @@ noted_checked g flash at t u true_flash only notes good empty = record {
 pub true_after : (a b : Device) → OnlyReads a b → HasTrueFlash a → HasTrueFlash b
 true_after a b reads (honest, is) = (
   reads.lasts.honest ∙ honest,
-  subst (λ (g : Geometry). IsTrueFlash g b.flash) (sym reads.lasts.geometry) (subst (λ (f : Flash). IsTrueFlash a.geometry f) (sym (same_flash a b reads honest)) is),
+  subst (λ (g : Geometry). IsConsistent g b.flash) (sym reads.lasts.geometry) (subst (λ (f : Flash). IsConsistent a.geometry f) (sym (same_flash a b reads honest)) is),
 )
-
-pub true_before : (a b : Device) → OnlyReads a b → HasTrueFlash b → HasTrueFlash a
-true_before a b reads (honest, is) =
-    let was : a.honest ≡ true = sym reads.lasts.honest ∙ honest in
-    (was, subst (λ (g : Geometry). IsTrueFlash g a.flash) reads.lasts.geometry (subst (λ (f : Flash). IsTrueFlash b.geometry f) (same_flash a b reads was) is))
 
 pub checked_before : (a b : Device) (at : Option ℕ) → OnlyReads a b → (HasTrueFlash b → IsChecked b.geometry b.flash at) → HasTrueFlash a → IsChecked a.geometry a.flash at
 checked_before a b at reads checked is =
     subst (λ (g : Geometry). IsChecked g a.flash at) reads.lasts.geometry
     (subst (λ (f : Flash). IsChecked b.geometry f at) (same_flash a b reads is.0) (checked (true_after a b reads is)))
+
+-- of one that is honest, and on whose flash each whole checkpoint is right
+pub right_after : (a b : Device) → OnlyReads a b → a.honest ≡ true → IsTrueFlash a.geometry a.flash → IsTrueFlash b.geometry b.flash
+right_after a b reads honest is =
+    subst (λ (g : Geometry). IsTrueFlash g b.flash) (sym reads.lasts.geometry) (subst (λ (f : Flash). IsTrueFlash a.geometry f) (sym (same_flash a b reads honest)) is)
+
+pub right_before : (a b : Device) (at : Option ℕ) → OnlyReads a b → (b.honest ≡ true → IsTrueFlash b.geometry b.flash → IsChecked b.geometry b.flash at)
+    → a.honest ≡ true → IsTrueFlash a.geometry a.flash → IsChecked a.geometry a.flash at
+right_before a b at reads checked honest is =
+    subst (λ (g : Geometry). IsChecked g a.flash at) reads.lasts.geometry
+    (subst (λ (f : Flash). IsChecked b.geometry f at) (same_flash a b reads honest) (checked (reads.lasts.honest ∙ honest) (right_after a b reads honest is)))
 
 -- a whole checkpoint lies there still
 holds_after : (a b : Device) (at : Option ℕ) → OnlyReads a b → HoldsWhole a at → HoldsWhole b at
@@ -190,9 +196,11 @@ may_after a b at reads may = record {
       let was = may.good k is in
       (subst (λ (g : Geometry). k < g.blocks) (sym reads.lasts.geometry) was.0, ap (λ (bad : ℕ → Bool). bad k) reads.bad ∙ was.1);
   whole = holds_after a b at reads may.whole;
-  only = λ is.
-      let was = true_before a b reads is in
-      subst (λ (g : Geometry). StandsOnly g b.flash at) (sym reads.lasts.geometry) (subst (λ (f : Flash). StandsOnly a.geometry f at) (sym (same_flash a b reads was.0)) (may.only was));
+  only = λ honest is.
+      let was : a.honest ≡ true = sym reads.lasts.honest ∙ honest in
+      let flash : b.flash ≡ a.flash = same_flash a b reads was in
+      let true_was : IsTrueFlash a.geometry a.flash = subst (λ (g : Geometry). IsTrueFlash g a.flash) reads.lasts.geometry (subst (λ (f : Flash). IsTrueFlash b.geometry f) flash is) in
+      subst (λ (g : Geometry). StandsOnly g b.flash at) (sym reads.lasts.geometry) (subst (λ (f : Flash). StandsOnly a.geometry f at) (sym flash) (may.only was true_was));
 }
 
 -- ---- a volume that goes on after a scan
@@ -225,14 +233,14 @@ TestLaw = (z : Sizes) (m : PageMap) (objects : Objects) (list : List ℕ) (keeps
     → GoesThrough z (has m) (root_number ∷ []) 0 (Wholly list) → ((o c : ℕ) → (keeps o c ≡ true) ↔ IsLookedUp z (has m) list o c) → KeepsFootprint z m objects keeps
 
 pub scan_checked : KeysLaw → TestLaw → (d : Device) (t u : Table) (x : Index) (n : Numbers) (spare : ℕ) (tree : Tree) (objects : Objects) (at : Option ℕ) → ((b : ℕ) → HoldsNone (kept_pages x) b → kept_in x b ≡ 0)
-    → HasTrueFlash d → MayBeNoted d at → NotesFree at t u → IsTreeRead d t x n spare tree → IsTreeShown d x spare tree objects → IsChecked d.geometry d.flash u.checkpoint
-scan_checked keys test d t u x n spare tree objects at zero (honest, true_flash) may notes read shown =
+    → d.honest ≡ true → IsTrueFlash d.geometry d.flash → MayBeNoted d at → NotesFree at t u → IsTreeRead d t x n spare tree → IsTreeShown d x spare tree objects → IsChecked d.geometry d.flash u.checkpoint
+scan_checked keys test d t u x n spare tree objects at zero honest true_flash may notes read shown =
     let on = shown.on in
     let m : PageMap = on.pages in
     let z : Sizes = sizes_of d.geometry spare in
     let size = is_size d.geometry spare in
     let foot = test z m objects (objects_listed tree) (keeps_key tree) size.least size.most shown.shows on.through.tree_is.through (keys z m tree (sym on.through.size) on.through.tree_is.heads) in
-    noted_checked d.geometry d.flash at t u true_flash (may.only (honest, true_flash)) notes read.tables.tables.good
+    noted_checked d.geometry d.flash at t u true_flash (may.only honest true_flash) notes read.tables.tables.good
     (λ c whole. read.tables.tables.counts.counts c.block ∙ zero c.block
     (holds_none d.flash x (keeps_key tree) c.block (read.tables.tables.newest honest) read.tables.others
     (λ o k s stays newest. lies_apart d.geometry d.flash c (true_flash c whole) m on.newest spare objects on.through.volume shown.shows o k s ((foot o k).0 stays) newest)))
@@ -251,7 +259,17 @@ since_before a b c seen reads power since = record {
   trusted = λ is. since.trusted (true_after a b reads is);
 }
 
+-- one that is trusted is so, however its flash is
+pub since_trusted : (a b seen : Device) → IsReadAs true a b seen → IsTrustedSince a b seen
+since_trusted a b seen read = record { told = true; read = read; trusted = λ is. refl }
+
+pub read_before : (a b c seen : Device) → OnlyReads a b → (a.gone ≡ false → b.gone ≡ false) → IsReadAs true b c seen → IsReadAs true a c seen
+read_before a b c seen reads power read = record { reads = only_reads_on a b c reads read.reads; power = λ was. read.power (power was); seen_is = read.seen_is }
+
 -- the same devices
+pub read_same : (a b c s t : Device) → c ≡ b → t ≡ s → IsReadAs true a b s → IsReadAs true a c t
+read_same a b c s t new seen read = subst (λ (d : Device). IsReadAs true a c d) (sym seen) (subst (λ (d : Device). IsReadAs true a d s) (sym new) read)
+
 pub since_same : (a b c s t : Device) → c ≡ b → t ≡ s → IsTrustedSince a b s → IsTrustedSince a c t
 since_same a b c s t new seen since = subst (λ (d : Device). IsTrustedSince a c d) (sym seen) (subst (λ (d : Device). IsTrustedSince a d s) (sym new) since)
 
@@ -295,7 +313,7 @@ pub none_noted : (a b : Device) → OnlyReads a b → HasNoneWhole a → MayBeNo
 none_noted a b reads none = may_after a b None reads (record {
   good = λ k is. absurd cc;
   whole = λ honest k is. absurd cc;
-  only = λ (honest, is) c whole. absurd (none honest is c whole);
+  only = λ honest is c whole. absurd (none honest is c whole);
 })
 
 -- and where one is, its block is
@@ -303,7 +321,7 @@ pub found_noted : (d : Device) (c : Checkpoint) → HasForm d c → IsWholeOn d 
 found_noted d c form whole = record {
   good = λ k is. let same : c.block ≡ k = cc in subst (IsGoodOn d) same (form.block, form.good);
   whole = λ honest k is. (c, whole honest, cc);
-  only = λ (honest, is) other there. ap Some (same_block d.geometry d.flash is c other (whole honest) there);
+  only = λ honest is other there. ap Some (same_block d.geometry d.flash is c other (whole honest) there);
 }
 
 -- ---- what is said of a result

@@ -1,5 +1,5 @@
 -- How many pages were read to see the tree of a device whose flash is sound.
-use Rattle.std.specs.Prelude.{◌≡◌, ◌≤◌, ◌+◌, ℕ, true, Result, Ok, Err, IfOk}
+use Rattle.std.specs.Prelude.{◌≡◌, ◌≤◌, ◌+◌, ◌*◌, ℕ, Bool, true, Result, Ok, Err, IfOk}
 use Rattle.std.proofs.Common.{sym, ◌∙◌, ap, subst, arith}
 use Rattle.std.proofs.lemmas.Bool.{and_from}
 use Rattle.nand_model.specs.Flash.{Flash}
@@ -14,6 +14,7 @@ use Rattle.flash_tree.specs.laws.Place.{same_flash}
 use Rattle.page_store.specs.Checked.{HasTrueFlash}
 use Rattle.mount_scan.specs.FoundCheckpoint.{IsWholeOn, ReadsFew}
 use Rattle.flash_tree.specs.Checkpoints.{Checkpoint}
+use Rattle.mount_scan.specs.FewReads.{AreSizes, HaveSummaries, ReadsByNeed, one_other, sum_below}
 use Rattle.mount_scan.specs.Scanned.{good_pages}
 use Rattle.pages.specs.Maps.{PageMap, has}
 use Rattle.tree_walk.specs.Looked.{looked_pages}
@@ -23,8 +24,8 @@ use Rattle.tree_walk.specs.declared.tree.Tree.{Tree}
 use Rattle.volume_terms.specs.Sizes.{Sizes, IsSizes}
 use Rattle.chunk_index.specs.declared.index.Index.{Index}
 use Rattle.mounting.specs.Mounted.{IsTreeShown}
-use Rattle.mounting.specs.Named.{IsTrustedSince}
-use Rattle.mounting.specs.Reads.{EndsMount, ReadsAll, ReadsByCheckpoint, ReadsByScan, ReadsScanned, ReadsThrough, ReadsTree, all_pages}
+use Rattle.mounting.specs.Named.{IsReadAs, IsTrustedSince}
+use Rattle.mounting.specs.Reads.{AreSummarized, EndsMount, ReadsAll, ReadsAllTags, ReadsByCheckpoint, ReadsBySummaries, ReadsNeeded, ReadsScanned, ReadsThrough, ReadsTree, ReadsWithoutCheckpoint, all_pages, needed_pages}
 use Rattle.mounting.proofs.Noting.{true_after}
 
 -- the laws that are used
@@ -90,7 +91,7 @@ sound_after a b spare objects reads honest sound =
 pub reads_by : (a b new : Device) → OnlyReads a b → ReadsFew a b → (HasTrueFlash b → ReadsTree b new) → ReadsByCheckpoint a new
 reads_by a b new reads few tree is c whole spare objects sound =
     let here = sound_after a b spare objects reads is.0 sound in
-    let first = few is.0 is.1 c whole in
+    let first = few is.0 is.1.truth c whole in
     let then = tree (true_after a b reads is) spare objects here in
     let same : looked_pages (sizes_of b.geometry spare) objects ≡ looked_pages (sizes_of a.geometry spare) objects = ap (λ (g : Geometry). looked_pages (sizes_of g spare) objects) reads.lasts.geometry in
     omega (arith, first, then, same)
@@ -125,23 +126,72 @@ reads_scanned a b c spare tree reads first then =
     let same : tree_pages (sizes_of b.geometry spare) tree ≡ tree_pages (sizes_of a.geometry spare) tree = ap (λ (g : Geometry). tree_pages (sizes_of g spare) tree) reads.lasts.geometry in
     omega (arith, first, then, same)
 
--- after the search, which found no checkpoint
-pub scans_after : (a b new : Device) → OnlyReads a b → b.reads ≤ a.reads + (a.geometry.blocks + a.geometry.pages) → (HasTrueFlash b → ReadsAll b new) → ReadsByScan a new
-scans_after a b new reads first all is none spare objects sound =
-    let then = all (true_after a b reads is) spare objects (sound_after a b spare objects reads is.0 sound) in
-    let pages = same_pages a b reads is.0 in
+-- after the search, whatever it found
+pub tags_after : (a b new : Device) → OnlyReads a b → b.reads ≤ a.reads + (a.geometry.blocks + a.geometry.pages) → (b.honest ≡ true → ReadsAll b new) → ReadsAllTags a new
+tags_after a b new reads first all honest spare objects sound =
+    let then = all (reads.lasts.honest ∙ honest) spare objects (sound_after a b spare objects reads honest sound) in
+    let pages = same_pages a b reads honest in
     let looked : looked_pages (sizes_of b.geometry spare) objects ≡ looked_pages (sizes_of a.geometry spare) objects = ap (λ (g : Geometry). looked_pages (sizes_of g spare) objects) reads.lasts.geometry in
     omega (arith, first, then, pages, looked)
 
+-- a device that is trusted is read as it is
+pub tags_seen : (a b seen : Device) → IsReadAs true a b seen → ReadsAllTags a b → ReadsAllTags a seen
+tags_seen a b seen read few honest spare objects sound =
+    let same : seen.reads ≡ b.reads = ap (λ (d : Device). d.reads) read.seen_is in
+    let less = few honest spare objects sound in
+    omega (arith, less, same)
+
+-- ---- by summaries
+
+-- as many are needed
+needed_same : (a b : Device) (these : ℕ → Bool) (sizes : ℕ → ℕ) → OnlyReads a b → a.honest ≡ true → needed_pages b these sizes ≡ needed_pages a these sizes
+needed_same a b these sizes reads honest =
+    ap (λ (f : Flash). sum_below sizes b.geometry.blocks + b.geometry.pages * (1 + sum_below (one_other f these) b.geometry.blocks)) (same_flash a b reads honest)
+    ∙ ap (λ (g : Geometry). sum_below sizes g.blocks + g.pages * (1 + sum_below (one_other a.flash these) g.blocks)) reads.lasts.geometry
+
+summarized_after : (a b : Device) (these : ℕ → Bool) (sizes : ℕ → ℕ) → OnlyReads a b → a.honest ≡ true → AreSummarized a these sizes → AreSummarized b these sizes
+summarized_after a b these sizes reads honest (have, are) =
+    let flash : a.flash ≡ b.flash = sym (same_flash a b reads honest) in (
+      subst (λ (g : Geometry). HaveSummaries g b.flash these) (sym reads.lasts.geometry) (subst (λ (f : Flash). HaveSummaries a.geometry f these) flash have),
+      subst (λ (f : Flash). AreSizes f sizes) flash are,
+    )
+
+-- first what a scan by summaries needs is read, and then the tree
+pub reads_needed : (a b c : Device) (spare : ℕ) (tree : Tree) → OnlyReads a b → a.honest ≡ true → ReadsByNeed a b → ReadsThrough b c spare tree → ReadsNeeded a c spare tree
+reads_needed a b c spare tree reads honest need then these sizes (have, are) =
+    let first = need honest these sizes have are in
+    let same : tree_pages (sizes_of b.geometry spare) tree ≡ tree_pages (sizes_of a.geometry spare) tree = ap (λ (g : Geometry). tree_pages (sizes_of g spare) tree) reads.lasts.geometry in
+    omega (arith, first, then, same)
+
+-- of a flash that is sound
+pub reads_summaries : (a b seen : Device) → (since : IsTrustedSince a b seen) → (is : HasTrueFlash a) → ReadLaws → (x : Index) (spare : ℕ) (tree : Tree) (objects : Objects) → ReadsNeeded a b spare tree
+    → Answers seen.geometry seen.flash (IsTreeOf spare objects) → IsTreeShown seen x spare tree objects → ReadsBySummaries a b
+reads_summaries a b seen since is laws x spare tree objects few answers shown s other sound these sizes are =
+    let looked = looked_as a seen (geometry a b seen since is) (flash a b seen since is) laws x spare tree objects answers shown s other sound in
+    let read = few these sizes are in
+    omega (arith, read, looked)
+
+-- where a scan would follow, the flash was not sound
+pub summaries_not : (a e new : Device) (fault : RootFault) → ((spare : ℕ) (tree : Objects) → IsSoundFlash a.geometry a.flash spare tree → EndsMount e fault) → (EndsMount e fault → ⊥) → ReadsBySummaries a new
+summaries_not a e new fault ends not spare objects sound these sizes are = absurd (not (ends spare objects sound))
+
+-- after the search, which found no checkpoint
+pub without_after : (a b new : Device) → OnlyReads a b → b.reads ≤ a.reads + (a.geometry.blocks + a.geometry.pages) → (HasTrueFlash b → ReadsBySummaries b new) → ReadsWithoutCheckpoint a new
+without_after a b new reads first few is none spare objects sound these sizes are =
+    let then = few (true_after a b reads is) spare objects (sound_after a b spare objects reads is.0 sound) these sizes (summarized_after a b these sizes reads is.0 are) in
+    let need = needed_same a b these sizes reads is.0 in
+    let looked : looked_pages (sizes_of b.geometry spare) objects ≡ looked_pages (sizes_of a.geometry spare) objects = ap (λ (g : Geometry). looked_pages (sizes_of g spare) objects) reads.lasts.geometry in
+    omega (arith, first, then, need, looked)
+
 -- where a checkpoint was found there is one
-pub scans_not : (a new : Device) (c : Checkpoint) → IsWholeOn a c → ReadsByScan a new
-scans_not a new c whole is none = absurd (none c (whole is.0))
+pub without_not : (a new : Device) (c : Checkpoint) → IsWholeOn a c → ReadsWithoutCheckpoint a new
+without_not a new c whole is none = absurd (none c (whole is.0))
 
 -- a device that is trusted is read as it is
-pub scans_seen : (a b seen : Device) → IsTrustedSince a b seen → ReadsByScan a b → ReadsByScan a seen
-scans_seen a b seen since few is none spare objects sound =
+pub without_seen : (a b seen : Device) → IsTrustedSince a b seen → ReadsWithoutCheckpoint a b → ReadsWithoutCheckpoint a seen
+without_seen a b seen since few is none spare objects sound these sizes are =
     let same : seen.reads ≡ b.reads = ap (λ (d : Device). d.reads) since.read.seen_is in
-    let less = few is none spare objects sound in
+    let less = few is none spare objects sound these sizes are in
     omega (arith, less, same)
 
 -- what is said of each result

@@ -31,6 +31,12 @@ of_open opens.NoMemory = faults.NoMemory
 of_open opens.Lost = faults.Damaged
 of_open opens.Gone = faults.Gone
 
+-- a fault of an opening by summaries, as one of a tree that was not read
+abbrev pub of_found : OpenFault → RootFault
+of_found opens.NoMemory = roots.NoMemory
+of_found opens.Lost = roots.Damaged
+of_found opens.Gone = roots.Device
+
 -- a fault of the search for a checkpoint, as one of a mount
 abbrev pub of_search : ScanFault → MountFault
 of_search scans.NoMemory = faults.NoMemory

@@ -4,14 +4,14 @@ use Rattle.std.specs.Prelude.{◌≡◌, ◌↔◌, true}
 use Rattle.nand_model.specs.Calls.{Device}
 use Rattle.nand_model.specs.declared.nand.Nand.{Ghosts}
 use Rattle.posix_profile.specs.State.{Objects}
-use Rattle.flash_tree.specs.Checkpoints.{IsChecked}
+use Rattle.flash_tree.specs.Checkpoints.{IsChecked, IsTrueFlash}
 use Rattle.page_store.specs.declared.flash_pages.FlashPages.{FlashPages}
 use Rattle.page_store.specs.Checked.{HasTrueFlash}
 use Rattle.pages.specs.State.{PagesState}
 use Rattle.mounting.specs.Made.{AreNext, CanOnlyBeRead, HasSizes, IsMountedWith, Remembers}
-use Rattle.mounting.specs.Named.{IsTrustedSince}
+use Rattle.mounting.specs.Named.{IsReadAs, IsTrustedSince}
 use Rattle.mounting.specs.Places.{ArePlaced}
-use Rattle.mounting.specs.Reads.{ReadsAtMost}
+use Rattle.mounting.specs.Reads.{ReadsAllTags, ReadsAtMost}
 use Rattle.mounting.specs.declared.mounted.Mounted.{Mounted}
 
 -- The pages, the table and the names are those of one volume, which can be written but where blocks or numbers are used up; and if their
@@ -24,11 +24,21 @@ pub record IsMade {N : Type 0} {nand : Ghosts N} (state : FlashPages N nand → 
   pub tree : (state m.pages).device.honest ≡ true → (objects : Objects) × IsMountedWith (state m.pages) m.table m.names objects
   pub placed : (state m.pages).device.honest ≡ true → ArePlaced (state m.pages).device (state m.pages).spare m.pages
 
--- What a mount of a device gives is made of it: it was only read, by so many pages, and is trusted where its flash was true; then the
--- block that is noted is the only one with a whole checkpoint, which is right. The flash of an honest device is remembered.
+-- What a mount of a device gives is made of it: it was only read, by so many pages, and is trusted where its flash was true, by whichever
+-- way it went; then the block that is noted is the only one with a whole checkpoint, which is right. The flash of an honest device is
+-- remembered.
 pub record IsGiven {N : Type 0} {nand : Ghosts N} (state : FlashPages N nand → PagesState) (device now : Device) (m : Mounted N nand) : Type 0 where
   pub since : IsTrustedSince device now (state m.pages).device
   pub made : IsMade state m
   pub checked : HasTrueFlash device → IsChecked device.geometry device.flash (state m.pages).checkpoint
   pub few : ReadsAtMost device (state m.pages).device
+  pub remembers : device.honest ≡ true → Remembers device (state m.pages)
+
+-- What a mount by all tags gives of a device is made of it: it was only read, by so many pages, and is trusted whatever its flash is; and where
+-- each whole checkpoint is right, the block that is noted is the only one with one. The flash of an honest device is remembered.
+pub record IsGivenByScan {N : Type 0} {nand : Ghosts N} (state : FlashPages N nand → PagesState) (device now : Device) (m : Mounted N nand) : Type 0 where
+  pub since : IsReadAs true device now (state m.pages).device
+  pub made : IsMade state m
+  pub checked : device.honest ≡ true → IsTrueFlash device.geometry device.flash → IsChecked device.geometry device.flash (state m.pages).checkpoint
+  pub few : ReadsAllTags device (state m.pages).device
   pub remembers : device.honest ≡ true → Remembers device (state m.pages)

@@ -2,12 +2,11 @@
 -- From: this project.
 use Rattle.std.specs.Prelude.{◌≡◌, ◌≤◌, ◌<◌, ◌⊎◌, ℕ, true, false, Option, Some, None}
 use Rattle.nand_model.specs.Calls.{Device}
-use Rattle.flash_tree.specs.Checkpoints.{StandsOnly}
+use Rattle.flash_tree.specs.Checkpoints.{IsTrueFlash, StandsOnly}
 use Rattle.flash_tree.specs.Mount.{Answers, IsTreeOf, sizes_of}
 use Rattle.flash_tree.specs.Places.{numbers_of}
 use Rattle.block_state.specs.Table.{Table}
 use Rattle.block_state.specs.TableOf.{table}
-use Rattle.page_store.specs.Checked.{HasTrueFlash}
 use Rattle.posix_profile.specs.State.{Objects}
 use Rattle.posix_profile.specs.Charge.{charge}
 use Rattle.volume_terms.specs.Sizes.{capacity}
@@ -35,11 +34,11 @@ pub record IsGoing {N : Type 0} (device : Device) (going : Going N) : Type 0 whe
 abbrev pub IsGoodOn : Device → ℕ → Type 0
 IsGoodOn device b = (b < device.geometry.blocks) × (device.flash.bad b ≡ false)
 
--- The block may be noted: it is a good one with a whole checkpoint, if there is one, and each whole checkpoint of a true flash lies in it.
+-- The block may be noted: it is a good one with a whole checkpoint, if there is one, and where each whole checkpoint is right, each lies in it.
 pub record MayBeNoted (device : Device) (at : Option ℕ) : Type 0 where
   pub good : (b : ℕ) → at ≡ Some b → IsGoodOn device b
   pub whole : HoldsWhole device at
-  pub only : HasTrueFlash device → StandsOnly device.geometry device.flash at
+  pub only : device.honest ≡ true → IsTrueFlash device.geometry device.flash → StandsOnly device.geometry device.flash at
 
 -- The block is noted where it is free, and else nothing changes.
 pub record NotesFree (at : Option ℕ) (old new : Table) : Type 0 where

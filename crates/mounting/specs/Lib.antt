@@ -1,4 +1,5 @@
 pub mod Lending
+pub mod Candidates
 pub mod Marked
 pub mod Tables
 pub mod Trees

@@ -1,12 +1,13 @@
 -- How many pages a mount reads.
 -- From: this project.
-use Rattle.std.specs.Prelude.{◌≡◌, ◌⊎◌, ◌≤◌, ℕ, ◌+◌, true}
+use Rattle.std.specs.Prelude.{◌≡◌, ◌⊎◌, ◌≤◌, ℕ, ◌+◌, ◌*◌, Bool, true}
 use Rattle.nand_model.specs.Calls.{Device}
 use Rattle.posix_profile.specs.State.{Objects}
 use Rattle.flash_tree.specs.Checkpoints.{Checkpoint, IsWhole}
 use Rattle.flash_tree.specs.Mount.{sizes_of}
 use Rattle.flash_tree.specs.Sound.{IsSoundFlash}
 use Rattle.chunk_index.specs.declared.index.Index.{Index}
+use Rattle.mount_scan.specs.FewReads.{AreSizes, HaveSummaries, one_other, sum_below}
 use Rattle.mount_scan.specs.Scanned.{good_pages}
 use Rattle.page_store.specs.Checked.{HasTrueFlash}
 use Rattle.page_store.specs.Shown.{kept_data}
@@ -45,21 +46,46 @@ ReadsScanned old new spare tree = new.reads ≤ old.reads + all_pages old + tree
 abbrev pub ReadsAll : Device → Device → Type 0
 ReadsAll old new = (spare : ℕ) (tree : Objects) → IsSoundFlash old.geometry old.flash spare tree → new.reads ≤ old.reads + all_pages old + looked_pages (sizes_of old.geometry spare) tree
 
+-- of an honest device with a sound flash: at most a page of each block and the pages of one, all pages of the good blocks, and those that
+-- are looked up to see the tree were read
+abbrev pub ReadsAllTags : Device → Device → Type 0
+ReadsAllTags old new = old.honest ≡ true → (spare : ℕ) (tree : Objects) → IsSoundFlash old.geometry old.flash spare tree
+    → new.reads ≤ old.reads + old.geometry.blocks + old.geometry.pages + all_pages old + looked_pages (sizes_of old.geometry spare) tree
+
 -- no checkpoint is whole
 abbrev pub LacksCheckpoint : Device → Type 0
 LacksCheckpoint device = (c : Checkpoint) → IsWhole device.geometry device.flash c → ⊥
 
--- of an honest device with a true and sound flash without a whole checkpoint: at most a page of each block and the pages of one, all
--- pages of the good blocks, and those that are looked up to see the tree were read
-abbrev pub ReadsByScan : Device → Device → Type 0
-ReadsByScan old new =
-    HasTrueFlash old → LacksCheckpoint old → (spare : ℕ) (tree : Objects) → IsSoundFlash old.geometry old.flash spare tree
-    → new.reads ≤ old.reads + old.geometry.blocks + old.geometry.pages + all_pages old + looked_pages (sizes_of old.geometry spare) tree
+-- how many pages a scan by summaries reads at most, where these blocks have one and the summaries are of these sizes: those of the
+-- summaries, and all of a block that begins erased and of the others that do not and are none of these
+abbrev pub needed_pages : Device → (ℕ → Bool) → (ℕ → ℕ) → ℕ
+needed_pages device these sizes = sum_below sizes device.geometry.blocks + device.geometry.pages * (1 + sum_below (one_other device.flash these) device.geometry.blocks)
 
--- How many pages a mount reads at most, by a checkpoint or by a scan.
+-- these blocks have summaries, and a block that begins with one has no more pages of it than is said here
+abbrev pub AreSummarized : Device → (ℕ → Bool) → (ℕ → ℕ) → Type 0
+AreSummarized device these sizes = HaveSummaries device.geometry device.flash these × AreSizes device.flash sizes
+
+-- at most the pages that a scan by summaries needs were read, and those of the tree's headers and slots
+abbrev pub ReadsNeeded : Device → Device → (spare : ℕ) → Tree → Type 0
+ReadsNeeded old new spare tree = (these : ℕ → Bool) (sizes : ℕ → ℕ) → AreSummarized old these sizes
+    → new.reads ≤ old.reads + needed_pages old these sizes + tree_pages (sizes_of old.geometry spare) tree
+
+-- of a sound flash: at most the pages that a scan by summaries needs were read, and those that are looked up to see its tree
+abbrev pub ReadsBySummaries : Device → Device → Type 0
+ReadsBySummaries old new = (spare : ℕ) (tree : Objects) → IsSoundFlash old.geometry old.flash spare tree → (these : ℕ → Bool) (sizes : ℕ → ℕ) → AreSummarized old these sizes
+    → new.reads ≤ old.reads + needed_pages old these sizes + looked_pages (sizes_of old.geometry spare) tree
+
+-- of an honest device with a true and sound flash without a whole checkpoint: at most a page of each block and the pages of one, those
+-- that a scan by summaries needs, and those that are looked up to see the tree were read
+abbrev pub ReadsWithoutCheckpoint : Device → Device → Type 0
+ReadsWithoutCheckpoint old new =
+    HasTrueFlash old → LacksCheckpoint old → (spare : ℕ) (tree : Objects) → IsSoundFlash old.geometry old.flash spare tree → (these : ℕ → Bool) (sizes : ℕ → ℕ) → AreSummarized old these sizes
+    → new.reads ≤ old.reads + old.geometry.blocks + old.geometry.pages + needed_pages old these sizes + looked_pages (sizes_of old.geometry spare) tree
+
+-- How many pages a mount reads at most, by a checkpoint or without one.
 pub record ReadsAtMost (old new : Device) : Type 0 where
   pub by_checkpoint : ReadsByCheckpoint old new
-  pub by_scan : ReadsByScan old new
+  pub without_checkpoint : ReadsWithoutCheckpoint old new
 
 -- why no tree of the pages that an index keeps was gone through: what is told of them, and where the device failed it is gone
 abbrev pub WhyNotThrough : Index → Device → Device → RootFault → Type 0

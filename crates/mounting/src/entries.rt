@@ -1,7 +1,6 @@
 // The tree of a device, by the entries of a checkpoint.
 ghost use Rattle.std.specs.Prelude.{◌≡◌, ◌&&◌, Bool, true, Some, IfOk, IfErr};
 ghost use Rattle.nand_model.specs.Changes.{OnlyReads};
-ghost use Rattle.nand_model.specs.Flash.{IsWithin};
 ghost use Rattle.flash_tree.specs.Checkpoints.{IsChecked};
 ghost use Rattle.flash_tree.specs.Places.{numbers_of};
 ghost use Rattle.block_state.specs.TableOf.{table};
@@ -15,6 +14,7 @@ ghost use Rattle.mounting.specs.Named.{IsNamedTree, IsReadAs, IsTrustedSince};
 ghost use Rattle.mounting.specs.Reads.{EndsMount, ReadsThrough, WhyNotThrough};
 ghost use Rattle.mounting.specs.Tables.{KnowsBlocks, KnowsFirstsOf};
 
+use crate::bounded::Bounded;
 use crate::prune::prune;
 use crate::reading::go_through;
 use crate::tree_on::{NamedTree, TreeOn};
@@ -23,12 +23,6 @@ use nand_model::{Nand, TrustedNand};
 use page_store::{Opened, open_kept};
 use std::alloc::Global;
 use tree_walk::{RootFault, the_headers_tell_the_keys};
-
-/// A device whose flash lies within its sizes.
-struct Bounded<N: Nand> {
-    device: N,
-    ghost within: { IsWithin (N.state device).geometry.pages (N.state device).geometry.blocks (N.state device).flash },
-}
 
 /// Goes through the tree of a device by the tables of a checkpoint, and forgets all pages but the tree's. The device is trusted as
 /// is told.

@@ -1,8 +1,8 @@
-// The tree with which a volume goes on: by a checkpoint or by a scan.
-ghost use Rattle.std.specs.Prelude.{◌≡◌, ◌<◌, ℕ, false, Some, None, IfOk, IfErr};
+// The tree with which a volume goes on: by a checkpoint, by the summaries of blocks, or by a scan.
+ghost use Rattle.std.specs.Prelude.{◌≡◌, ◌<◌, ℕ, true, false, Some, None, IfOk, IfErr};
 ghost use Rattle.posix_profile.specs.State.{Objects};
 ghost use Rattle.nand_model.specs.Changes.{OnlyReads};
-ghost use Rattle.flash_tree.specs.Checkpoints.{IsChecked};
+ghost use Rattle.flash_tree.specs.Checkpoints.{IsChecked, IsTrueFlash, StandsOnly};
 ghost use Rattle.flash_tree.specs.Sound.{IsSoundFlash};
 ghost use Rattle.block_state.specs.TableOf.{table};
 ghost use Rattle.mount_scan.specs.FoundCheckpoint.{HasForm, IsWholeOn, checkpoint_of};
@@ -11,14 +11,15 @@ ghost use Rattle.page_store.specs.Checked.{HasTrueFlash};
 ghost use Rattle.nand_model.specs.TrustedParts.{inner_of};
 ghost use Rattle.mounting.specs.Faults.{WhyNotMounted};
 ghost use Rattle.mounting.specs.Going.{IsGoing, MayBeNoted, NotesFree};
-ghost use Rattle.mounting.specs.Named.{IsTrustedSince};
-ghost use Rattle.mounting.specs.Reads.{EndsMount, ReadsAll, ReadsByCheckpoint, ReadsByScan, ReadsTree};
+ghost use Rattle.mounting.specs.Named.{IsReadAs, IsTrustedSince};
+ghost use Rattle.mounting.specs.Reads.{EndsMount, ReadsAll, ReadsAllTags, ReadsByCheckpoint, ReadsBySummaries, ReadsTree, ReadsWithoutCheckpoint};
 
 use crate::entries::open_entries;
 use crate::fault::MountFault;
 use crate::going_on::go_on;
 use crate::naming::{search_fault, unmounted};
 use crate::scanned::scan_going;
+use crate::summarized::open_by_summaries;
 use crate::tree_on::{Going, NamedTree, TreeOn};
 use crate::{a_volume_has_sizes, the_tree_looks_up_its_footprint};
 use block_state::Blocks;
@@ -75,7 +76,34 @@ fn by_entries<N: Nand>(
     }
 }
 
-/// Goes on by a scan. The first pages of blocks are noted, and the block that may have a checkpoint, unless kept pages lie in it.
+/// Goes on by the summaries of blocks, where no checkpoint is whole. Where that cannot be, the device is given back.
+fn by_summaries<N: Nand>(
+    alloc: Global,
+    device: N,
+    firsts: &FirstPages,
+) -> Result<Going<TrustedNand<N>>, (N, RootFault)>
+    requires firsts { AreFirstsOf (N.state device) firsts.now }
+    requires none { HasTrueFlash (N.state device) → StandsOnly (N.state device).geometry (N.state device).flash None }
+    ensures read { IfOk result (λ going. IsTrustedSince (N.state device) (N.state (inner_of going.named.on.device)) (⟦<TrustedNand<N> as Nand>⟧.state going.named.on.device)) }
+    ensures going { IfOk result (λ going. IsGoing (⟦<TrustedNand<N> as Nand>⟧.state going.named.on.device) going) }
+    ensures checked { HasTrueFlash (N.state device)
+        → IfOk result (λ going. IsChecked (N.state device).geometry (N.state device).flash (table going.named.on.blocks).checkpoint) }
+    ensures few { HasTrueFlash (N.state device) → IfOk result (λ going. ReadsBySummaries (N.state device) (N.state (inner_of going.named.on.device))) }
+    ensures back { IfErr result (λ failed. OnlyReads (N.state device) (N.state failed.0)) }
+    ensures fault { HasTrueFlash (N.state device) → (spare : ℕ) (tree : Objects) → IsSoundFlash (N.state device).geometry (N.state device).flash spare tree
+        → IfErr result (λ failed. EndsMount (N.state failed.0) failed.1) }
+{
+    a_flash_has_one_answer_at_most();
+    a_volume_has_sizes();
+    the_pages_of_a_tree_are_those_of_its_objects();
+    let named = open_by_summaries(alloc, device, firsts)?;
+    match go_on(&named.on) {
+        Some(sizes) => Ok(Going { named, sizes }),
+        None => Err((named.on.device.into_inner(), RootFault::Damaged)),
+    }
+}
+
+/// Goes on by a scan of all tags; the device is trusted. The first pages of blocks are noted, and the block that may have a checkpoint, unless kept pages lie in it.
 fn by_scan<N: Nand>(
     alloc: Global,
     device: N,
@@ -84,11 +112,11 @@ fn by_scan<N: Nand>(
 ) -> Result<Going<TrustedNand<N>>, (N, MountFault)>
     requires noted { MayBeNoted (N.state device) noted }
     requires firsts { AreFirstsOf (N.state device) firsts.now }
-    ensures read { IfOk result (λ going. IsTrustedSince (N.state device) (N.state (inner_of going.named.on.device)) (⟦<TrustedNand<N> as Nand>⟧.state going.named.on.device)) }
+    ensures read { IfOk result (λ going. IsReadAs true (N.state device) (N.state (inner_of going.named.on.device)) (⟦<TrustedNand<N> as Nand>⟧.state going.named.on.device)) }
     ensures going { IfOk result (λ going. IsGoing (⟦<TrustedNand<N> as Nand>⟧.state going.named.on.device) going) }
-    ensures checked { HasTrueFlash (N.state device)
+    ensures checked { (N.state device).honest ≡ true → IsTrueFlash (N.state device).geometry (N.state device).flash
         → IfOk result (λ going. IsChecked (N.state device).geometry (N.state device).flash (table going.named.on.blocks).checkpoint) }
-    ensures scans { HasTrueFlash (N.state device) → IfOk result (λ going. ReadsAll (N.state device) (N.state (inner_of going.named.on.device))) }
+    ensures scans { (N.state device).honest ≡ true → IfOk result (λ going. ReadsAll (N.state device) (N.state (inner_of going.named.on.device))) }
     ensures back { IfErr result (λ failed. OnlyReads (N.state device) (N.state failed.0)) }
     ensures fault { IfErr result (λ failed. WhyNotMounted (N.state failed.0) failed.1) }
 {
@@ -123,15 +151,16 @@ fn by_scan<N: Nand>(
     Ok(Going { named, sizes })
 }
 
-/// Goes on by a scan after the entries of a checkpoint in this block did not do, unless power went or memory was refused.
+/// Goes on by a scan after a checkpoint's entries or the summaries of blocks did not do, unless power went or memory was refused. This
+/// block is noted, unless kept pages lie in it.
 fn scan_after<N: Nand>(
     alloc: Global,
     device: N,
-    block: u32,
+    noted: Option<u32>,
     fault: RootFault,
     firsts: &FirstPages,
 ) -> Result<Going<TrustedNand<N>>, (N, MountFault)>
-    requires noted { MayBeNoted (N.state device) (Some block) }
+    requires noted { MayBeNoted (N.state device) noted }
     requires firsts { AreFirstsOf (N.state device) firsts.now }
     ensures read { IfOk result (λ going. IsTrustedSince (N.state device) (N.state (inner_of going.named.on.device)) (⟦<TrustedNand<N> as Nand>⟧.state going.named.on.device)) }
     ensures power { IfOk result (λ going. (N.state (inner_of going.named.on.device)).gone ≡ false) }
@@ -149,11 +178,33 @@ fn scan_after<N: Nand>(
     if fault == RootFault::NoMemory {
         return Err((device, MountFault::NoMemory));
     }
-    by_scan(alloc, device, Some(block), firsts)
+    by_scan(alloc, device, noted, firsts)
 }
 
-/// Finds the tree with which a volume goes on: by the entries of the checkpoint, where one is whole, and else, or where they do not
-/// do, by a scan.
+/// Goes on without a checkpoint: by the summaries of blocks, and where they do not do by a scan.
+fn without_checkpoint<N: Nand>(
+    alloc: Global,
+    device: N,
+    firsts: &FirstPages,
+) -> Result<Going<TrustedNand<N>>, (N, MountFault)>
+    requires noted { MayBeNoted (N.state device) None }
+    requires firsts { AreFirstsOf (N.state device) firsts.now }
+    ensures read { IfOk result (λ going. IsTrustedSince (N.state device) (N.state (inner_of going.named.on.device)) (⟦<TrustedNand<N> as Nand>⟧.state going.named.on.device)) }
+    ensures going { IfOk result (λ going. IsGoing (⟦<TrustedNand<N> as Nand>⟧.state going.named.on.device) going) }
+    ensures checked { HasTrueFlash (N.state device)
+        → IfOk result (λ going. IsChecked (N.state device).geometry (N.state device).flash (table going.named.on.blocks).checkpoint) }
+    ensures few { HasTrueFlash (N.state device) → IfOk result (λ going. ReadsBySummaries (N.state device) (N.state (inner_of going.named.on.device))) }
+    ensures back { IfErr result (λ failed. OnlyReads (N.state device) (N.state failed.0)) }
+    ensures fault { IfErr result (λ failed. WhyNotMounted (N.state failed.0) failed.1) }
+{
+    match by_summaries(alloc, device, firsts) {
+        Ok(going) => Ok(going),
+        Err((device, fault)) => scan_after(alloc, device, None, fault, firsts),
+    }
+}
+
+/// Finds the tree with which a volume goes on: by the entries of the checkpoint, where one is whole, else by the summaries of blocks,
+/// and where these do not do, by a scan.
 pub(crate) fn open_volume<N: Nand>(
     alloc: Global,
     device: N,
@@ -163,7 +214,7 @@ pub(crate) fn open_volume<N: Nand>(
     ensures checked { HasTrueFlash (N.state device)
         → IfOk result (λ going. IsChecked (N.state device).geometry (N.state device).flash (table going.named.on.blocks).checkpoint) }
     ensures few { IfOk result (λ going. ReadsByCheckpoint (N.state device) (N.state (inner_of going.named.on.device))) }
-    ensures scans { IfOk result (λ going. ReadsByScan (N.state device) (N.state (inner_of going.named.on.device))) }
+    ensures without { IfOk result (λ going. ReadsWithoutCheckpoint (N.state device) (N.state (inner_of going.named.on.device))) }
     ensures back { IfErr result (λ failed. OnlyReads (N.state device) (N.state failed.0)) }
     ensures fault { IfErr result (λ failed. WhyNotMounted (N.state failed.0) failed.1) }
 {
@@ -175,10 +226,36 @@ pub(crate) fn open_volume<N: Nand>(
     let CheckpointSearch { firsts, checkpoint } = search;
     let found = match checkpoint {
         Some(found) => found,
-        None => return by_scan(alloc, device, None, &firsts),
+        None => return without_checkpoint(alloc, device, &firsts),
     };
     match by_entries(alloc, device, &found, &firsts) {
         Ok(going) => Ok(going),
-        Err((device, fault)) => scan_after(alloc, device, found.block, fault, &firsts),
+        Err((device, fault)) => scan_after(alloc, device, Some(found.block), fault, &firsts),
+    }
+}
+
+/// Finds the tree with which a volume goes on by a scan of all tags, whatever a checkpoint or summaries say. The block of a whole
+/// checkpoint is noted, unless kept pages lie in it.
+pub(crate) fn open_scanned<N: Nand>(
+    alloc: Global,
+    device: N,
+) -> Result<Going<TrustedNand<N>>, (N, MountFault)>
+    ensures read { IfOk result (λ going. IsReadAs true (N.state device) (N.state (inner_of going.named.on.device)) (⟦<TrustedNand<N> as Nand>⟧.state going.named.on.device)) }
+    ensures going { IfOk result (λ going. IsGoing (⟦<TrustedNand<N> as Nand>⟧.state going.named.on.device) going) }
+    ensures checked { (N.state device).honest ≡ true → IsTrueFlash (N.state device).geometry (N.state device).flash
+        → IfOk result (λ going. IsChecked (N.state device).geometry (N.state device).flash (table going.named.on.blocks).checkpoint) }
+    ensures few { IfOk result (λ going. ReadsAllTags (N.state device) (N.state (inner_of going.named.on.device))) }
+    ensures back { IfErr result (λ failed. OnlyReads (N.state device) (N.state failed.0)) }
+    ensures fault { IfErr result (λ failed. WhyNotMounted (N.state failed.0) failed.1) }
+{
+    let mut device = device;
+    let search = match find_checkpoint(alloc, &mut device) {
+        Ok(search) => search,
+        Err(fault) => return Err(unmounted(device, search_fault(fault))),
+    };
+    let CheckpointSearch { firsts, checkpoint } = search;
+    match checkpoint {
+        Some(found) => by_scan(alloc, device, Some(found.block), &firsts),
+        None => by_scan(alloc, device, None, &firsts),
     }
 }

@@ -2,6 +2,8 @@
 //! answers, read off a map of newest pages.
 #![tactic(auto)]
 
+mod bounded;
+mod candidates;
 mod entries;
 mod fault;
 mod going;
@@ -19,6 +21,7 @@ mod reading;
 mod reasons;
 mod scanned;
 mod scanning;
+mod summarized;
 mod tagged;
 mod tree;
 mod tree_on;
@@ -31,5 +34,5 @@ pub use law::{
 };
 pub use mounted::Mounted;
 pub use naming::unmounted;
-pub use opening::mount;
+pub use opening::{mount, mount_scanned};
 pub use reasons::first_fault;

@@ -1,7 +1,7 @@
 // Why a device was not scanned, or its tree not read, as a reason why it is not mounted.
 ghost use Rattle.std.specs.Prelude.{◌≡◌, false};
 ghost use Rattle.nand_model.specs.Changes.{OnlyReads};
-ghost use Rattle.mounting.specs.Faults.{IsReason, WhyNotMounted, of_open, of_root, of_search};
+ghost use Rattle.mounting.specs.Faults.{IsReason, WhyNotMounted, of_found, of_open, of_root, of_search};
 
 use crate::fault::MountFault;
 use mount_scan::ScanFault;
@@ -28,6 +28,17 @@ pub(crate) fn scan_fault(fault: OpenFault) -> MountFault
         OpenFault::NoMemory => MountFault::NoMemory,
         OpenFault::Lost => MountFault::Damaged,
         OpenFault::Gone => MountFault::Gone,
+    }
+}
+
+/// A fault of an opening by summaries, as one of a tree that was not read.
+pub(crate) fn found_fault(fault: OpenFault) -> RootFault
+    ensures { result ≡ of_found fault }
+{
+    match fault {
+        OpenFault::NoMemory => RootFault::NoMemory,
+        OpenFault::Lost => RootFault::Damaged,
+        OpenFault::Gone => RootFault::Device,
     }
 }
 

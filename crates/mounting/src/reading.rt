@@ -9,6 +9,7 @@ ghost use Rattle.pages.specs.Maps.{has};
 ghost use Rattle.page_store.specs.Opened.{IsOpened};
 ghost use Rattle.tree_walk.specs.Hashes.{CoversTree};
 ghost use Rattle.tree_walk.specs.declared.fault.RootFault.TheVariants as roots;
+ghost use Rattle.mounting.specs.Candidates.{candidate_pages};
 ghost use Rattle.mounting.specs.Faults.{WhyNotMounted};
 ghost use Rattle.mounting.specs.Lending.{LieWithin, TrustsKept};
 ghost use Rattle.mounting.specs.Reads.{ReadsThrough};
@@ -16,6 +17,7 @@ ghost use Rattle.mounting.specs.TreeAnswers.{WhyNoTree};
 ghost use Rattle.mounting.specs.Trees.{IsGoneThrough};
 
 use crate::a_map_of_the_newest_pages_answers;
+use crate::candidates::CandidatePages;
 use crate::fault::MountFault;
 use crate::naming::{tree_fault, unmounted};
 use crate::reader::LentPages;
@@ -50,6 +52,38 @@ pub(crate) fn go_through<N: Nand>(
 {
     let geometry = device.geometry();
     let mut pages = match LentPages::new(alloc, device, index) {
+        Ok(pages) => pages,
+        Err((device, _)) => return Err((device, RootFault::NoMemory)),
+    };
+    let found = find_tree(alloc, &mut pages, geometry);
+    let device = pages.into_device();
+    match found {
+        Ok(tree) => Ok((device, tree)),
+        Err(fault) => Err((device, fault)),
+    }
+}
+
+/// Goes through the tree of the pages that an index keeps on a device, of which some may be lost. The device is given back.
+pub(crate) fn go_through_candidates<N: Nand>(
+    alloc: Global,
+    device: N,
+    index: &Index,
+) -> Result<(N, FoundTree), (N, RootFault)>
+    requires { LieWithin (N.state device) index.now }
+    ensures reads { IfOk result (λ read. OnlyReads (N.state device) (N.state read.0)) }
+    ensures few { (N.state device).honest ≡ true → IfOk result (λ read. ReadsThrough (N.state device) (N.state read.0) read.1.spare read.1.tree) }
+    ensures power { (N.state device).gone ≡ false → IfOk result (λ read. (N.state read.0).gone ≡ false) }
+    ensures tree { (N.state device).honest ≡ true
+        → IfOk result (λ read. IsGoneThrough (N.state device).geometry (has (candidate_pages index.now (N.state device))) read.1.spare read.1.tree) }
+    ensures names { (N.state device).honest ≡ true
+        → IfOk result (λ read. CoversTree read.1.names (sizes_of (N.state device).geometry read.1.spare) (candidate_pages index.now (N.state device)) read.1.tree) }
+    ensures back { IfErr result (λ failed. OnlyReads (N.state device) (N.state failed.0)) }
+    ensures fault { (N.state device).honest ≡ true
+        → IfErr result (λ failed. WhyNoTree (N.state device).geometry (has (candidate_pages index.now (N.state device))) failed.1) }
+    ensures why { IfErr result (λ failed. failed.1 ≡ roots.Device → ((N.state failed.0).gone ≡ true) ⊎ ((N.state device).honest ≡ false)) }
+{
+    let geometry = device.geometry();
+    let mut pages = match CandidatePages::new(alloc, device, index) {
         Ok(pages) => pages,
         Err((device, _)) => return Err((device, RootFault::NoMemory)),
     };

@@ -27,7 +27,7 @@ returns-in-Ok-Some-clause-read g c =
     let d = g.N.Nand.state c.args.device in
     let k = checkpoint_of c.args.found.now in
     since_read c.go_by.result _ d (λ named. g.N.Nand.state (inner_of named.on.device)) (λ named. trusted_as named.on.device.trust.told (g.N.Nand.state named.on.device.inner))
-    (λ (honest, true_flash). (trust d k _).2 (right_said d.geometry d.flash k (true_flash k (c.requires.whole honest)))) c.go_by.ensures.read
+    (λ (honest, true_flash). (trust d k _).2 (right_said d.geometry d.flash k (true_flash.truth k (c.requires.whole honest)))) c.go_by.ensures.read
 
 pub returns-in-Ok-Some-clause-checked : goal.returns-in-Ok-Some-clause-checked
 returns-in-Ok-Some-clause-checked g c = λ is.
@@ -43,7 +43,7 @@ pub returns-in-Ok-Some-clause-few : goal.returns-in-Ok-Some-clause-few
 returns-in-Ok-Some-clause-few g c = λ is.
     let d = g.N.Nand.state c.args.device in
     let k = checkpoint_of c.args.found.now in
-    c.go_by.ensures.few (and_from _ _ is.0 ((trust d k _).2 (right_said d.geometry d.flash k (is.1 k (c.requires.whole is.0)))))
+    c.go_by.ensures.few (and_from _ _ is.0 ((trust d k _).2 (right_said d.geometry d.flash k (is.1.truth k (c.requires.whole is.0)))))
 
 pub returns-in-Ok-Some-clause-fault : goal.returns-in-Ok-Some-clause-fault
 returns-in-Ok-Some-clause-fault g c = λ is.
@@ -51,7 +51,7 @@ returns-in-Ok-Some-clause-fault g c = λ is.
     let k = checkpoint_of c.args.found.now in
     let keeps = subst (λ m. IfSome m (KeepsItsTree d)) c.in-Ok-Some.field-0-is (c.in-Ok-Some.ensures.tree is) in
     err_map c.go_by.result (λ failed why. ends_mount d _ keeps (g.N.Nand.state failed.0) failed.1 why)
-    (c.go_by.ensures.fault (and_from _ _ is.0 ((trust d k _).2 (right_said d.geometry d.flash k (is.1 k (c.requires.whole is.0))))))
+    (c.go_by.ensures.fault (and_from _ _ is.0 ((trust d k _).2 (right_said d.geometry d.flash k (is.1.truth k (c.requires.whole is.0))))))
 
 pub returns-in-Ok-Some-clause-blocks : goal.returns-in-Ok-Some-clause-blocks
 returns-in-Ok-Some-clause-blocks g c =

@@ -10,12 +10,12 @@ use Rattle.volume_terms.specs.VolumeSizes as volume
 use Rattle.block_state.specs.TableOf.{table}
 use Rattle.mounting.specs.Mounted.{IsTreeRead, IsTreeShown, HasRoomOn, CoversNewest}
 use Rattle.nand_model.specs.Trusting.{trusted_as}
-use Rattle.mounting.specs.Named.{IsTrustedSince}
+use Rattle.mounting.specs.Named.{IsReadAs}
 use Rattle.mounting.specs.Reads.{ReadsAll}
 use Rattle.mounting.specs.Tables.{KnowsBlocks}
 use Rattle.mounting.proofs.Firsts.{known_noted}
 use Rattle.mounting.proofs.ReadsTree.{ReadLaws, reads_all}
-use Rattle.mounting.proofs.Noting.{trusted_is, noted_read, fitting_noted, room_noted, whole_noted, may_after, scan_checked, checked_before}
+use Rattle.mounting.proofs.Noting.{trusted_is, noted_read, fitting_noted, room_noted, whole_noted, may_after, scan_checked, right_before}
 use Rattle.mounting.proofs.going.by_scan.Goals as goal
 
 pub note_free-requires-clause-block : goal.note_free-requires-clause-block
@@ -33,9 +33,8 @@ returns-clause-read g c =
     let e = c.in_ok-going.ensures in
     let a = g.N.Nand.state c.args.device in
     let b = g.N.Nand.state c.in_ok-going.going.named.on.device in
-    subst (λ (d : Device). IsTrustedSince a (g.N.Nand.state c.new.result.inner) d) (sym c.new.ensures.state)
-    (subst (λ (d : Device). IsTrustedSince a d (trusted_as true b)) (sym (ap g.N.Nand.state c.new.ensures.inner))
-    (record { told = true; read = record { reads = e.reads; power = e.power; seen_is = refl }; trusted = λ is. refl }))
+    subst (λ (d : Device). IsReadAs true a (g.N.Nand.state c.new.result.inner) d) (sym c.new.ensures.state)
+    (subst (λ (d : Device). IsReadAs true a d (trusted_as true b)) (sym (ap g.N.Nand.state c.new.ensures.inner)) (record { reads = e.reads; power = e.power; seen_is = refl }))
 
 pub returns-clause-going : goal.returns-clause-going
 returns-clause-going g c =
@@ -73,14 +72,14 @@ returns-clause-checked g c =
     let a = g.N.Nand.state c.args.device in
     let b = g.N.Nand.state on.device in
     let u = table c.note_free.new.blocks in
-    checked_before a b u.checkpoint e.reads
-    (λ is.
-    let told = e.going.tree is.0 in
+    right_before a b u.checkpoint e.reads
+    (λ honest is.
+    let told = e.going.tree honest in
     scan_checked c.the_headers_tell_the_keys.ensures c.the_tree_looks_up_its_footprint.ensures.test b (table on.blocks) u on.index (numbers_of on.numbers) on.spare on.tree told.0 c.args.noted
-    (c.the_counts_are_of_the_keys.ensures.zero on.index) is (may_after a b c.args.noted e.reads c.requires.noted) c.note_free.ensures e.going.named.tree told.2)
+    (c.the_counts_are_of_the_keys.ensures.zero on.index) honest is (may_after a b c.args.noted e.reads c.requires.noted) c.note_free.ensures e.going.named.tree told.2)
 
 pub returns-clause-scans : goal.returns-clause-scans
-returns-clause-scans g c = λ is.
+returns-clause-scans g c = λ honest.
     let e = c.in_ok-going.ensures in
     let on = c.in_ok-going.going.named.on in
     let a = g.N.Nand.state c.args.device in
@@ -90,5 +89,5 @@ returns-clause-scans g c = λ is.
       pages = c.the_pages_of_a_tree_are_those_of_its_objects.ensures;
       one = c.a_flash_has_one_answer_at_most.ensures;
     } in
-    let tree = e.going.tree (e.reads.lasts.honest ∙ is.0) in
-    subst (ReadsAll a) (sym (ap g.N.Nand.state c.new.ensures.inner)) (reads_all a b e.reads is.0 laws on.index on.spare on.tree tree.0 (e.few is.0) tree.1 tree.2)
+    let tree = e.going.tree (e.reads.lasts.honest ∙ honest) in
+    subst (ReadsAll a) (sym (ap g.N.Nand.state c.new.ensures.inner)) (reads_all a b e.reads honest laws on.index on.spare on.tree tree.0 (e.few honest) tree.1 tree.2)

@@ -7,11 +7,11 @@ use Rattle.mounting.proofs.Noting.{form_after, whole_after, may_after, found_not
 use Rattle.nand_model.specs.TrustedParts.{inner_of}
 use Rattle.mounting.specs.Reads.{EndsMount}
 use Rattle.page_store.specs.Checked.{HasTrueFlash}
-use Rattle.mounting.proofs.ReadsTree.{ok_all, ok_each, ok_unless, reads_by, reads_none, scans_after, scans_not}
+use Rattle.mounting.proofs.ReadsTree.{ok_all, ok_each, ok_unless, reads_by, reads_none, without_after, without_not}
 use Rattle.mounting.proofs.going.open_volume.Goals as goal
 
 pub returns-in-None-clause-read : goal.returns-in-None-clause-read
-returns-in-None-clause-read g c = ok_map c.by_scan.result (λ x since. since_before _ _ _ _ c.in-Ok.ensures.reads.only c.in-Ok.ensures.reads.gone since) c.by_scan.ensures.read
+returns-in-None-clause-read g c = ok_map c.without_checkpoint.result (λ x since. since_before _ _ _ _ c.in-Ok.ensures.reads.only c.in-Ok.ensures.reads.gone since) c.without_checkpoint.ensures.read
 
 pub returns-in-Ok-by_entries-clause-read : goal.returns-in-Ok-by_entries-clause-read
 returns-in-Ok-by_entries-clause-read g c = since_before _ _ _ _ c.in-Ok.ensures.reads.only c.in-Ok.ensures.reads.gone c.in-Ok-by_entries.ensures.read
@@ -30,8 +30,8 @@ scan_after-requires-clause-noted g c =
     may_after b (g.N.Nand.state c.in-Err-by_entries.device) (Some c.in-Some.found.block) c.in-Err-by_entries.ensures.back
     (found_noted b k (form_after a b k reads form) (whole_after a b k reads whole))
 
-pub by_scan-requires-clause-firsts : goal.by_scan-requires-clause-firsts
-by_scan-requires-clause-firsts g c = firsts_read (g.N.Nand.state c.args.device) (g.N.Nand.state c.find_checkpoint.new.device) _ c.in-Ok.ensures.reads.only c.in-Ok.ensures.firsts
+pub without_checkpoint-requires-clause-firsts : goal.without_checkpoint-requires-clause-firsts
+without_checkpoint-requires-clause-firsts g c = firsts_read (g.N.Nand.state c.args.device) (g.N.Nand.state c.find_checkpoint.new.device) _ c.in-Ok.ensures.reads.only c.in-Ok.ensures.firsts
 
 pub by_entries-requires-clause-firsts : goal.by_entries-requires-clause-firsts
 by_entries-requires-clause-firsts g c = firsts_read (g.N.Nand.state c.args.device) (g.N.Nand.state c.find_checkpoint.new.device) _ c.in-Ok.ensures.reads.only c.in-Ok.ensures.firsts
@@ -64,21 +64,21 @@ returns-clause-few g c =
     ok_unless c.scan_after.result (EndsMount e fault) c.scan_after.ensures.ends
     (λ x not. reads_none (g.N.Nand.state c.args.device) (g.N.Nand.state c.find_checkpoint.new.device) e (g.N.Nand.state (inner_of x.named.on.device)) fault c.in-Ok.ensures.reads.only c.in-Err-by_entries.ensures.fault not)
 
-pub returns-in-None-clause-scans : goal.returns-in-None-clause-scans
-returns-in-None-clause-scans g c =
+pub returns-in-None-clause-without : goal.returns-in-None-clause-without
+returns-in-None-clause-without g c =
     let a = g.N.Nand.state c.args.device in
     let b = g.N.Nand.state c.find_checkpoint.new.device in
     let reads = c.in-Ok.ensures.reads in
-    ok_all c.by_scan.result (HasTrueFlash b) c.by_scan.ensures.scans (λ x all. scans_after a b (g.N.Nand.state (inner_of x.named.on.device)) reads.only reads.most all)
+    ok_all c.without_checkpoint.result (HasTrueFlash b) c.without_checkpoint.ensures.few (λ x all. without_after a b (g.N.Nand.state (inner_of x.named.on.device)) reads.only reads.most all)
 
-pub returns-in-Ok-by_entries-clause-scans : goal.returns-in-Ok-by_entries-clause-scans
-returns-in-Ok-by_entries-clause-scans g c =
+pub returns-in-Ok-by_entries-clause-without : goal.returns-in-Ok-by_entries-clause-without
+returns-in-Ok-by_entries-clause-without g c =
     let a = g.N.Nand.state c.args.device in
     let whole = subst (λ m. IfSome m (λ f. IsWholeOn a (checkpoint_of f))) c.in-Some.is c.in-Ok.ensures.found in
-    scans_not a (g.N.Nand.state (inner_of c.in-Ok-by_entries.going.named.on.device)) (checkpoint_of c.in-Some.found) whole
+    without_not a (g.N.Nand.state (inner_of c.in-Ok-by_entries.going.named.on.device)) (checkpoint_of c.in-Some.found) whole
 
-pub returns-clause-scans : goal.returns-clause-scans
-returns-clause-scans g c =
+pub returns-clause-without : goal.returns-clause-without
+returns-clause-without g c =
     let a = g.N.Nand.state c.args.device in
     let whole = subst (λ m. IfSome m (λ f. IsWholeOn a (checkpoint_of f))) c.in-Some.is c.in-Ok.ensures.found in
-    ok_each c.scan_after.result (λ x. scans_not a (g.N.Nand.state (inner_of x.named.on.device)) (checkpoint_of c.in-Some.found) whole)
+    ok_each c.scan_after.result (λ x. without_not a (g.N.Nand.state (inner_of x.named.on.device)) (checkpoint_of c.in-Some.found) whole)

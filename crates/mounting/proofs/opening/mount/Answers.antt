@@ -7,7 +7,7 @@ use Rattle.nand_model.specs.TrustedParts.{inner_of}
 use Rattle.mounting.specs.Reads.{ReadsAtMost}
 use Rattle.mounting.proofs.Mountable.{remembers_since}
 use Rattle.mounting.proofs.Noting.{since_same}
-use Rattle.mounting.proofs.ReadsTree.{reads_seen, scans_seen}
+use Rattle.mounting.proofs.ReadsTree.{reads_seen, without_seen}
 use Rattle.mounting.proofs.opening.mount.Goals as goal
 
 pub returns-in-Ok-clause-given : goal.returns-in-Ok-clause-given
@@ -20,7 +20,7 @@ returns-in-Ok-clause-given g c =
       since = since_same a _ _ _ _ (ap (λ d. g.N.Nand.state (inner_of d)) m.same) same e.read;
       made = m.made;
       checked = λ is. subst (IsChecked a.geometry a.flash) (sym m.checkpoint) (e.checked is);
-      few = subst (ReadsAtMost a) (sym same) (record { by_checkpoint = reads_seen a _ _ e.read e.few; by_scan = scans_seen a _ _ e.read e.scans });
+      few = subst (ReadsAtMost a) (sym same) (record { by_checkpoint = reads_seen a _ _ e.read e.few; without_checkpoint = without_seen a _ _ e.read e.without });
       remembers = λ honest. remembers_since a _ _ _ e.read honest m.remembers;
     }
 

@@ -1,6 +1,5 @@
 use Rattle.std.proofs.Common.{sym, subst}
 use Rattle.pages.specs.Maps.{has}
-use Rattle.tree_walk.specs.declared.fault.RootFault.{RootFault}
 use Rattle.mounting.specs.TreeAnswers.{WhyNoTree, FailsTree, of_walk}
 use Rattle.mounting.proofs.RootFaults.{wrong_root, root_fails, fails_still}
 use Rattle.mounting.proofs.reasons.first_fault.Goals as goal

@@ -1,0 +1,36 @@
+use Rattle.std.proofs.Common.{sym, subst}
+use Rattle.flash_tree.specs.Checkpoints.{IsChecked}
+use Rattle.mounting.proofs.ReadsTree.{ReadLaws, honest_seen, not_damaged, reads_summaries}
+use Rattle.mounting.proofs.going.by_summaries.Goals as goal
+
+pub returns-in-Some-clause-going : goal.returns-in-Some-clause-going
+returns-in-Some-clause-going g c =
+    let told = c.in-Some.ensures in
+    record { named = c.in_ok-named.ensures.named; sizes = told.sizes; fitting = told.fitting; room = told.room; blocks = c.in_ok-named.ensures.blocks; tree = told.tree }
+
+pub returns-in-Some-clause-checked : goal.returns-in-Some-clause-checked
+returns-in-Some-clause-checked g c = λ is.
+    let d = g.N.Nand.state c.args.device in
+    subst (IsChecked d.geometry d.flash) (sym c.in_ok-named.ensures.none) (record { right = is.1.truth; only = c.requires.none is })
+
+pub returns-in-Some-clause-few : goal.returns-in-Some-clause-few
+returns-in-Some-clause-few g c = λ is.
+    let e = c.in_ok-named.ensures in
+    let on = c.in_ok-named.named.on in
+    let laws : ReadLaws = record {
+      sizes = c.a_volume_has_sizes.ensures;
+      pages = c.the_pages_of_a_tree_are_those_of_its_objects.ensures;
+      one = c.a_flash_has_one_answer_at_most.ensures;
+    } in
+    let tree = c.in-Some.ensures.tree (honest_seen _ _ _ e.read is) in
+    reads_summaries _ _ _ e.read is laws on.index on.spare on.tree tree.0 (e.few is) tree.1 tree.2
+
+pub returns-in-None-clause-fault : goal.returns-in-None-clause-fault
+returns-in-None-clause-fault g c = λ is spare objects sound.
+    let e = c.in_ok-named.ensures in
+    let laws : ReadLaws = record {
+      sizes = c.a_volume_has_sizes.ensures;
+      pages = c.the_pages_of_a_tree_are_those_of_its_objects.ensures;
+      one = c.a_flash_has_one_answer_at_most.ensures;
+    } in
+    absurd (not_damaged _ _ _ e.read is laws spare objects sound (c.in-None.ensures.none (honest_seen _ _ _ e.read is)))

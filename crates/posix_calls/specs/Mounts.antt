@@ -1,14 +1,16 @@
 -- What a volume stands for once it is mounted.
 -- From: this project.
 use Rattle.std.specs.Prelude.{◌≡◌, ◌↔◌, Bool, true, false}
-use Rattle.flash_tree.specs.Checkpoints.{IsChecked}
+use Rattle.flash_tree.specs.Checkpoints.{IsChecked, IsTrueFlash}
 use Rattle.page_store.specs.declared.flash_pages.FlashPages.{FlashPages}
 use Rattle.flash_tree.specs.Mount.{Answers, IsTreeOf}
 use Rattle.lives.specs.Lives.{at_mount}
+use Rattle.mounting.specs.Given.{IsMade}
 use Rattle.mounting.specs.Made.{CanOnlyBeRead, AreNext, IsMountedWith, Remembers}
-use Rattle.mounting.specs.Named.{IsTrustedSince}
+use Rattle.mounting.specs.Named.{IsReadAs, IsTrustedSince}
 use Rattle.mounting.specs.Places.{ArePlaced}
-use Rattle.mounting.specs.Reads.{ReadsAtMost}
+use Rattle.mounting.specs.Reads.{ReadsAllTags, ReadsAtMost}
+use Rattle.mounting.specs.declared.mounted.Mounted.{Mounted}
 use Rattle.nand_model.specs.Calls.{Device}
 use Rattle.nand_model.specs.declared.nand.Nand.{Ghosts}
 use Rattle.page_store.specs.Checked.{HasTrueFlash}
@@ -52,3 +54,26 @@ pub record IsMounted {P : Type 0} (state : P → PagesState) (device : Device) (
   pub checked : HasTrueFlash device → IsChecked device.geometry device.flash (state (pages_of v)).checkpoint
   pub few : ReadsAtMost device (state (pages_of v)).device
   pub remembers : device.honest ≡ true → Remembers device (state (pages_of v))
+
+-- The volume of a device is mounted by all tags, whatever its flash is. The device was only read, and keeps its power. Then, if it is honest,
+-- the next numbers are above those on its flash, and the volume stands for the tree that it shows; and where each whole checkpoint is right,
+-- the block that is noted is the only one with one. Of a sound flash at most a page of each block, the pages of one, all pages of the good
+-- blocks and those that are looked up to see the tree were read. Its pages remember the flash of an honest device.
+pub record IsMountedByScan {P : Type 0} (state : P → PagesState) (device : Device) (v : PageVolume P) : Type 0 where
+  pub now : Device
+  pub since : IsReadAs true device now (state (pages_of v)).device
+  pub goes_on : is_stopped v ≡ false
+  pub read_only : (is_read_only v ≡ true) ↔ CanOnlyBeRead (state (pages_of v))
+  pub next : (state (pages_of v)).device.honest ≡ true → AreNext (state (pages_of v)).device.flash (state (pages_of v)).next
+  pub tree : (state (pages_of v)).device.honest ≡ true → (objects : Objects) × StandsForTree state v objects
+  pub checked : device.honest ≡ true → IsTrueFlash device.geometry device.flash → IsChecked device.geometry device.flash (state (pages_of v)).checkpoint
+  pub few : ReadsAllTags device (state (pages_of v)).device
+  pub remembers : device.honest ≡ true → Remembers device (state (pages_of v))
+
+-- A volume is over the pages that a mount gave: it goes on, can only be read where that says so, and stands for the tree of the pages of
+-- an honest device.
+pub record IsOver {N : Type 0} {nand : Ghosts N} (state : FlashPages N nand → PagesState) (m : Mounted N nand) (v : PageVolume (FlashPages N nand)) : Type 0 where
+  pub pages : pages_of v ≡ m.pages
+  pub goes_on : is_stopped v ≡ false
+  pub read_only : is_read_only v ≡ m.read_only
+  pub tree : IsMade state m → (state (pages_of v)).device.honest ≡ true → (objects : Objects) × StandsForTree state v objects

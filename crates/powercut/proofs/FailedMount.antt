@@ -84,7 +84,6 @@ module _ (one : (g : Geometry) (flash : Flash) (a b : Answer) → Answers g flas
               let there = subst (λ (g : Geometry). IsSoundFlash g e.flash spare tree) (sym reads.lasts.geometry) (sound_same d.geometry d.flash e.flash same spare tree sound) in
               (tree, (tree, session_failed spare tree there fault why (sizes_of d.geometry spare), refl), there);
         };
-        mountable = still.mountable;
       }
 
 -- where nothing was replied that is what is recorded

@@ -42,10 +42,10 @@ use Rattle.page_store.specs.Sealing.{EndsOn}
 use Rattle.paged_objects.specs.Ending.{HasEndedAt}
 use Rattle.paged_objects.specs.Standing.{volume_of, Shown}
 use Rattle.paged_objects.specs.laws.Findable.{tree_findable}
-use Rattle.paged_objects.specs.laws.OnFlash.{shown_sound}
+use Rattle.paged_objects.specs.laws.OnFlash.{shown_sound, shown_there}
 use Rattle.powercut.specs.Commands.{Meaning, LeavesFrom, IsUsed}
 use Rattle.powercut.specs.Limits.{StaysWithin}
-use Rattle.powercut.specs.Living.{HasSame, AreWithin, IsMountableOn, IsTrueOn, TrulyLived, HasLived}
+use Rattle.powercut.specs.Living.{HasSame, AreWithin, IsTrueOn, TrulyLived, HasLived}
 use Rattle.powercut.specs.Sessions.{IsServedFrom, IsUsedUp}
 use Rattle.powercut.specs.laws.SameFlash.{same_back, greatest_same, sound_same, bad_same, answers_same}
 use Rattle.powercut.proofs.Living.{greatest_within, none_marked, marked_on}
@@ -254,9 +254,9 @@ module _ {V : Type 0} (m : Meaning V) (v : V) (d e : Device) (commands : List St
     | inr none ↦ (objects, none.1)
   ]
 
-  module _ (remembers : Remembers d p) (may : IsMountableOn d) where
+  module _ (remembers : Remembers d p) (may : MayBeMountable d.geometry d.flash) where
     -- a device that is only read has the same flash
-    read_mountable : OnlyReads d q.device → IsMountableOn q.device
+    read_mountable : OnlyReads d q.device → MayBeMountable q.device.geometry q.device.flash
     read_mountable all =
         subst (λ (g : Geometry). MayBeMountable g q.device.flash) (sym all.lasts.geometry)
         (subst (λ (f : Flash). MayBeMountable d.geometry f) (sym (same_flash d q.device all honest)) may)
@@ -273,7 +273,7 @@ module _ {V : Type 0} (m : Meaning V) (v : V) (d e : Device) (commands : List St
         (subst (λ (f : Flash). AreSummariesRight d.geometry f) (sym (same_flash d p.device reads honest)) right))
 
     -- of pages that can be written each part of it stays
-    written_mountable : p.worn ≡ false → IsMountableOn q.device
+    written_mountable : p.worn ≡ false → MayBeMountable q.device.geometry q.device.flash
     written_mountable written =
         let begun = began written in
         let since = begun_on p q used.ends_on.device used.ends_on.mountable.first begun in
@@ -286,11 +286,24 @@ module _ {V : Type 0} (m : Meaning V) (v : V) (d e : Device) (commands : List St
           checkpoints = λ c whole. last.noted c.block (checked_now.only c whole);
         } ∣₁))))
 
-    pub mountable_there : IsMountableOn q.device
+    mountable_there : MayBeMountable q.device.geometry q.device.flash
     mountable_there = elim (cases_Bool p.worn) [
       | inl worn ↦ read_mountable (only_reads_on d p.device q.device reads (used.ends_on.mountable.reads worn))
       | inr written ↦ written_mountable written
     ]
+
+    -- and a next mount finds the tree that is shown
+    true_there : IsTrueOn q.device
+    true_there =
+        let there = shown_there (volume_of p) q shown_left.0 shown_left.1 (lasts.honest ∙ honest) in
+        record {
+          truth = checked_now.right;
+          mountable = mountable_there;
+          spare = q.spare;
+          objects = shown_left.0;
+          volume = there.0;
+          shows = there.1;
+        }
 
   failed_gone : HasFailed q.device → q.device.gone ≡ true
   failed_gone (inl gone) = gone
@@ -353,9 +366,9 @@ module _ {V : Type 0} (m : Meaning V) (v : V) (d e : Device) (commands : List St
         ];
       }
 
-  pub truly_there : TrulyLived d q.device (mounted_record commands told unmounted q.device.gone ∷ [])
-  truly_there = record {
-    truth = checked_now.right;
+  pub truly_there : Remembers d p → IsTrueOn d → TrulyLived d q.device (mounted_record commands told unmounted q.device.gone ∷ [])
+  truly_there remembers truth = record {
+    truth = true_there remembers truth.mountable;
     numbers = numbers;
     known = inr (n, at_first);
     life = life;
@@ -395,14 +408,7 @@ module _ {V : Type 0} (m : Meaning V) (v : V) (d e now : Device) (commands : Lis
       truly =
           let there = tree here in
           subst (λ (x : Device). TrulyLived d x (mounted_record commands told unmounted x.gone ∷ [])) left
-          (truly_there m v d e commands told unmounted honest one reads goes read_only (next here) there.0 there.1 (checked (honest, truth)) used)
-
-      -- where the mount might go by summaries, the next one may
-      mountable : IsMountableOn d → IsMountableOn e
-      mountable is =
-          let there = tree here in
-          subst (λ (x : Device). IsMountableOn x) left
-          (mountable_there m v d e commands told unmounted honest one reads goes read_only (next here) there.0 there.1 (checked (honest, truth)) used remembers is)
+          (truly_there m v d e commands told unmounted honest one reads goes read_only (next here) there.0 there.1 (checked (honest, truth)) used remembers truth)
 
     -- of a true flash
     pub used_right : IsTrueOn d → IsServedFrom d e commands told unmounted
@@ -421,5 +427,4 @@ module _ {V : Type 0} (m : Meaning V) (v : V) (d e now : Device) (commands : Lis
           marks = λ k is. seen.marks k (ap (λ (bad : ℕ → Bool). bad k) reads.bad ∙ is);
           answered = marked_on d now e (none_marked d now reads.lasts.geometry reads.failures reads.bad) marked_seen;
           truly = truly;
-          mountable = mountable;
         }

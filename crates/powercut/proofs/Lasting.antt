@@ -3,12 +3,11 @@ use Rattle.std.specs.Prelude.{◌≡◌, ◌+◌, ◌-◌, ◌^◌, ℕ, Bool, m
 use Rattle.std.specs.Global.{Vec}
 use Rattle.std.proofs.Common.{refl, sym, ◌∙◌, ap, subst, inl, inr, arith}
 use mathlib.Core.Logic.{∥∥₁_elim}
-use Rattle.flash_tree.specs.Checkpoints.{IsTrueFlash}
 use Rattle.flash_tree.specs.Mount.{Answers, IsTreeOf, sizes_of, bad_blocks}
 use Rattle.mounting.specs.Faults.{WhyNotMounted}
 use Rattle.mounting.specs.declared.fault.MountFault.{MountFault}
 use Rattle.mounting.specs.declared.fault.MountFault.TheVariants as faults
-use Rattle.page_store.specs.Checked.{HasTrueFlash}
+use Rattle.page_store.specs.Checked.{HasTrueFlash, IsConsistent}
 use Rattle.pages.specs.Stores.{bad_on}
 use Rattle.nand_model.specs.Calls.{Device}
 use Rattle.nand_model.specs.Changes.{PowersUp}
@@ -29,7 +28,8 @@ use Rattle.powercut.specs.declared.session.Session.{Session}
 use Rattle.powercut.specs.declared.session.SessionEnd.{SessionEnd}
 use Rattle.powercut.specs.Starting.{Starts, fuse_of, plan_of}
 use Rattle.powercut.proofs.Living.{lived_still, lived_on}
-use Rattle.powercut.specs.laws.SameFlash.{same_back, greatest_same, true_same, bad_same, answers_same}
+use Rattle.powercut.specs.laws.SameFlash.{same_back, greatest_same, bad_same, answers_same}
+use Rattle.powercut.specs.laws.SameSummaries.{consistent_same}
 
 module _ (fused : Bool) (a b c : Device) (starts : Starts fused a b) where
   -- the power-up changes nothing that counts
@@ -155,8 +155,8 @@ module _ (fused : Bool) (a b d : Device) (starts : Starts fused a b) (n k : ℕ)
         ];
       }
 
-  true_after : IsTrueFlash a.geometry a.flash → IsTrueFlash b.geometry b.flash
-  true_after truth = subst (λ (g : Geometry). IsTrueFlash g b.flash) (sym starts.geometry) (true_same a.geometry a.flash b.flash same_flash truth)
+  true_after : IsConsistent a.geometry a.flash → IsConsistent b.geometry b.flash
+  true_after truth = subst (λ (g : Geometry). IsConsistent g b.flash) (sym starts.geometry) (consistent_same a.geometry a.flash b.flash same_flash truth)
 
   -- what names a session says nothing of them
   uncounted : IsServedFrom (record b { cuts = n }) (record d { cuts = k }) commands answered unmounted → IsServedFrom b d commands answered unmounted
@@ -173,7 +173,7 @@ module _ (fused : Bool) (a b d : Device) (starts : Starts fused a b) (n k : ℕ)
     stops = served.stops;
   }
 
-  pub served_counts : a.honest ≡ true → (HasTrueFlash (record b { cuts = n }) → IsServedFrom (record b { cuts = n }) (record d { cuts = k }) commands answered unmounted) → IsTrueFlash a.geometry a.flash
+  pub served_counts : a.honest ≡ true → (HasTrueFlash (record b { cuts = n }) → IsServedFrom (record b { cuts = n }) (record d { cuts = k }) commands answered unmounted) → IsConsistent a.geometry a.flash
       → IsServedFrom a d commands answered unmounted
   served_counts honest served truth = served_before (uncounted (served (starts.honest ∙ honest, true_after truth)))
 
@@ -205,7 +205,6 @@ lived_named a b x y sessions lived = record {
   changes = lived.changes;
   marks = lived.marks;
   answered = lived.answered;
-  mountable = lived.mountable;
   truly = λ truth. let truly = lived.truly truth in record {
     truth = truly.truth;
     numbers = truly.numbers;

@@ -7,16 +7,15 @@ use Rattle.nand_model.specs.Calls.{Device}
 use Rattle.nand_model.specs.declared.geometry.Geometry.{Geometry}
 use Rattle.flash_tree.specs.Newest.{Numbers, AreGreatest}
 use Rattle.flash_tree.specs.Mount.{sizes_of, bad_blocks}
-use Rattle.flash_tree.specs.Checkpoints.{IsTrueFlash}
-use Rattle.flash_tree.specs.MountableFlash.{MayBeMountable}
 use Rattle.flash_tree.specs.Sound.{IsSoundFlash}
 use Rattle.lives.specs.Lives.{SessionRecord, IsLife}
 use Rattle.lives.specs.laws.LifeLaws.{life_append}
+use Rattle.page_store.specs.Checked.{IsConsistent}
 use Rattle.pages.specs.Stores.{bad_on}
 use Rattle.powercut.specs.Limits.{StaysWithin, NumbersLast}
 use Rattle.powercut.specs.Living.{HasSame, AreWithin, TrulyLived, HasLived}
-use Rattle.powercut.specs.laws.SameFlash.{same_on, sound_same, true_same, within_same, greatest_same, bad_more}
-use Rattle.powercut.specs.laws.SameSummaries.{mountable_same}
+use Rattle.powercut.specs.laws.SameFlash.{same_on, sound_same, within_same, greatest_same, bad_more}
+use Rattle.powercut.specs.laws.SameSummaries.{consistent_same}
 
 -- the greatest numbers are within what all are within, the versions within the groups
 pub greatest_within : (f : Flash) (n : Numbers) (group seq : ℕ) → AreGreatest f n → AreWithin f group seq → (n.version ≤ group) × (n.group ≤ group) × (n.seq ≤ seq)
@@ -48,14 +47,13 @@ lived_still a b geometry changes failures same = record {
   marks = λ k is. ap (λ bad. bad k) same.bad ∙ is;
   answered = none_marked a b geometry failures same.bad;
   truly = λ truth. record {
-    truth = subst (λ (g : Geometry). IsTrueFlash g b.flash) (sym geometry) (true_same a.geometry a.flash b.flash same truth);
+    truth = subst (λ (g : Geometry). IsConsistent g b.flash) (sym geometry) (consistent_same a.geometry a.flash b.flash same truth);
     numbers = λ group seq more within e.
         let none : more ≡ 0 = omega (arith, changes, e) in
         subst (λ n. AreWithin b.flash (group + n) (seq + n)) (sym none) (λ k p t good has. let at = within_same a.flash b.flash same group seq within k p t good has in (omega (arith, at.0), omega (arith, at.1)));
     known = inl same;
     life = λ spare tree sound within. (tree, refl, subst (λ (g : Geometry). IsSoundFlash g b.flash spare tree) (sym geometry) (sound_same a.geometry a.flash b.flash same spare tree sound));
   };
-  mountable = λ truth is. subst (λ (g : Geometry). MayBeMountable g b.flash) (sym geometry) (mountable_same a.geometry a.flash b.flash same is);
 }
 
 module _ (a b c : Device) (xs ys : List SessionRecord) (first : HasLived a b xs) (then : HasLived b c ys) where
@@ -134,7 +132,6 @@ module _ (a b c : Device) (xs ys : List SessionRecord) (first : HasLived a b xs)
     marks = λ k is. then.marks k (first.marks k is);
     answered = marked_on a b c first.answered then.answered;
     truly = λ truth. let early = first.truly truth in truly_on early (then.truly early.truth);
-    mountable = λ truth is. then.mountable (first.truly truth).truth (first.mountable truth is);
   }
 
 -- as many blocks as are bad at first, and one more for each failure, are enough to spare

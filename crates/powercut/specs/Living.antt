@@ -4,14 +4,13 @@ use Rattle.std.specs.Prelude.{◌≡◌, ◌⊎◌, ◌≤◌, ◌+◌, ℕ, tru
 use Rattle.nand_model.specs.Flash.{Flash}
 use Rattle.nand_model.specs.Calls.{Device}
 use Rattle.page_tags.specs.declared.tag.Tag.{Tag}
-use Rattle.flash_tree.specs.Checkpoints.{IsTrueFlash}
 use Rattle.flash_tree.specs.Groups.{HasTag}
-use Rattle.flash_tree.specs.MountableFlash.{MayBeMountable}
 use Rattle.flash_tree.specs.Newest.{Numbers, AreGreatest}
 use Rattle.flash_tree.specs.Mount.{sizes_of}
 use Rattle.flash_tree.specs.Sound.{IsSoundFlash}
 use Rattle.posix_profile.specs.State.{Objects}
 use Rattle.lives.specs.Lives.{SessionRecord, IsLife}
+use Rattle.page_store.specs.Checked.{IsConsistent}
 use Rattle.pages.specs.Stores.{bad_on}
 use Rattle.powercut.specs.Limits.{StaysWithin}
 
@@ -24,15 +23,11 @@ pub record HasSame (old new : Flash) : Type 0 where
 abbrev pub AreWithin : Flash → (group seq : ℕ) → Type 0
 AreWithin flash group seq = (b p : ℕ) (t : Tag) → flash.bad b ≡ false → HasTag flash b p t → (t.group ≤ group) × (t.seq ≤ seq)
 
--- each whole checkpoint on the flash of the device is right
+-- the flash of the device shows a tree, and a mount finds it by whichever way it goes
 abbrev pub IsTrueOn : Device → Type 0
-IsTrueOn device = IsTrueFlash device.geometry device.flash
+IsTrueOn device = IsConsistent device.geometry device.flash
 
--- a mount may go by the summaries of the flash of the device
-abbrev pub IsMountableOn : Device → Type 0
-IsMountableOn device = MayBeMountable device.geometry device.flash
-
--- the device soundly shows the tree, and each whole checkpoint on it is right
+-- the device soundly shows the tree, and a mount finds it by whichever way it goes
 pub record IsSoundOn (spare : ℕ) (tree : Objects) (device : Device) : Type 0 where
   pub sound : IsSoundFlash device.geometry device.flash spare tree
   pub truth : IsTrueOn device
@@ -50,12 +45,11 @@ pub record TrulyLived (first last : Device) (sessions : List SessionRecord) : Ty
   pub known : HasSame first.flash last.flash ⊎ ((n : Numbers) × AreGreatest first.flash n)
   pub life : (spare : ℕ) (tree : Objects) → IsSoundFlash first.geometry first.flash spare tree → StaysWithin spare first last → LivesOn spare tree first sessions last
 
--- The one device became the other in these sessions. Marks stay, and no more blocks become bad than failures were counted; of a true flash
--- it is known what it shows; and where a mount might go by its summaries, a next one may.
+-- The one device became the other in these sessions. Marks stay, and no more blocks become bad than failures were counted; and of a true
+-- flash it is known what it shows.
 pub record HasLived (first last : Device) (sessions : List SessionRecord) : Type 0 where
   pub geometry : last.geometry ≡ first.geometry
   pub changes : first.changes ≤ last.changes
   pub marks : (b : ℕ) → first.flash.bad b ≡ true → last.flash.bad b ≡ true
   pub answered : bad_on last + first.failures ≤ bad_on first + last.failures
   pub truly : IsTrueOn first → TrulyLived first last sessions
-  pub mountable : IsTrueOn first → IsMountableOn first → IsMountableOn last

@@ -2,7 +2,6 @@
 -- From: this project.
 use Rattle.std.specs.Prelude.{◌≡◌, ◌⊎◌, ◌↔◌, ◌<◌, ◌≤◌, ℕ, ◌+◌, Bool, true, false, length, List, [], ◌∷◌, ◌++◌, Option, Some, Result, Ok, Err, is_some, if◌then◌else◌}
 use Rattle.std.specs.List.{list_any}
-use Rattle.flash_tree.specs.Checkpoints.{IsTrueFlash}
 use Rattle.flash_tree.specs.Mount.{Answers, IsTreeOf, sizes_of}
 use Rattle.flash_tree.specs.Newest.{Numbers, AreGreatest}
 use Rattle.lives.specs.Lives.{MountAnswer, Mounted, NoMemory, Gone, Faulty, SessionRecord, EndsStopped, at_mount}
@@ -10,6 +9,7 @@ use Rattle.mounting.specs.Faults.{WhyNotMounted}
 use Rattle.mounting.specs.declared.fault.MountFault.{MountFault}
 use Rattle.mounting.specs.declared.fault.MountFault.TheVariants as faults
 use Rattle.nand_model.specs.Calls.{Device}
+use Rattle.page_store.specs.Checked.{IsConsistent}
 use Rattle.pages.specs.Stores.{bad_on}
 use Rattle.nand_model.specs.Changes.{PowersUp}
 use Rattle.nand_model.specs.Plans.{Plan}
@@ -88,8 +88,8 @@ pub record IsEnded (session : Session) (end : SessionEnd) (first last : Device) 
   pub none : (fault : MountFault) → end.mounted ≡ Err fault → end.begun ≡ 0
   -- and the fault has its reason
   pub why : (fault : MountFault) → end.mounted ≡ Err fault → WhyNotMounted last fault
-  -- where it was done, and each whole checkpoint was right, the flash showed a tree, and the replies are right from it
-  pub served : IsTrueFlash first.geometry first.flash → end.mounted ≡ Ok tt → IsServedFrom first last session.commands.items end.replies.items end.unmounted
+  -- where it was done, on a flash that shows a tree which a mount finds by whichever way it goes, the replies are right from it
+  pub served : IsConsistent first.geometry first.flash → end.mounted ≡ Ok tt → IsServedFrom first last session.commands.items end.replies.items end.unmounted
   -- an unmount is answered exactly where the session asks for it and the mount was done
   pub unmounts : (is_some end.unmounted ≡ true) ↔ ((session.unmount ≡ true) × (end.mounted ≡ Ok tt))
   -- power is lost where it is gone at the end

@@ -6,7 +6,7 @@ ghost use Rattle.pages.specs.Stores.{bad_on};
 ghost use Rattle.posix_profile.specs.State.{Objects};
 ghost use Rattle.powercut.specs.Sessions.{record_of, records_of, IsEnded, AreEnded, cuts_in};
 ghost use Rattle.powercut.specs.Limits.{StaysWithin, NumbersLast, HasReserve, FailsAsListed};
-ghost use Rattle.powercut.specs.Living.{HasLived, IsMountableOn, IsTrueOn, IsSoundOn, LivesOn};
+ghost use Rattle.powercut.specs.Living.{HasLived, IsTrueOn, IsSoundOn, LivesOn};
 
 use crate::PlannedNand;
 use crate::power::power_on;
@@ -76,8 +76,6 @@ pub fn live(
     ensures reserve { IfOk result (λ lived. (spare : ℕ) (tree : Objects) → IsSoundOn spare tree (device nand) → HasReserve spare (device nand) sessions.now → NumbersLast (device nand) (device lived.0)
         → LivesOn spare tree (device nand) (records_of sessions.now lived.1.items) (device lived.0)) }
     ensures truth { IfOk result (λ lived. IsTrueOn (device nand) → IsTrueOn (device lived.0)) }
-    // Where a mount might go by block summaries at first, the next one may.
-    ensures mountable { IfOk result (λ lived. IsTrueOn (device nand) → IsMountableOn (device nand) → IsMountableOn (device lived.0)) }
     ensures each { IfOk result (λ lived. AreEnded sessions.now lived.1.items (device nand) (device lived.0)) }
     ensures cuts { IfOk result (λ lived. (device lived.0).cuts ≡ (device nand).cuts + cuts_in lived.1.items) }
     ensures failures { IfOk result (λ lived. FailsAsListed sessions.now (device nand) (device lived.0)) }

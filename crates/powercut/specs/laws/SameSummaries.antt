@@ -1,4 +1,4 @@
--- Whether a mount may go by the summaries of a flash depends on pages and marks alone.
+-- Whether a mount finds the tree of a flash by whichever way it goes depends on pages and marks alone.
 use Rattle.std.specs.Prelude.{◌≡◌, ◌+◌, ℕ, Bool, false}
 use Rattle.std.proofs.Common.{sym, ◌∙◌, ap}
 use mathlib.Core.Logic.{∥∥₁_elim}
@@ -7,12 +7,13 @@ use Rattle.nand_model.specs.declared.geometry.Geometry.{Geometry}
 use Rattle.flash_tree.specs.ErasedBlocks.{BeginsErased, GoesFirst, OnlyFirstHasTags}
 use Rattle.flash_tree.specs.Mount.{sizes_of}
 use Rattle.flash_tree.specs.MountableFlash.{IsMountableFlash, IsTreeFindable, MayBeMountable}
-use Rattle.flash_tree.specs.Newest.{Spot, Holds, HasNewest}
+use Rattle.flash_tree.specs.Newest.{HasNewest}
 use Rattle.flash_tree.specs.Summaries.{AreSummariesRight, IsWholeSummary, MatchesBlock, Summary, summary_group}
 use Rattle.flash_tree.specs.Summarizing.{IsFindable}
 use Rattle.flash_tree.specs.laws.Tree.{footprint_law}
+use Rattle.page_store.specs.Checked.{IsConsistent}
 use Rattle.powercut.specs.Living.{HasSame}
-use Rattle.powercut.specs.laws.SameFlash.{foot_same, group_same, newest_same, same_back, spot_same, tag_same, volume_same, whole_same}
+use Rattle.powercut.specs.laws.SameFlash.{foot_same, group_same, newest_same, same_back, spot_same, tag_same, true_same, volume_same, whole_same}
 
 module _ (g : Geometry) (a b : Flash) (same : HasSame a b) where
   back : HasSame b a
@@ -41,25 +42,11 @@ module _ (g : Geometry) (a b : Flash) (same : HasSame a b) where
   matches_back : (s : Summary) → MatchesBlock b s → MatchesBlock a s
   matches_back s matches = record { good = good_back s.head.block matches.good; tag = matches.tag; has = tag_same b a back s.head.block 0 matches.tag matches.has; seq = matches.seq }
 
-  holds_back : (o c : ℕ) (p : Spot) → Holds b o c p → Holds a o c p
-  holds_back o c p holds = record {
-    group = holds.group;
-    whole = group_same b a back holds.group holds.whole;
-    index = holds.index;
-    within = holds.within;
-    block = holds.block;
-    page = holds.page;
-    has = tag_same b a back p.block p.page p.tag holds.has;
-    object = holds.object;
-    chunk = holds.chunk;
-  }
-
   right_same : AreSummariesRight g a → AreSummariesRight g b
   right_same right = record {
     older = λ s whole. right.older s (whole_back s whole);
     versions = λ s e whole. right.versions s e (whole_back s whole);
     below = λ s l t whole matches has. right.below s l t (whole_back s whole) (matches_back s matches) (tag_same b a back s.head.block l t has);
-    lists = λ s o c p whole matches holds. right.lists s o c p (whole_back s whole) (matches_back s matches) (holds_back o c p holds);
   }
 
   first_same : OnlyFirstHasTags a → OnlyFirstHasTags b
@@ -72,6 +59,7 @@ module _ (g : Geometry) (a b : Flash) (same : HasSame a b) where
   findable_same o c found = record {
     ordinary = found.ordinary;
     there = λ q d key. let at = found.there q d key in (at.0, spot_same a b same q d at.0 at.1);
+    listed = λ s q d p whole matches key newest. found.listed s q d p (whole_back s whole) (matches_back s matches) key (spot_same b a back q d p newest);
     latest = λ s e p whole matches listed key newest. found.latest s e p (whole_back s whole) (matches_back s matches) listed key (spot_same b a back e.object e.chunk p newest);
     in_order = λ q d l p key newest lt erased. found.in_order q d l p key (spot_same b a back q d p newest) lt (sym (page_same p.block l) ∙ erased);
   }
@@ -89,5 +77,15 @@ module _ (g : Geometry) (a b : Flash) (same : HasSame a b) where
     checkpoints = λ c whole. goes_same c.block (is.checkpoints c (whole_same g b a back c whole));
   }
 
-  pub mountable_same : MayBeMountable g a → MayBeMountable g b
+  mountable_same : MayBeMountable g a → MayBeMountable g b
   mountable_same may = ∥∥₁_elim may (λ x y. squash₁ x y) (λ (is : IsMountableFlash g a). ∣ flash_same is ∣₁)
+
+  pub consistent_same : IsConsistent g a → IsConsistent g b
+  consistent_same is = record {
+    truth = true_same g a b same is.truth;
+    mountable = mountable_same is.mountable;
+    spare = is.spare;
+    objects = is.objects;
+    volume = volume_same g a b same is.spare is.volume;
+    shows = footprint_law (sizes_of g is.spare) (HasNewest a) (HasNewest b) is.objects (λ o c bytes foot has. newest_same a b same o c bytes has) is.shows;
+  }

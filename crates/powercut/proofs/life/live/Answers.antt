@@ -65,6 +65,3 @@ returns-clause-life c = λ spare tree sound within. (c.loop-session.invariant.li
 
 pub returns-clause-truth : goal.returns-clause-truth
 returns-clause-truth c = λ truth. (c.loop-session.invariant.lived.truly truth).truth
-
-pub returns-clause-mountable : goal.returns-clause-mountable
-returns-clause-mountable c = λ truth is. c.loop-session.invariant.lived.mountable truth is

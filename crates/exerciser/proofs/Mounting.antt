@@ -6,8 +6,7 @@ use Rattle.nand_model.specs.declared.geometry.Geometry.{Geometry}
 use Rattle.flash_tree.specs.Mount.{Answers, IsTreeOf}
 use Rattle.lives.specs.Lives.{at_mount}
 use Rattle.mounting.specs.declared.fault.MountFault.{MountFault}
-use Rattle.flash_tree.specs.Checkpoints.{IsTrueFlash}
-use Rattle.page_store.specs.Checked.{HasTrueFlash}
+use Rattle.page_store.specs.Checked.{HasTrueFlash, IsConsistent}
 use Rattle.pages.specs.State.{PagesState}
 use Rattle.posix_calls.specs.PageVolumes.{pages_of, is_read_only}
 use Rattle.posix_calls.specs.declared.page_volume.PageVolume.{PageVolume}
@@ -21,7 +20,8 @@ use Rattle.posix_calls.specs.Answering.{ShowsState}
 use Rattle.posix_calls.specs.Mounts.{IsMounted}
 use Rattle.posix_calls.specs.laws.Trusting.{seen_since}
 use Rattle.powercut.specs.Living.{HasSame}
-use Rattle.powercut.specs.laws.SameFlash.{answers_same, same_back, same_on, true_same}
+use Rattle.powercut.specs.laws.SameFlash.{answers_same, same_back, same_on}
+use Rattle.powercut.specs.laws.SameSummaries.{consistent_same}
 use Rattle.exerciser.specs.Causes.{HasTree, IsTornOn, IsTreeOn, MountsAs, ShowsFlash}
 use Rattle.exerciser.specs.Keeping.{IsKept, IsLeast, IsTreeShown}
 use Rattle.exerciser.specs.Seen.{tree_in}
@@ -34,7 +34,7 @@ module _ {P V : Type 0} (state : P → PagesState) (over : V → PageVolume P) (
   same = record { page = up.page; bad = up.bad }
 
   truth_up : HasTrueFlash d → HasTrueFlash e
-  truth_up truth = (up.honest ∙ truth.0, subst (λ (g : Geometry). IsTrueFlash g e.flash) (sym up.geometry) (true_same d.geometry d.flash e.flash same truth.1))
+  truth_up truth = (up.honest ∙ truth.0, subst (λ (g : Geometry). IsConsistent g e.flash) (sym up.geometry) (consistent_same d.geometry d.flash e.flash same truth.1))
 
   -- a volume that is mounted shows the tree of the flash
   pub shows_flash : HasTrueFlash d → ShowsFlash (λ v. ShowsState state (over v)) d v

@@ -17,7 +17,7 @@ use Rattle.posix_profile.specs.declared.command.Stamped.{Stamped}
 use Rattle.posix_profile.specs.declared.reply.Reply.{Reply}
 use Rattle.posix_profile.specs.declared.reply.Reply.TheVariants as replies
 use Rattle.posix_profile.specs.laws.Fresh.{fresh}
-use Rattle.posix_calls.specs.Mounts.{IsMounted}
+use Rattle.posix_calls.specs.Mounts.{IsMounted, IsMountedByScan}
 use Rattle.powercut.specs.Living.{IsSoundOn}
 use Rattle.flash_program.specs.Sessions.{NotMounted}
 use Rattle.flash_program.specs.declared.fault.ProgramFault.{ProgramFault}
@@ -37,13 +37,13 @@ IsTold old new text (Ok done) = Appends old new text
 IsTold old new text (Err faults.Write) = AppendsPart old new text
 IsTold old new text (Err fault) = ⊥
 
--- A volume was mounted, asked for its space, and left as it was: its device was only read.
+-- A volume was mounted by all tags, asked for its space, and left as it was: its device was only read.
 pub record Checked {P V : Type 0} (state : P → PagesState) (inside : V → PageVolume P) (serves : V → Stamped → Reply → V → Type 0)
     (before : Device) (written now : Option (List ℕ)) (after : Device) (result : Result (Unit {0}) ProgramFault) : Type 0 where
   pub first : V
   pub last : V
   pub reply : Reply
-  pub mounted : IsMounted state before (inside first)
+  pub mounted : IsMountedByScan state before (inside first)
   pub asked : serves first space_asked reply last
   pub told : IsTold written now (space_text reply (is_read_only (inside last))) result
   pub reads : OnlyReads before after

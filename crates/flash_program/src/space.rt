@@ -47,7 +47,8 @@ fn tell_space<W: Write>(writer: &mut W, reply: &Reply, read_only: bool) -> Resul
     }
 }
 
-/// Mounts the volume of a device, tells its space and whether it can only be read, and leaves it as it is.
+/// Mounts the volume of a device by all tags, as the device may come from anywhere, tells its space and whether it can only be read,
+/// and leaves it as it is.
 pub(crate) fn check_device<W: Write>(
     alloc: Global,
     device: MemNand,
@@ -56,7 +57,7 @@ pub(crate) fn check_device<W: Write>(
     ensures { CheckEnds ⟦<FlashPages<TrustedNand<MemNand>> as Pages>⟧.state (λ v. over_pages v.volume) ⟦<ServedVolume<MemNand> as Serve>⟧.serves
         (memory.device device) (W.contents writer.old) (W.contents writer.new) (memory.device result.0) result.1 }
 {
-    let volume = match Volume::mount(alloc, device) {
+    let volume = match Volume::mount_scanned(alloc, device) {
         Ok(volume) => volume,
         Err((device, fault)) => return (device, Err(ProgramFault::Mount(fault))),
     };

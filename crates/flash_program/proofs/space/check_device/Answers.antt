@@ -1,4 +1,4 @@
-use Rattle.std.proofs.Common.{inr, refl, sym, subst, ◌∙◌}
+use Rattle.std.proofs.Common.{true, inr, refl, sym, subst, ◌∙◌}
 use Rattle.nand_model.specs.Changes.{OnlyReads}
 use Rattle.nand_model.specs.MemoryState.{device}
 use Rattle.posix_calls.specs.laws.Trusting.{same_seen}
@@ -9,7 +9,7 @@ pub returns : goal.returns
 returns g c =
     let mounted = c.in-Ok.ensures.mounted in
     let lies = c.abandon.ensures in
-    let same = sym lies.1 ∙ c.ask_space-reply.ensures.leaves refl ∙ mounted.since.read.seen_is in
+    let same = sym lies.1 ∙ c.ask_space-reply.ensures.leaves refl ∙ mounted.since.seen_is in
     inr (record {
       first = record { volume = c.in-Ok.volume };
       last = c.ask_space-reply.new.volume;
@@ -17,5 +17,5 @@ returns g c =
       mounted = mounted;
       asked = c.ask_space-reply.ensures;
       told = told_alike _ _ c.ask_space-reply.result _ _ c.tell_space-told.result c.read_only.ensures c.tell_space-told.ensures;
-      reads = subst (λ d. OnlyReads (device c.args.device) d) (sym (same_seen mounted.since.told lies.0 mounted.now (device c.abandon.result) same (sym mounted.since.read.reads.lasts.honest))) mounted.since.read.reads;
+      reads = subst (λ d. OnlyReads (device c.args.device) d) (sym (same_seen true lies.0 mounted.now (device c.abandon.result) same (sym mounted.since.reads.lasts.honest))) mounted.since.reads;
     })

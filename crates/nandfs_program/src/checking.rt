@@ -185,9 +185,9 @@ fn write_report<W: Write>(
     write_numbers(alloc, out, report)
 }
 
-/// Mounts the volume of a device, and finds where it is damaged.
+/// Mounts the volume of a device by all tags, and finds where it is damaged.
 fn mount_or_find<N: Nand + Drop>(alloc: Global, device: N) -> Result<Mounted, ToolFault> {
-    match Volume::mount(alloc, device) {
+    match Volume::mount_scanned(alloc, device) {
         Ok(mut volume) => Ok(Mounted {
             answer: "sound",
             room: Some(room_of(&mut volume)?),

@@ -17,9 +17,9 @@ pub struct ImageSizes {
     pub reserve: u32,
 }
 
-/// Mounts the volume on a device.
+/// Mounts the volume on a device by all tags: an image may come from anywhere.
 pub fn mount<N: Nand + Drop>(alloc: Global, device: N) -> Result<Volume<N>, ToolFault> {
-    match Volume::mount(alloc, device) {
+    match Volume::mount_scanned(alloc, device) {
         Ok(volume) => Ok(volume),
         Err((_device, fault)) => Err(ToolFault::Mount(fault)),
     }

@@ -159,12 +159,12 @@ struct flash_fs {
  */
 int flash_fs_format(struct flash_fs *fs, const struct flash_driver *driver, uint32_t spare);
 
-/* Mounts the volume of a device. It only reads: after an unmount mostly the tag of the first page of each block, and some
- * pages of a list of the pages in use; else that tag twice and every other tag once. Besides these it reads about a page for
- * each file, and those of directories. It takes memory by the number of pages that are in use, which an unmount or an abandon
- * gives back. Errors: EBUSY the volume, or another of the driver, is mounted; EINVAL sizes out of range, or an address of
- * `fs`; ENOVOLUME, ENEWER, EDAMAGED what the device holds; EIO; ENOMEM; EMFILE. After an error the volume is not mounted,
- * unless it was before.
+/* Mounts the volume of a device. It only reads: after an unmount mostly the tag of the first page of each block, and some pages
+ * of a list of the pages in use; else that tag, and all tags of each block in which pages were programmed and of one that is
+ * erased. Besides these it reads about a page for each file, and those of directories. It takes memory by the number of pages
+ * that are in use, which an unmount or an abandon gives back. Errors: EBUSY the volume, or another of the driver, is mounted;
+ * EINVAL sizes out of range, or an address of `fs`; ENOVOLUME, ENEWER, EDAMAGED what the device holds; EIO; ENOMEM; EMFILE.
+ * After an error the volume is not mounted, unless it was before.
  */
 int flash_fs_mount(struct flash_fs *fs, const struct flash_driver *driver);
 
@@ -172,6 +172,12 @@ int flash_fs_mount(struct flash_fs *fs, const struct flash_driver *driver);
  * page_bytes and some forty bytes.
  */
 int flash_fs_mount_with(struct flash_fs *fs, const struct flash_driver *driver, uint32_t cache_pages);
+
+/* The same as flash_fs_mount_with, but it goes by the tags of all pages, and by no list of them that the device holds. It is for
+ * a device that another program than this file system wrote or changed, as one that a programmer filled from an image of
+ * unknown origin.
+ */
+int flash_fs_mount_scanned(struct flash_fs *fs, const struct flash_driver *driver, uint32_t cache_pages);
 
 /* Makes everything durable and ends the mount: the memory is given back, and open descriptors are closed. After FLASH_EIO the
  * mount has ended too, and what was not synced may be lost. Errors: EINVAL not mounted (nothing is done); EIO.

@@ -42,6 +42,7 @@ size_t flash_port_bytes(void);
 int flash_format(struct flash_port port, uint32_t spare);
 int flash_mount(struct flash_slot *slot, struct flash_port port);
 int flash_mount_with(struct flash_slot *slot, struct flash_port port, uint32_t cache_pages);
+int flash_mount_scanned(struct flash_slot *slot, struct flash_port port, uint32_t cache_pages);
 int flash_unmount(struct flash_slot *slot);
 void flash_abandon(struct flash_slot *slot);
 int flash_read_only(struct flash_slot *slot);
@@ -326,6 +327,12 @@ int flash_fs_mount_with(struct flash_fs *fs, const struct flash_driver *driver, 
 {
     int code = open_device(fs, driver);
     return code < 0 ? code : flash_mount_with(slot_of(fs), (struct flash_port){&volume_of(fs)->device.stream}, cache_pages);
+}
+
+int flash_fs_mount_scanned(struct flash_fs *fs, const struct flash_driver *driver, uint32_t cache_pages)
+{
+    int code = open_device(fs, driver);
+    return code < 0 ? code : flash_mount_scanned(slot_of(fs), (struct flash_port){&volume_of(fs)->device.stream}, cache_pages);
 }
 
 int flash_fs_mount(struct flash_fs *fs, const struct flash_driver *driver)

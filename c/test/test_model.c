@@ -1,5 +1,5 @@
 /* Drawn calls on volumes of several sizes: each returns and fills what the model does. Now and then the volume is unmounted and
- * mounted again, and shows the model's tree. Some of the programs and erases fail.
+ * mounted again in both ways, and shows the model's tree. Some of the programs and erases fail.
  *
  *   test_model [CALLS] [SEED]
  *
@@ -29,9 +29,14 @@ static void mount_again(struct ram_nand *nand, struct model *model, const struct
     check(flash_fs_unmount(&fs) == 0, "call %llu: unmount", (unsigned long long)call);
     model_settle(model);
     ram_nand_power_up(nand);
-    check(flash_fs_mount_with(&fs, &nand->driver, sizes->cache_pages) == 0, "call %llu: mount", (unsigned long long)call);
-    uint64_t there = volume_tree(&fs, &code);
-    check(code == 0 && there == model_tree(model), "call %llu: the tree after a mount", (unsigned long long)call);
+    for (uint64_t way = call; way < call + 2; way++) { /* the calls after it go on from the one or the other */
+        flash_fs_abandon(&fs);
+        int mounted = way % 2 == 0 ? flash_fs_mount_scanned(&fs, &nand->driver, sizes->cache_pages)
+                                   : flash_fs_mount_with(&fs, &nand->driver, sizes->cache_pages);
+        check(mounted == 0, "call %llu: mount", (unsigned long long)call);
+        uint64_t there = volume_tree(&fs, &code);
+        check(code == 0 && there == model_tree(model), "call %llu: the tree after a mount", (unsigned long long)call);
+    }
 }
 
 static void run(const struct sizes *sizes, uint64_t calls, uint64_t seed)

@@ -1,12 +1,15 @@
 -- The numbers of a mount's faults, and the volume that is mounted.
-use Rattle.std.proofs.Common.{◌≡◌, ◌<ℤ◌, ◌≤ℤ◌, ◌∙◌, ℤ, pos, refl, sym, ap, subst, to_z, of_z, w32, arith}
+use Rattle.std.proofs.Common.{◌≡◌, ◌<ℤ◌, ◌≤ℤ◌, ◌∙◌, ℤ, pos, false, refl, sym, ap, subst, to_z, of_z, w32, arith}
 use Rattle.mounting.specs.declared.fault.MountFault.{MountFault}
 use Rattle.mounting.specs.declared.fault.MountFault.TheVariants as mounts
 use Rattle.nand_model.specs.Calls.{Device}
 use Rattle.posix_calls.specs.declared.page_volume.PageVolume.{PageVolume}
 use Rattle.pages.specs.State.{PagesState}
-use Rattle.posix_calls.specs.Mounts.{IsMounted}
+use Rattle.posix_calls.specs.PageVolumes.{is_stopped}
 use Rattle.flash_c.specs.Numbers.{mount_number}
+use Rattle.flash_c.specs.Volumes.{IsMountedBy}
+use Rattle.flash_c.specs.declared.way.Way.{Way}
+use Rattle.flash_c.specs.declared.way.Way.TheVariants as ways
 
 pub mount_fits : (fault : MountFault) → to_z w32 (of_z w32 (mount_number fault)) ≡ mount_number fault
 mount_fits mounts.Gone = refl
@@ -22,8 +25,13 @@ mount_below mounts.NotAVolume = search arith
 mount_below (mounts.Newer format) = search arith
 mount_below mounts.Damaged = search arith
 
-pub mounted_as : {P : Type 0} (state : P → PagesState) (device : Device) (v w : PageVolume P) → v ≡ w → IsMounted state device v → IsMounted state device w
-mounted_as state device v w same = subst (IsMounted state device) same
+pub mounted_as : {P : Type 0} (way : Way) (state : P → PagesState) (device : Device) (v w : PageVolume P) → v ≡ w → IsMountedBy way state device v → IsMountedBy way state device w
+mounted_as way state device v w same = subst (IsMountedBy way state device) same
+
+-- a volume that is mounted goes on, whichever way it was mounted
+pub goes_by : {P : Type 0} (way : Way) (state : P → PagesState) (device : Device) (v : PageVolume P) → IsMountedBy way state device v → is_stopped v ≡ false
+goes_by ways.Shortest state device v mounted = mounted.goes_on
+goes_by ways.AllTags state device v mounted = mounted.goes_on
 
 -- the number of a fault, returned as a number of 32 bits
 pub mount_same : (number : ℤ) (fault : MountFault) → number ≡ mount_number fault → to_z w32 (of_z w32 number) ≡ mount_number fault

@@ -1,6 +1,5 @@
 -- How a volume is mounted, formatted and ended, over any device: of the device before, and the same device after.
 use Rattle.std.specs.Prelude.{◌≡◌, ◌⊎◌, ◌<◌, ◌≤◌, ◌↔◌, ℕ, ◌+◌, false, true, Result, Ok, Err, ℤ, pos}
-use Rattle.flash_tree.specs.Checkpoints.{IsTrueFlash}
 use Rattle.flash_tree.specs.Mount.{bad_blocks}
 use Rattle.flash_tree.specs.Sound.{IsSoundFlash}
 use Rattle.formatting.specs.declared.fault.FormatFault.{FormatFault}
@@ -10,13 +9,16 @@ use Rattle.mounting.specs.declared.fault.MountFault.{MountFault}
 use Rattle.nand_model.specs.Calls.{Device, Lasts}
 use Rattle.nand_model.specs.Changes.{OnlyReads}
 use Rattle.posix_calls.specs.declared.page_volume.PageVolume.{PageVolume}
+use Rattle.page_store.specs.Checked.{IsConsistent}
 use Rattle.pages.specs.State.{PagesState}
 use Rattle.port_nand.specs.declared.sizes.OpenFault.{OpenFault}
 use Rattle.posix_calls.specs.Endings.{IsUnmounted}
-use Rattle.posix_calls.specs.Mounts.{IsMounted}
+use Rattle.posix_calls.specs.Mounts.{IsMounted, IsMountedByScan}
 use Rattle.posix_profile.specs.declared.reply.Reply.{Reply}
 use Rattle.posix_profile.specs.laws.Fresh.{fresh}
 use Rattle.flash_c.specs.Numbers.{done_number, mount_number, format_number, open_number}
+use Rattle.flash_c.specs.declared.way.Way.{Way}
+use Rattle.flash_c.specs.declared.way.Way.TheVariants as ways
 
 -- the device was not mounted: it was only read, and the number is that of the fault, which has its reason
 pub record NotMounted (old new : Device) (number : ℤ) : Type 0 where
@@ -32,7 +34,7 @@ pub record IsNew (spare : ℕ) (old new : Device) : Type 0 where
   pub power : new.gone ≡ false
   pub few_bad : bad_blocks new.geometry new.flash ≤ spare
   pub sound : old.honest ≡ true → IsSoundFlash new.geometry new.flash spare fresh.objects
-  pub true_flash : old.honest ≡ true → IsTrueFlash new.geometry new.flash
+  pub true_flash : old.honest ≡ true → IsConsistent new.geometry new.flash
 
 -- Why a device was not formatted: too few blocks besides the spare ones, or memory was refused, and the device was left; too many
 -- blocks are bad; or it lost its power.
@@ -67,16 +69,21 @@ abbrev pub FormatsOpened : {D : Type 0} → (D → Device) → ℕ → Result D 
 FormatsOpened {D} state spare (Ok opened) number = ((state opened).gone ≡ false) × (after : D) × IsFormatted spare (state opened) (state after) number
 FormatsOpened state spare (Err fault) number = number ≡ open_number fault
 
+-- the volume of a device is mounted in this way
+abbrev pub IsMountedBy : {P : Type 0} → Way → (P → PagesState) → Device → PageVolume P → Type 0
+IsMountedBy ways.Shortest state device v = IsMounted state device v
+IsMountedBy ways.AllTags state device v = IsMountedByScan state device v
+
 -- The mount of a device that was opened, which has power: 0 and its volume, or a number below 0 for its reason. Where none was opened
 -- the number is that of the fault.
-abbrev pub MountsOpened : {D P : Type 0} → (D → Device) → (P → PagesState) → Result D OpenFault → ℤ → PageVolume P → Type 0
-MountsOpened {D} state pages (Ok opened) number v = ((state opened).gone ≡ false)
-    × (((number ≡ pos 0) × IsMounted pages (state opened) v) ⊎ ((after : D) × NotMounted (state opened) (state after) number))
-MountsOpened state pages (Err fault) number v = number ≡ open_number fault
+abbrev pub MountsOpened : {D P : Type 0} → Way → (D → Device) → (P → PagesState) → Result D OpenFault → ℤ → PageVolume P → Type 0
+MountsOpened {D} way state pages (Ok opened) number v = ((state opened).gone ≡ false)
+    × (((number ≡ pos 0) × IsMountedBy way pages (state opened) v) ⊎ ((after : D) × NotMounted (state opened) (state after) number))
+MountsOpened way state pages (Err fault) number v = number ≡ open_number fault
 
--- A mount of some device of this type that a port gives: its number and its volume, or the number for which none is given.
-abbrev pub MountsAt : {D P : Type 0} → (D → Device) → (P → PagesState) → ℤ → PageVolume P → Type 0
-MountsAt {D} state pages number v = (opened : Result D OpenFault) × MountsOpened state pages opened number v
+-- A mount in this way of some device of this type that a port gives: its number and its volume, or the number for which none is given.
+abbrev pub MountsBy : {D P : Type 0} → Way → (D → Device) → (P → PagesState) → ℤ → PageVolume P → Type 0
+MountsBy {D} way state pages number v = (opened : Result D OpenFault) × MountsOpened way state pages opened number v
 
 -- A format of some device of this type that a port gives: its number, or that for which none is given.
 abbrev pub FormatsAt : {D : Type 0} → (D → Device) → ℕ → ℤ → Type 0

@@ -27,4 +27,5 @@ mod serve;
 mod session;
 mod slot;
 mod volumes;
+mod way;
 mod writing;

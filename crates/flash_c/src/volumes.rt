@@ -5,13 +5,15 @@ ghost use Rattle.posix_calls.specs.Volumes.{over_pages};
 ghost use Rattle.posix_profile.specs.declared.reply.Errno.TheVariants as errors;
 ghost use Rattle.flash_c.specs.Numbers.{error_number};
 ghost use Rattle.flash_c.specs.Slots.{FillsSlot, IsAsked};
-ghost use Rattle.flash_c.specs.Volumes.{EndsAt, FormatsAt, MountsAt};
+ghost use Rattle.flash_c.specs.Volumes.{EndsAt, FormatsAt, MountsBy};
+ghost use Rattle.flash_c.specs.declared.way.Way.TheVariants as ways;
 
 use crate::devices::{abandon, end, format_device, mount_device};
 use crate::numbers::{error_number, open_number};
 use crate::port::Port;
 use crate::session::{FileNand, FilePages, Session};
 use crate::slot::Slot;
+use crate::way::Way;
 use nand_model::Nand;
 use pages::Pages;
 use port_nand::{FilePort, open};
@@ -46,10 +48,10 @@ pub extern "C" fn flash_format(alloc: Global, port: Port, spare: u32) -> i32
     }
 }
 
-/// Opens a device and mounts its volume in an empty slot.
-fn mount_in(alloc: Global, slot: &mut Slot, port: Port, cache_pages: u32) -> i32
+/// Opens a device and mounts its volume in this way in an empty slot.
+fn mount_in(alloc: Global, slot: &mut Slot, port: Port, cache_pages: u32, way: Way) -> i32
     ensures fills { FillsSlot slot.old result slot.new }
-    ensures mounts { slot.old.full ≡ false → MountsAt ⟦<FileNand as Nand>⟧.state ⟦<FilePages as Pages>⟧.state result (over_pages slot.new.session.volume) }
+    ensures mounts { slot.old.full ≡ false → MountsBy way ⟦<FileNand as Nand>⟧.state ⟦<FilePages as Pages>⟧.state result (over_pages slot.new.session.volume) }
 {
     let file = port.into_file();
     if slot.is_full() {
@@ -59,7 +61,7 @@ fn mount_in(alloc: Global, slot: &mut Slot, port: Port, cache_pages: u32) -> i32
         Ok(device) => device,
         Err(fault) => return open_number(fault),
     };
-    match mount_device(alloc, device, cache_pages) {
+    match mount_device(alloc, device, cache_pages, way) {
         Ok(volume) => {
             slot.put(Session { volume });
             0
@@ -72,9 +74,9 @@ fn mount_in(alloc: Global, slot: &mut Slot, port: Port, cache_pages: u32) -> i32
 #[unsafe(no_mangle)]
 pub extern "C" fn flash_mount(alloc: Global, slot: &mut Slot, port: Port) -> i32
     ensures fills { FillsSlot slot.old result slot.new }
-    ensures mounts { slot.old.full ≡ false → MountsAt ⟦<FileNand as Nand>⟧.state ⟦<FilePages as Pages>⟧.state result (over_pages slot.new.session.volume) }
+    ensures mounts { slot.old.full ≡ false → MountsBy ways.Shortest ⟦<FileNand as Nand>⟧.state ⟦<FilePages as Pages>⟧.state result (over_pages slot.new.session.volume) }
 {
-    mount_in(alloc, slot, port, CACHE_PAGES)
+    mount_in(alloc, slot, port, CACHE_PAGES, Way::Shortest)
 }
 
 /// Mounts the volume of a device in an empty slot, with a cache of so many pages, of one at least.
@@ -86,9 +88,24 @@ pub extern "C" fn flash_mount_with(
     cache_pages: u32,
 ) -> i32
     ensures fills { FillsSlot slot.old result slot.new }
-    ensures mounts { slot.old.full ≡ false → MountsAt ⟦<FileNand as Nand>⟧.state ⟦<FilePages as Pages>⟧.state result (over_pages slot.new.session.volume) }
+    ensures mounts { slot.old.full ≡ false → MountsBy ways.Shortest ⟦<FileNand as Nand>⟧.state ⟦<FilePages as Pages>⟧.state result (over_pages slot.new.session.volume) }
 {
-    mount_in(alloc, slot, port, cache_pages)
+    mount_in(alloc, slot, port, cache_pages, Way::Shortest)
+}
+
+/// Mounts the volume of a device as `flash_mount_with` does, but by the tags of all pages: for a device that another program than this
+/// file system may have written.
+#[unsafe(no_mangle)]
+pub extern "C" fn flash_mount_scanned(
+    alloc: Global,
+    slot: &mut Slot,
+    port: Port,
+    cache_pages: u32,
+) -> i32
+    ensures fills { FillsSlot slot.old result slot.new }
+    ensures mounts { slot.old.full ≡ false → MountsBy ways.AllTags ⟦<FileNand as Nand>⟧.state ⟦<FilePages as Pages>⟧.state result (over_pages slot.new.session.volume) }
+{
+    mount_in(alloc, slot, port, cache_pages, Way::AllTags)
 }
 
 /// Commits what was accepted, and empties the slot.

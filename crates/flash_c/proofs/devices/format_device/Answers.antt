@@ -1,5 +1,6 @@
 use Rattle.std.proofs.Common.{◌∙◌, ◌+◌, refl, inl, inr, w32}
 use Rattle.std.proofs.lemmas.Int.{to_z-of_z}
+use Rattle.posix_calls.specs.laws.Formatted.{starts_consistent}
 use Rattle.flash_c.proofs.Formats.{reason, enough}
 use Rattle.flash_c.proofs.devices.format_device.Goals as goal
 
@@ -13,7 +14,7 @@ returns-in-Ok g c = let ensured = c.in-Ok.ensures in record {
       power = ensured.has_power;
       few_bad = ensured.few_bad;
       sound = ensured.formatted;
-      true_flash = λ honest. (ensured.true_flash honest).checkpoints;
+      true_flash = λ honest. starts_consistent (g.N.Nand.state c.in-Ok.device) _ _ (ensured.true_flash honest) (ensured.formatted honest);
     },
   );
 }

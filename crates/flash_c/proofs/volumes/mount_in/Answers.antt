@@ -3,12 +3,12 @@ use Rattle.std.proofs.lemmas.Int.{to_z-of_z}
 use Rattle.posix_calls.specs.PageVolumes.{is_stopped}
 use Rattle.posix_calls.specs.Volumes.{over_pages}
 use Rattle.flash_c.specs.declared.session.Session.{Session}
-use Rattle.flash_c.proofs.Mounts.{mount_same, mount_sign, not_above, not_zero, mounted_as}
+use Rattle.flash_c.proofs.Mounts.{goes_by, mount_same, mount_sign, mounted_as, not_above, not_zero}
 use Rattle.flash_c.proofs.volumes.mount_in.Goals as goal
 
 pub returns-in-Ok-mount_device-clause-fills : goal.returns-in-Ok-mount_device-clause-fills
 returns-in-Ok-mount_device-clause-fills c = record {
-  mounted = λ done. (c.put.ensures.full, subst (λ (s : Session). is_stopped (over_pages s.volume) ≡ false) (sym c.put.ensures.session) c.in-Ok-mount_device.ensures.mounted.goes_on);
+  mounted = λ done. (c.put.ensures.full, subst (λ (s : Session). is_stopped (over_pages s.volume) ≡ false) (sym c.put.ensures.session) (goes_by c.args.way _ _ _ c.in-Ok-mount_device.ensures.mounted));
   left = λ no. absurd (no refl);
   at_most_0 = search arith;
   busy = λ full. (let two : true ≡ false = sym full ∙ sym c.is_full.ensures.full ∙ c.if-is_full.false in absurd cc);
@@ -17,7 +17,7 @@ returns-in-Ok-mount_device-clause-fills c = record {
 pub returns-in-Ok-mount_device-clause-mounts : goal.returns-in-Ok-mount_device-clause-mounts
 returns-in-Ok-mount_device-clause-mounts c empty =
     let session = ap (λ (s : Session). over_pages s.volume) (sym c.put.ensures.session) in
-    (Ok c.in-Ok.device, (c.in-Ok.ensures.power, inl (refl, mounted_as _ _ _ _ session c.in-Ok-mount_device.ensures.mounted)))
+    (Ok c.in-Ok.device, (c.in-Ok.ensures.power, inl (refl, mounted_as c.args.way _ _ _ _ session c.in-Ok-mount_device.ensures.mounted)))
 
 pub returns-in-Err-mount_device-clause-fills : goal.returns-in-Err-mount_device-clause-fills
 returns-in-Err-mount_device-clause-fills c =

@@ -54,8 +54,8 @@ fn each_session_keeps_a_tree(rt: HostRuntime) {
     assert!(rt; other.as_str() != text.as_str());
 }
 
-/// A session of these lines makes 272 calls: its mount reads the tags of the 8 first pages for a checkpoint, those of 256 pages, and
-/// the root's header; that header is read once more for the new name; the sync erases a block and programs three pages; and the
+/// A session of these lines makes 80 calls: its mount reads the tags of the 8 first pages for a checkpoint, those of the 32 pages of the
+/// root's block and of the first erased one, and the root's header; that header is read once more for the new name; the sync erases a block and programs three pages; and the
 /// unmount erases a block and programs the one page of a checkpoint of three entries. The first three sessions are cut in their mounts, by the words 15492934433077865799, 5092013759793669961 and 16206103987400358024 of the seed 1.
 #[test]
 fn a_call_is_drawn_among_those_of_the_session(rt: HostRuntime) {
@@ -66,7 +66,7 @@ fn a_call_is_drawn_among_those_of_the_session(rt: HostRuntime) {
     assert_eq!(rt; ended, Ok(()));
     assert_eq!(rt;
         str::from_utf8(&writer).expect(&rt, "a text"),
-        "session 1 op 72 kept 0 of 2\nsession 2 op 122 kept 0 of 2\nsession 3 op 217 kept 0 of 2\n"
+        "session 1 op 40 kept 0 of 2\nsession 2 op 42 kept 0 of 2\nsession 3 op 25 kept 0 of 2\n"
     );
 }
 

@@ -47,8 +47,12 @@ fn text(rt: &impl Abort, alloc: Global, end: &SessionEnd) -> String {
 const MADE: &str = "mkdir /z\nsync\n";
 
 /// The sync of a directory that is new erases a block and programs three pages: a mount reads the tags of the 8 first pages for a
-/// checkpoint, those of 256 pages and the root's header, and that header is read once more for the new name.
-const ERASE: u64 = 267;
+/// checkpoint, those of the 32 pages of the root's block and of the first erased one, and the root's header, and that header is read once
+/// more for the new name.
+const ERASE: u64 = 75;
+
+/// Once a block has a page of a cut sync its tags are read too.
+const NEXT_ERASE: u64 = ERASE + 32;
 
 /// The device after three sessions on a formatted one, of which each leaves the pages of the call at which it is cut: in its second
 /// program, in its erase, and in its mount.
@@ -56,7 +60,7 @@ fn cut_three_times(rt: &impl Abort, alloc: Global) -> MemNand {
     let old = [Fate::Old; 32];
     let sessions = vec![in alloc;
         session(rt, alloc, MADE, Some((ERASE + 2, &old))),
-        session(rt, alloc, MADE, Some((ERASE, &old))),
+        session(rt, alloc, MADE, Some((NEXT_ERASE, &old))),
         session(rt, alloc, MADE, Some((1, &old))),
     ]
     .expect(rt, "memory");

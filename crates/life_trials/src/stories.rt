@@ -44,9 +44,9 @@ const SYNCED: &str = "mkdir /a
 sync
 ";
 
-/// The call that programs the last page of that sync: after the tags of the 8 first pages and of all 256, the root's header, that
-/// once more for the new name, an erase and two programs.
-const LAST_PROGRAM: u64 = 270;
+/// The call that programs the last page of that sync: after the tags of the 8 first pages and of the 32 of the root's block and of the
+/// first erased one, the root's header, that once more for the new name, an erase and two programs.
+const LAST_PROGRAM: u64 = 78;
 
 /// A file that is written, read and not synced.
 const UNSYNCED: &str = "open /a rwc

@@ -1,5 +1,5 @@
 //! Tests of an unmount that writes a checkpoint and of a mount that goes by it: what is written, what is read, what a cut or a
-//! failure of each call leaves, checkpoints that were altered, and unmounts that write none.
+//! failure of each call leaves, checkpoints that were altered, and unmounts that write none; and of a mount by a block summary.
 #![tactic(auto)]
 
 #[cfg(test)]
@@ -16,3 +16,5 @@ mod rows;
 mod search;
 #[cfg(test)]
 mod skipped;
+#[cfg(test)]
+mod summarized;

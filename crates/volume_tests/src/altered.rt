@@ -416,7 +416,7 @@ fn a_mount_that_is_refused_memory_has_its_fault_next(rt: HostRuntime) {
         assert_eq!(&rt; fault_of(&rt, alloc, nand, &mut refused), wanted);
     }
     let hit = Hit {
-        call: 100,
+        call: 50,
         left: &[],
     };
     let nand = cut(&rt, alloc, &formatted(&rt, alloc), hit);

@@ -41,15 +41,20 @@ fn cut_in_mount(rt: &impl Abort, alloc: Global, nand: &MemNand) -> MemNand {
     }
 }
 
+/// The call of a session at which its sync erases a block: the one after those of its mount and of a command.
+fn erase_of(rt: &impl Abort, alloc: Global, nand: &MemNand) -> u64 {
+    let mut nand = nand.copy().expect(rt, "memory");
+    nand.power_up();
+    tell(rt, alloc, nand, &[MADE]).calls().saturating_add(1)
+}
+
 /// The device after three sessions on a formatted one: one that is cut in its second program, one in its erase, and one in
 /// its mount.
 fn cut_three_times(rt: &impl Abort, alloc: Global) -> MemNand {
     let nand = formatted(rt, alloc);
-    // The calls of a mount of the same tree are the same each time; then come the erase and the programs of the sync.
-    let erase = tell(rt, alloc, nand.copy().expect(rt, "memory"), &[MADE])
-        .calls()
-        .saturating_add(1);
-    let nand = cut_at(rt, alloc, &nand, erase.saturating_add(2));
+    let program = erase_of(rt, alloc, &nand).saturating_add(2);
+    let nand = cut_at(rt, alloc, &nand, program);
+    let erase = erase_of(rt, alloc, &nand);
     let nand = cut_at(rt, alloc, &nand, erase);
     let mut nand = cut_in_mount(rt, alloc, &nand);
     nand.power_up();

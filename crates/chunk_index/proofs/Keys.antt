@@ -17,7 +17,7 @@ use Rattle.chunk_index.specs.declared.index.Index.{Index}
 use Rattle.chunk_index.specs.Lists.{find_by}
 use Rattle.chunk_index.specs.Entries.{chunk, kept_of}
 use Rattle.chunk_index.specs.Shelves.{entry_of}
-use Rattle.chunk_index.specs.Listing.{key_in, keys_of, keys_in, block_keys}
+use Rattle.chunk_index.specs.Listing.{key_in, keys_of, keys_in, block_keys, IsKept}
 use Rattle.chunk_index.specs.Kept.{HoldsNone}
 use Rattle.chunk_index.proofs.Kept.{length-keys_in}
 use Rattle.chunk_index.specs.Maps.{kept_pages, kept_in}
@@ -50,9 +50,6 @@ each_append P (x ∷ xs) ys one two zero k is = one 0 k is
 each_append P (x ∷ xs) ys one two (suc i) k is = each_append P xs ys (λ j l at. one (suc j) l at) two i k is
 
 -- ---- each listed key is kept in the block
-
-abbrev pub IsKept : Index → ℕ → KeptKey → Type 0
-IsKept x b k = (kept_pages x k.key.object k.key.chunk ≡ Some k.at) × (k.at.block ≡ b)
 
 key_is : (x : Index) (b o : ℕ) (e : KeyEntry) → kept_pages x o (chunk e) ≡ e.kept → (i : ℕ) (k : KeptKey) → slice_get (key_in b o e) i ≡ Some k → IsKept x b k
 key_is x b o e told i k is = go e.kept refl where

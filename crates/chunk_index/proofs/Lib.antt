@@ -22,3 +22,4 @@ pub mod PassedKeys
 pub mod Freeing
 pub mod Once
 pub mod Kept
+pub mod Reordered

@@ -18,19 +18,15 @@ use Rattle.chunk_index.specs.declared.object.ObjectEntries.{ObjectEntries}
 use Rattle.chunk_index.specs.declared.index.Index.{Index}
 use Rattle.chunk_index.specs.Lists.{Rises}
 use Rattle.chunk_index.specs.Entries.{chunk}
-use Rattle.chunk_index.specs.Listing.{key_in, keys_of as keys_of_object, keys_in, block_keys}
+use Rattle.chunk_index.specs.Listing.{key_in, keys_of as keys_of_object, keys_in, block_keys, HasKeysOnce}
 use Rattle.chunk_index.proofs.Keys.{each_append}
-
--- two places of a list with one key are one place
-abbrev pub IsOnce : List KeptKey → Type 0
-IsOnce ks = (i j : ℕ) (k l : KeptKey) → slice_get ks i ≡ Some k → slice_get ks j ≡ Some l → k.key ≡ l.key → i ≡ j
 
 -- no key of one list is in the other
 abbrev AreApart : List KeptKey → List KeptKey → Type 0
 AreApart xs ys = (i j : ℕ) (k l : KeptKey) → slice_get xs i ≡ Some k → slice_get ys j ≡ Some l → k.key ≡ l.key → ⊥
 
 -- one key more, in front
-once_cons : (x : KeptKey) (ks : List KeptKey) → ((j : ℕ) (l : KeptKey) → slice_get ks j ≡ Some l → x.key ≡ l.key → ⊥) → IsOnce ks → IsOnce (x ∷ ks)
+once_cons : (x : KeptKey) (ks : List KeptKey) → ((j : ℕ) (l : KeptKey) → slice_get ks j ≡ Some l → x.key ≡ l.key → ⊥) → HasKeysOnce ks → HasKeysOnce (x ∷ ks)
 once_cons x ks first rest zero zero k l at there same = refl
 once_cons x ks first rest zero (suc j) k l at there same =
     let is : x ≡ k = cc in
@@ -40,7 +36,7 @@ once_cons x ks first rest (suc i) zero k l at there same =
     absurd (first i k at (ap (λ (y : KeptKey). y.key) is ∙ sym same))
 once_cons x ks first rest (suc i) (suc j) k l at there same = ap suc (rest i j k l at there same)
 
-once_append : (xs ys : List KeptKey) → IsOnce xs → IsOnce ys → AreApart xs ys → IsOnce (xs ++ ys)
+once_append : (xs ys : List KeptKey) → HasKeysOnce xs → HasKeysOnce ys → AreApart xs ys → HasKeysOnce (xs ++ ys)
 once_append [] ys one two apart = two
 once_append (x ∷ xs) ys one two apart = once_cons x (xs ++ ys)
     (each_append (λ l. x.key ≡ l.key → ⊥) xs ys
@@ -88,7 +84,7 @@ above_chunk b o n (e ∷ es) above i k is =
     (λ j l at. let here : l.key.chunk ≡ chunk e = (key_in_is b o e j l at).2 in let lt : n < chunk e = above 0 e (omega arith) in omega (arith, here, lt))
     (above_chunk b o n es (λ j d lt. above (suc j) d (omega (arith, lt)))) i k is
 
-once_object : (b o : ℕ) (es : List KeyEntry) → Rises chunk es → IsOnce (keys_of_object b o es)
+once_object : (b o : ℕ) (es : List KeyEntry) → Rises chunk es → HasKeysOnce (keys_of_object b o es)
 once_object b o [] rises = λ i j k l at there same. absurd cc
 once_object b o (e ∷ es) rises = once_append (key_in b o e) (keys_of_object b o es)
     (λ i j k l at there same. (key_in_is b o e i k at).0 ∙ sym (key_in_is b o e j l there).0)
@@ -107,7 +103,7 @@ other_objects b o (x ∷ xs) all i k is =
     (λ j l at. let here : l.key.object ≡ x.0 = of_object b x.0 x.1.entries.items j l at in let lt : o < x.0 = ranked o x.0 Less (sym all.0) in omega (arith, here, lt))
     (other_objects b o xs all.1) i k is
 
-once_all : (b : ℕ) (xs : List (ℕ × ObjectEntries)) → IsStrictlySortedBy nat_cmp (keys_of xs) → IsOnce (keys_in b xs)
+once_all : (b : ℕ) (xs : List (ℕ × ObjectEntries)) → IsStrictlySortedBy nat_cmp (keys_of xs) → HasKeysOnce (keys_in b xs)
 once_all b [] sorted = λ i j k l at there same. absurd cc
 once_all b (x ∷ xs) sorted = once_append (keys_of_object b x.0 x.1.entries.items) (keys_in b xs)
     (once_object b x.0 x.1.entries.items x.1.rises)
@@ -119,5 +115,5 @@ once_all b (x ∷ xs) sorted = once_append (keys_of_object b x.0 x.1.entries.ite
     omega (arith, here, above, both))
 
 -- no key is listed twice among those of a block
-pub listed_once : (x : Index) (b : ℕ) → IsOnce (block_keys x b)
+pub listed_once : (x : Index) (b : ℕ) → HasKeysOnce (block_keys x b)
 listed_once x b = once_all b x.shelf.objects.entries x.shelf.ordered

@@ -1,5 +1,5 @@
 -- Kept keys that are passed over, in an object and among all.
-use Rattle.std.proofs.Common.{◌≡◌, ◌≢◌, ◌⊎◌, ℕ, zero, suc, ◌+◌, ◌-◌, ◌<◌, ◌≤◌, List, length, get_or, slice_get, Option, Some, None, refl, sym, ap, subst, ◌∙◌, arith, inl, inr}
+use Rattle.std.proofs.Common.{◌≡◌, ◌⊎◌, ℕ, zero, suc, ◌+◌, ◌-◌, ◌<◌, ◌≤◌, List, length, get_or, slice_get, Option, Some, None, refl, sym, ap, subst, ◌∙◌, arith, inl, inr}
 use Rattle.std.specs.Option.{option_and_then, option_map_or}
 use Rattle.std.specs.Ordering.{nat_cmp}
 use Rattle.std.specs.BTreeMap.{get}
@@ -18,7 +18,7 @@ use Rattle.chunk_index.specs.declared.object.ObjectEntries.{ObjectEntries}
 use Rattle.chunk_index.specs.declared.passing.Passed.{Passed}
 use Rattle.chunk_index.specs.Lists.{find_by, Rises, IsAt}
 use Rattle.chunk_index.specs.Entries.{chunk, kept_of}
-use Rattle.chunk_index.specs.Shelves.{entry_of, look, IsAfterNumber, IsNextObject}
+use Rattle.chunk_index.specs.Shelves.{entry_of, IsAfterNumber, IsNextObject}
 use Rattle.chunk_index.specs.Following.{PassesEntries, items_in, pass_entry, pass_first}
 use Rattle.chunk_index.specs.Kept.{IsListOf, IsAfterKey, IsNextKept, last_key}
 use Rattle.chunk_index.specs.laws.Following.{key_some, place_is, last_past}

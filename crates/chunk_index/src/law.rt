@@ -1,5 +1,5 @@
 // What follows from what an index tells. A function here does nothing: its clauses are the laws.
-ghost use Rattle.std.specs.Prelude.{◌≡◌, ◌≤◌, ℕ, Some, slice_get, length};
+ghost use Rattle.std.specs.Prelude.{◌≡◌, ◌≤◌, ℕ, Some, List, slice_get, length, IsPermutation};
 ghost use Rattle.block_state.specs.Table.{Table};
 ghost use Rattle.block_state.specs.Kept.{kept_count, unkept_count, bad_count};
 ghost use Rattle.nand_model.specs.Flash.{Flash};
@@ -11,7 +11,7 @@ ghost use Rattle.chunk_index.specs.declared.form.KeptKey.{KeptKey};
 ghost use Rattle.chunk_index.specs.declared.index.Index.{Index};
 ghost use Rattle.chunk_index.specs.Kept.{HoldsNone, HasKept};
 ghost use Rattle.chunk_index.specs.Free.{KeepsTree, HasMarks};
-ghost use Rattle.chunk_index.specs.Listing.{block_keys};
+ghost use Rattle.chunk_index.specs.Listing.{block_keys, IsKept, HasKeysOnce};
 ghost use Rattle.chunk_index.specs.Maps.{KeptMap, kept_pages, kept_in, CountsAgree};
 
 /// The count of a block is 0 exactly where no key is kept in it.
@@ -28,6 +28,15 @@ pub fn the_list_of_a_block_is_whole()
     ensures all { (x : Index) (b o c : ℕ) (p : KeptPage) → kept_pages x o c ≡ Some p → p.block ≡ b
         → (i : ℕ) × (slice_get (block_keys x b) i ≡ Some (record { key = record { object = o; chunk = c }; at = p })) }
     ensures once { (x : Index) (b i j : ℕ) (k l : KeptKey) → slice_get (block_keys x b) i ≡ Some k → slice_get (block_keys x b) j ≡ Some l → k.key ≡ l.key → i ≡ j }
+{}
+
+/// A list of the keys that are kept in a block, in whatever order, as in that of their pages, has each of these once, with its
+/// page, and no other.
+pub fn the_sorted_list_of_a_block_is_whole()
+    ensures kept { (x : Index) (b : ℕ) (ks : List KeptKey) → IsPermutation (block_keys x b) ks → (i : ℕ) (k : KeptKey) → slice_get ks i ≡ Some k → IsKept x b k }
+    ensures all { (x : Index) (b : ℕ) (ks : List KeptKey) → IsPermutation (block_keys x b) ks → (k : KeptKey) → IsKept x b k → (i : ℕ) × (slice_get ks i ≡ Some k) }
+    ensures once { (x : Index) (b : ℕ) (ks : List KeptKey) → IsPermutation (block_keys x b) ks → HasKeysOnce ks }
+    ensures count { (x : Index) (b : ℕ) (ks : List KeptKey) → IsPermutation (block_keys x b) ks → length ks ≡ kept_in x b }
 {}
 
 /// The kept counts of all blocks add up to the number of kept keys, and a map keeps one number of keys.

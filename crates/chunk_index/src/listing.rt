@@ -1,5 +1,6 @@
 // The list of the keys that are kept in a block.
-ghost use Rattle.std.specs.Prelude.{◌≡◌, ◌≤◌, ◌+◌, ◌++◌, length, vec_capacity};
+ghost use Rattle.std.specs.Prelude.{◌≡◌, ◌≤◌, ◌+◌, ◌++◌, length, vec_capacity, AllPairs, IsPermutation};
+ghost use Rattle.chunk_index.specs.declared.form.KeptKey.{KeptKey};
 ghost use Rattle.chunk_index.specs.Maps.{kept_in};
 ghost use Rattle.chunk_index.specs.Listing.{key_in, keys_of, keys_in, block_keys};
 
@@ -19,6 +20,19 @@ impl Index {
         ensures capacity { vec_capacity keys.old ≤ vec_capacity keys.new }
     {
         self.shelf.list_block(block, keys);
+    }
+
+    /// Lists the keys that are kept in a block, with their pages, in place of what the list held, in the order of the pages.
+    /// It goes over the index once, and takes no memory.
+    pub fn kept_by_page(&self, block: u32, keys: &mut Vec<KeptKey>)
+        requires { kept_in self.now block ≤ vec_capacity keys.old }
+        ensures lists { IsPermutation (block_keys self.now block) keys.new.items }
+        ensures rise { AllPairs (λ (a b : KeptKey). a.at.page ≤ b.at.page) keys.new.items }
+        ensures capacity { vec_capacity keys.old ≤ vec_capacity keys.new }
+    {
+        keys.clear();
+        self.kept_in_block(block, keys);
+        keys.sort_unstable_by_key(|kept| kept.at.page);
     }
 }
 

@@ -1,4 +1,4 @@
-use Rattle.std.proofs.Common.{sym, ap, ◌∙◌, arith}
+use Rattle.std.proofs.Common.{ap, ◌∙◌, arith}
 use Rattle.chunk_index.specs.Kept.{last_key}
 use Rattle.chunk_index.proofs.PassedKeys.{passes_none, passes_more, passed_first, passed_all}
 use Rattle.chunk_index.proofs.index.Index.last_kept.Goals as goal

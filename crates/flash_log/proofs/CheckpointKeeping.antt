@@ -1,20 +1,17 @@
 -- What the steps of the writing of a checkpoint keep.
-use Rattle.std.proofs.Common.{◌≡◌, ◌⊎◌, ◌<◌, ◌≤◌, ℕ, ◌+◌, ◌-◌, true, false, Some, None, Result, Ok, Err, refl, sym, ap, subst, ◌∙◌, arith, inl, inr}
+use Rattle.std.proofs.Common.{◌≡◌, ◌⊎◌, ◌<◌, ◌≤◌, ℕ, ◌+◌, ◌-◌, true, false, Some, None, Result, Ok, Err, refl, sym, ap, ◌∙◌, arith, inl, inr}
 use Rattle.std.proofs.lemmas.Bool.{cases_Bool, cases_eq}
 use Rattle.nand_model.specs.Calls.{Device, Lasts, Marks, MarkEnds}
 use Rattle.nand_model.specs.laws.Calls.{lasts_on, lasts_here}
-use Rattle.nand_model.specs.declared.geometry.Geometry.{Geometry}
 use Rattle.nand_model.specs.declared.nand.Gone.{Gone}
-use Rattle.flash_tree.specs.Keeping.{KeepsElsewhere, StaysNewest}
+use Rattle.flash_tree.specs.Keeping.{KeepsElsewhere}
 use Rattle.flash_tree.specs.Numbering.{AreBelow}
 use Rattle.flash_tree.specs.laws.Newest.{stays_on}
 use Rattle.flash_tree.specs.laws.Place.{had_power}
-use Rattle.flash_tree.specs.FreeBlocks.{LeavesFree}
 use Rattle.block_state.specs.declared.blocks.BlockEntry.{BlockEntry}
 use Rattle.block_state.specs.Kept.{bad_count, unkept_count, SameCounts}
 use Rattle.block_state.specs.laws.Kept.{mark_bad, mark_unkept, same_bad_count, same_unkept_count}
 use Rattle.block_state.specs.Table.{Table, Sets}
-use Rattle.chunk_index.specs.declared.form.KeptPage.{KeptPage}
 use Rattle.chunk_index.specs.declared.index.Index.{Index}
 use Rattle.chunk_index.specs.Maps.{kept_pages}
 use Rattle.transactions.specs.Checking.{LogState, log_of}
@@ -24,15 +21,13 @@ use Rattle.transactions.specs.Marking.{NotesMark}
 use Rattle.transactions.specs.Opening.{MayLose}
 use Rattle.transactions.specs.Ready.{IsReady}
 use Rattle.flash_log.specs.Passing.{Passes}
-use Rattle.flash_log.specs.Standing.{AreHeld, AreKept, HasVersion, IsKept, KeepsFree, SameData, Stands, TablesAgree}
+use Rattle.flash_log.specs.Standing.{AreHeld, Stands}
 use Rattle.flash_log.specs.Taking.{LiesApart}
 use Rattle.flash_log.specs.laws.Erased.{erased_here, erased_marked, erased_on}
 use Rattle.flash_log.specs.laws.Found.{findable_here, findable_still, found_here, found_marked, found_on}
-use Rattle.flash_log.specs.laws.FreeBlocks.{leaves_unkept}
-use Rattle.flash_log.specs.laws.KeptPages.{kept_stays, data_stays, spot_of}
-use Rattle.flash_log.specs.laws.Moves.{may_lie_later}
 use Rattle.flash_log.specs.CheckpointKeeping.{IsExact, KeepsPages, Seals, ShowsExactly, StaysChecked}
 use Rattle.flash_log.specs.CheckpointWriting.{Leaves}
+use Rattle.flash_log.proofs.IndexStays.{LeavesIndex, stands_left, data_left, free_left}
 use Rattle.posix_profile.specs.State.{Objects}
 
 -- ---- two steps in turn
@@ -122,7 +117,7 @@ keeps_here d t ready numbers = record {
 
 module _ (v : ℕ) (d e : Device) (t u : Table) (result : Result (Unit {0}) Gone) (within : v < t.geometry.blocks) (good : (t.entry v).bad ≡ false) (none : (t.entry v).kept ≡ 0)
     (marks : Marks v d e result) (notes : NotesMark v e.flash t u) where
-  marked_kept : (b : ℕ) → (u.entry b).kept ≡ (t.entry b).kept
+  pub marked_kept : (b : ℕ) → (u.entry b).kept ≡ (t.entry b).kept
   marked_kept b = elim (cases_eq b v) [
     | inl is ↦ ap (λ k. (u.entry k).kept) is ∙ ap (λ (x : BlockEntry). x.kept) notes.sets.here ∙ ap (λ k. (t.entry k).kept) (sym is)
     | inr ne ↦ ap (λ (x : BlockEntry). x.kept) (notes.sets.others b ne)
@@ -157,7 +152,7 @@ module _ (v : ℕ) (d e : Device) (t u : Table) (result : Result (Unit {0}) Gone
     | inr is ↦ let same : bad_count u ≡ bad_count t = same_bad_count t u (same_marks is) in omega (arith, same)
   ]
 
-  marked_unkept : unkept_count u + bad_count u ≡ unkept_count t + bad_count t
+  pub marked_unkept : unkept_count u + bad_count u ≡ unkept_count t + bad_count t
   marked_unkept = elim (cases_Bool (e.flash.bad v)) [
     | inl is ↦
         let more : bad_count u ≡ bad_count t + 1 = one_more is in
@@ -205,54 +200,32 @@ module _ (v : ℕ) (d e : Device) (t u : Table) (result : Result (Unit {0}) Gone
 
 module _ (spare : ℕ) (x : Index) (d e : Device) (t u : Table) (held : AreHeld t x) (stands : Stands spare d t x) (keeps : KeepsPages (log_of d t) (log_of e u))
     (closed : u.open_block ≡ None) (apart : LiesApart u) where
-  tables : TablesAgree spare u x
-  tables = record {
-    counts = record {
-      counts = λ b. keeps.kept b ∙ stands.tables.counts.counts b;
-      within = λ b le. stands.tables.counts.within b (subst (λ (g : Geometry). g.blocks ≤ b) keeps.geometry le);
-    };
-    within = λ o c p is. may_lie_later t u o c p keeps.geometry keeps.numbers.groups_rise (stands.tables.within o c p is);
-    fits = λ b. let same = keeps.kept b in let was = stands.tables.fits b in
-        subst (λ (g : Geometry). (u.entry b).kept ≤ g.pages) (sym keeps.geometry) (omega (arith, same, was));
+  leaves : LeavesIndex d e t u
+  leaves = record {
+    lasts = keeps.lasts;
+    ready = keeps.ready;
+    geometry = keeps.geometry;
+    kept = keeps.kept;
+    rises = keeps.numbers.groups_rise;
+    unkept = keeps.unkept;
+    limits = keeps.limits;
+    newest = keeps.newest;
     written = λ o is. let two : None ≡ Some o = sym closed ∙ is in absurd cc;
-    unkept = let same = keeps.unkept in let was = stands.tables.unkept in omega (arith, same, was);
-    apart = apart;
+    apart = λ _. apart;
   }
-
-  -- the newest page of a kept key stays in its place
-  page_stays : (honest : d.honest ≡ true) (power : d.gone ≡ false) (o c : ℕ) (p : KeptPage) (is : kept_pages x o c ≡ Some p) → StaysNewest d.flash e.flash o c (spot_of p (stands.newest honest power o c p is).tag)
-  page_stays honest power o c p is = keeps.newest honest o c (spot_of p (stands.newest honest power o c p is).tag) (stands.ordinary honest o c p is) (stands.newest honest power o c p is).newest (held o c p is)
-
-  are_kept : d.honest ≡ true → d.gone ≡ false → AreKept e.flash (kept_pages x)
-  are_kept honest power o c p is = kept_stays d.flash e.flash o c p (stands.newest honest power o c p is) (page_stays honest power o c p is)
-
-  stands_after : Stands spare e u x
-  stands_after = record {
-    tables = tables;
-    newest = λ honest power. are_kept (sym keeps.lasts.honest ∙ honest) (had_power d e keeps.lasts power);
-    ordinary = λ honest. stands.ordinary (sym keeps.lasts.honest ∙ honest);
-    limits = keeps.limits stands.limits;
-  }
-
-  same_data : d.honest ≡ true → SameData (kept_pages x) d.flash e.flash
-  same_data honest o c p bytes is has = elim (cases_Bool d.gone) [
-    | inl gone ↦ subst (λ (f : Device). HasVersion f.flash o c p.version bytes) (sym (keeps.lasts.gone gone)) has
-    | inr power ↦ data_stays d.flash e.flash o c p bytes (stands.newest honest power o c p is) has (page_stays honest power o c p is)
-  ]
-
-  held_after : AreHeld u x
-  held_after o c p is = let some = held o c p is in let same = keeps.kept p.block in omega (arith, some, same)
-
-  free : KeepsFree spare d e x x
-  free honest leaves = elim (cases_Bool d.gone) [
-    | inl gone ↦ subst (λ (f : Device). LeavesFree f.geometry f.flash spare (IsKept (kept_pages x))) (sym (keeps.lasts.gone gone)) leaves
-    | inr power ↦ leaves_unkept spare e u x keeps.ready tables held_after (are_kept honest power)
-  ]
 
   pub seals_from : (IsExact d x → StaysChecked (log_of d t) (log_of e u))
       → (d.honest ≡ true → (s : ℕ) (objects : Objects) → ShowsExactly d.geometry d.flash (kept_pages x) s objects → ShowsExactly e.geometry e.flash (kept_pages x) s objects)
       → Seals spare x (log_of d t) (log_of e u)
-  seals_from checked shows = record { keeps = keeps; stands = stands_after; checked = checked; shows = shows; same_data = same_data; free = free; findable = findable_still spare d e t x held keeps.lasts stands keeps.found }
+  seals_from checked shows = record {
+    keeps = keeps;
+    stands = stands_left spare x d e t u held stands leaves;
+    checked = checked;
+    shows = shows;
+    same_data = data_left spare x d e t u held stands leaves;
+    free = free_left spare x d e t u held stands leaves;
+    findable = findable_still spare d e t x held keeps.lasts stands keeps.found;
+  }
 
 -- nothing is done
 pub seals_here : (spare : ℕ) (x : Index) (d : Device) (t : Table) → IsReady d t → Stands spare d t x → Seals spare x (log_of d t) (log_of d t)

@@ -1,5 +1,5 @@
 -- What the writing of a checkpoint's group leaves.
-use Rattle.std.proofs.Common.{◌≤◌, ◌≡◌, ◌≢◌, ◌<◌, ℕ, ◌+◌, ◌*◌, true, false, length, Some, None, Result, Ok, Err, refl, sym, ap, subst, ◌∙◌, arith, inl, inr}
+use Rattle.std.proofs.Common.{◌≤◌, ◌≡◌, ◌<◌, ℕ, ◌+◌, ◌*◌, true, false, length, Some, None, Result, refl, sym, ap, subst, ◌∙◌, arith, inl, inr}
 use Rattle.std.proofs.lemmas.List.{length-map}
 use Rattle.volume_terms.specs.Rounding.{ceiling}
 use Rattle.volume_terms.specs.Sizes.{number_end}
@@ -10,13 +10,9 @@ use Rattle.page_tags.specs.declared.tag.Tag.{Tag}
 use Rattle.page_tags.specs.Tags.{tag_bytes, IsTag}
 use Rattle.page_tags.specs.Checks.{check_page}
 use Rattle.flash_tree.specs.Checkpoints.{Checkpoint, check_group, check_tag, IsWhole, IsChecked}
-use Rattle.flash_tree.specs.Groups.{Group, SameGroups, AllThere}
-use Rattle.flash_tree.specs.Keeping.{StaysNewest}
-use Rattle.flash_tree.specs.Newest.{Spot, IsNewest}
+use Rattle.flash_tree.specs.Groups.{Group, AllThere}
 use Rattle.flash_tree.specs.Slots.{check_object}
 use Rattle.flash_tree.specs.Truth.{KeepsSummaries}
-use Rattle.flash_tree.specs.laws.Added.{newest_other}
-use Rattle.flash_tree.specs.laws.Newest.{same_groups_keep}
 use Rattle.block_state.specs.Kept.{bad_count, unkept_count, SameCounts}
 use Rattle.block_state.specs.laws.Kept.{same_bad_count, same_unkept_count}
 use Rattle.block_state.specs.Table.{Table}
@@ -24,9 +20,8 @@ use Rattle.transactions.specs.declared.source.PageName.{PageName}
 use Rattle.transactions.specs.declared.source.PageSource.{Ghosts}
 use Rattle.transactions.specs.declared.group.Placed.{Placed}
 use Rattle.transactions.specs.declared.group.GroupFault.{GroupFault}
-use Rattle.transactions.specs.declared.group.GroupFault.TheVariants as groups
 use Rattle.transactions.specs.Checking.{log_of, WritesCheckpoint, WritesGroup}
-use Rattle.transactions.specs.Groups.{next_group, AddsPages, GroupsAfter}
+use Rattle.transactions.specs.Groups.{next_group, AddsPages}
 use Rattle.transactions.specs.Ready.{IsReady}
 use Rattle.transactions.specs.Naming.{BeginsOther}
 use Rattle.transactions.specs.Written.{tag_in}
@@ -41,6 +36,7 @@ use Rattle.flash_log.specs.CheckpointWriting.{Leaves, MayMark, ReadsSuspects}
 use Rattle.flash_log.specs.declared.checkpoint_source.Checks.{Checks}
 use Rattle.chunk_index.specs.Maps.{kept_pages}
 use Rattle.flash_log.specs.laws.Erased.{erased_noted, erased_written}
+use Rattle.flash_log.proofs.CheckNames.{other_object, trees_stay}
 use Rattle.flash_log.proofs.CheckpointNoting.{noted, ready_noted}
 
 -- so many entries take as many pages as the source has
@@ -58,24 +54,8 @@ module _ {T : Type 0} (pages : Ghosts T) (source : T) (d e : Device) (t u : Tabl
   abbrev name : ℕ → PageName
   name = pages.name source t.next_group
 
-  other_object : d.honest ≡ true → (o k : ℕ) → o ≢ check_object → (i : ℕ) → i < g.size → (tag_in g name i).object ≡ o → (tag_in g name i).chunk ≡ k → ⊥
-  other_object honest o k other i lt object chunk = other (sym object ∙ ap (λ (n : PageName). n.key.object) ((writes honest).names i lt))
-
-  -- the newest pages of other objects stay
-  added_stays : d.honest ≡ true → AddsPages g name (pages.bytes source d.flash) d.flash e.flash → (o k : ℕ) (s : Spot) → o ≢ check_object → IsNewest d.flash o k s → StaysNewest d.flash e.flash o k s
-  added_stays honest adds o k s other newest =
-      newest_other g (tag_in g name) (pages.bytes source d.flash) d.flash e.flash adds.group (group.writes honest).grows adds.pages o k s (other_object honest o k other) newest
-
-  same_stays : d.honest ≡ true → SameGroups d.flash e.flash → (o k : ℕ) (s : Spot) → IsNewest d.flash o k s → StaysNewest d.flash e.flash o k s
-  same_stays honest same o k s newest = same_groups_keep d.flash e.flash same (group.writes honest).grows o k s newest
-
-  stays : (honest : d.honest ≡ true) (r : Result Placed GroupFault) → GroupsAfter g name (pages.bytes source d.flash) d.flash e.flash r → (o k : ℕ) (s : Spot) → o ≢ check_object → IsNewest d.flash o k s → StaysNewest d.flash e.flash o k s
-  stays honest (Ok placed) adds o k s other newest = added_stays honest adds o k s other newest
-  stays honest (Err groups.NoRoom) same o k s other newest = same_stays honest same o k s newest
-  stays honest (Err groups.Failed) same o k s other newest = same_stays honest same o k s newest
-  stays honest (Err groups.Lost) same o k s other newest = same_stays honest same o k s newest
-  stays honest (Err groups.Gone) (inl same) o k s other newest = same_stays honest same o k s newest
-  stays honest (Err groups.Gone) (inr adds) o k s other newest = added_stays honest adds o k s other newest
+  own_object : d.honest ≡ true → (i : ℕ) → i < g.size → (name i).key.object ≡ check_object
+  own_object honest i lt = ap (λ (n : PageName). n.key.object) ((writes honest).names i lt)
 
   same : SameCounts t u
   same = same_ends (pages.count source) t u result group.table
@@ -117,7 +97,7 @@ module _ {T : Type 0} (pages : Ghosts T) (source : T) (d e : Device) (t u : Tabl
       let right : KeepsSummaries d e = group.summaries honest (λ some. begins_other honest some) in
       found_after t d e block (pages.count source) name (pages.bytes source d.flash) ready opened honest lasts.geometry (group.writes honest) right
       (λ adds. found_others t d e block (pages.count source) name (pages.bytes source d.flash) ready opened honest lasts.geometry (group.writes honest) right
-      (λ some. begins_other honest some) adds (λ o k other i lt object chunk. other_object honest o k other i lt object chunk)) result (group.groups honest block opened)
+      (λ some. begins_other honest some) adds (other_object g name (pages.bytes source d.flash) d.flash e.flash (group.writes honest).grows (own_object honest))) result (group.groups honest block opened)
 
   -- what is kept, as the group leaves the table
   pub keeps_group : IsReady e u → t.next_group < number_end → KeepsPages (log_of d t) (log_of e u)
@@ -132,7 +112,7 @@ module _ {T : Type 0} (pages : Ghosts T) (source : T) (d e : Device) (t u : Tabl
         let unkept : unkept_count u ≡ unkept_count t = same_unkept_count t u same in
         omega (arith, bad, unkept);
     limits = λ is. limits_ends (pages.count source) t u result group.table less is;
-    newest = λ honest o k s other newest some. stays honest result (group.groups honest block opened) o k s other newest;
+    newest = λ honest o k s other newest some. trees_stay g name (pages.bytes source d.flash) d.flash e.flash (group.writes honest).grows (own_object honest) result (group.groups honest block opened) o k s other newest;
     summaries = λ honest. group.summaries honest (λ some. begins_other honest some);
     found = λ honest. found_group honest;
     erased = erased_written d e t block (pages.count source) name (pages.bytes source d.flash) ready opened lasts group.writes u result (λ honest. group.groups honest block opened) group.table;

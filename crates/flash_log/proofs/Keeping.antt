@@ -44,9 +44,9 @@ module _ (t u : Table) (kept : (b : ℕ) → (u.entry b).kept ≡ (t.entry b).ke
   pub apart_on : u.geometry ≡ t.geometry → (copies : List CopyOf) (f g : Flash) (d : Device) → KeepsKeptAt t f g → StayOrLieApart copies u g d → StayOrLieApart copies t f d
   apart_on geometry copies f g d first (inl stays) = inl (kept_on f g d.flash first stays)
   apart_on geometry copies f g d first (inr lie) = inr (record {
-    block = lie.block;
-    within = subst (λ (x : Geometry). lie.block < x.blocks) geometry lie.within;
-    unkept = sym (kept lie.block) ∙ lie.unkept;
+    at = lie.at;
+    within = subst (λ (x : Geometry). lie.at.block < x.blocks) geometry lie.within;
+    unkept = sym (kept lie.at.block) ∙ lie.unkept;
     good = lie.good;
     copied = record {
       copied = lie.copied.copied;

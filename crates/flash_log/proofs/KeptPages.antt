@@ -1,5 +1,5 @@
 -- What becomes of listed pages that are copied, and of all others.
-use Rattle.std.proofs.Common.{◌≡◌, ◌⊎◌, ◌<◌, ℕ, zero, suc, ◌+◌, List, [], ◌∷◌, length, slice_get, Option, Some, refl, sym, ap, subst, ◌∙◌, arith, inl, inr}
+use Rattle.std.proofs.Common.{◌≡◌, ◌≢◌, ◌⊎◌, ◌<◌, ℕ, zero, suc, ◌+◌, List, [], ◌∷◌, length, slice_get, Option, Some, refl, sym, ap, subst, ◌∙◌, arith, inl, inr}
 use Rattle.std.specs.Option.{option_map_or}
 use Rattle.std.proofs.lemmas.Bool.{cases_eq}
 use Rattle.std.proofs.lemmas.Option.{slice_get_within}
@@ -9,14 +9,15 @@ use Rattle.nand_model.specs.Calls.{bytes_of}
 use Rattle.page_tags.specs.Tags.{tag_bytes}
 use Rattle.flash_tree.specs.Groups.{Group}
 use Rattle.flash_tree.specs.Keeping.{StaysNewest}
-use Rattle.flash_tree.specs.Newest.{Spot, IsNewest}
+use Rattle.flash_tree.specs.Newest.{Spot, Holds, IsNewest}
+use Rattle.flash_tree.specs.Slots.{check_object}
 use Rattle.flash_tree.specs.laws.Newest.{one_spot}
 use Rattle.block_state.specs.Table.{Table}
 use Rattle.chunk_index.specs.declared.form.KeptPage.{KeptPage}
+use Rattle.chunk_index.specs.declared.form.PagePlace.{PagePlace}
 use Rattle.transactions.specs.Copying.{copy_name, no_name, page_at, copy_bytes, HasCopy}
-use Rattle.transactions.specs.Naming.{IsNamed, NamesOnce}
+use Rattle.transactions.specs.Naming.{AreOrdinary, IsNamed, NamesOnce}
 use Rattle.transactions.specs.Newest.{spot_at, IsOfCopies, ShowsGroup}
-use Rattle.flash_tree.specs.Numbering.{AreBelow}
 use Rattle.transactions.specs.Written.{tag_in}
 use Rattle.transactions.specs.declared.copies.CopyOf.{CopyOf}
 use Rattle.transactions.specs.declared.source.PageName.{PageName}
@@ -101,32 +102,31 @@ module _ (copies : List CopyOf) where
       kept_of : (o c i : ℕ) (x : CopyOf) → slice_get copies i ≡ Some x → IsCopyOf x o c → IsKeptAt old o c (kept_by x)
       kept_of o c i x at is = subst (λ q. IsKeptAt old q c (kept_by x)) is.0 (subst (λ l. IsKeptAt old x.name.key.object l (kept_by x)) is.1 (kept i x at))
 
-      pub is_of_copies : (number : ℕ) → AreBelow old number g.seq → IsOfCopies g (copy_name copies) old
-      is_of_copies number below = record {
+      pub is_of_copies : AreOrdinary (length copies) (copy_name copies) → ((o c : ℕ) (s : Spot) → o ≢ check_object → Holds old o c s → s.tag.seq < g.seq) → IsOfCopies g (copy_name copies) old
+      is_of_copies ordinary older = record {
         versions = λ o c i names.
             let its = key_is o c i names.within names.named in
             let at = kept_of o c i its.0 its.1 its.2 in
             (spot_of (kept_by its.0) at.tag, at.newest, ap (λ (n : PageName). n.version) (name_is i its.0 its.1) ∙ sym at.version);
-        number = number;
-        below = below;
+        older = λ o c i names s holds. older o c s (subst (λ k. k ≢ check_object) names.named.object (ordinary i (let lt = names.within in omega (arith, lt, size)))) holds;
       }
 
-      module _ (new : Flash) (t : Table) (w : ℕ) (block : g.block ≡ w) (start : g.start ≡ 0) (shows : ShowsGroup g (copy_name copies) (copy_bytes copies old) old new) where
+      module _ (new : Flash) (t : Table) (to : PagePlace) (block : g.block ≡ to.block) (start : g.start ≡ to.page) (shows : ShowsGroup g (copy_name copies) (copy_bytes copies old) old new) where
         -- a key that is not copied keeps its newest page
         stays_apart : (o c : ℕ) (p : KeptPage) → ((i : ℕ) (x : CopyOf) → slice_get copies i ≡ Some x → IsCopyOf x o c → ⊥) → (at : IsKeptAt old o c p)
             → StaysNewest old new o c (spot_of p at.tag)
         stays_apart o c p apart at = shows.others o c (spot_of p at.tag) (λ i lt named. let its = key_is o c i lt named in apart i its.0 its.1 its.2) at.newest
 
-        pub are_copied : AreCopied w copies t old new
+        pub are_copied : AreCopied to copies t old new
         are_copied = record {
           copied = λ i x at.
               let o : ℕ = x.name.key.object in
               let c : ℕ = x.name.key.chunk in
               let named = shows.named o c i (names_once o c i x at (refl, refl)) in
-              let page : g.start + i ≡ i = omega (arith, start) in
+              let page : g.start + i ≡ to.page + i = omega (arith, start) in
               record {
                 tag = tag_in g (copy_name copies) i;
-                newest = subst (λ b. IsNewest new o c (record { block = b; page = i; tag = tag_in g (copy_name copies) i })) block
+                newest = subst (λ b. IsNewest new o c (record { block = b; page = to.page + i; tag = tag_in g (copy_name copies) i })) block
                     (subst (λ n. IsNewest new o c (record { block = g.block; page = n; tag = tag_in g (copy_name copies) i })) page named.newest);
                 version = ap (λ (n : PageName). n.version) (name_is i x at);
               };

@@ -19,6 +19,13 @@ pub mod NextKeys
 pub mod CheckpointRows
 pub mod SummaryRows
 pub mod PageParts
+pub mod IndexStays
+pub mod CheckNames
+pub mod Summarized
+pub mod EntryLists
+pub mod SummaryLists
+pub mod NextBlock
+pub mod Gathered
 pub mod CheckpointKeeping
 pub mod CheckpointListed
 pub mod CheckpointNoting

@@ -24,9 +24,9 @@ use Rattle.transactions.specs.Sources.{IsPageName}
 use Rattle.transactions.specs.declared.source.PageName.{PageName}
 use Rattle.flash_tree.specs.Slots.{check_object}
 use Rattle.transactions.specs.declared.copies.CopyOf.{CopyOf}
-use Rattle.flash_log.specs.Copying.{KeepsCounts, KeepsDataAt, MayBeCopied, AreWritten, IsCopyOf, IsTarget, OpenAfter, copy_in}
+use Rattle.flash_log.specs.Copying.{KeepsCounts, KeepsDataAt, MayBeCopied, AreWritten, IsCopyOf, IsTarget, OpenAfter, copy_in, place_of}
 use Rattle.flash_log.specs.Lists.{IsListed, kept_by}
-use Rattle.flash_log.specs.Bills.{Pays, PaysTarget, bill_of}
+use Rattle.flash_log.specs.Bills.{Pays, PaysTarget, PaysWriting, bill_of}
 use Rattle.flash_log.specs.declared.fault.MoveFault.{MoveFault}
 use Rattle.flash_log.specs.declared.moving.Moved.{Moved}
 use Rattle.flash_log.specs.Moving.{MovesOut, IsKeptIn, LiesIn, LiesOpen, IsLeft}
@@ -39,7 +39,11 @@ use Rattle.transactions.specs.Checking.{log_of}
 use Rattle.flash_log.specs.declared.copying.Target.{Target}
 use Rattle.flash_log.proofs.KeptPages.{listed_or_not, name_is}
 use Rattle.flash_log.specs.Passing.{KeepsFound}
-use Rattle.flash_log.specs.Erased.{KeepsErased}
+use Rattle.flash_log.specs.Erased.{KeepsErased, KnowsErased}
+use Rattle.flash_log.specs.Gathering.{LiesBehind}
+use Rattle.flash_log.specs.SummaryMaking.{HasClear}
+use Rattle.flash_log.specs.declared.copying.Copied.TheVariants as ends
+use Rattle.flash_log.proofs.RoomTaken.{fits_open}
 use Rattle.flash_log.specs.laws.Erased.{LeavesBlank, knows_as, leads_as}
 use Rattle.flash_log.specs.laws.Found.{findable_moved, findable_still}
 use Rattle.flash_log.specs.laws.FreeBlocks.{free_where_stands}
@@ -96,8 +100,8 @@ may_be_copied spare v d t x copies ready stands listed =
 
 module _ (spare v : ℕ) (target : Target) (d0 d1 : Device) (t0 t1 t2 : Table) (x y : Index) (copies : List CopyOf) (listed : IsListed v t0 x copies) (held : AreHeld t0 x)
     (keeps : KeepsCounts d0 d1 t0 t1) (stands : Stands spare d0 t0 x) (is : IsTarget (length copies) target t0 t1)
-    (tells : Tells v target.block (length copies) copies x y t1 t2) (agree : CountsAgree t2 y)
-    (newest : d0.honest ≡ true → d1.gone ≡ false → AreWritten target.block copies t0 d0.flash d1.flash) where
+    (tells : Tells v (length copies) (place_of target) copies x y t1 t2) (agree : CountsAgree t2 y)
+    (newest : d0.honest ≡ true → d1.gone ≡ false → AreWritten (place_of target) copies t0 d0.flash d1.flash) where
   pub apart : v ≢ target.block
   apart e = let same : (t0.entry v).kept ≡ (t0.entry target.block).kept = ap (λ b. (t0.entry b).kept) e in omega (arith, same, listed.some, is.unkept)
 
@@ -120,7 +124,7 @@ module _ (spare v : ℕ) (target : Target) (d0 d1 : Device) (t0 t1 t2 : Table) (
   ]
 
   -- a key that is told of a copy is its
-  told : (o c i : ℕ) (z : CopyOf) → slice_get copies i ≡ Some z → IsCopyOf z o c → kept_pages y o c ≡ Some (copy_in target.block i z)
+  told : (o c i : ℕ) (z : CopyOf) → slice_get copies i ≡ Some z → IsCopyOf z o c → kept_pages y o c ≡ Some (copy_in (place_of target) i z)
   told o c i z at of = sym (ap (λ q. kept_pages y q c) of.0) ∙ ap (kept_pages y z.name.key.object) (sym of.1) ∙ tells.index.kept_here i z (slice_get_within copies i z at) at
 
   pub same_bads : bad_count t2 ≡ bad_count t1
@@ -173,12 +177,12 @@ module _ (spare v : ℕ) (target : Target) (d0 d1 : Device) (t0 t1 t2 : Table) (
 
   open_is : (o : ℕ) → t2.open_block ≡ Some o → (t2.entry o).kept ≤ (t2.entry o).next
   open_is o opened = go target.suspect is.open_block where
-    go : (s : Bool) → OpenAfter target.block (length copies) s t1 → (t2.entry o).kept ≤ (t2.entry o).next
+    go : (s : Bool) → OpenAfter target.block (target.first + length copies) s t1 → (t2.entry o).kept ≤ (t2.entry o).next
     go true closed = let two : None ≡ Some o = sym closed ∙ sym tells.counts.open_block ∙ opened in absurd cc
     go false (at, next) =
         let both : Some target.block ≡ Some o = sym at ∙ sym tells.counts.open_block ∙ opened in
         let same : target.block ≡ o = cc in
-        let here : (t2.entry target.block).next ≡ length copies = tells.counts.next target.block ∙ next in
+        let here : (t2.entry target.block).next ≡ target.first + length copies = tells.counts.next target.block ∙ next in
         let now = now_kept in
         subst (λ b. (t2.entry b).kept ≤ (t2.entry b).next) same (omega (arith, now, here, listed.count))
 
@@ -192,14 +196,14 @@ module _ (spare v : ℕ) (target : Target) (d0 d1 : Device) (t0 t1 t2 : Table) (
       counts = agree;
       within = λ o c p at. elim (listed_or_not copies o c) [
         | inl (i, z, there, of) ↦
-            let both : Some p ≡ Some (copy_in target.block i z) = sym at ∙ told o c i z there of in
-            let same : p ≡ copy_in target.block i z = cc in
+            let both : Some p ≡ Some (copy_in (place_of target) i z) = sym at ∙ told o c i z there of in
+            let same : p ≡ copy_in (place_of target) i z = cc in
             let lt : i < length copies = slice_get_within copies i z there in
             let fits = stands.tables.fits v in
             let was = stands.tables.within z.name.key.object z.name.key.chunk (kept_by z) (listed.lists.kept i z there) in
-            let page : i < t0.geometry.pages = omega (arith, lt, fits, listed.count) in
-            let may : MayLie t0 z.name.key.object z.name.key.chunk (copy_in target.block i z) = record { block = is.within; page = page; name = was.name } in
-            subst (MayLie t2 o c) (sym same) (subst (λ q. MayLie t2 q c (copy_in target.block i z)) of.0 (subst (λ l. MayLie t2 z.name.key.object l (copy_in target.block i z)) of.1
+            let page : target.first + i < t0.geometry.pages = let room = is.fits in omega (arith, lt, room) in
+            let may : MayLie t0 z.name.key.object z.name.key.chunk (copy_in (place_of target) i z) = record { block = is.within; page = page; name = was.name } in
+            subst (MayLie t2 o c) (sym same) (subst (λ q. MayLie t2 q c (copy_in (place_of target) i z)) of.0 (subst (λ l. MayLie t2 z.name.key.object l (copy_in (place_of target) i z)) of.1
             (may_lie_later t0 t2 _ _ _ (tells.counts.geometry ∙ keeps.geometry) (let group = tells.counts.next_group in omega (arith, group, keeps.numbers.numbers.groups_rise)) may)))
         | inr none ↦ may_lie_later t0 t2 o c p (tells.counts.geometry ∙ keeps.geometry) (let group = tells.counts.next_group in omega (arith, group, keeps.numbers.numbers.groups_rise))
             (stands.tables.within o c p (sym (tells.index.kept_elsewhere o c (λ j z lt there of. none j z there of)) ∙ at))
@@ -214,10 +218,10 @@ module _ (spare v : ℕ) (target : Target) (d0 d1 : Device) (t0 t1 t2 : Table) (
         let all = (newest was power).made in
         elim (listed_or_not copies o c) [
           | inl (i, z, there, of) ↦
-              let both : Some p ≡ Some (copy_in target.block i z) = sym at ∙ told o c i z there of in
-              let same : p ≡ copy_in target.block i z = cc in
-              subst (IsKeptAt d1.flash o c) (sym same) (subst (λ q. IsKeptAt d1.flash q c (copy_in target.block i z)) of.0
-              (subst (λ l. IsKeptAt d1.flash z.name.key.object l (copy_in target.block i z)) of.1 (all.copied i z there)))
+              let both : Some p ≡ Some (copy_in (place_of target) i z) = sym at ∙ told o c i z there of in
+              let same : p ≡ copy_in (place_of target) i z = cc in
+              subst (IsKeptAt d1.flash o c) (sym same) (subst (λ q. IsKeptAt d1.flash q c (copy_in (place_of target) i z)) of.0
+              (subst (λ l. IsKeptAt d1.flash z.name.key.object l (copy_in (place_of target) i z)) of.1 (all.copied i z there)))
           | inr none ↦
               let before : kept_pages x o c ≡ Some p = sym (tells.index.kept_elsewhere o c (λ j z lt there of. none j z there of)) ∙ at in
               all.others o c p (held o c p before) none (stands.newest was (had_power d0 d1 keeps.lasts power) o c p before)
@@ -248,7 +252,7 @@ module _ (spare v : ℕ) (target : Target) (d0 d1 : Device) (t0 t1 t2 : Table) (
         let z : CopyOf = record { block = p.block; page = p.page; name = record { key = record { object = o; chunk = c }; version = p.version } } in
         let there = listed.lists.all o c p at here in
         let lt : there.0 < length copies = slice_get_within copies there.0 z there.1 in
-        record { at = copy_in target.block there.0 z; is = tells.index.kept_here there.0 z lt there.1; version = refl; present = tells.index.present_here there.0 z lt there.1 };
+        record { at = copy_in (place_of target) there.0 z; is = tells.index.kept_here there.0 z lt there.1; version = refl; present = tells.index.present_here there.0 z lt there.1 };
     kept = λ o c none. tells.index.kept_elsewhere o c (λ j z lt there of. none (in_v o c j z there of));
     present = λ o c none. tells.index.present_elsewhere o c (λ j z lt there of. none (in_v o c j z there of));
     prepared = tells.index.prepared;
@@ -305,8 +309,8 @@ module _ (spare v : ℕ) (target : Target) (d0 d1 : Device) (t0 t1 t2 : Table) (
   some_copy = slice_get_there copies 0 (let count = listed.count in let some = listed.some in omega (arith, count, some))
 
   -- no block begins erased in which a copy was made
-  kept_erased : d0.honest ≡ true → d1.gone ≡ false → (b : ℕ) → BeginsErased d1.flash b → (t1.entry b).kept ≡ 0 → (t2.entry b).kept ≡ 0
-  kept_erased honest power b begins none = elim (cases_eq b v) [
+  kept_erased : d0.honest ≡ true → d1.gone ≡ false → KnowsErased d1.flash t1 → (b : ℕ) → BeginsErased d1.flash b → (t1.entry b).kept ≡ 0 → (t2.entry b).kept ≡ 0
+  kept_erased honest power knows b begins none = elim (cases_eq b v) [
     | inl e ↦
         let less = tells.counts.here in
         let was : (t1.entry v).kept ≡ 0 = ap (λ k. (t1.entry k).kept) (sym e) ∙ none in
@@ -318,7 +322,10 @@ module _ (spare v : ℕ) (target : Target) (d0 d1 : Device) (t0 t1 t2 : Table) (
           let x0 = some_copy in
           let at = (newest honest power).made.copied 0 x0.0 x0.1 in
           let has = at.newest.holds.has in
-          let two : Erased ≡ Written has.bytes (tag_bytes at.tag) = sym begins.1 ∙ ap (λ k. d1.flash.page k 0) e ∙ has.page in
+          let within = subst (λ (g : Geometry). target.block < g.blocks) (sym keeps.geometry) is.within in
+          let blank = knows.unwritten target.block within (subst (BeginsErased d1.flash) e begins) in
+          let first : target.first + 0 ≡ 0 = let begun = is.begun in let next = blank.next in omega (arith, begun, next) in
+          let two : Erased ≡ Written has.bytes (tag_bytes at.tag) = sym begins.1 ∙ ap (λ k. d1.flash.page k 0) e ∙ ap (λ n. d1.flash.page target.block n) (sym first) ∙ has.page in
           absurd cc
     ]
   ]
@@ -326,13 +333,17 @@ module _ (spare v : ℕ) (target : Target) (d0 d1 : Device) (t0 t1 t2 : Table) (
   erased_moved : d1.gone ≡ false → KeepsErased d0 d1 t0 t2
   erased_moved power honest was =
       let after = keeps.erased honest was in
-      record { first = after.first; leads = leads_as d1.flash t1 t2 (leaves honest) after.leads; known = λ _. knows_as d1.flash t1 t2 (leaves honest) (after.known power) } where
-        leaves : d0.honest ≡ true → LeavesBlank d1.flash t1 t2
-        leaves honest = record {
+      record {
+        first = after.first;
+        leads = leads_as d1.flash t1 t2 (leaves honest (after.known power)) after.leads;
+        known = λ _. knows_as d1.flash t1 t2 (leaves honest (after.known power)) (after.known power);
+      } where
+        leaves : d0.honest ≡ true → KnowsErased d1.flash t1 → LeavesBlank d1.flash t1 t2
+        leaves honest knows = record {
           geometry = tells.counts.geometry;
           next = tells.counts.next;
           seq = tells.counts.seq;
-          kept = kept_erased honest power;
+          kept = kept_erased honest power knows;
           marks = λ b bad. tells.counts.bad b ∙ bad;
           noted = λ c is. sym tells.counts.checkpoint ∙ is;
           opened = λ o is. sym tells.counts.open_block ∙ is;
@@ -364,16 +375,43 @@ module _ (spare v : ℕ) (target : Target) (d0 d1 : Device) (t0 t1 t2 : Table) (
       subst (λ k. Pays {E = MoveFault} (bill_of (log_of d0 t0) (length copies + 1) 0 k) (log_of d0 t0) (log_of d1 t2) (Ok moved)) is
       (record { costs = pays.costs; marks = omega (arith, same, marks); answers = omega (arith, same, answers); reads = pays.reads })
 
+  -- the same of copies behind what lay in the open block
+  pub pays_opened : (n : ℕ) (moved : Moved) → (if target.suspect then 1 else 0) ≡ n → PaysWriting (length copies) (log_of d0 t0) (log_of d1 t1) (Ok (ends.Into target))
+      → Pays {E = MoveFault} (record { changes = length copies; each = d0.geometry.pages + 1; marks = 0; unanswered = n }) (log_of d0 t0) (log_of d1 t2) (Ok (Some moved))
+  pays_opened n moved is pays =
+      let same = same_bads in
+      let marks = pays.marks in
+      let answers = pays.answers in
+      subst (λ k. Pays {E = MoveFault} (record { changes = length copies; each = d0.geometry.pages + 1; marks = 0; unanswered = k }) (log_of d0 t0) (log_of d1 t2) (Ok (Some moved))) is
+      (record { costs = pays.costs; marks = omega (arith, same, marks); answers = omega (arith, same, answers); reads = pays.reads })
+
   pub is_left : IsLeft v t2
   is_left = record { unkept = now_none; good = tells.counts.bad v ∙ still_good }
 
   pub lies_in : LiesIn v target.block t0 t2
   lies_in = record { within = is.within; good = tells.counts.bad target.block ∙ is.good; was = is.unkept; there = now_kept; elsewhere = kept_elsewhere }
 
-  pub lies_open : target.suspect ≡ false → LiesOpen v target.block t0 t2
-  lies_open trusted =
-      let after : OpenAfter target.block (length copies) false t1 = subst (λ s. OpenAfter target.block (length copies) s t1) trusted is.open_block in
-      record { lies = lies_in; open_block = tells.counts.open_block ∙ after.0; next = tells.counts.next target.block ∙ after.1 ∙ listed.count }
+  pub lies_open : target.first ≡ 0 → target.suspect ≡ false → LiesOpen v target.block t0 t2
+  lies_open first trusted =
+      let after : OpenAfter target.block (target.first + length copies) false t1 = subst (λ s. OpenAfter target.block (target.first + length copies) s t1) trusted is.open_block in
+      record { lies = lies_in; open_block = tells.counts.open_block ∙ after.0; next = let next = tells.counts.next target.block ∙ after.1 in omega (arith, next, first, listed.count) }
+
+  -- the open block has room for so many pages behind the copies
+  pub lies_behind : (count w : ℕ) → t0.open_block ≡ Some w → target.first ≡ (t0.entry w).next → HasClear (length copies + count) d0 t0 → target.suspect ≡ false → LiesBehind v count (log_of d0 t0) (log_of d1 t2)
+  lies_behind count w opened first clear trusted =
+      let after : OpenAfter target.block (target.first + length copies) false t1 = subst (λ s. OpenAfter target.block (target.first + length copies) s t1) trusted is.open_block in
+      let both : Some clear.block ≡ Some w = sym clear.clear.open_block ∙ opened in
+      let same : clear.block ≡ w = cc in
+      let next : (t2.entry target.block).next ≡ target.first + length copies = tells.counts.next target.block ∙ after.1 in
+      let there : (t0.entry clear.block).next ≡ (t0.entry w).next = ap (λ k. (t0.entry k).next) same in
+      let geometry = ap (λ (g : Geometry). g.pages) (tells.counts.geometry ∙ keeps.geometry) in
+      let room = clear.fits in
+      record {
+        block = target.block;
+        open_block = tells.counts.open_block ∙ after.0;
+        lies = lies_in;
+        fits = fits_open count target.block (target.first + length copies) t2 (tells.counts.open_block ∙ after.0) next (omega (arith, first, there, geometry, room));
+      }
 
   pub is_closed : target.suspect ≡ true → t2.open_block ≡ None
-  is_closed suspect = tells.counts.open_block ∙ subst (λ s. OpenAfter target.block (length copies) s t1) suspect is.open_block
+  is_closed suspect = tells.counts.open_block ∙ subst (λ s. OpenAfter target.block (target.first + length copies) s t1) suspect is.open_block

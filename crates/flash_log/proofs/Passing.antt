@@ -8,7 +8,10 @@ use Rattle.nand_model.specs.declared.geometry.Geometry.{Geometry}
 use Rattle.nand_model.specs.declared.nand.EraseFault.{EraseFault}
 use Rattle.nand_model.specs.declared.nand.Gone.{Gone}
 use Rattle.flash_tree.specs.Keeping.{KeepsElsewhere}
-use Rattle.flash_tree.specs.laws.Newest.{stays_on}
+use Rattle.flash_tree.specs.Fading.{Fades}
+use Rattle.flash_tree.specs.laws.Fading.{fades_erase, fades_mark, loses_fading}
+use Rattle.flash_tree.specs.laws.Newest.{has_before, stays_on}
+use Rattle.nand_model.specs.laws.Changes.{shrinks-erase}
 use Rattle.block_state.specs.declared.blocks.BlockEntry.{BlockEntry}
 use Rattle.block_state.specs.Kept.{bad_count, unkept_count, SameCounts}
 use Rattle.block_state.specs.laws.Kept.{mark_bad, mark_unkept, same_bad_count, same_unkept_count}
@@ -17,7 +20,7 @@ use Rattle.transactions.specs.Marking.{NotesMark}
 use Rattle.transactions.specs.Opening.{Opens}
 use Rattle.flash_tree.specs.Numbering.{AreBelow}
 use Rattle.flash_log.specs.Erased.{KeepsErased}
-use Rattle.flash_log.specs.Passing.{KeepsFound, KeepsKept, Passes}
+use Rattle.flash_log.specs.Passing.{GainsNoTag, KeepsFound, KeepsKept, Passes}
 use Rattle.flash_log.specs.Taking.{Takes, TakesNone}
 use Rattle.flash_log.specs.laws.Erased.{erased_as, erased_on, leaves_closed}
 use Rattle.flash_log.specs.laws.Found.{found_erased, found_here, found_marked, found_on, places_kept}
@@ -26,6 +29,10 @@ use Rattle.flash_log.specs.laws.Found.{found_erased, found_here, found_marked, f
 keeps_kept : (b : ℕ) (t : Table) (old new : Flash) → (t.entry b).kept ≡ 0 → KeepsElsewhere b old new → KeepsKept t old new
 keeps_kept b t old new none keeps o c s newest some =
     keeps o c s newest (λ is. let here : (t.entry s.block).kept ≡ 0 = ap (λ n. (t.entry n).kept) is ∙ none in absurd (omega (arith, here, some)))
+
+-- nor does it gain a tag
+gains_none : (b : ℕ) (t : Table) (old new : Flash) → (t.entry b).kept ≡ 0 → Fades b old new → GainsNoTag t old new
+gains_none b t old new none fades k l u some has = has_before b old new (loses_fading b old new fades) k l u has
 
 -- one change and then another
 pub passes_on : (a b c : Device) (t u v : Table) → Lasts a b → Passes a b t u → Passes b c u v → Passes a c t v
@@ -42,14 +49,16 @@ passes_on a b c t u v lasts first then = record {
       let stays = first.newest honest o c' s newest some in
       stays_on a.flash b.flash c.flash o c' s stays
       (then.newest (lasts.honest ∙ honest) o c' s stays.newest (subst (λ n. 1 ≤ n) (sym (first.kept s.block)) some));
+  tags = λ honest k l x some has. first.tags honest k l x some (then.tags (lasts.honest ∙ honest) k l x (subst (λ n. 1 ≤ n) (sym (first.kept k)) some) has);
   found = λ honest. found_on a b c t u first.kept (places_kept t a.flash b.flash (first.newest honest)) (first.found honest) (then.found (lasts.honest ∙ honest));
   erased = erased_on a b c t u v lasts.honest first.erased then.erased;
 }
 
 -- where marks and counts are the same
 pub passes_same : (old new : Device) (t t' : Table) → SameCounts t t' → t'.next_group ≡ t.next_group → (t.next_seq ≤ 2 ^ 62 → t'.next_seq ≤ 2 ^ 62)
-    → old.failures ≤ new.failures → (old.honest ≡ true → KeepsKept t old.flash new.flash) → (old.honest ≡ true → KeepsFound t old new) → KeepsErased old new t t' → Passes old new t t'
-passes_same old new t t' same group limit failures newest found erased =
+    → old.failures ≤ new.failures → (old.honest ≡ true → KeepsKept t old.flash new.flash) → (old.honest ≡ true → GainsNoTag t old.flash new.flash)
+    → (old.honest ≡ true → KeepsFound t old new) → KeepsErased old new t t' → Passes old new t t'
+passes_same old new t t' same group limit failures newest tags found erased =
     let bad : bad_count t' ≡ bad_count t = same_bad_count t t' same in
     let unkept : unkept_count t' ≡ unkept_count t = same_unkept_count t t' same in
     record {
@@ -62,6 +71,7 @@ passes_same old new t t' same group limit failures newest found erased =
       failures = omega (arith, bad, failures);
       unkept = omega (arith, bad, unkept);
       newest = newest;
+      tags = tags;
       found = found;
       erased = erased;
     }
@@ -75,6 +85,7 @@ passes_closed d t t' is =
     (λ le. let seq = ap (λ (x : Table). x.next_seq) is in omega (arith, seq, le))
     (omega arith)
     (λ _ o c s newest some. record { newest = newest; page = refl })
+    (λ _ k l u some has. has)
     (λ _. found_here t d)
     (erased_as d t t' (leaves_closed d.flash t t' (ap (λ (x : Table). x.entry) is) (ap (λ (x : Table). x.geometry) is) (ap (λ (x : Table). x.checkpoint) is) (ap (λ (x : Table). x.open_block) is)))
 
@@ -88,6 +99,7 @@ passes_erased b old new t t' result is none erases keeps erased =
     (λ le. let seq = ap (λ (x : Table). x.next_seq) is in omega (arith, seq, le))
     erases.lasts.failures
     (λ honest. keeps_kept b t old.flash new.flash none (keeps honest))
+    (λ honest. gains_none b t old.flash new.flash none (fades_erase b old.flash new.flash (shrinks-erase b old new result honest erases)))
     (found_erased b old new t result none erases)
     erased
 
@@ -115,14 +127,16 @@ passes_opened b old new t t' result less none erases keeps opens erased =
     (λ _. let seq = opens.next_seq in omega (arith, seq, less))
     erases.lasts.failures
     (λ honest. keeps_kept b t old.flash new.flash none (keeps honest))
+    (λ honest. gains_none b t old.flash new.flash none (fades_erase b old.flash new.flash (shrinks-erase b old new result honest erases)))
     (found_erased b old new t result none erases)
     erased
 
 -- a mark of a block without a kept page, after a failure of it
 pub passes_marked : (b : ℕ) (old mid new : Device) (t t' : Table) (result : Result (Unit {0}) Gone) → b < t.geometry.blocks → (t.entry b).bad ≡ false → (t.entry b).kept ≡ 0
-    → Lasts old mid → old.failures + 1 ≤ mid.failures → (old.honest ≡ true → KeepsElsewhere b old.flash mid.flash) → (old.honest ≡ true → KeepsFound t old mid)
+    → Lasts old mid → old.failures + 1 ≤ mid.failures → (old.honest ≡ true → KeepsElsewhere b old.flash mid.flash) → (old.honest ≡ true → GainsNoTag t old.flash mid.flash)
+    → (old.honest ≡ true → KeepsFound t old mid)
     → Marks b mid new result → (mid.honest ≡ true → KeepsElsewhere b mid.flash new.flash) → NotesMark b new.flash t t' → KeepsErased old new t t' → Passes old new t t'
-passes_marked b old mid new t t' result within good none lasts failed erased before marks marked notes tracked = go (cases_Bool (new.flash.bad b)) where
+passes_marked b old mid new t t' result within good none lasts failed erased gained before marks marked notes tracked = go (cases_Bool (new.flash.bad b)) where
   newest : old.honest ≡ true → KeepsKept t old.flash new.flash
   newest honest o c s is some =
       let stays = keeps_kept b t old.flash mid.flash none (erased honest) o c s is some in
@@ -131,6 +145,9 @@ passes_marked b old mid new t t' result within good none lasts failed erased bef
   found : old.honest ≡ true → KeepsFound t old new
   found honest = found_on old mid new t t (λ k. refl) (places_kept t old.flash mid.flash (keeps_kept b t old.flash mid.flash none (erased honest))) (before honest)
       (found_marked b mid new t result none marks (lasts.honest ∙ honest))
+
+  tags : old.honest ≡ true → GainsNoTag t old.flash new.flash
+  tags honest k l u some has = gained honest k l u some (gains_none b t mid.flash new.flash none (fades_mark b mid new result (lasts.honest ∙ honest) marks) k l u some has)
 
   kept : (k : ℕ) → (t'.entry k).kept ≡ (t.entry k).kept
   kept k = elim (cases_eq k b) [
@@ -171,6 +188,7 @@ passes_marked b old mid new t t' result within good none lasts failed erased bef
         failures = omega (arith, more, failed, marks.lasts.failures);
         unkept = omega (arith, more, less);
         newest = newest;
+        tags = tags;
         found = found;
         erased = tracked;
       }
@@ -191,6 +209,7 @@ passes_marked b old mid new t t' result within good none lasts failed erased bef
       (λ le. let seq = notes.next_seq in omega (arith, seq, le))
       (omega (arith, failed, marks.lasts.failures))
       newest
+      tags
       found
       tracked
 
@@ -213,3 +232,7 @@ takes_from b old mid new t u v passes none takes = record {
   next_seq = takes.next_seq ∙ ap (λ n. n + 1) none.next_seq;
   below = λ honest. subst (λ n. AreBelow new.flash n t.next_seq) passes.next_group (subst (λ n. AreBelow new.flash u.next_group n) none.next_seq (takes.below honest));
 }
+
+-- an erase
+pub gains_erased : (b : ℕ) (old new : Device) (t : Table) (result : Result (Unit {0}) EraseFault) → (t.entry b).kept ≡ 0 → Erases b old new result → old.honest ≡ true → GainsNoTag t old.flash new.flash
+gains_erased b old new t result none erases honest = gains_none b t old.flash new.flash none (fades_erase b old.flash new.flash (shrinks-erase b old new result honest erases))

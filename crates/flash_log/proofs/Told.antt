@@ -22,11 +22,11 @@ none_there : (p : KeptPage) (b : ℕ) → p.block ≢ b → one_at (Some p) b �
 none_there p b ne = grind (arith, nat_tests, ne)
 
 -- before the first is told
-pub tells_none : (v w : ℕ) (copies : List CopyOf) (x : Index) (t : Table) → Tells v w 0 copies x x t t
-tells_none v w copies x t = record {
+pub tells_none : (v : ℕ) (at : PagePlace) (copies : List CopyOf) (x : Index) (t : Table) → Tells v 0 at copies x x t t
+tells_none v at copies x t = record {
   index = record {
-    kept_here = λ j y lt at. absurd (omega (arith, lt));
-    present_here = λ j y lt at. absurd (omega (arith, lt));
+    kept_here = λ j y lt there. absurd (omega (arith, lt));
+    present_here = λ j y lt there. absurd (omega (arith, lt));
     kept_elsewhere = λ o c none. refl;
     present_elsewhere = λ o c none. refl;
     prepared = λ o c is. is;
@@ -57,8 +57,8 @@ is_or_differs y o c = elim (cases_eq o y.name.key.object) [
   ]
 ]
 
-module _ (v w i : ℕ) (copies : List CopyOf) (x0 x1 x2 : Index) (t0 t1 t2 : Table) (lists : ListsKept v (kept_pages x0) copies) (apart : v ≢ w)
-    (tells : Tells v w i copies x0 x1 t0 t1) (y : CopyOf) (at : slice_get copies i ≡ Some y) where
+module _ (v i : ℕ) (to : PagePlace) (copies : List CopyOf) (x0 x1 x2 : Index) (t0 t1 t2 : Table) (lists : ListsKept v (kept_pages x0) copies) (apart : v ≢ to.block)
+    (tells : Tells v i to copies x0 x1 t0 t1) (y : CopyOf) (at : slice_get copies i ≡ Some y) where
   -- the key of copy i is none of those before it
   none_before : IsNone i copies y.name.key.object y.name.key.chunk
   none_before j z lt there is =
@@ -70,10 +70,10 @@ module _ (v w i : ℕ) (copies : List CopyOf) (x0 x1 x2 : Index) (t0 t1 t2 : Tab
   pub kept_yet : kept_pages x1 y.name.key.object y.name.key.chunk ≡ Some (kept_by y)
   kept_yet = tells.index.kept_elsewhere y.name.key.object y.name.key.chunk none_before ∙ lists.kept i y at
 
-  module _ (place : PagePlace) (block : place.block ≡ w) (page : place.page ≡ i)
+  module _ (place : PagePlace) (block : place.block ≡ to.block) (page : place.page ≡ to.page + i)
       (copied : Copies y.name.key.object y.name.key.chunk place (kept_by y) x1 x2) (recounts : Recounts (kept_in x1) (kept_in x2) t1 t2)
       (prepared : StaysPrepared x1 x2) (ready : (o c : ℕ) → IsReadyKey x1 o c → IsReadyKey x2 o c) where
-    moved_is : moved_page place (kept_by y) ≡ copy_in w i y
+    moved_is : moved_page place (kept_by y) ≡ copy_in to i y
     moved_is = λ k. record { block = block k; page = page k; version = y.name.version }
 
     -- another of the first ones is of another key
@@ -92,7 +92,7 @@ module _ (v w i : ℕ) (copies : List CopyOf) (x0 x1 x2 : Index) (t0 t1 t2 : Tab
     was_here : y.block ≡ v
     was_here = lists.here i y at
 
-    pub tells_more : Tells v w (i + 1) copies x0 x2 t0 t2
+    pub tells_more : Tells v (i + 1) to copies x0 x2 t0 t2
     tells_more = record {
       index = record {
         kept_here = λ j z lt there. elim (cases_eq j i) [
@@ -100,7 +100,7 @@ module _ (v w i : ℕ) (copies : List CopyOf) (x0 x1 x2 : Index) (t0 t1 t2 : Tab
               let both : Some z ≡ Some y = sym there ∙ ap (slice_get copies) e ∙ at in
               let same : z ≡ y = cc in
               ap (λ (q : CopyOf). kept_pages x2 q.name.key.object q.name.key.chunk) same ∙ copied.kept_here ∙ ap Some moved_is
-              ∙ ap (λ n. Some (copy_in w n y)) (sym e) ∙ ap (λ (q : CopyOf). Some (copy_in w j q)) (sym same)
+              ∙ ap (λ n. Some (copy_in to n y)) (sym e) ∙ ap (λ (q : CopyOf). Some (copy_in to j q)) (sym same)
           | inr ne ↦
               let less : j < i = omega (arith, lt, ne) in
               copied.kept_elsewhere z.name.key.object z.name.key.chunk (apart_from j z less there) ∙ tells.index.kept_here j z less there
@@ -111,9 +111,9 @@ module _ (v w i : ℕ) (copies : List CopyOf) (x0 x1 x2 : Index) (t0 t1 t2 : Tab
               let same : z ≡ y = cc in
               ap (λ (q : CopyOf). present x2 q.name.key.object q.name.key.chunk) same ∙ copied.present_here
               ∙ ap (λ p. moved_to p (present x1 y.name.key.object y.name.key.chunk)) moved_is
-              ∙ ap (moved_to (copy_in w i y)) (tells.index.present_elsewhere y.name.key.object y.name.key.chunk none_before)
-              ∙ ap (λ n. moved_to (copy_in w n y) (present x0 y.name.key.object y.name.key.chunk)) (sym e)
-              ∙ ap (λ (q : CopyOf). moved_to (copy_in w j q) (present x0 q.name.key.object q.name.key.chunk)) (sym same)
+              ∙ ap (moved_to (copy_in to i y)) (tells.index.present_elsewhere y.name.key.object y.name.key.chunk none_before)
+              ∙ ap (λ n. moved_to (copy_in to n y) (present x0 y.name.key.object y.name.key.chunk)) (sym e)
+              ∙ ap (λ (q : CopyOf). moved_to (copy_in to j q) (present x0 q.name.key.object q.name.key.chunk)) (sym same)
           | inr ne ↦
               let less : j < i = omega (arith, lt, ne) in
               copied.present_elsewhere z.name.key.object z.name.key.chunk (apart_from j z less there) ∙ tells.index.present_here j z less there
@@ -135,9 +135,9 @@ module _ (v w i : ℕ) (copies : List CopyOf) (x0 x1 x2 : Index) (t0 t1 t2 : Tab
             let is = none_there (moved_page place (kept_by y)) v (λ e. apart (sym e ∙ block)) in
             omega (arith, balance v, was, is, tells.counts.here);
         there =
-            let was = none_there (kept_by y) w (λ e. apart (sym was_here ∙ e)) in
-            let is = one_here (moved_page place (kept_by y)) w block in
-            omega (arith, balance w, was, is, tells.counts.there);
+            let was = none_there (kept_by y) to.block (λ e. apart (sym was_here ∙ e)) in
+            let is = one_here (moved_page place (kept_by y)) to.block block in
+            omega (arith, balance to.block, was, is, tells.counts.there);
         elsewhere = λ b nv nw.
             let was = none_there (kept_by y) b (λ e. nv (sym e ∙ was_here)) in
             let is = none_there (moved_page place (kept_by y)) b (λ e. nw (sym e ∙ block)) in

@@ -1,6 +1,7 @@
 -- What the writing of copies does, and what it costs.
-use Rattle.std.proofs.Common.{◌≡◌, ◌⊎◌, ◌<◌, ◌≤◌, ℕ, ◌+◌, ◌-◌, ◌*◌, Bool, true, false, if◌then◌else◌, List, length, Result, Ok, Err, refl, sym, ap, subst, ◌∙◌, arith, inl, inr}
+use Rattle.std.proofs.Common.{◌≡◌, ◌⊎◌, ◌<◌, ◌≤◌, ℕ, ◌+◌, ◌-◌, ◌*◌, Bool, true, false, if◌then◌else◌, List, length, Option, None, Some, Result, Ok, Err, refl, sym, ap, subst, ◌∙◌, arith, inl, inr}
 use Rattle.std.proofs.Math.Nat.{mul-le-mul_left}
+use Rattle.std.proofs.lemmas.Bool.{cases_eq}
 use Rattle.std.proofs.lemmas.Result.{on_ok_weaker}
 use Rattle.volume_terms.specs.Sizes.{number_end}
 use Rattle.nand_model.specs.Calls.{Device, Lasts, Marks}
@@ -12,16 +13,18 @@ use Rattle.nand_model.specs.laws.Calls.{lasts_on}
 use Rattle.flash_tree.specs.Keeping.{KeepsElsewhere, KeepsNewest}
 use Rattle.flash_tree.specs.Summarizing.{NamesNot}
 use Rattle.flash_tree.specs.Truth.{KeepsSummaries}
+use Rattle.flash_tree.specs.laws.Summarizing.{tag_elsewhere}
 use Rattle.block_state.specs.Kept.{bad_count}
 use Rattle.block_state.specs.Table.{Table}
+use Rattle.block_state.specs.declared.blocks.BlockEntry.{BlockEntry}
 use Rattle.transactions.specs.Checking.{LogState, log_of}
 use Rattle.transactions.specs.Copying.{copy_name, copy_bytes}
-use Rattle.transactions.specs.Groups.{GroupsAfter, TableEnds, WritesOpen, next_group, closed}
+use Rattle.transactions.specs.Groups.{GroupsAfter, OkTable, TableEnds, TellsGroup, WritesOpen, next_group, closed}
 use Rattle.transactions.specs.Handing.{HandsOut}
 use Rattle.transactions.specs.Marking.{NotesMark}
 use Rattle.transactions.specs.Naming.{BeginsOther, NamesOnce}
 use Rattle.transactions.specs.Newest.{NewestAfter, ShowsGroup}
-use Rattle.flash_tree.specs.Numbering.{AreBelow}
+use Rattle.chunk_index.specs.declared.form.PagePlace.{PagePlace}
 use Rattle.transactions.specs.Ready.{IsReady}
 use Rattle.transactions.specs.Written.{tag_in}
 use Rattle.transactions.specs.laws.Handing.{hands_on}
@@ -31,7 +34,7 @@ use Rattle.transactions.specs.declared.group.Placed.{Placed}
 use Rattle.transactions.specs.declared.group.GroupFault.{GroupFault}
 use Rattle.transactions.specs.declared.group.GroupFault.TheVariants as groups
 use Rattle.flash_log.specs.Bills.{PaysOneBlock, PaysWriting}
-use Rattle.flash_log.specs.Copying.{IsFresh, MayBeCopied, KeepsKeptAt, KeepsDataAt, AreWritten, StayOrLieApart, NewestAfterCopies, CopiesPages, CopiesEnd, left_open, most_changes, most_written}
+use Rattle.flash_log.specs.Copying.{IsClear, IsFresh, MayBeCopied, KeepsKeptAt, KeepsDataAt, AreWritten, StayOrLieApart, NewestAfterCopies, CopiesPages, CopiesEnd, OpenAfter, left_open, most_changes, most_written}
 use Rattle.flash_log.specs.Passing.{KeepsFound, Passes}
 use Rattle.flash_log.specs.Taking.{Takes, CostsATake}
 use Rattle.flash_log.specs.declared.copying.Copied.{Copied}
@@ -46,15 +49,18 @@ use Rattle.flash_log.specs.laws.Erased.{erased_as, erased_marked, erased_on, era
 use Rattle.flash_log.specs.laws.Found.{found_after, found_as, found_copied}
 use Rattle.flash_log.proofs.KeptPages.{is_of_copies, are_copied, data_copied, key_is, listed_or_not, names_once, numbered_copies}
 
-module _ (copies : List CopyOf) (w : ℕ) (d0 d1 : Device) (t : Table) (fresh : IsFresh w d0 t) (may : MayBeCopied d0 t copies) (honest : d0.honest ≡ true) (grows : Grows d0.flash d1.flash) where
+module _ (copies : List CopyOf) (w : ℕ) (d0 d1 : Device) (t : Table) (fresh : IsClear w d0 t) (may : MayBeCopied d0 t copies) (honest : d0.honest ≡ true) (grows : Grows d0.flash d1.flash) where
+  abbrev to : PagePlace
+  to = record { block = w; page = (t.entry w).next }
+
   after : (r : Result Placed GroupFault) → GroupsAfter (next_group t (length copies) w) (copy_name copies) (copy_bytes copies d0.flash) d0.flash d1.flash r
       → NewestAfter (next_group t (length copies) w) (copy_name copies) (copy_bytes copies d0.flash) d0.flash d1.flash r
   after r groups = newest_after (next_group t (length copies) w) (copy_name copies) (copy_bytes copies d0.flash) d0.flash d1.flash grows
       (copies_come_last (next_group t (length copies) w) (copy_name copies) d0.flash
-      (is_of_copies copies may.once (next_group t (length copies) w) refl d0.flash (may.newest honest fresh.power) fresh.number (fresh.below honest))) r groups
+      (is_of_copies copies may.once (next_group t (length copies) w) refl d0.flash (may.newest honest fresh.power) (may.ordinary honest) (fresh.older honest))) r groups
 
   shown : ShowsGroup (next_group t (length copies) w) (copy_name copies) (copy_bytes copies d0.flash) d0.flash d1.flash → KeepsDataAt t d0.flash d1.flash
-  shown shows = data_copied copies may.once (next_group t (length copies) w) refl d0.flash (may.newest honest fresh.power) d1.flash t w refl fresh.next shows
+  shown shows = data_copied copies may.once (next_group t (length copies) w) refl d0.flash (may.newest honest fresh.power) d1.flash t to refl refl shows
 
   same : KeepsNewest d0.flash d1.flash → KeepsDataAt t d0.flash d1.flash
   same keeps = data_where d0.flash d1.flash t (λ o c s newest some. keeps o c s newest)
@@ -72,11 +78,11 @@ module _ (copies : List CopyOf) (w : ℕ) (d0 d1 : Device) (t : Table) (fresh : 
   data_written r groups = data_by r (after r groups)
 
   -- and where it is done they are copied
-  pub copies_written : (placed : Placed) → GroupsAfter (next_group t (length copies) w) (copy_name copies) (copy_bytes copies d0.flash) d0.flash d1.flash (Ok placed) → AreWritten w copies t d0.flash d1.flash
+  pub copies_written : (placed : Placed) → GroupsAfter (next_group t (length copies) w) (copy_name copies) (copy_bytes copies d0.flash) d0.flash d1.flash (Ok placed) → AreWritten to copies t d0.flash d1.flash
   copies_written placed groups = record {
-    made = are_copied copies may.once (next_group t (length copies) w) refl d0.flash (may.newest honest fresh.power) d1.flash t w refl fresh.next (after (Ok placed) groups);
+    made = are_copied copies may.once (next_group t (length copies) w) refl d0.flash (may.newest honest fresh.power) d1.flash t to refl refl (after (Ok placed) groups);
     numbered = λ i x s at newest.
-        let number : t.next_group ≡ s.tag.group = numbered_copies copies may.once (next_group t (length copies) w) refl d0.flash (may.newest honest fresh.power) d1.flash t w refl fresh.next (after (Ok placed) groups) i x s at newest in
+        let number : t.next_group ≡ s.tag.group = numbered_copies copies may.once (next_group t (length copies) w) refl d0.flash (may.newest honest fresh.power) d1.flash t to refl refl (after (Ok placed) groups) i x s at newest in
         omega (arith, number);
   }
 
@@ -88,11 +94,11 @@ module _ (copies : List CopyOf) (w : ℕ) (d0 d1 : Device) (t : Table) (fresh : 
 
     lie : ShowsGroup (next_group t (length copies) w) (copy_name copies) (copy_bytes copies d0.flash) d0.flash d1.flash → StayOrLieApart copies t d0.flash d1
     lie shows = inr (record {
-      block = w;
+      at = to;
       within = fresh.within;
       unkept = fresh.unkept;
       good = ap (λ (f : ℕ → Bool). f w) bad ∙ sym (ready.marks w) ∙ fresh.good;
-      copied = are_copied copies may.once (next_group t (length copies) w) refl d0.flash (may.newest honest fresh.power) d1.flash t w refl fresh.next shows;
+      copied = are_copied copies may.once (next_group t (length copies) w) refl d0.flash (may.newest honest fresh.power) d1.flash t to refl refl shows;
     })
 
     by : (r : Result Placed GroupFault) → NewestAfter (next_group t (length copies) w) (copy_name copies) (copy_bytes copies d0.flash) d0.flash d1.flash r → StayOrLieApart copies t d0.flash d1
@@ -112,7 +118,7 @@ module _ (copies : List CopyOf) (w : ℕ) (d0 d1 : Device) (t : Table) (fresh : 
   keeps_failed counted = after (Err groups.Failed) counted
 
 -- what was findable by summaries is so still
-module _ (copies : List CopyOf) (w : ℕ) (d0 d1 : Device) (t : Table) (fresh : IsFresh w d0 t) (may : MayBeCopied d0 t copies) (honest : d0.honest ≡ true) (ready : IsReady d0 t)
+module _ (copies : List CopyOf) (w : ℕ) (d0 d1 : Device) (t : Table) (fresh : IsClear w d0 t) (may : MayBeCopied d0 t copies) (honest : d0.honest ≡ true) (ready : IsReady d0 t)
     (geometry : d1.geometry ≡ d0.geometry) (writes : WritesOpen t d0.flash d1.flash) (summaries : KeepsSummaries d0 d1) where
   begins_other : 1 ≤ length copies → BeginsOther (copy_name copies 0)
   begins_other some object chunk = may.ordinary honest 0 some object
@@ -129,16 +135,18 @@ module _ (copies : List CopyOf) (w : ℕ) (d0 d1 : Device) (t : Table) (fresh : 
   pub found_written : (r : Result Placed GroupFault) → GroupsAfter (next_group t (length copies) w) (copy_name copies) (copy_bytes copies d0.flash) d0.flash d1.flash r → KeepsFound t d0 d1
   found_written = found_after t d0 d1 w (length copies) (copy_name copies) (copy_bytes copies d0.flash) ready fresh.open_block honest geometry writes summaries
       (λ adds. found_copied t d0 d1 w (length copies) (copy_name copies) (copy_bytes copies d0.flash) ready fresh.open_block honest geometry writes summaries begins_other adds
-      (is_of_copies copies may.once (next_group t (length copies) w) refl d0.flash (may.newest honest fresh.power) fresh.number (fresh.below honest)) each_key)
+      (is_of_copies copies may.once (next_group t (length copies) w) refl d0.flash (may.newest honest fresh.power) (may.ordinary honest) (fresh.older honest)) each_key)
 
 -- the block of copies that failed is passed over
-pub passes_failed : (copies : List CopyOf) (w : ℕ) (d0 d1 d2 : Device) (t t1 t2 : Table) (result : Result (Unit {0}) Gone) → IsFresh w d0 t → MayBeCopied d0 t copies
+pub passes_failed : (copies : List CopyOf) (w : ℕ) (d0 d1 d2 : Device) (t t1 t2 : Table) (result : Result (Unit {0}) Gone) → IsClear w d0 t → MayBeCopied d0 t copies
     → IsReady d0 t → HandsOut d0 d1 t t1 → Lasts d0 d1 → d1.failures ≡ d0.failures + 1 → (d0.honest ≡ true → WritesOpen t d0.flash d1.flash)
     → (d0.honest ≡ true → GroupsAfter (next_group t (length copies) w) (copy_name copies) (copy_bytes copies d0.flash) d0.flash d1.flash (Err groups.Failed))
     → t1 ≡ closed t → Marks w d1 d2 result → (d1.honest ≡ true → KeepsElsewhere w d1.flash d2.flash) → NotesMark w d2.flash t1 t2 → Passes d0 d2 (closed t) t2
 passes_failed copies w d0 d1 d2 t t1 t2 result fresh may ready numbers lasts failed writes counted is marks marked notes =
     passes_marked w d0 d1 d2 (closed t) t2 result fresh.within fresh.good fresh.unkept lasts (omega (arith, failed))
     (λ honest o c s newest apart. keeps_failed copies w d0 d1 t fresh may honest (writes honest).grows (counted honest) o c s newest)
+    (λ honest k l u some has. tag_elsewhere w t.next_group (t.entry w).seq d0.flash d1.flash ((writes honest).within w fresh.open_block) k l u
+    (λ here. let none : (t.entry k).kept ≡ 0 = ap (λ n. (t.entry n).kept) here ∙ fresh.unkept in absurd (omega (arith, none, some))) has)
     (λ honest. found_as t (closed t) d0 d1 (λ k. refl) (found_written copies w d0 d1 t fresh may honest ready lasts.geometry (writes honest) (numbers.truth.summaries honest) (Err groups.Failed) (counted honest)))
     marks marked (subst (λ (x : Table). NotesMark w d2.flash x t2) is notes)
     (erased_on d0 d1 d2 (closed t) (closed t) t2 lasts.honest
@@ -153,14 +161,20 @@ fresh_taken w d0 d1 t u passes ready takes power = record {
   good = ready.marks w ∙ (ready.open_block w takes.open_block).good;
   unkept = passes.kept w ∙ takes.unkept;
   next = takes.next;
-  number = t.next_group;
-  below = λ honest. subst (λ n. AreBelow d1.flash t.next_group n) (sym takes.seq) (takes.below honest);
+  older = λ honest o c s ordinary holds.
+      let below = takes.below honest s.block s.page s.tag (ap (λ b. d1.flash.bad b) holds.block ∙ holds.whole.good) holds.has in
+      let seq = takes.seq in
+      omega (arith, below.2, seq);
   power = power;
 }
 
+-- and clear
+pub clear_fresh : (w : ℕ) (d : Device) (t : Table) → IsFresh w d t → IsClear w d t
+clear_fresh w d t fresh = record { within = fresh.within; open_block = fresh.open_block; good = fresh.good; unkept = fresh.unkept; older = fresh.older; power = fresh.power }
+
 -- ---- one attempt
 
-module _ (copies : List CopyOf) (w : ℕ) (d0 d1 : Device) (t t1 : Table) (fresh : IsFresh w d0 t) (may : MayBeCopied d0 t copies) (less : t.next_group < number_end)
+module _ (copies : List CopyOf) (w : ℕ) (d0 d1 : Device) (t t1 : Table) (fresh : IsClear w d0 t) (may : MayBeCopied d0 t copies) (less : t.next_group < number_end)
     (lasts : Lasts d0 d1) (numbers : HandsOut d0 d1 t t1) where
   -- where no block was marked
   pub pages_written : (r : Result Placed GroupFault) (result : Result Copied MoveFault) → IsReady d0 t → IsReady d1 t1 → TableEnds (length copies) t t1 r → d1.flash.bad ≡ d0.flash.bad
@@ -225,7 +239,7 @@ changes_marked count d0 d1 d2 one changes = omega (arith, one, changes)
 
 module _ (count : ℕ) (a c : LogState) (few : count ≤ a.device.geometry.pages) (failed : c.device.failures ≡ a.device.failures + 1) (changes : c.device.changes ≤ a.device.changes + count + 1) where
   -- a failure pays for the programs and the mark
-  costs_failed : (n : ℕ) → Costs n (a.device.geometry.pages + 1) 0 a.device c.device
+  pub costs_failed : (n : ℕ) → Costs n (a.device.geometry.pages + 1) 0 a.device c.device
   costs_failed n =
       let all : (a.device.geometry.pages + 1) * c.device.failures ≡ (a.device.geometry.pages + 1) * a.device.failures + (a.device.geometry.pages + 1)
       = ap (λ k. (a.device.geometry.pages + 1) * k) failed ∙ omega arith in
@@ -242,7 +256,7 @@ module _ (count : ℕ) (a c : LogState) (few : count ≤ a.device.geometry.pages
 
 module _ (pages m n u : ℕ) (a b c : Device) (lasts : Lasts a b) (take : CostsATake a b) (rises : b.failures + u ≤ c.failures) (few : m + 1 + b.failures + u ≤ n + c.failures) where
   -- what is written costs the erase more, or its failure pays for that
-  costs_once : Costs m (pages + 1) u b c → Costs n (pages + 2) u a c
+  pub costs_once : Costs m (pages + 1) u b c → Costs n (pages + 2) u a c
   costs_once costs =
       let x : ℕ = c.failures - (b.failures + u) in
       let is : c.failures ≡ b.failures + u + x = omega (arith, rises) in
@@ -292,6 +306,36 @@ pays_untaken count a b fault lasts take same marked =
 
 -- ---- ends
 
+-- the block is open still, with the pages less, or closed where the last page is suspect
+pub open_after : (count w : ℕ) (placed : Placed) (t u : Table) → t.open_block ≡ Some w → TellsGroup (next_group t count w) placed → TableEnds count t u (Ok placed) → OpenAfter placed.block (placed.first + count) placed.suspect u
+open_after count w placed t u opened told ends = go placed.suspect ends where
+  go : (suspect : Bool) → OkTable suspect count t u → OpenAfter placed.block (placed.first + count) suspect u
+  go true is = ap (λ (x : Table). x.open_block) is
+  go false takes =
+      let next : (u.entry placed.block).next ≡ (u.entry w).next = ap (λ k. (u.entry k).next) told.block in
+      (takes.open_block ∙ opened ∙ ap Some (sym told.block), next ∙ ap (λ (x : BlockEntry). x.next) (takes.here w opened) ∙ ap (λ n. n + count) (sym told.first))
+
+-- what was written in a block before stays so
+pub begun_still : (count w : ℕ) (t u : Table) (result : Result Placed GroupFault) → TableEnds count t u result → (t.entry w).next ≤ (u.entry w).next
+begun_still count w t u (Ok placed) ends = go placed.suspect ends where
+  go : (suspect : Bool) → OkTable suspect count t u → (t.entry w).next ≤ (u.entry w).next
+  go true is = let same : (u.entry w).next ≡ (t.entry w).next = ap (λ (x : Table). (x.entry w).next) is in omega (arith, same)
+  go false takes = taken t.open_block refl where
+    taken : (o : Option ℕ) → t.open_block ≡ o → (t.entry w).next ≤ (u.entry w).next
+    taken None none = let same : (u.entry w).next ≡ (t.entry w).next = ap (λ (x : BlockEntry). x.next) (takes.others w (λ at. let two : None ≡ Some w = sym none ∙ at in absurd cc)) in omega (arith, same)
+    taken (Some o) some = elim (cases_eq w o) [
+      | inl e ↦
+          let here : (u.entry o).next ≡ (t.entry o).next + count = ap (λ (x : BlockEntry). x.next) (takes.here o some) in
+          subst (λ k. (t.entry k).next ≤ (u.entry k).next) (sym e) (omega (arith, here))
+      | inr ne ↦
+          let same : (u.entry w).next ≡ (t.entry w).next = ap (λ (x : BlockEntry). x.next) (takes.others w (λ at. let two : Some o ≡ Some w = sym some ∙ at in let e : o ≡ w = cc in ne (sym e))) in
+          omega (arith, same)
+    ]
+begun_still count w t u (Err groups.NoRoom) is = let same : (u.entry w).next ≡ (t.entry w).next = ap (λ (x : Table). (x.entry w).next) is in omega (arith, same)
+begun_still count w t u (Err groups.Failed) is = let same : (u.entry w).next ≡ (t.entry w).next = ap (λ (x : Table). (x.entry w).next) is in omega (arith, same)
+begun_still count w t u (Err groups.Lost) is = let same : (u.entry w).next ≡ (t.entry w).next = ap (λ (x : Table). (x.entry w).next) is in omega (arith, same)
+begun_still count w t u (Err groups.Gone) is = let same : (u.entry w).next ≡ (t.entry w).next = ap (λ (x : Table). (x.entry w).next) is in omega (arith, same)
+
 pub ends_on : (count spare : ℕ) (d : Device) (t u v : Table) (r : Result Copied MoveFault) → u.geometry ≡ t.geometry → ((b : ℕ) → (u.entry b).kept ≡ (t.entry b).kept) → bad_count t ≤ bad_count u
     → CopiesEnd count spare d u v r → CopiesEnd count spare d t v r
 ends_on count spare d t u v (Ok (ends.Into target)) geometry kept rises (is, power) = (
@@ -299,6 +343,8 @@ ends_on count spare d t u v (Ok (ends.Into target)) geometry kept rises (is, pow
     within = subst (λ (g : Geometry). target.block < g.blocks) geometry is.within;
     good = is.good;
     unkept = sym (kept target.block) ∙ is.unkept;
+    fits = subst (λ (g : Geometry). target.first + count ≤ g.pages) geometry is.fits;
+    begun = is.begun;
     open_block = is.open_block;
     checkpoint = is.checkpoint;
   },

@@ -1,17 +1,18 @@
 -- The copying of listed pages into a block that is taken.
 -- From: this project.
-use Rattle.std.specs.Prelude.{◌≡◌, ◌⊎◌, ◌<◌, ◌≤◌, ℕ, ◌+◌, Bool, true, false, List, length, Some, None, Result, Ok, Err, slice_get, if◌then◌else◌}
+use Rattle.std.specs.Prelude.{◌≡◌, ◌≢◌, ◌⊎◌, ◌<◌, ◌≤◌, ℕ, ◌+◌, Bool, true, false, List, length, Some, None, Result, Ok, Err, slice_get, if◌then◌else◌}
 use Rattle.nand_model.specs.Flash.{Flash}
 use Rattle.nand_model.specs.Calls.{Device, Lasts}
 use Rattle.block_state.specs.Kept.{bad_count, unkept_count}
 use Rattle.block_state.specs.Table.{Table}
 use Rattle.chunk_index.specs.declared.form.KeptPage.{KeptPage}
+use Rattle.chunk_index.specs.declared.form.PagePlace.{PagePlace}
 use Rattle.transactions.specs.Checking.{LogState}
 use Rattle.transactions.specs.Copying.{CanCopy, copy_name}
 use Rattle.transactions.specs.Naming.{AreOrdinary}
 use Rattle.transactions.specs.Handing.{HandsOut}
-use Rattle.flash_tree.specs.Newest.{Spot, IsNewest}
-use Rattle.flash_tree.specs.Numbering.{AreBelow}
+use Rattle.flash_tree.specs.Newest.{Spot, Holds, IsNewest}
+use Rattle.flash_tree.specs.Slots.{check_object}
 use Rattle.transactions.specs.Ready.{IsReady}
 use Rattle.transactions.specs.declared.copies.CopyOf.{CopyOf}
 use Rattle.flash_log.specs.Erased.{KeepsErased}
@@ -66,34 +67,38 @@ pub record MayBeCopied (device : Device) (t : Table) (copies : List CopyOf) : Ty
   pub newest : device.honest ≡ true → device.gone ≡ false → AreKeptAt device.flash copies
   pub ordinary : device.honest ≡ true → AreOrdinary (length copies) (copy_name copies)
 
--- copy i is page i of the block, in its version
-abbrev pub copy_in : ℕ → ℕ → CopyOf → KeptPage
-copy_in w i x = record { block = w; page = i; version = x.name.version }
+-- copy i lies i pages behind a place, in its version
+abbrev pub copy_in : PagePlace → ℕ → CopyOf → KeptPage
+copy_in at i x = record { block = at.block; page = at.page + i; version = x.name.version }
 
 -- The copies are the newest pages of their keys, and of all other keys newest pages in blocks with kept pages stay so.
-pub record AreCopied (w : ℕ) (copies : List CopyOf) (t : Table) (old new : Flash) : Type 0 where
-  pub copied : (i : ℕ) (x : CopyOf) → slice_get copies i ≡ Some x → IsKeptAt new x.name.key.object x.name.key.chunk (copy_in w i x)
+pub record AreCopied (at : PagePlace) (copies : List CopyOf) (t : Table) (old new : Flash) : Type 0 where
+  pub copied : (i : ℕ) (x : CopyOf) → slice_get copies i ≡ Some x → IsKeptAt new x.name.key.object x.name.key.chunk (copy_in at i x)
   pub others : (o c : ℕ) (p : KeptPage) → 1 ≤ (t.entry p.block).kept → ((i : ℕ) (x : CopyOf) → slice_get copies i ≡ Some x → IsCopyOf x o c → ⊥)
       → IsKeptAt old o c p → IsKeptAt new o c p
 
 -- and they are in a group whose number was not handed out before
-pub record AreWritten (w : ℕ) (copies : List CopyOf) (t : Table) (old new : Flash) : Type 0 where
-  pub made : AreCopied w copies t old new
+pub record AreWritten (at : PagePlace) (copies : List CopyOf) (t : Table) (old new : Flash) : Type 0 where
+  pub made : AreCopied at copies t old new
   pub numbered : (i : ℕ) (x : CopyOf) (s : Spot) → slice_get copies i ≡ Some x → IsNewest new x.name.key.object x.name.key.chunk s → t.next_group ≤ s.tag.group
+
+-- where the first copy lies
+abbrev pub place_of : Target → PagePlace
+place_of target = record { block = target.block; page = target.first }
 
 -- what is newest on an honest device that has power, after the copies were made or not
 abbrev pub NewestAfterCopies : List CopyOf → Table → Flash → Flash → Result Copied MoveFault → Type 0
-NewestAfterCopies copies t old new (Ok (ends.Into target)) = AreWritten target.block copies t old new
+NewestAfterCopies copies t old new (Ok (ends.Into target)) = AreWritten (place_of target) copies t old new
 NewestAfterCopies copies t old new (Ok ends.Marked) = KeepsKeptAt t old new
 NewestAfterCopies copies t old new (Err fault) = KeepsKeptAt t old new
 
 -- The copies lie in a block that is good and without a kept page.
 pub record LieApart (copies : List CopyOf) (t : Table) (old : Flash) (new : Device) : Type 0 where
-  pub block : ℕ
-  pub within : block < t.geometry.blocks
-  pub unkept : (t.entry block).kept ≡ 0
-  pub good : new.flash.bad block ≡ false
-  pub copied : AreCopied block copies t old new.flash
+  pub at : PagePlace
+  pub within : at.block < t.geometry.blocks
+  pub unkept : (t.entry at.block).kept ≡ 0
+  pub good : new.flash.bad at.block ≡ false
+  pub copied : AreCopied at copies t old new.flash
 
 -- What is newest wherever the copying ends, also where the power went in it: in blocks with kept pages all stays, or the
 -- copies are the newest of their keys. No third way.
@@ -120,7 +125,9 @@ pub record IsTarget (count : ℕ) (target : Target) (old new : Table) : Type 0 w
   pub within : target.block < old.geometry.blocks
   pub good : (new.entry target.block).bad ≡ false
   pub unkept : (old.entry target.block).kept ≡ 0
-  pub open_block : OpenAfter target.block count target.suspect new
+  pub fits : target.first + count ≤ old.geometry.pages
+  pub begun : target.first ≤ (new.entry target.block).next
+  pub open_block : OpenAfter target.block (target.first + count) target.suspect new
   pub checkpoint : new.checkpoint ≡ None
 
 -- how the copying ends: the copies are made; or their block was marked; or not
@@ -128,6 +135,12 @@ abbrev pub CopiesEnd : (count spare : ℕ) → Device → Table → Table → Re
 CopiesEnd count spare device old new (Ok (ends.Into target)) = IsTarget count target old new × (device.gone ≡ false)
 CopiesEnd count spare device old new (Ok ends.Marked) = (new.open_block ≡ None) × (bad_count old < bad_count new) × (device.gone ≡ false)
 CopiesEnd count spare device old new (Err fault) = (new.open_block ≡ None) × WhyNotMoved spare device new fault
+
+-- the first copy lies in this page
+abbrev pub StartsAt : (first : ℕ) → Result Copied MoveFault → Type 0
+StartsAt first (Ok (ends.Into target)) = target.first ≡ first
+StartsAt first (Ok ends.Marked) = Unit {0}
+StartsAt first (Err fault) = Unit {0}
 
 -- where copies are made, no more blocks are bad than there are to spare
 abbrev pub FewBad : (spare : ℕ) → Table → Result Copied MoveFault → Type 0
@@ -153,16 +166,24 @@ most_written count (Ok (ends.Into target)) = count
 most_written count (Ok ends.Marked) = 0
 most_written count (Err fault) = count
 
--- the block is the open one of a device that has power, nothing is written to it or kept in it, and its number is above
--- those of all tags
+-- The block is the open one of a device that has power, and no page is committed in it. Its number is above those of all valid pages of
+-- objects of a tree.
+pub record IsClear (w : ℕ) (device : Device) (t : Table) : Type 0 where
+  pub within : w < t.geometry.blocks
+  pub open_block : t.open_block ≡ Some w
+  pub good : (t.entry w).bad ≡ false
+  pub unkept : (t.entry w).kept ≡ 0
+  pub older : device.honest ≡ true → (o c : ℕ) (s : Spot) → o ≢ check_object → Holds device.flash o c s → s.tag.seq < (t.entry w).seq
+  pub power : device.gone ≡ false
+
+-- nothing is written to it besides
 pub record IsFresh (w : ℕ) (device : Device) (t : Table) : Type 0 where
   pub within : w < t.geometry.blocks
   pub open_block : t.open_block ≡ Some w
   pub good : (t.entry w).bad ≡ false
   pub unkept : (t.entry w).kept ≡ 0
   pub next : (t.entry w).next ≡ 0
-  pub number : ℕ
-  pub below : device.honest ≡ true → AreBelow device.flash number (t.entry w).seq
+  pub older : device.honest ≡ true → (o c : ℕ) (s : Spot) → o ≢ check_object → Holds device.flash o c s → s.tag.seq < (t.entry w).seq
   pub power : device.gone ≡ false
 
 -- the same, where copies were made until they stood

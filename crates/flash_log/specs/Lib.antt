@@ -24,4 +24,6 @@ pub mod CheckpointKeeping
 pub mod CheckpointWriting
 pub mod Sealing
 pub mod SummarySource
+pub mod SummaryMaking
+pub mod Gathering
 pub mod laws

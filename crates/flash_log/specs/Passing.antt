@@ -4,6 +4,8 @@ use Rattle.std.specs.Prelude.{◌≡◌, ◌⊎◌, ◌≤◌, ℕ, ◌+◌, tru
 use Rattle.volume_terms.specs.Sizes.{number_end}
 use Rattle.nand_model.specs.Flash.{Flash}
 use Rattle.nand_model.specs.Calls.{Device}
+use Rattle.page_tags.specs.declared.tag.Tag.{Tag}
+use Rattle.flash_tree.specs.Groups.{HasTag}
 use Rattle.flash_tree.specs.Keeping.{StaysNewest}
 use Rattle.flash_tree.specs.Newest.{Spot, IsNewest}
 use Rattle.flash_tree.specs.Summaries.{AreSummariesRight}
@@ -17,6 +19,10 @@ use Rattle.flash_log.specs.Erased.{KeepsErased}
 abbrev pub KeepsKept : Table → Flash → Flash → Type 0
 KeepsKept t old new = (o c : ℕ) (s : Spot) → IsNewest old o c s → 1 ≤ (t.entry s.block).kept → StaysNewest old new o c s
 
+-- a block with kept pages, by the table, gains no tag
+abbrev pub GainsNoTag : Table → Flash → Flash → Type 0
+GainsNoTag t old new = (b l : ℕ) (u : Tag) → 1 ≤ (t.entry b).kept → HasTag new b l u → HasTag old b l u
+
 -- If each summary was right, each is so still; and each key is findable still whose newest page lies in a block with kept pages, by the
 -- table, if it was findable.
 pub record KeepsFound (t : Table) (old new : Device) : Type 0 where
@@ -25,8 +31,8 @@ pub record KeepsFound (t : Table) (old new : Device) : Type 0 where
       → IsFindable old.geometry old.flash o c → IsFindable new.geometry new.flash o c
 
 -- Blocks without a kept page may be erased, and of them no more are marked than the device counted failures. So what is
--- kept stays, and blocks that were without a kept page are it still, or are bad. The number 2^62 is not handed out. The table knows the
--- blocks that begin erased still.
+-- kept stays, in blocks that gain no tag, and blocks that were without a kept page are it still, or are bad. The number 2^62 is not handed
+-- out. The table knows the blocks that begin erased still.
 pub record Passes (old new : Device) (t t' : Table) : Type 0 where
   pub geometry : t'.geometry ≡ t.geometry
   pub next_group : t'.next_group ≡ t.next_group
@@ -37,5 +43,6 @@ pub record Passes (old new : Device) (t t' : Table) : Type 0 where
   pub failures : bad_count t' + old.failures ≤ bad_count t + new.failures
   pub unkept : unkept_count t' + bad_count t' ≡ unkept_count t + bad_count t
   pub newest : old.honest ≡ true → KeepsKept t old.flash new.flash
+  pub tags : old.honest ≡ true → GainsNoTag t old.flash new.flash
   pub found : old.honest ≡ true → KeepsFound t old new
   pub erased : KeepsErased old new t t'

@@ -1,6 +1,7 @@
 -- The making of room in the open block.
 -- From: this project.
 use Rattle.std.specs.Prelude.{◌≡◌, ◌⊎◌, ◌<◌, ◌≤◌, ℕ, ◌+◌, false, Some, Result, Ok, Err}
+use Rattle.volume_terms.specs.Sizes.{number_end}
 use Rattle.nand_model.specs.Calls.{Device}
 use Rattle.nand_model.specs.Counts.{Costs}
 use Rattle.nand_model.specs.declared.nand.Nand.{Ghosts}
@@ -11,7 +12,7 @@ use Rattle.transactions.specs.Checking.{LogState}
 use Rattle.flash_log.specs.Bills.{Pays, bill_of}
 use Rattle.flash_log.specs.LogOf.{log_state}
 use Rattle.flash_log.specs.Moving.{MovesOut, WhyNotMoved}
-use Rattle.flash_log.specs.Taking.{CostsATake}
+use Rattle.flash_log.specs.SummarySource.{summary_size}
 use Rattle.flash_log.specs.Standing.{HasFreeBlocks}
 use Rattle.flash_log.specs.declared.fault.MoveFault.{MoveFault}
 use Rattle.flash_log.specs.declared.fault.MoveFault.TheVariants as moves
@@ -54,10 +55,15 @@ CollectEnds v spare device old new (Err fault) = WhyNotMoved spare device new fa
 abbrev pub FitsOpen : (count : ℕ) → Table → Type 0
 FitsOpen count t = count ≤ room t
 
--- The open block has room for so many pages. No more blocks are bad than there are to spare, and where blocks enough were
--- free they are. A device that had power has it.
+-- a number for a group is left, if one was
+abbrev pub LeavesNumber : Table → Table → Type 0
+LeavesNumber old new = old.next_group < number_end → new.next_group < number_end
+
+-- The open block has room for so many pages, and where a block could be allocated a number is left for their group. No more blocks are bad
+-- than there are to spare, and where blocks enough were free they are. A device that had power has it.
 pub record HasRoom (count spare : ℕ) (old new : LogState) : Type 0 where
   pub fits : FitsOpen count new.table
+  pub number : HasMore old.table spare → LeavesNumber old.table new.table
   pub few : bad_count new.table ≤ spare
   pub free : HasFreeBlocks old.table spare → HasFreeBlocks new.table spare
   pub power : old.device.gone ≡ false → new.device.gone ≡ false
@@ -87,9 +93,13 @@ StaysWhereFull old new (Err faults.Worn) = Unit {0}
 StaysWhereFull old new (Err faults.Lost) = Unit {0}
 StaysWhereFull old new (Err faults.Gone) = Unit {0}
 
--- What the making of room costs: an erase and the pages of a block at most. But for failures, an erase and a program for each page that is
--- committed in the block with the fewest are enough; and while blocks are left that can be allocated no more is done than that.
+-- so many changes, and for each failure an erase, the pages of a block and a mark
+abbrev pub CostsUpTo : (changes : ℕ) → Device → Device → Type 0
+CostsUpTo changes old new = Costs changes (old.geometry.pages + 2) 0 old new
+
+-- What the making of room costs: an erase and the pages of a block at most. But for failures, an erase and a summary are enough while
+-- blocks are left that can be allocated; else each page that is committed in the block with the fewest is programmed besides.
 pub record PaysRoom (spare : ℕ) (old new : LogState) (result : Result (Unit {0}) RoomFault) : Type 0 where
   pub pays : Pays (bill_of old (old.device.geometry.pages + 1) 0 0) old new result
-  pub fewest : (v : ℕ) → IsFewest old.table old.table.geometry.blocks v → Costs ((old.table.entry v).kept + 1) (old.device.geometry.pages + 2) 0 old.device new.device
-  pub takes : HasMore old.table spare → CostsATake old.device new.device
+  pub fewest : IsScarce old.table spare → (v : ℕ) → IsFewest old.table old.table.geometry.blocks v → CostsUpTo ((old.table.entry v).kept + summary_size old.device.geometry + 1) old.device new.device
+  pub takes : HasMore old.table spare → CostsUpTo (summary_size old.device.geometry + 1) old.device new.device

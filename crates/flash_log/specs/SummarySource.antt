@@ -11,6 +11,10 @@ use Rattle.transactions.specs.declared.source.PageName.{PageName}
 use Rattle.transactions.specs.Groups.{AddsPages}
 use Rattle.flash_log.specs.declared.summary_source.SummarySource.{SummarySource}
 
+-- the most pages that a summary takes on a device of these sizes: those of a head, and of an entry for each page of a block
+abbrev pub summary_size : Geometry → ℕ
+summary_size g = ceiling (32 * (1 + g.pages)) g.bytes
+
 -- what page i of a summary is called in the group of this number
 abbrev pub summary_name : ℕ → ℕ → PageName
 summary_name number i = record { key = record { object = check_object; chunk = summary_chunk + i }; version = number }

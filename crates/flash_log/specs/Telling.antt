@@ -2,6 +2,7 @@
 -- From: this project.
 use Rattle.std.specs.Prelude.{◌≡◌, ◌≢◌, ◌<◌, ℕ, ◌+◌, List, Some, slice_get}
 use Rattle.block_state.specs.Table.{Table}
+use Rattle.chunk_index.specs.declared.form.PagePlace.{PagePlace}
 use Rattle.chunk_index.specs.declared.index.Index.{Index}
 use Rattle.chunk_index.specs.Maps.{kept_pages, present, moved_to, StaysPrepared, IsReadyKey}
 use Rattle.transactions.specs.declared.copies.CopyOf.{CopyOf}
@@ -11,12 +12,12 @@ use Rattle.flash_log.specs.Copying.{IsCopyOf, copy_in}
 abbrev pub IsNone : ℕ → List CopyOf → ℕ → ℕ → Type 0
 IsNone n copies o c = (j : ℕ) (x : CopyOf) → j < n → slice_get copies j ≡ Some x → IsCopyOf x o c → ⊥
 
--- The keys of the first n copies are kept in these, copy j being page j of block w, and what is present of them follows;
+-- The keys of the first n copies are kept in these, copy j lying j pages behind a place, and what is present of them follows;
 -- no other key changes.
-pub record TellsFirst (n w : ℕ) (copies : List CopyOf) (old new : Index) : Type 0 where
-  pub kept_here : (j : ℕ) (x : CopyOf) → j < n → slice_get copies j ≡ Some x → kept_pages new x.name.key.object x.name.key.chunk ≡ Some (copy_in w j x)
+pub record TellsFirst (n : ℕ) (at : PagePlace) (copies : List CopyOf) (old new : Index) : Type 0 where
+  pub kept_here : (j : ℕ) (x : CopyOf) → j < n → slice_get copies j ≡ Some x → kept_pages new x.name.key.object x.name.key.chunk ≡ Some (copy_in at j x)
   pub present_here : (j : ℕ) (x : CopyOf) → j < n → slice_get copies j ≡ Some x
-      → present new x.name.key.object x.name.key.chunk ≡ moved_to (copy_in w j x) (present old x.name.key.object x.name.key.chunk)
+      → present new x.name.key.object x.name.key.chunk ≡ moved_to (copy_in at j x) (present old x.name.key.object x.name.key.chunk)
   pub kept_elsewhere : (o c : ℕ) → IsNone n copies o c → kept_pages new o c ≡ kept_pages old o c
   pub present_elsewhere : (o c : ℕ) → IsNone n copies o c → present new o c ≡ present old o c
   pub prepared : StaysPrepared old new
@@ -36,6 +37,6 @@ pub record CountsMoved (v w n : ℕ) (old new : Table) : Type 0 where
   pub next_seq : new.next_seq ≡ old.next_seq
   pub next_group : new.next_group ≡ old.next_group
 
-pub record Tells (v w n : ℕ) (copies : List CopyOf) (old new : Index) (t t' : Table) : Type 0 where
-  pub index : TellsFirst n w copies old new
-  pub counts : CountsMoved v w n t t'
+pub record Tells (v n : ℕ) (at : PagePlace) (copies : List CopyOf) (old new : Index) (t t' : Table) : Type 0 where
+  pub index : TellsFirst n at copies old new
+  pub counts : CountsMoved v at.block n t t'

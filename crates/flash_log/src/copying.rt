@@ -1,12 +1,12 @@
 // The copying of listed pages into a block that is taken.
-ghost use Rattle.std.specs.Prelude.{◌≡◌, ◌<◌, ◌≤◌, ℕ, length, None, OnOk};
+ghost use Rattle.std.specs.Prelude.{◌≡◌, ◌<◌, ◌≤◌, ◌+◌, ℕ, length, None, OnOk};
 ghost use Rattle.volume_terms.specs.Sizes.{number_end};
 ghost use Rattle.block_state.specs.Kept.{bad_count};
 ghost use Rattle.block_state.specs.TableOf.{table};
 ghost use Rattle.transactions.specs.Checking.{log_of};
 ghost use Rattle.transactions.specs.Ready.{IsReady};
 ghost use Rattle.flash_log.specs.Bills.{PaysWriting, PaysOneBlock, PaysTarget};
-ghost use Rattle.flash_log.specs.Copying.{MayBeCopied, CopiesPages, CopiesEnd, FewBad, IsFresh, as_copied};
+ghost use Rattle.flash_log.specs.Copying.{MayBeCopied, CopiesPages, CopiesEnd, FewBad, IsClear, StartsAt, as_copied};
 ghost use Rattle.flash_log.specs.Taking.{HasUnkept};
 
 use crate::fault::MoveFault;
@@ -20,6 +20,8 @@ use volume_terms::NUMBER_END;
 #[derive(Clone, Copy, Debug, PartialEq, Eq)]
 pub struct Target {
     pub block: u32,
+    /// The page of the first copy.
+    pub first: u32,
     /// The device said that the last page failed, and it reads whole.
     pub suspect: bool,
 }
@@ -32,8 +34,8 @@ pub enum Copied {
     Marked,
 }
 
-/// Writes copies as one group into the open block, to which nothing is written as yet, and marks it where that fails.
-fn write_copies<N: Nand>(
+/// Writes copies as one group into the open block, which has room for them and in which no page is committed, and marks it where that fails.
+pub(crate) fn write_copies<N: Nand>(
     device: &mut N,
     blocks: &mut Blocks,
     block: u32,
@@ -41,18 +43,21 @@ fn write_copies<N: Nand>(
     scratch: &mut [u8],
 ) -> Result<Copied, MoveFault>
     requires ready { IsReady (N.state device.old) (table blocks.old) }
-    requires fresh { IsFresh block (N.state device.old) (table blocks.old) }
+    requires clear { IsClear block (N.state device.old) (table blocks.old) }
+    requires fits { ((table blocks.old).entry block).next + length copies.now ≤ (table blocks.old).geometry.pages }
     requires group { (table blocks.old).next_group < number_end }
     requires size { length scratch.old ≡ (N.state device.old).geometry.bytes }
     requires copies { MayBeCopied (N.state device.old) (table blocks.old) copies.now }
     ensures pages { CopiesPages copies.now (log_of (N.state device.old) (table blocks.old)) (log_of (N.state device.new) (table blocks.new)) result }
     ensures pays { PaysWriting (length copies.now) (log_of (N.state device.old) (table blocks.old)) (log_of (N.state device.new) (table blocks.new)) result }
+    ensures first { StartsAt ((table blocks.old).entry block).next result }
     ensures few { (spare : ℕ) → bad_count (table blocks.old) ≤ spare → FewBad spare (table blocks.new) result }
     ensures ends { (spare : ℕ) → CopiesEnd (length copies.now) spare (N.state device.new) (table blocks.old) (table blocks.new) result }
 {
     match write_group(device, blocks, &Copies { places: copies }, scratch) {
         Ok(placed) => Ok(Copied::Into(Target {
             block: placed.block,
+            first: placed.first,
             suspect: placed.suspect,
         })),
         Err(GroupFault::Failed) => match mark_block(device, blocks, block) {
@@ -80,6 +85,7 @@ fn copy_once<N: Nand>(
     requires copies { MayBeCopied (N.state device.old) (table blocks.old) copies.now }
     ensures pages { CopiesPages copies.now (log_of (N.state device.old) (table blocks.old)) (log_of (N.state device.new) (table blocks.new)) result }
     ensures pays { PaysOneBlock (length copies.now) (log_of (N.state device.old) (table blocks.old)) (log_of (N.state device.new) (table blocks.new)) result }
+    ensures first { StartsAt 0 result }
     ensures few { FewBad spare (table blocks.new) result }
     ensures ends { CopiesEnd (length copies.now) spare (N.state device.new) (table blocks.old) (table blocks.new) result }
 {
@@ -105,6 +111,7 @@ pub(crate) fn copy_listed<N: Nand>(
     requires copies { MayBeCopied (N.state device.old) (table blocks.old) copies.now }
     ensures pages { CopiesPages copies.now (log_of (N.state device.old) (table blocks.old)) (log_of (N.state device.new) (table blocks.new)) (as_copied result) }
     ensures pays { PaysTarget (length copies.now) (log_of (N.state device.old) (table blocks.old)) (log_of (N.state device.new) (table blocks.new)) result }
+    ensures first { StartsAt 0 (as_copied result) }
     ensures few { OnOk result (bad_count (table blocks.new) ≤ spare) }
     ensures ends { CopiesEnd (length copies.now) spare (N.state device.new) (table blocks.old) (table blocks.new) (as_copied result) }
 {

@@ -3,17 +3,22 @@ ghost use Rattle.std.specs.Prelude.{◌≡◌, ◌≤◌, ℕ, [], length, map, 
 ghost use Rattle.nand_model.specs.declared.geometry.Geometry.{Geometry};
 ghost use Rattle.chunk_index.specs.Maps.{kept_in, kept_pages};
 ghost use Rattle.flash_log.specs.Lists.{ListsKept, copy_of};
+ghost use Rattle.flash_log.specs.SummaryMaking.{ListsEntries, entry_of_key};
 
-use chunk_index::{Index, KeptKey, the_list_of_a_block_is_whole};
+use chunk_index::{
+    Index, KeptKey, the_list_of_a_block_is_whole, the_sorted_list_of_a_block_is_whole,
+};
 use nand_model::Geometry;
+use page_tags::CheckEntry;
 use std::alloc::{AllocError, Global};
 use transactions::{CopyOf, PageName};
 
-/// Room for the move of a block's kept pages: for the list of them, and for one page. It is made once, so that no move
+/// Room for the move of a block's kept pages: for the lists of them, and for one page. It is made once, so that no move
 /// takes memory.
 #[derive(Drop)]
 pub struct MoveRoom {
     keys: Vec<KeptKey>,
+    pub(crate) entries: Vec<CheckEntry>,
     pub(crate) copies: Vec<CopyOf>,
     /// One page, by way of which groups are written.
     pub scratch: Vec<u8>,
@@ -29,6 +34,7 @@ impl MoveRoom {
         let pages = geometry.pages() as usize;
         Ok(MoveRoom {
             keys: Vec::with_capacity(alloc, pages)?,
+            entries: Vec::with_capacity(alloc, pages)?,
             copies: Vec::with_capacity(alloc, pages)?,
             scratch: vec![in alloc; 0; geometry.bytes() as usize]?,
         })
@@ -46,6 +52,37 @@ impl MoveRoom {
         self.keys.clear();
         index.kept_in_block(block, &mut self.keys);
         copy_all(&self.keys, &mut self.copies);
+    }
+
+    /// Lists the pages that are committed in a block as entries of a summary.
+    pub(crate) fn list_entries(&mut self, index: &Index, block: u32)
+        requires keys { kept_in index.now block ≤ vec_capacity self.old.keys }
+        requires entries { kept_in index.now block ≤ vec_capacity self.old.entries }
+        ensures lists { ListsEntries block (kept_pages index.now) self.new.entries.items }
+        ensures count { length self.new.entries.items ≡ kept_in index.now block }
+        ensures same { SameRoom self.old self.new }
+    {
+        the_sorted_list_of_a_block_is_whole();
+        index.kept_by_page(block, &mut self.keys);
+        enter_all(&self.keys, &mut self.entries);
+    }
+}
+
+/// Lists entries of committed pages.
+fn enter_all(keys: &[KeptKey], entries: &mut Vec<CheckEntry>)
+    requires { length keys.now ≤ vec_capacity entries.old }
+    ensures entries { entries.new.items ≡ map entry_of_key keys.now }
+    ensures capacity { vec_capacity entries.old ≤ vec_capacity entries.new }
+{
+    entries.clear();
+    for listed in keys {
+        let _ = entries.push(CheckEntry {
+            object: listed.key.object,
+            chunk: listed.key.chunk,
+            version: listed.at.version,
+            block: listed.at.block,
+            page: listed.at.page,
+        });
     }
 }
 

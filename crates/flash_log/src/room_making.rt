@@ -2,7 +2,8 @@
 ghost use Rattle.std.specs.Prelude.{IsOk};
 ghost use Rattle.block_state.specs.TableOf.{table};
 ghost use Rattle.flash_log.specs.LogOf.{HasReserve, Moves, SameTerms, log_state, terms_of};
-ghost use Rattle.flash_log.specs.RoomMaking.{FitsOpen, MovesFewest, PaysRoom, RoomEnds, StaysWhole, StaysWhereFull};
+ghost use Rattle.flash_log.specs.SummaryMaking.{BeginsNext};
+ghost use Rattle.flash_log.specs.RoomMaking.{FitsOpen, HasMore, MovesFewest, PaysRoom, RoomEnds, StaysWhole, StaysWhereFull};
 
 use crate::choice::{has_unkept, victim};
 use crate::log::Log;
@@ -12,9 +13,10 @@ use nand_model::Nand;
 
 impl<N: Nand> Log<N> {
     /// Makes room for `count` pages in the open block, if it has not got it. While more blocks are without a committed page than
-    /// may be needed for retirements and for one collection, one of them is allocated. Else the block with the fewest committed
-    /// pages is collected, of equals the one that was allocated longest ago: these are moved into a freshly erased block, which
-    /// becomes the open one. A block whose erase or copy fails is marked, while there are blocks to spare.
+    /// may be needed for retirements and for one collection, one of them is allocated, and may begin with a summary of the block that
+    /// was open. Else the block with the fewest committed pages is collected, of equals the one that was allocated longest ago:
+    /// these are moved into a freshly erased block, which becomes the open one and may begin with a summary too. A block whose erase
+    /// or copy fails is marked, while there are blocks to spare.
     pub fn make_room(&mut self, count: u32) -> Result<(), RoomFault>
         requires few { HasReserve self.old }
         ensures terms { SameTerms (terms_of self.old) (terms_of self.new) }
@@ -22,6 +24,9 @@ impl<N: Nand> Log<N> {
         ensures fewest { MovesFewest self.old.spare (table self.old.blocks) self.old.index self.new.index }
         ensures pays { PaysRoom self.old.spare (log_state self.old) (log_state self.new) result }
         ensures ends { RoomEnds count self.old.spare (log_state self.old) (log_state self.new) result }
+        // While blocks can be allocated each begins with a summary of the one that was open, where that is worth it.
+        ensures begins { HasMore (table self.old.blocks) self.old.spare → (FitsOpen count (table self.old.blocks) → ⊥)
+            → BeginsNext count (log_state self.old) (log_state self.new) result }
         ensures succeeds { FitsOpen count (table self.old.blocks) → IsOk result }
         ensures enough { FitsOpen count (table self.old.blocks) → StaysWhole self.old self.new }
         ensures full { StaysWhereFull self.old self.new result }
@@ -34,13 +39,13 @@ impl<N: Nand> Log<N> {
         }
         the_counts_are_of_the_keys();
         if has_unkept(&self.blocks, self.spare) {
-            self.allocate_block()?;
+            self.open_next(count)?;
             return Ok(());
         }
         let Some(block) = victim(&self.blocks, count) else {
             return Err(RoomFault::Full);
         };
-        self.collect(block)?;
+        self.gather(block, count)?;
         Ok(())
     }
 }

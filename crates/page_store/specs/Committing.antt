@@ -12,6 +12,7 @@ use Rattle.flash_log.specs.Bills.{Bill, Pays}
 use Rattle.flash_log.specs.Moving.{AnswersFailures, MarksFailures}
 use Rattle.flash_log.specs.Standing.{HasFreeBlocks}
 use Rattle.flash_log.specs.RoomMaking.{FitsOpen, HasMore, WhyNoRoom}
+use Rattle.flash_log.specs.SummarySource.{summary_size}
 use Rattle.flash_log.specs.declared.room_fault.RoomFault.{RoomFault}
 use Rattle.pages.specs.Stores.{IsCarried, SamePages}
 use Rattle.page_store.specs.Buffered.{BufferedLog, committed, current}
@@ -61,10 +62,10 @@ pub record IsUnhindered (count : ℕ) (old new : LogState) : Type 0 where
   pub failures : new.device.failures ≡ old.device.failures
   pub power : new.device.gone ≡ false
 
--- While blocks are left that can be allocated, and no failure is counted, the device counts at most one more: at most one block is
--- allocated.
+-- While blocks are left that can be allocated, and no failure is counted, at most one block is allocated, which may begin with a summary.
 abbrev pub TakesOneBlock : (count spare : ℕ) → LogState → LogState → Type 0
-TakesOneBlock count spare old new = HasMore old.table spare → new.device.failures ≡ old.device.failures → new.device.changes ≤ old.device.changes + count + 1
+TakesOneBlock count spare old new = HasMore old.table spare → new.device.failures ≡ old.device.failures
+    → new.device.changes ≤ old.device.changes + count + summary_size old.device.geometry + 1
 
 -- what a commit of so many pages may cost: the making of room and their programs, and for each failure a retirement and two of these again
 abbrev pub commit_bill : (count : ℕ) → LogState → Bill

@@ -17,7 +17,7 @@ pub use change::{Apart, fits};
 pub use fault::LogFault;
 pub use flash::{TestFault, TestFlash};
 pub use mount::{mount_log, mount_log_beside};
-pub use opening::{EachKey, open_each, open_kept, open_noted};
+pub use opening::{open_each, open_kept, open_noted};
 pub use search::{greatest, newest};
 pub use stand_fault::StandFault;
 pub use standing::has_unkept;

@@ -10,6 +10,7 @@ ghost use Rattle.flash_log.specs.Standing.{KeepsOrdinary, Stands, HasFreeBlocks}
 ghost use Rattle.page_store.specs.Opened.{IsOpened};
 ghost use Rattle.test_devices.specs.Keeping.{KeepsNewest};
 
+use crate::keys::OrdinaryKeys;
 use crate::stand_fault::StandFault;
 use block_state::Blocks;
 use chunk_index::{Index, KeyFilter};
@@ -21,18 +22,6 @@ use page_store::{OpenFault, Opened, Store, note_firsts, open};
 use std::alloc::Global;
 use std::num::NonZeroUsize;
 use volume_terms::NUMBER_END;
-
-/// Keeps every key.
-#[derive(Clone, Copy, Debug)]
-pub struct EachKey;
-
-impl KeyFilter for EachKey {
-    ghost keeps = { λ _ _ _. true };
-
-    fn keeps(&self, _key: Key) -> bool {
-        true
-    }
-}
 
 /// What a scan finds of a device. The first pages of its blocks are read before, and noted, as a mount does.
 pub fn open_noted<N: Nand>(alloc: Global, device: &mut N) -> Result<Opened, OpenFault>
@@ -142,12 +131,12 @@ pub fn open_kept<N: Nand + Drop, F: KeyFilter>(
     }
 }
 
-/// A store of all newest pages of a device, with so many blocks to spare and so many pages in the cache.
+/// A store of the newest pages of a device but for those of checkpoints and block summaries, with so many blocks to spare and so many pages in the cache.
 pub fn open_each<N: Nand + Drop>(
     alloc: Global,
     device: N,
     spare: u32,
     capacity: NonZeroUsize,
 ) -> Result<Store<N>, StandFault> {
-    open_kept(alloc, device, &EachKey, spare, capacity)
+    open_kept(alloc, device, &OrdinaryKeys, spare, capacity)
 }

@@ -26,12 +26,11 @@ pub record IsCommit (g : Group) (name : ℕ → PageName) (flash : Flash) : Type
   pub seq : ℕ
   pub below : AreBelow flash g.number seq
 
--- The group is of copies: each is in the version of its key's newest page, and the group's block has a number above those
--- of all tags.
+-- The group is of copies: each is in the version of its key's newest page, and the group's block has a number above those of all valid
+-- pages of that key.
 pub record IsOfCopies (g : Group) (name : ℕ → PageName) (flash : Flash) : Type 0 where
   pub versions : (o c i : ℕ) → NamesOnce g name o c i → (s : Spot) × IsNewest flash o c s × ((name i).version ≡ s.tag.version)
-  pub number : ℕ
-  pub below : AreBelow flash number g.seq
+  pub older : (o c i : ℕ) → NamesOnce g name o c i → (t : Spot) → Holds flash o c t → t.tag.seq < g.seq
 
 -- The group's pages are the newest of the keys that it names once, and the newest pages of all other keys stay so.
 pub record ShowsGroup (g : Group) (name : ℕ → PageName) (bytes : ℕ → List ℕ) (old new : Flash) : Type 0 where

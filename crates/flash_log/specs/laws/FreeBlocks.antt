@@ -81,37 +81,37 @@ module _ (spare : ℕ) (d : Device) (t : Table) (x : Index) (ready : IsReady d t
   -- free, and block v is.
   module _ (v : ℕ) (copies : List CopyOf) (old : Flash) (lists : ListsKept v (kept_pages x) copies) (within : v < t.geometry.blocks) (good : (t.entry v).bad ≡ false) (some : 1 ≤ (t.entry v).kept)
       (lie : LieApart copies t old d) (was : AreKept old (kept_pages x)) where
-    apart : v ≢ lie.block
-    apart e = let same : (t.entry v).kept ≡ (t.entry lie.block).kept = ap (λ b. (t.entry b).kept) e in let none : (t.entry lie.block).kept ≡ 0 = lie.unkept in omega (arith, same, some, none)
+    apart : v ≢ lie.at.block
+    apart e = let same : (t.entry v).kept ≡ (t.entry lie.at.block).kept = ap (λ b. (t.entry b).kept) e in let none : (t.entry lie.at.block).kept ≡ 0 = lie.unkept in omega (arith, same, some, none)
 
     abbrev pick : ℕ → Bool
-    pick b = cond {A = Bool} (nat_eq b lie.block) false (cond {A = Bool} (nat_eq b v) true (is_unkept t b))
+    pick b = cond {A = Bool} (nat_eq b lie.at.block) false (cond {A = Bool} (nat_eq b v) true (is_unkept t b))
 
-    none_there : (b : ℕ) → b ≡ lie.block → pick b ≡ false
-    none_there b e = ap (λ z. cond {A = Bool} z false (cond {A = Bool} (nat_eq b v) true (is_unkept t b))) (eq-eqb b lie.block e)
+    none_there : (b : ℕ) → b ≡ lie.at.block → pick b ≡ false
+    none_there b e = ap (λ z. cond {A = Bool} z false (cond {A = Bool} (nat_eq b v) true (is_unkept t b))) (eq-eqb b lie.at.block e)
 
-    pick_apart : (b : ℕ) → b ≢ lie.block → pick b ≡ cond {A = Bool} (nat_eq b v) true (is_unkept t b)
-    pick_apart b ne = ap (λ z. cond {A = Bool} z false (cond {A = Bool} (nat_eq b v) true (is_unkept t b))) (ne_eqb b lie.block ne)
+    pick_apart : (b : ℕ) → b ≢ lie.at.block → pick b ≡ cond {A = Bool} (nat_eq b v) true (is_unkept t b)
+    pick_apart b ne = ap (λ z. cond {A = Bool} z false (cond {A = Bool} (nat_eq b v) true (is_unkept t b))) (ne_eqb b lie.at.block ne)
 
     pick_v : pick v ≡ true
     pick_v = pick_apart v apart ∙ ap (λ z. cond {A = Bool} z true (is_unkept t v)) (eq-eqb v v refl)
 
-    pick_else : (b : ℕ) → b ≢ v → b ≢ lie.block → pick b ≡ is_unkept t b
+    pick_else : (b : ℕ) → b ≢ v → b ≢ lie.at.block → pick b ≡ is_unkept t b
     pick_else b nv nw = pick_apart b nw ∙ ap (λ z. cond {A = Bool} z true (is_unkept t b)) (ne_eqb b v nv)
 
-    good_there : (t.entry lie.block).bad ≡ false
-    good_there = ready.marks lie.block ∙ lie.good
+    good_there : (t.entry lie.at.block).bad ≡ false
+    good_there = ready.marks lie.at.block ∙ lie.good
 
     as_many : how_many (is_unkept t) t.geometry.blocks ≡ how_many pick t.geometry.blocks
-    as_many = counts_swap (is_unkept t) pick v lie.block t.geometry.blocks within lie.within (unkept_if t lie.block good_there lie.unkept) (none_there lie.block refl) (kept_if t v some) pick_v pick_else
+    as_many = counts_swap (is_unkept t) pick v lie.at.block t.geometry.blocks within lie.within (unkept_if t lie.at.block good_there lie.unkept) (none_there lie.at.block refl) (kept_if t v some) pick_v pick_else
 
     -- the newest page of a kept key lies in the block of the copies, or where it is kept, which is not v
-    lies : (o c : ℕ) (p : KeptPage) (s : Spot) → kept_pages x o c ≡ Some p → IsNewest d.flash o c s → (s.block ≡ lie.block) ⊎ ((s.block ≡ p.block) × (p.block ≢ v))
+    lies : (o c : ℕ) (p : KeptPage) (s : Spot) → kept_pages x o c ≡ Some p → IsNewest d.flash o c s → (s.block ≡ lie.at.block) ⊎ ((s.block ≡ p.block) × (p.block ≢ v))
     lies o c p s at newest = elim (cases_eq p.block v) [
       | inl here ↦
           let z : CopyOf = record { block = p.block; page = p.page; name = record { key = record { object = o; chunk = c }; version = p.version } } in
           let there = lists.all o c p at here in
-          inl (newest_where_kept d.flash o c (copy_in lie.block there.0 z) s (lie.copied.copied there.0 z there.1) newest)
+          inl (newest_where_kept d.flash o c (copy_in lie.at there.0 z) s (lie.copied.copied there.0 z there.1) newest)
       | inr ne ↦
           let none : (i : ℕ) (z : CopyOf) → slice_get copies i ≡ Some z → IsCopyOf z o c → ⊥ = λ i z there of.
           let kept : kept_pages x o c ≡ Some (kept_by z) = sym (ap (λ q. kept_pages x q c) of.0) ∙ ap (kept_pages x z.name.key.object) (sym of.1) ∙ lists.kept i z there in
@@ -146,7 +146,7 @@ module _ (spare : ℕ) (d : Device) (t : Table) (x : Index) (ready : IsReady d t
         ];
       };
     } where
-      not_w : (b : ℕ) → pick b ≡ true → b ≢ lie.block
+      not_w : (b : ℕ) → pick b ≡ true → b ≢ lie.at.block
       not_w b is e = let two : false ≡ true = sym (none_there b e) ∙ is in cc
 
 -- ---- steps
@@ -202,9 +202,9 @@ module _ (spare : ℕ) (d0 d1 : Device) (t0 t1 : Table) (x : Index) (held : AreH
 
     lie_later : LieApart copies t0 d0.flash d1 → LieApart copies t1 d0.flash d1
     lie_later lie = record {
-      block = lie.block;
-      within = subst (λ (g : Geometry). lie.block < g.blocks) (sym keeps.geometry) lie.within;
-      unkept = keeps.kept lie.block ∙ lie.unkept;
+      at = lie.at;
+      within = subst (λ (g : Geometry). lie.at.block < g.blocks) (sym keeps.geometry) lie.within;
+      unkept = keeps.kept lie.at.block ∙ lie.unkept;
       good = lie.good;
       copied = record {
         copied = lie.copied.copied;

@@ -35,7 +35,7 @@ module _ (g : Group) (name : ℕ → PageName) where
   -- copies are in the greatest version, and above all others of it in the number of their block
   pub copies_come_last : (f : Flash) → IsOfCopies g name f → ComesLast g name f
   copies_come_last f copies o c i names t held after =
-      let lower = held_below f copies.number g.seq o c t copies.below held in
+      let lower = copies.older o c i names t held in
       let newest = copies.versions o c i names in
       elim after [
         | inl lt ↦ let later : newest.0.tag.version < t.tag.version = omega (arith, lt, newest.2) in absurd (newest.1.last t held (inl later))

@@ -1,6 +1,7 @@
-use Rattle.std.proofs.Common.{◌+◌, length, arith}
+use Rattle.std.proofs.Common.{◌+◌, ◌∙◌, ap, length, arith}
 use Rattle.std.proofs.lemmas.Result.{err_from_is_err_and}
 use Rattle.nand_model.specs.Calls.{Device}
+use Rattle.nand_model.specs.declared.geometry.Geometry.{Geometry}
 use Rattle.block_state.specs.Table.{Table}
 use Rattle.block_state.specs.TableOf.{table}
 use Rattle.transactions.specs.Checking.{log_of}
@@ -10,13 +11,21 @@ use Rattle.flash_log.specs.laws.Found.{found_here}
 use Rattle.flash_log.specs.laws.Keeping.{same_here, keeps_passes, keeps_nothing}
 use Rattle.flash_log.specs.laws.KeptPages.{kept_where, data_where, kept_here, data_here}
 use Rattle.flash_log.proofs.Keeping.{may_later, pages_kept, pages_on}
-use Rattle.flash_log.proofs.Writing.{fresh_taken, pays_once, pays_untaken, ends_on}
+use Rattle.flash_log.proofs.Writing.{clear_fresh, fresh_taken, pays_once, pays_untaken, ends_on}
 use Rattle.flash_log.proofs.copying.copy_once.Goals as goal
 
-pub write_copies-requires-clause-fresh : goal.write_copies-requires-clause-fresh
-write_copies-requires-clause-fresh g c =
+pub write_copies-requires-clause-clear : goal.write_copies-requires-clause-clear
+write_copies-requires-clause-clear g c =
     let took = c.take_block.ensures in
-    fresh_taken c.in_ok-block.block _ _ (table c.args.blocks.now) _ took.passes took.ready c.in_ok-block.ensures.ends.0 c.in_ok-block.ensures.ends.1
+    clear_fresh c.in_ok-block.block _ _ (fresh_taken c.in_ok-block.block _ _ (table c.args.blocks.now) _ took.passes took.ready c.in_ok-block.ensures.ends.0 c.in_ok-block.ensures.ends.1)
+
+pub write_copies-requires-clause-fits : goal.write_copies-requires-clause-fits
+write_copies-requires-clause-fits g c =
+    let took = c.in_ok-block.ensures in
+    let next = took.ends.0.next in
+    let few = c.requires.copies.few in
+    let pages = ap (λ (x : Geometry). x.pages) (took.passes.geometry ∙ c.requires.ready.geometry) in
+    omega (arith, next, few, pages)
 
 pub write_copies-requires-clause-copies : goal.write_copies-requires-clause-copies
 write_copies-requires-clause-copies g c =

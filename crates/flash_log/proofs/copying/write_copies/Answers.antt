@@ -1,4 +1,4 @@
-use Rattle.std.proofs.Common.{◌≡◌, ◌+◌, ◌∙◌, Ok, Err, refl, sym, subst, length, arith, inl, rules}
+use Rattle.std.proofs.Common.{◌≡◌, ◌+◌, ◌∙◌, ap, Ok, Err, refl, sym, subst, length, arith, inl, rules}
 use Rattle.std.proofs.lemmas.Bool.{false≢true}
 use Rattle.nand_model.specs.Calls.{Device}
 use Rattle.block_state.specs.Kept.{bad_count}
@@ -14,18 +14,18 @@ use Rattle.transactions.specs.declared.group.GroupFault.TheVariants as groups
 use Rattle.flash_log.proofs.Free.{one_more, mark_costs, mark_fails_not}
 use Rattle.flash_log.specs.laws.Keeping.{same_ends}
 use Rattle.flash_log.proofs.KeptPages.{has_copies}
-use Rattle.flash_log.proofs.Writing.{copies_written, passes_failed, pages_failed, pages_written, changes_marked, pays_cut, pays_ended, pays_marked, pays_written, reads_marked}
+use Rattle.flash_log.proofs.Writing.{begun_still, copies_written, open_after, passes_failed, pages_failed, pages_written, changes_marked, pays_cut, pays_ended, pays_marked, pays_written, reads_marked}
 use Rattle.flash_log.proofs.copying.write_copies.Goals as goal
 
 pub write_group-requires-clause-has : goal.write_group-requires-clause-has
-write_group-requires-clause-has g c = λ honest i lt. has_copies c.args.copies.now _ (c.requires.copies.newest honest c.requires.fresh.power) i
+write_group-requires-clause-has g c = λ honest i lt. has_copies c.args.copies.now _ (c.requires.copies.newest honest c.requires.clear.power) i
 
 pub write_group-requires-clause-ordinary : goal.write_group-requires-clause-ordinary
 write_group-requires-clause-ordinary g c = c.requires.copies.ordinary
 
 pub mark_block-requires-clause-first : goal.mark_block-requires-clause-first
 mark_block-requires-clause-first g c =
-    let none = none_waits (g.N.Nand.state c.args.device.now) (table c.args.blocks.now) c.args.block c.requires.ready c.requires.fresh.open_block in
+    let none = none_waits (g.N.Nand.state c.args.device.now) (table c.args.blocks.now) c.args.block c.requires.ready c.requires.clear.open_block in
     inl (none_after _ _ _ _ c.write_group.ensures.numbers.truth none)
 
 pub returns-in-Ok-clause-ends : goal.returns-in-Ok-clause-ends
@@ -34,8 +34,19 @@ returns-in-Ok-clause-ends g c = λ spare. (
     within = search rules;
     good = search rules;
     unkept = search rules;
-    open_block = search rules;
-    checkpoint = none_after _ _ (table c.args.blocks.now).checkpoint _ c.write_group.ensures.numbers.truth (none_waits _ (table c.args.blocks.now) c.args.block c.requires.ready c.requires.fresh.open_block);
+    fits = let wrote = c.in-Ok.ensures in let told = wrote.placed c.args.block c.requires.clear.open_block in let first = told.first in omega (arith, first, c.requires.fits);
+    begun =
+        let wrote = c.in-Ok.ensures in
+        let told = wrote.placed c.args.block c.requires.clear.open_block in
+        let first = told.first in
+        let begun = begun_still (length c.args.copies.now) c.in-Ok.placed.block (table c.args.blocks.now) (table c.write_group.new.blocks) (Ok c.in-Ok.placed) wrote.table in
+        let here : ((table c.args.blocks.now).entry c.in-Ok.placed.block).next ≡ ((table c.args.blocks.now).entry c.args.block).next = ap (λ k. ((table c.args.blocks.now).entry k).next) told.block in
+        omega (arith, first, begun, here);
+    open_block =
+        let wrote = c.in-Ok.ensures in
+        let told = wrote.placed c.args.block c.requires.clear.open_block in
+        open_after (length c.args.copies.now) c.args.block c.in-Ok.placed (table c.args.blocks.now) (table c.write_group.new.blocks) c.requires.clear.open_block told wrote.table;
+    checkpoint = none_after _ _ (table c.args.blocks.now).checkpoint _ c.write_group.ensures.numbers.truth (none_waits _ (table c.args.blocks.now) c.args.block c.requires.ready c.requires.clear.open_block);
   },
   search rules,
 )
@@ -53,7 +64,7 @@ returns-in-Ok-mark_block-clause-ends g c = λ spare.
     let marked = c.mark_block.ensures in
     let notes = subst (λ (x : Table). NotesMark c.args.block (g.N.Nand.state c.mark_block.new.device).flash x (table c.mark_block.new.blocks)) wrote.table marked.notes in
     let marks = c.in-Ok-mark_block.ensures.marks in
-    let more : bad_count (table c.mark_block.new.blocks) ≡ bad_count t + 1 = one_more c.args.block _ (closed t) _ c.requires.fresh.within c.requires.fresh.good marks.bad notes in
+    let more : bad_count (table c.mark_block.new.blocks) ≡ bad_count t + 1 = one_more c.args.block _ (closed t) _ c.requires.clear.within c.requires.clear.good marks.bad notes in
     (notes.open_block, omega (arith, more), marks.ends.is)
 
 pub returns-in-Ok-clause-pages : goal.returns-in-Ok-clause-pages
@@ -62,10 +73,10 @@ returns-in-Ok-clause-pages g c =
     let d1 : Device = g.N.Nand.state c.write_group.new.device in
     let t : Table = table c.args.blocks.now in
     let wrote = c.in-Ok.ensures in
-    let told = wrote.placed c.args.block c.requires.fresh.open_block in
-    pages_written c.args.copies.now c.args.block d0 d1 t (table c.write_group.new.blocks) c.requires.fresh c.requires.copies c.requires.group wrote.lasts wrote.numbers (Ok c.in-Ok.placed) _
-    c.requires.ready wrote.ready wrote.table wrote.stays.bad wrote.writes (λ honest. wrote.groups honest c.args.block c.requires.fresh.open_block)
-    (λ honest power. rw told.block (copies_written c.args.copies.now c.args.block d0 d1 t c.requires.fresh c.requires.copies honest (wrote.writes honest).grows c.in-Ok.placed (wrote.groups honest c.args.block c.requires.fresh.open_block)))
+    let told = wrote.placed c.args.block c.requires.clear.open_block in
+    pages_written c.args.copies.now c.args.block d0 d1 t (table c.write_group.new.blocks) c.requires.clear c.requires.copies c.requires.group wrote.lasts wrote.numbers (Ok c.in-Ok.placed) _
+    c.requires.ready wrote.ready wrote.table wrote.stays.bad wrote.writes (λ honest. wrote.groups honest c.args.block c.requires.clear.open_block)
+    (λ honest power. rw (told.block, told.first) (copies_written c.args.copies.now c.args.block d0 d1 t c.requires.clear c.requires.copies honest (wrote.writes honest).grows c.in-Ok.placed (wrote.groups honest c.args.block c.requires.clear.open_block)))
 
 pub returns-in-Ok-clause-pays : goal.returns-in-Ok-clause-pays
 returns-in-Ok-clause-pays g c =
@@ -78,8 +89,8 @@ pub returns-in-Err-Lost-clause-pages : goal.returns-in-Err-Lost-clause-pages
 returns-in-Err-Lost-clause-pages g c =
     let wrote = rw c.in-Err-Lost.field-0-is at c.in-Err-Lost.ensures in
     pages_written c.args.copies.now c.args.block (g.N.Nand.state c.args.device.now) (g.N.Nand.state c.write_group.new.device) (table c.args.blocks.now) (table c.write_group.new.blocks)
-    c.requires.fresh c.requires.copies c.requires.group wrote.lasts wrote.numbers (Err groups.Lost) _
-    c.requires.ready wrote.ready wrote.table wrote.stays.bad wrote.writes (λ honest. wrote.groups honest c.args.block c.requires.fresh.open_block)
+    c.requires.clear c.requires.copies c.requires.group wrote.lasts wrote.numbers (Err groups.Lost) _
+    c.requires.ready wrote.ready wrote.table wrote.stays.bad wrote.writes (λ honest. wrote.groups honest c.args.block c.requires.clear.open_block)
     (λ honest power. absurd (false≢true (sym wrote.ends.0 ∙ honest)))
 
 pub returns-in-Err-Lost-clause-pays : goal.returns-in-Err-Lost-clause-pays
@@ -92,8 +103,8 @@ pub returns-in-Err-Gone-clause-pages : goal.returns-in-Err-Gone-clause-pages
 returns-in-Err-Gone-clause-pages g c =
     let wrote = rw c.in-Err-Gone.field-0-is at c.in-Err-Gone.ensures in
     pages_written c.args.copies.now c.args.block (g.N.Nand.state c.args.device.now) (g.N.Nand.state c.write_group.new.device) (table c.args.blocks.now) (table c.write_group.new.blocks)
-    c.requires.fresh c.requires.copies c.requires.group wrote.lasts wrote.numbers (Err groups.Gone) _
-    c.requires.ready wrote.ready wrote.table wrote.stays.bad wrote.writes (λ honest. wrote.groups honest c.args.block c.requires.fresh.open_block)
+    c.requires.clear c.requires.copies c.requires.group wrote.lasts wrote.numbers (Err groups.Gone) _
+    c.requires.ready wrote.ready wrote.table wrote.stays.bad wrote.writes (λ honest. wrote.groups honest c.args.block c.requires.clear.open_block)
     (λ honest power. absurd (false≢true (sym power ∙ wrote.ends.0)))
 
 pub returns-in-Err-Gone-clause-pays : goal.returns-in-Err-Gone-clause-pays
@@ -110,9 +121,9 @@ returns-in-Err-clause-pages g c =
     let t : Table = table c.args.blocks.now in
     let wrote = rw c.in-Err-Failed.field-0-is at c.in-Err-Failed.ensures in
     let marked = c.mark_block.ensures in
-    let passes = passes_failed c.args.copies.now c.args.block d0 d1 d2 t (table c.write_group.new.blocks) (table c.mark_block.new.blocks) _ c.requires.fresh c.requires.copies
-    c.requires.ready wrote.numbers wrote.lasts wrote.ends.0 wrote.writes (λ honest. wrote.groups honest c.args.block c.requires.fresh.open_block) wrote.table marked.marks marked.newest marked.notes in
-    pages_failed c.args.copies.now c.args.block d0 d1 t (table c.write_group.new.blocks) c.requires.fresh c.requires.copies c.requires.group wrote.lasts wrote.numbers
+    let passes = passes_failed c.args.copies.now c.args.block d0 d1 d2 t (table c.write_group.new.blocks) (table c.mark_block.new.blocks) _ c.requires.clear c.requires.copies
+    c.requires.ready wrote.numbers wrote.lasts wrote.ends.0 wrote.writes (λ honest. wrote.groups honest c.args.block c.requires.clear.open_block) wrote.table marked.marks marked.newest marked.notes in
+    pages_failed c.args.copies.now c.args.block d0 d1 t (table c.write_group.new.blocks) c.requires.clear c.requires.copies c.requires.group wrote.lasts wrote.numbers
     d2 (table c.mark_block.new.blocks) _ passes marked.marks.lasts marked.numbers marked.ready (λ kept. kept)
 
 pub returns-in-Err-clause-pays : goal.returns-in-Err-clause-pays
@@ -123,8 +134,8 @@ returns-in-Err-clause-pays g c =
     let t : Table = table c.args.blocks.now in
     let wrote = rw c.in-Err-Failed.field-0-is at c.in-Err-Failed.ensures in
     let marked = c.mark_block.ensures in
-    let passes = passes_failed c.args.copies.now c.args.block d0 d1 d2 t (table c.write_group.new.blocks) (table c.mark_block.new.blocks) _ c.requires.fresh c.requires.copies
-    c.requires.ready wrote.numbers wrote.lasts wrote.ends.0 wrote.writes (λ honest. wrote.groups honest c.args.block c.requires.fresh.open_block) wrote.table marked.marks marked.newest marked.notes in
+    let passes = passes_failed c.args.copies.now c.args.block d0 d1 d2 t (table c.write_group.new.blocks) (table c.mark_block.new.blocks) _ c.requires.clear c.requires.copies
+    c.requires.ready wrote.numbers wrote.lasts wrote.ends.0 wrote.writes (λ honest. wrote.groups honest c.args.block c.requires.clear.open_block) wrote.table marked.marks marked.newest marked.notes in
     let same = mark_fails_not c.args.block d1 d2 _ marked.marks in
     pays_cut (length c.args.copies.now) (log_of d0 t) (log_of d2 (table c.mark_block.new.blocks)) c.requires.copies.few (same ∙ wrote.ends.0)
     (changes_marked (length c.args.copies.now) d0 d1 d2 (mark_costs c.args.block d1 d2 _ marked.marks) wrote.ends.3) _ passes.failures
@@ -138,9 +149,9 @@ returns-in-Ok-mark_block-clause-pages g c =
     let t : Table = table c.args.blocks.now in
     let wrote = rw c.in-Err-Failed.field-0-is at c.in-Err-Failed.ensures in
     let marked = c.mark_block.ensures in
-    let passes = passes_failed c.args.copies.now c.args.block d0 d1 d2 t (table c.write_group.new.blocks) (table c.mark_block.new.blocks) _ c.requires.fresh c.requires.copies
-    c.requires.ready wrote.numbers wrote.lasts wrote.ends.0 wrote.writes (λ honest. wrote.groups honest c.args.block c.requires.fresh.open_block) wrote.table marked.marks marked.newest marked.notes in
-    pages_failed c.args.copies.now c.args.block d0 d1 t (table c.write_group.new.blocks) c.requires.fresh c.requires.copies c.requires.group wrote.lasts wrote.numbers
+    let passes = passes_failed c.args.copies.now c.args.block d0 d1 d2 t (table c.write_group.new.blocks) (table c.mark_block.new.blocks) _ c.requires.clear c.requires.copies
+    c.requires.ready wrote.numbers wrote.lasts wrote.ends.0 wrote.writes (λ honest. wrote.groups honest c.args.block c.requires.clear.open_block) wrote.table marked.marks marked.newest marked.notes in
+    pages_failed c.args.copies.now c.args.block d0 d1 t (table c.write_group.new.blocks) c.requires.clear c.requires.copies c.requires.group wrote.lasts wrote.numbers
     d2 (table c.mark_block.new.blocks) _ passes marked.marks.lasts marked.numbers marked.ready (λ kept. kept)
 
 pub returns-in-Ok-mark_block-clause-pays : goal.returns-in-Ok-mark_block-clause-pays
@@ -152,7 +163,7 @@ returns-in-Ok-mark_block-clause-pays g c =
     let wrote = rw c.in-Err-Failed.field-0-is at c.in-Err-Failed.ensures in
     let marks = c.in-Ok-mark_block.ensures.marks in
     let notes = subst (λ (x : Table). NotesMark c.args.block d2.flash x (table c.mark_block.new.blocks)) wrote.table c.mark_block.ensures.notes in
-    let more : bad_count (table c.mark_block.new.blocks) ≡ bad_count t + 1 = one_more c.args.block _ (closed t) _ c.requires.fresh.within c.requires.fresh.good marks.bad notes in
+    let more : bad_count (table c.mark_block.new.blocks) ≡ bad_count t + 1 = one_more c.args.block _ (closed t) _ c.requires.clear.within c.requires.clear.good marks.bad notes in
     pays_marked (length c.args.copies.now) (log_of d0 t) (log_of d2 (table c.mark_block.new.blocks)) c.requires.copies.few (marks.ends.failures ∙ wrote.ends.0)
     (changes_marked (length c.args.copies.now) d0 d1 d2 (mark_costs c.args.block d1 d2 _ marks) wrote.ends.3) more
     (reads_marked 0 d0 d1 d2 wrote.reads marks.reads marks.lasts.changes marks.ends.failures)

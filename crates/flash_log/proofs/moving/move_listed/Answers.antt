@@ -1,4 +1,4 @@
-use Rattle.std.proofs.Common.{◌≡◌, ◌≢◌, ◌<◌, ◌≤◌, ℕ, length, Bool, if◌then◌else◌, sym, ap, subst, ◌∙◌, arith}
+use Rattle.std.proofs.Common.{◌≡◌, ◌≢◌, ◌<◌, ◌≤◌, ℕ, ◌+◌, length, Bool, if◌then◌else◌, sym, ap, subst, ◌∙◌, arith}
 use Rattle.std.proofs.lemmas.Result.{err_from_is_err_and}
 use Rattle.nand_model.specs.Calls.{Device}
 use Rattle.nand_model.specs.declared.geometry.Geometry.{Geometry}
@@ -26,8 +26,8 @@ tell_copies-requires-clause-agree g c =
 
 pub tell_copies-requires-clause-few : goal.tell_copies-requires-clause-few
 tell_copies-requires-clause-few g c =
-    let may = may_be_copied c.args.spare c.requires.listed.0 _ (table c.args.blocks.now) c.args.index.now c.args.copies.now c.requires.can.ready c.requires.can.stands c.requires.listed.1 in
-    subst (λ (geometry : Geometry). length c.args.copies.now ≤ geometry.pages) (sym (c.in_ok-target.ensures.pages.keeps.geometry ∙ c.requires.can.ready.geometry)) may.few
+    let copied = c.in_ok-target.ensures in
+    subst (λ (geometry : Geometry). c.in_ok-target.target.first + length c.args.copies.now ≤ geometry.pages) (sym copied.pages.keeps.geometry) copied.ends.0.fits
 
 -- the block of the copies had no kept page
 unlike : (v w : ℕ) (t : Table) → 1 ≤ (t.entry v).kept → (t.entry w).kept ≡ 0 → v ≢ w
@@ -125,7 +125,7 @@ returns g c =
       ends = λ v listed.
           let told = c.tell_copies.ensures.tells v listed.lists (unlike v target.block t0 listed.some copied.ends.0.unkept) in (
             is_left c.args.spare v target d0 d1 t0 t1 t2 x y c.args.copies.now listed held copied.pages.keeps c.requires.can.stands copied.ends.0 told agree copied.pages.newest,
-            (target.block, lies_open c.args.spare v target d0 d1 t0 t1 t2 x y c.args.copies.now listed held copied.pages.keeps c.requires.can.stands copied.ends.0 told agree copied.pages.newest c.if-suspect.false),
+            (target.block, lies_open c.args.spare v target d0 d1 t0 t1 t2 x y c.args.copies.now listed held copied.pages.keeps c.requires.can.stands copied.ends.0 told agree copied.pages.newest copied.first c.if-suspect.false),
             copied.ends.1,
             none_noted c.args.spare v target d0 d1 t0 t1 t2 x y c.args.copies.now listed held copied.pages.keeps c.requires.can.stands copied.ends.0 told agree copied.pages.newest,
           );

@@ -6,7 +6,7 @@ use Rattle.block_state.specs.TableOf.{table}
 use Rattle.transactions.specs.Marking.{NotesMark}
 use Rattle.transactions.specs.Opening.{MayLose}
 use Rattle.transactions.specs.laws.Handing.{hands_on}
-use Rattle.flash_log.proofs.Passing.{passes_erased, passes_opened, passes_marked, same_opened}
+use Rattle.flash_log.proofs.Passing.{gains_erased, passes_erased, passes_opened, passes_marked, same_opened}
 use Rattle.flash_log.proofs.Free.{was_unkept, one_more, erase_costs, erase_fails, mark_costs}
 use Rattle.flash_log.specs.laws.Erased.{erased_cut, erased_failed, erased_opened}
 use Rattle.flash_log.specs.laws.Found.{found_erased}
@@ -59,7 +59,7 @@ returns-in_ok-mark_block-in-Err-Failed-clause-passes g c =
     let erased = rw c.in-Err-Failed.field-0-is at c.in-Err-Failed.ensures in
     let marked = c.mark_block.ensures in
     let notes = subst (λ (x : Table). NotesMark block (g.N.Nand.state c.mark_block.new.device).flash x (table c.mark_block.new.blocks)) erased.unchanged marked.notes in
-    passes_marked block _ _ _ t _ _ c.in-Some.ensures.found.within free.0 free.1 erased.erases.lasts (erase_fails block _ _ erased.erases) erased.newest (found_erased block _ _ t _ free.1 erased.erases) marked.marks marked.newest notes
+    passes_marked block _ _ _ t _ _ c.in-Some.ensures.found.within free.0 free.1 erased.erases.lasts (erase_fails block _ _ erased.erases) erased.newest (gains_erased block _ _ t _ free.1 erased.erases) (found_erased block _ _ t _ free.1 erased.erases) marked.marks marked.newest notes
     (erased_failed block _ _ _ t _ _ _ (λ honest. goes_next _ t block c.requires.ready c.requires.some.1.apart c.requires.closed c.in-Some.ensures.found)
     (noted_next _ t block c.requires.ready c.requires.some.1.apart c.in-Some.ensures.found) c.requires.closed erased.erases marked.marks notes)
 
@@ -71,7 +71,7 @@ returns-in_err-mark_block-in-Err-Failed-clause-passes g c =
     let erased = rw c.in-Err-Failed.field-0-is at c.in-Err-Failed.ensures in
     let marked = c.mark_block.ensures in
     let notes = subst (λ (x : Table). NotesMark block (g.N.Nand.state c.mark_block.new.device).flash x (table c.mark_block.new.blocks)) erased.unchanged marked.notes in
-    passes_marked block _ _ _ t _ _ c.in-Some.ensures.found.within free.0 free.1 erased.erases.lasts (erase_fails block _ _ erased.erases) erased.newest (found_erased block _ _ t _ free.1 erased.erases) marked.marks marked.newest notes
+    passes_marked block _ _ _ t _ _ c.in-Some.ensures.found.within free.0 free.1 erased.erases.lasts (erase_fails block _ _ erased.erases) erased.newest (gains_erased block _ _ t _ free.1 erased.erases) (found_erased block _ _ t _ free.1 erased.erases) marked.marks marked.newest notes
     (erased_failed block _ _ _ t _ _ _ (λ honest. goes_next _ t block c.requires.ready c.requires.some.1.apart c.requires.closed c.in-Some.ensures.found)
     (noted_next _ t block c.requires.ready c.requires.some.1.apart c.in-Some.ensures.found) c.requires.closed erased.erases marked.marks notes)
 

@@ -1,4 +1,4 @@
-use Rattle.std.proofs.Common.{◌≡◌, ◌<◌, ℕ, IsSome, length, refl, sym, subst, ◌∙◌, rules, arith}
+use Rattle.std.proofs.Common.{◌≡◌, ◌<◌, ◌+◌, ℕ, IsSome, length, refl, sym, subst, ◌∙◌, rules, arith}
 use Rattle.std.proofs.lemmas.Option.{slice_get-get_or}
 use Rattle.nand_model.specs.declared.geometry.Geometry.{Geometry}
 use Rattle.block_state.specs.TableOf.{table}
@@ -15,24 +15,27 @@ pub loop-i-init : goal.loop-i-init
 loop-i-init c = record {
   agree = c.requires.agree;
   geometry = refl;
-  tells = λ v lists apart. tells_none v c.args.block c.args.copies.now c.args.index.now (table c.args.blocks.now);
+  tells = λ v lists apart. tells_none v c.args.place c.args.copies.now c.args.index.now (table c.args.blocks.now);
 }
 
 pub copied-requires-clause-kept : goal.copied-requires-clause-kept
 copied-requires-clause-kept c =
     let listed = c.requires.listed in
     let at = slice_get-get_or c.args.copies.now c.loop-i.i no_copy c.loop-i-test.true in
-    subst (λ o. IsSome o) (sym (kept_yet listed.0 c.args.block c.loop-i.i c.args.copies.now c.args.index.now c.loop-i.index c.loop-i.index (table c.args.blocks.now) (table c.loop-i.blocks) (table c.loop-i.blocks)
+    subst (λ o. IsSome o) (sym (kept_yet listed.0 c.loop-i.i c.args.place c.args.copies.now c.args.index.now c.loop-i.index c.loop-i.index (table c.args.blocks.now) (table c.loop-i.blocks) (table c.loop-i.blocks)
     listed.1 listed.2 (c.loop-i.invariant.tells listed.0 listed.1 listed.2) _ at)) refl
 
 pub copied-requires-clause-block : goal.copied-requires-clause-block
-copied-requires-clause-block c = subst (λ (geometry : Geometry). c.args.block < geometry.blocks) (sym c.loop-i.invariant.geometry) c.requires.within
+copied-requires-clause-block c = subst (λ (geometry : Geometry). c.args.place.block < geometry.blocks) (sym c.loop-i.invariant.geometry) c.requires.within
 
-pub overflow_cast-page : goal.overflow_cast-page
-overflow_cast-page c = omega (arith, c.loop-i-test.true, c.requires.few, (table c.args.blocks.now).geometry.most_pages)
+pub overflow_cast-at : goal.overflow_cast-at
+overflow_cast-at c = omega (arith, c.loop-i-test.true, c.requires.few, (table c.args.blocks.now).geometry.most_pages)
+
+pub overflow_add-at : goal.overflow_add-at
+overflow_add-at c = omega (arith, c.loop-i-test.true, c.requires.few, (table c.args.blocks.now).geometry.most_pages)
 
 pub copied-requires-clause-page : goal.copied-requires-clause-page
-copied-requires-clause-page c = subst (λ (geometry : Geometry). c.loop-i.i < geometry.pages) (sym c.loop-i.invariant.geometry) (omega (arith, c.loop-i-test.true, c.requires.few))
+copied-requires-clause-page c = subst (λ (geometry : Geometry). c.args.place.page + c.loop-i.i < geometry.pages) (sym c.loop-i.invariant.geometry) (omega (arith, c.loop-i-test.true, c.requires.few))
 
 pub loop-i-preserved : goal.loop-i-preserved
 loop-i-preserved c =
@@ -44,12 +47,12 @@ loop-i-preserved c =
       agree = told.agree;
       geometry = told.counts.geometry ∙ so_far.geometry;
       tells = λ v lists apart.
-          let is = kept_yet v c.args.block i c.args.copies.now c.args.index.now c.loop-i.index c.loop-i.index (table c.args.blocks.now) (table c.loop-i.blocks) (table c.loop-i.blocks) lists apart (so_far.tells v lists apart) _ at in
-          tells_more v c.args.block i c.args.copies.now c.args.index.now c.loop-i.index c.copied.new.self (table c.args.blocks.now) (table c.loop-i.blocks) (table c.copied.new.blocks) lists apart
-          (so_far.tells v lists apart) _ at (record { block = c.args.block; page = i }) refl refl (told.copies _ is) told.counts told.prepared told.ready;
+          let is = kept_yet v i c.args.place c.args.copies.now c.args.index.now c.loop-i.index c.loop-i.index (table c.args.blocks.now) (table c.loop-i.blocks) (table c.loop-i.blocks) lists apart (so_far.tells v lists apart) _ at in
+          tells_more v i c.args.place c.args.copies.now c.args.index.now c.loop-i.index c.copied.new.self (table c.args.blocks.now) (table c.loop-i.blocks) (table c.copied.new.blocks) lists apart
+          (so_far.tells v lists apart) _ at (record { block = c.args.place.block; page = c.args.place.page + i }) refl refl (told.copies _ is) told.counts told.prepared told.ready;
     }
 
 pub returns-clause-tells : goal.returns-clause-tells
 returns-clause-tells c = λ v lists apart.
     let all : c.loop-i.i ≡ length c.args.copies.now = search rules in
-    subst (λ n. Tells v c.args.block n c.args.copies.now c.args.index.now c.loop-i.index (table c.args.blocks.now) (table c.loop-i.blocks)) all (c.loop-i.invariant.tells v lists apart)
+    subst (λ n. Tells v n c.args.place c.args.copies.now c.args.index.now c.loop-i.index (table c.args.blocks.now) (table c.loop-i.blocks)) all (c.loop-i.invariant.tells v lists apart)

@@ -9,6 +9,6 @@ abbrev pub invariant-loop-i : goal.invariant-loop-i
 invariant-loop-i l = record {
   agree : CountsAgree (table l.blocks) l.index;
   geometry : (table l.blocks).geometry ≡ (table l.fn.blocks).geometry;
-  tells : (v : ℕ) → ListsKept v (kept_pages l.fn.index) l.copies → v ≢ l.block
-      → Tells v l.block l.i l.copies l.fn.index l.index (table l.fn.blocks) (table l.blocks);
+  tells : (v : ℕ) → ListsKept v (kept_pages l.fn.index) l.copies → v ≢ l.place.block
+      → Tells v l.i l.place l.copies l.fn.index l.index (table l.fn.blocks) (table l.blocks);
 }

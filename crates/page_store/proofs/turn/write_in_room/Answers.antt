@@ -27,6 +27,7 @@ invariant_of-log g c =
       room_size = record {
         keys = omega (arith, log.room_size.keys, pages);
         copies = omega (arith, log.room_size.copies, pages);
+        entries = omega (arith, log.room_size.entries, pages);
         scratch = same_page log.room.scratch.len c.write_buffered.new.scratch _ (omega arith) ∙ omega (arith, log.room_size.scratch, bytes);
       };
       mountable = mountable_on log.origin.first (log_of (g.N.Nand.state log.device) (table log.blocks)) (log_of (g.N.Nand.state c.write_buffered.new.device) (table c.write_buffered.new.blocks)) log.index c.write_buffered.new.index

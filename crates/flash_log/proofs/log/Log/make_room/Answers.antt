@@ -1,10 +1,9 @@
-use Rattle.std.proofs.Common.{◌≡◌, true, false, refl, ap, sym, ◌∙◌, arith}
+use Rattle.std.proofs.Common.{◌≡◌, true, false, refl, arith}
 use Rattle.std.proofs.lemmas.Result.{err_from_is_err_and}
-use Rattle.nand_model.specs.declared.geometry.Geometry.{Geometry}
 use Rattle.block_state.specs.TableOf.{table}
 use Rattle.transactions.specs.Checking.{log_of}
 use Rattle.flash_log.specs.laws.Steps.{step_none}
-use Rattle.flash_log.proofs.RoomTaken.{free_taken, pays_taken, pays_nothing, pays_collected, fits_open, scarce_unless}
+use Rattle.flash_log.proofs.RoomTaken.{fits_clear, free_next, pays_next, pays_nothing, pays_collected, scarce_unless}
 use Rattle.flash_log.proofs.log.Log.make_room.Goals as goal
 
 pub returns-then-count-open_room-clause-step : goal.returns-then-count-open_room-clause-step
@@ -25,41 +24,42 @@ returns-in_default-clause-step g c = step_none c.args.self.now.spare (g.N.Nand.s
 pub returns-in_default-clause-pays : goal.returns-in_default-clause-pays
 returns-in_default-clause-pays g c = pays_nothing c.args.self.now.spare (log_of (g.N.Nand.state c.args.self.now.device) (table c.args.self.now.blocks)) _
 
-pub returns-in_err-allocate_block-clause-pays : goal.returns-in_err-allocate_block-clause-pays
-returns-in_err-allocate_block-clause-pays g c =
-    let took = c.in_err-allocate_block.ensures in
+pub returns-in_err-open_next-clause-pays : goal.returns-in_err-open_next-clause-pays
+returns-in_err-open_next-clause-pays g c =
+    let opened = c.in_err-open_next.ensures.pays in
     let p = err_from_is_err_and c.from_residual.result c.from_residual.ensures.1 in
-    rw p.1 (pays_taken c.args.self.now.spare (g.N.Nand.state c.args.self.now.device) (g.N.Nand.state c.allocate_block.new.self.device) (table c.args.self.now.blocks) (table c.allocate_block.new.self.blocks) _ took.step.lasts took.passes took.pays.costs took.pays.reads tt)
+    rw p.1 (pays_next c.args.self.now.spare c.args.count (log_of (g.N.Nand.state c.args.self.now.device) (table c.args.self.now.blocks)) (log_of (g.N.Nand.state c.open_next.new.self.device) (table c.open_next.new.self.blocks)) _ _
+    c.requires.few (c.if-has_unkept.ensures.0 refl) opened tt opened.pays.reads)
 
 pub returns-then-has_unkept-clause-pays : goal.returns-then-has_unkept-clause-pays
 returns-then-has_unkept-clause-pays g c =
-    let took = c.in_ok-allocate_block.ensures in
-    pays_taken c.args.self.now.spare (g.N.Nand.state c.args.self.now.device) (g.N.Nand.state c.allocate_block.new.self.device) (table c.args.self.now.blocks) (table c.allocate_block.new.self.blocks) _ took.step.lasts took.passes took.pays.costs took.pays.reads took.pays.answers
+    let opened = c.in_ok-open_next.ensures.pays in
+    pays_next c.args.self.now.spare c.args.count (log_of (g.N.Nand.state c.args.self.now.device) (table c.args.self.now.blocks)) (log_of (g.N.Nand.state c.open_next.new.self.device) (table c.open_next.new.self.blocks)) _ _
+    c.requires.few (c.if-has_unkept.ensures.0 refl) opened opened.pays.answers opened.pays.reads
 
 pub returns-then-has_unkept-clause-ends : goal.returns-then-has_unkept-clause-ends
 returns-then-has_unkept-clause-ends g c =
-    let took = c.in_ok-allocate_block.ensures in
-    let free = free_taken c.args.self.now.spare c.in_ok-allocate_block.field-0 (g.N.Nand.state c.args.self.now.device) (g.N.Nand.state c.allocate_block.new.self.device) (table c.args.self.now.blocks) (table c.allocate_block.new.self.blocks) took.step.ready took.passes took.ends.0 in
-    let pages : c.pages.result ≡ (table c.allocate_block.new.self.blocks).geometry.pages = c.pages.ensures ∙ ap (λ (x : Geometry). x.pages) (c.geometry.ensures ∙ sym took.passes.geometry) in
+    let opened = c.in_ok-open_next.ensures in
     record {
-      fits = fits_open c.args.count c.in_ok-allocate_block.field-0 0 (table c.allocate_block.new.self.blocks) took.ends.0.open_block took.ends.0.next (omega (arith, pages, c.if-count-pages.false));
-      few = let reserve = took.few in let same = took.terms.spare in omega (arith, reserve, same);
-      free = λ _. free (c.if-has_unkept.ensures.0 refl);
-      power = λ _. took.ends.1;
+      fits = fits_clear c.args.count _ (table c.open_next.new.self.blocks) opened.ends.0;
+      number = λ _. opened.ends.1;
+      few = let reserve = opened.few in let same = opened.terms.spare in omega (arith, reserve, same);
+      free = λ _. free_next c.args.self.now.spare c.args.count _ (table c.args.self.now.blocks) (table c.open_next.new.self.blocks) opened.holds opened.ends.0 (c.if-has_unkept.ensures.0 refl);
+      power = λ _. opened.ends.0.clear.power;
     }
 
 pub returns-in_default-clause-ends : goal.returns-in_default-clause-ends
 returns-in_default-clause-ends g c = c.in_default.ensures.none c.args.self.now.spare (scarce_unless c.args.self.now.spare (table c.args.self.now.blocks) (λ more. let two : false ≡ true = c.if-has_unkept.ensures.1 more in cc))
 
-pub returns-in_err-collect-clause-pays : goal.returns-in_err-collect-clause-pays
-returns-in_err-collect-clause-pays g c =
-    let collected = c.in_err-collect.ensures.pays in
-    let p = err_from_is_err_and c.from_residual-in_err-collect.result c.from_residual-in_err-collect.ensures.1 in
-    rw p.1 (pays_collected c.args.self.now.spare c.in-Some.block (log_of (g.N.Nand.state c.args.self.now.device) (table c.args.self.now.blocks)) (log_of (g.N.Nand.state c.collect.new.self.device) (table c.collect.new.self.blocks)) _ _ c.args.self.now.ready (c.args.self.now.stands.tables.fits c.in-Some.block)
-    c.in-Some.ensures.found.fewest (λ more. let two : false ≡ true = c.if-has_unkept.ensures.1 more in cc) collected tt collected.reads)
+pub returns-in_err-gather-clause-pays : goal.returns-in_err-gather-clause-pays
+returns-in_err-gather-clause-pays g c =
+    let gathered = c.in_err-gather.ensures.pays in
+    let p = err_from_is_err_and c.from_residual-in_err-gather.result c.from_residual-in_err-gather.ensures.1 in
+    rw p.1 (pays_collected c.args.self.now.spare c.in-Some.block c.args.count (log_of (g.N.Nand.state c.args.self.now.device) (table c.args.self.now.blocks)) (log_of (g.N.Nand.state c.gather.new.self.device) (table c.gather.new.self.blocks)) _ _
+    c.in-Some.ensures.found.fewest (λ more. let two : false ≡ true = c.if-has_unkept.ensures.1 more in cc) gathered tt gathered.pays.reads)
 
 pub returns-clause-pays : goal.returns-clause-pays
 returns-clause-pays g c =
-    let collected = c.in_ok-collect.ensures.pays in
-    pays_collected c.args.self.now.spare c.in-Some.block (log_of (g.N.Nand.state c.args.self.now.device) (table c.args.self.now.blocks)) (log_of (g.N.Nand.state c.collect.new.self.device) (table c.collect.new.self.blocks)) _ _ c.args.self.now.ready (c.args.self.now.stands.tables.fits c.in-Some.block)
-    c.in-Some.ensures.found.fewest (λ more. let two : false ≡ true = c.if-has_unkept.ensures.1 more in cc) collected collected.answers collected.reads
+    let gathered = c.in_ok-gather.ensures.pays in
+    pays_collected c.args.self.now.spare c.in-Some.block c.args.count (log_of (g.N.Nand.state c.args.self.now.device) (table c.args.self.now.blocks)) (log_of (g.N.Nand.state c.gather.new.self.device) (table c.gather.new.self.blocks)) _ _
+    c.in-Some.ensures.found.fewest (λ more. let two : false ≡ true = c.if-has_unkept.ensures.1 more in cc) gathered gathered.pays.answers gathered.pays.reads

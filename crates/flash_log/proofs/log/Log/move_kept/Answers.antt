@@ -23,6 +23,7 @@ invariant_of-self-clause-room_size g c =
     record {
       keys = omega (arith, room_size.keys, same.keys, pages);
       copies = omega (arith, room_size.copies, same.copies, pages);
+      entries = omega (arith, room_size.entries, same.entries, pages);
       scratch = same_page c.list.new.self.scratch.len c.move_listed.new.scratch _ (omega arith) ∙ omega (arith, room_size.scratch, same.scratch, bytes);
     }
 

@@ -24,4 +24,6 @@ mod reading;
 #[cfg(test)]
 mod refusals;
 #[cfg(test)]
+mod summaries;
+#[cfg(test)]
 mod worn;

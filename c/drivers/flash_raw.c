@@ -76,7 +76,8 @@ static int lay_page(uint32_t block, uint32_t page, uint8_t *to)
 }
 
 /* Whether a block holds a checkpoint: the list, by their places, of the pages that are in use, which a mount goes by if it is
- * there. Its pages are of object 2^64 - 1.
+ * there. Its first page is chunk 1 of object 2^64 - 1. Of the same object are the summaries of blocks, from chunk 2^31 on: a
+ * mount passes over one whose block lies elsewhere.
  */
 static bool has_checkpoint(uint32_t block)
 {
@@ -85,7 +86,7 @@ static bool has_checkpoint(uint32_t block)
         return false;
     for (int i = 8; i < 16; i++)
         object &= tag[i];
-    return object == 0xff;
+    return object == 0xff && tag[16] == 1;
 }
 
 /* Lays a block out, and whether it is to be written: with --skip-erased only if a page of it is programmed. What follows then lies

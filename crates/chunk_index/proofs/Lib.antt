@@ -23,3 +23,4 @@ pub mod Freeing
 pub mod Once
 pub mod Kept
 pub mod Reordered
+pub mod Counted

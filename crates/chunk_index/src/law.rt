@@ -39,6 +39,12 @@ pub fn the_sorted_list_of_a_block_is_whole()
     ensures count { (x : Index) (b : ℕ) (ks : List KeptKey) → IsPermutation (block_keys x b) ks → length ks ≡ kept_in x b }
 {}
 
+/// A list of keys that are kept in a block, none of them twice, has each if it is as long as the block's count.
+pub fn a_list_as_long_as_the_count_is_whole()
+    ensures { (x : Index) (b : ℕ) (ks : List KeptKey) → ((i : ℕ) (k : KeptKey) → slice_get ks i ≡ Some k → IsKept x b k) → HasKeysOnce ks → length ks ≡ kept_in x b
+        → (k : KeptKey) → IsKept x b k → (i : ℕ) × (slice_get ks i ≡ Some k) }
+{}
+
 /// The kept counts of all blocks add up to the number of kept keys, and a map keeps one number of keys.
 pub fn the_counts_add_up_to_the_kept_keys()
     ensures all { (t : Table) (x : Index) → CountsAgree t x → HasKept (kept_pages x) (kept_count t) }

@@ -26,7 +26,8 @@ pub use filter::KeyFilter;
 pub use form::{Form, KeptKey, KeptPage, PagePlace, Present, WrittenGroup};
 pub use index::Index;
 pub use law::{
-    blocks_without_kept_pages_are_free, the_counts_add_up_to_the_kept_keys,
-    the_counts_are_of_the_keys, the_list_of_a_block_is_whole, the_sorted_list_of_a_block_is_whole,
+    a_list_as_long_as_the_count_is_whole, blocks_without_kept_pages_are_free,
+    the_counts_add_up_to_the_kept_keys, the_counts_are_of_the_keys, the_list_of_a_block_is_whole,
+    the_sorted_list_of_a_block_is_whole,
 };
 pub use placed::Placed;

@@ -77,12 +77,20 @@ pub record MatchesBlock (flash : Flash) (s : Summary) : Type 0 where
 abbrev pub IsListed : Summary → Spot → Type 0
 IsListed s p = Contains s.entries (entry_of p) × (p.tag.seq ≡ s.head.seq)
 
+-- The numbers of tags rise with the blocks: all tags of a block have one seq, and where a tag has a greater seq than another, its group
+-- has a greater number too.
+pub record AreTagsOrdered (flash : Flash) : Type 0 where
+  pub one : (b l m : ℕ) (t u : Tag) → flash.bad b ≡ false → HasTag flash b l t → HasTag flash b m u → t.seq ≡ u.seq
+  pub rise : (b k l m : ℕ) (t u : Tag) → flash.bad b ≡ false → flash.bad k ≡ false → HasTag flash b l t → HasTag flash k m u → t.seq < u.seq → t.group < u.group
+
 -- What holds of each whole summary of a flash, wherever power was lost: its block was allocated after the one that it names, and no
--- version that it lists is above its number; and where it matches that block, the numbers of all tags there are below its own.
+-- version that it lists is above its number; and where it matches that block, the numbers of all tags there are below its own. The
+-- numbers of all tags rise with their blocks.
 pub record AreSummariesRight (g : Geometry) (flash : Flash) : Type 0 where
   pub older : (s : Summary) → IsWholeSummary g flash s → s.head.seq < s.seq
   pub versions : (s : Summary) (e : CheckEntry) → IsWholeSummary g flash s → Contains s.entries e → e.version < s.number
   pub below : (s : Summary) (l : ℕ) (t : Tag) → IsWholeSummary g flash s → MatchesBlock flash s → HasTag flash s.head.block l t → (t.group < s.number) × (t.seq < s.seq)
+  pub ordered : AreTagsOrdered flash
 
 -- A mount may go by the summaries of the flash: each is right, and of the blocks that begin with an erased page the first alone has tags.
 pub record IsSummarized (g : Geometry) (flash : Flash) : Type 0 where

@@ -18,12 +18,14 @@ abbrev pub HasNoTags : Flash → Type 0
 HasNoTags flash = (b l : ℕ) (t : Tag) → flash.bad b ≡ false → HasTag flash b l t → ⊥
 
 -- Pages are written in block o, which has this seq, for the group of this number. Only erased pages of that block are other than they
--- were, and it has no tag without its page 0; and before no number of a group was as great as this one, and no seq greater.
+-- were, its tags are of that group where they are new, and it has none without its page 0; and before no number of a group was as great
+-- as this one, and no seq greater.
 pub record WritesIn (o number seq : ℕ) (old new : Flash) : Type 0 where
   pub grows : Grows old new
   pub bads : new.bad ≡ old.bad
   pub elsewhere : (k l : ℕ) → k ≢ o → new.page k l ≡ old.page k l
   pub own : (l : ℕ) (t : Tag) → HasTag new o l t → t.seq ≡ seq
+  pub named : (l : ℕ) (t : Tag) → HasTag new o l t → HasTag old o l t ⊎ (t.group ≡ number)
   pub begun : (l : ℕ) (t : Tag) → HasTag new o l t → new.page o 0 ≢ Erased
   pub below : AreBelow old number (1 + seq)
 

@@ -102,6 +102,12 @@ module _ (spare : ℕ) (d : Device) (only : HoldsOnlyRoot spare d) (head : IsHea
         older = λ s whole. absurd (none_whole s whole);
         versions = λ s e whole listed. absurd (none_whole s whole);
         below = λ s l t whole matches has. absurd (none_whole s whole);
+        ordered = record {
+          one = λ b l m t u good has has'. ap (λ (x : Tag). x.seq) (only_tag f bytes tag valid only.alone b l t good has ∙ sym (only_tag f bytes tag valid only.alone b m u good has'));
+          rise = λ b k l m t u good good' has has' less.
+              let same : t.seq ≡ u.seq = ap (λ (x : Tag). x.seq) (only_tag f bytes tag valid only.alone b l t good has ∙ sym (only_tag f bytes tag valid only.alone k m u good' has')) in
+              absurd (omega (arith, same, less));
+        };
       };
       first = first;
     };

@@ -56,6 +56,7 @@ nothing_written d t ready clean h = record {
         bads = refl;
         elsewhere = λ k l ne. refl;
         own = ordered.own;
+        named = λ l u has. inl has;
         begun = λ l u has blank. elim (cases_eq (t.entry o).next 0) [
           | inr some ↦ ordered.written 0 (omega (arith, some)) blank
           | inl none ↦ tag_not_erased d.flash _ _ _ has (clean o (t.entry o).next l opens.next (omega (arith, none)))
@@ -183,6 +184,7 @@ module _ (old : Device) (t : Table) (count : ℕ) (place : GroupPlace) (ready : 
       bads = all.bad;
       elsewhere = λ k l ne. (all.wrote h).others k l ne;
       own = own_seq h;
+      named = λ l u has. elim (tag_place h l u has) [ inl was ↦ inl was.1 | inr is ↦ inr (ap (λ (x : Tag). x.group) is.3) ];
       begun = begun h;
       below =
           let seq : t.next_seq ≡ 1 + place.seq = open_now.seq.1 ∙ omega (arith, at.seq) in

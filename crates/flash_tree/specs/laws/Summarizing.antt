@@ -15,7 +15,7 @@ use Rattle.flash_tree.specs.Fading.{Fades}
 use Rattle.flash_tree.specs.Groups.{HasTag, Group, IsPart, IsGroup}
 use Rattle.flash_tree.specs.Keeping.{Loses}
 use Rattle.flash_tree.specs.Newest.{Holds}
-use Rattle.flash_tree.specs.Summaries.{summary_chunk, Summary, summary_group, summary_tag, IsWholeSummary, MatchesBlock, AreSummariesRight, IsSummarized}
+use Rattle.flash_tree.specs.Summaries.{summary_chunk, Summary, summary_group, summary_tag, IsWholeSummary, MatchesBlock, AreTagsOrdered, AreSummariesRight, IsSummarized}
 use Rattle.flash_tree.specs.ErasedBlocks.{BeginsErased, OnlyFirstHasTags, GoesFirst}
 use Rattle.flash_tree.specs.Summarizing.{HasNoTags, WritesIn, AddsNoSummary, ListsBlock, AddsSummary}
 use Rattle.flash_tree.specs.laws.Checking.{first_tag as checkpoint_tag}
@@ -67,12 +67,20 @@ module _ (g : Geometry) where
       seq = matches.seq;
     }
 
+    ordered_faded : AreTagsOrdered old → AreTagsOrdered new
+    ordered_faded were = record {
+      one = λ k l m t u good has has'. were.one k l m t u (good_before b old new fades k good) (has_before b old new loses k l t has) (has_before b old new loses k m u has');
+      rise = λ k n l m t u good good' has has'.
+          were.rise k n l m t u (good_before b old new fades k good) (good_before b old new fades n good') (has_before b old new loses k l t has) (has_before b old new loses n m u has');
+    }
+
     -- the summaries are right still
     pub right_faded : AreSummariesRight g old → AreSummariesRight g new
     right_faded right = record {
       older = λ s whole. right.older s (whole_before s whole);
       versions = λ s e whole. right.versions s e (whole_before s whole);
       below = λ s l t whole matches has. right.below s l t (whole_before s whole) (matches_before s matches) (has_before b old new loses s.head.block l t has);
+      ordered = ordered_faded right.ordered;
     }
 
     -- where it is the first that may be torn, no other becomes so
@@ -116,6 +124,10 @@ module _ (g : Geometry) where
       older = λ s whole. absurd (no_summary s whole);
       versions = λ s e whole. absurd (no_summary s whole);
       below = λ s l t whole. absurd (no_summary s whole);
+      ordered = record {
+        one = λ b l m t u good has. absurd (none b l t good has);
+        rise = λ b k l m t u good good' has. absurd (none b l t good has);
+      };
     };
     first = λ a k l t lt begins begins' has. none k l t begins'.0 has;
   } where
@@ -148,11 +160,12 @@ record IsRightOne (flash : Flash) (s : Summary) : Type 0 where
   versions : (e : CheckEntry) → Contains s.entries e → e.version < s.number
   below : (l : ℕ) (t : Tag) → MatchesBlock flash s → HasTag flash s.head.block l t → (t.group < s.number) × (t.seq < s.seq)
 
-right_of : (g : Geometry) (flash : Flash) → ((s : Summary) → IsWholeSummary g flash s → IsRightOne flash s) → AreSummariesRight g flash
-right_of g flash each = record {
+right_of : (g : Geometry) (flash : Flash) → AreTagsOrdered flash → ((s : Summary) → IsWholeSummary g flash s → IsRightOne flash s) → AreSummariesRight g flash
+right_of g flash ordered each = record {
   older = λ s whole. (each s whole).older;
   versions = λ s e whole. (each s whole).versions e;
   below = λ s l t whole. (each s whole).below l t;
+  ordered = ordered;
 }
 
 module _ (o number seq : ℕ) (old new : Flash) (writes : WritesIn o number seq old new) where
@@ -161,6 +174,40 @@ module _ (o number seq : ℕ) (old new : Flash) (writes : WritesIn o number seq 
 
   pub good_stays : (k : ℕ) → new.bad k ≡ false → old.bad k ≡ false
   good_stays k is = ap (λ f. f k) (sym writes.bads) ∙ is
+
+  -- a tag of another block has a lower number of its group, and no greater seq
+  below_written : (k l : ℕ) (t : Tag) → k ≢ o → new.bad k ≡ false → HasTag new k l t → (t.group < number) × (t.seq ≤ seq)
+  below_written k l t ne good has =
+      let less = writes.below k l t (good_stays k good) (tag_elsewhere k l t ne has) in
+      (less.1, omega (arith, less))
+
+  -- the numbers of tags rise still
+  pub ordered_written : AreTagsOrdered old → AreTagsOrdered new
+  ordered_written were = record { one = one; rise = rise } where
+    one : (b l m : ℕ) (t u : Tag) → new.bad b ≡ false → HasTag new b l t → HasTag new b m u → t.seq ≡ u.seq
+    one b l m t u good has has' = elim (cases_eq b o) [
+      | inl e ↦ writes.own l t (subst (λ n. HasTag new n l t) e has) ∙ sym (writes.own m u (subst (λ n. HasTag new n m u) e has'))
+      | inr ne ↦ were.one b l m t u (good_stays b good) (tag_elsewhere b l t ne has) (tag_elsewhere b m u ne has')
+    ]
+
+    rise : (b k l m : ℕ) (t u : Tag) → new.bad b ≡ false → new.bad k ≡ false → HasTag new b l t → HasTag new k m u → t.seq < u.seq → t.group < u.group
+    rise b k l m t u good good' has has' less = elim (cases_eq b o) [
+      | inl e ↦
+          let own = writes.own l t (subst (λ n. HasTag new n l t) e has) in
+          elim (cases_eq k o) [
+            | inl same ↦ let own' = writes.own m u (subst (λ n. HasTag new n m u) same has') in absurd (omega (arith, own, own', less))
+            | inr ne ↦ let most = (below_written k m u ne good' has').1 in absurd (omega (arith, own, most, less))
+          ]
+      | inr ne ↦
+          let was = tag_elsewhere b l t ne has in
+          elim (cases_eq k o) [
+            | inr other ↦ were.rise b k l m t u (good_stays b good) (good_stays k good') was (tag_elsewhere k m u other has') less
+            | inl same ↦ elim (writes.named m u (subst (λ n. HasTag new n m u) same has')) [
+              | inl before ↦ were.rise b o l m t u (good_stays b good) (subst (λ n. old.bad n ≡ false) same (good_stays k good')) was before less
+              | inr number_is ↦ let below = (below_written b l t ne good has).0 in omega (arith, below, number_is)
+            ]
+          ]
+    ]
 
   -- of the blocks that begin with an erased page the first alone has tags
   first_written : OnlyFirstHasTags old → OnlyFirstHasTags new
@@ -228,7 +275,7 @@ module _ (o number seq : ℕ) (old new : Flash) (writes : WritesIn o number seq 
     ]
 
     pub right_none : AddsNoSummary old new → AreSummariesRight g old → AreSummariesRight g new
-    right_none adds right = right_of g new (λ s whole. stays_right right s (none_new adds s whole))
+    right_none adds right = right_of g new (ordered_written right.ordered) (λ s whole. stays_right right s (none_new adds s whole))
 
     pub summarized_none : AddsNoSummary old new → IsSummarized g old → IsSummarized g new
     summarized_none adds was = record { right = right_none adds was.right; first = first_written was.first }
@@ -279,7 +326,7 @@ module _ (g : Geometry) (old new : Flash) (s : Summary) (added : AddsSummary g o
   }
 
   pub right_summary : AreSummariesRight g old → AreSummariesRight g new
-  right_summary right = right_of g new (λ d whole. elim (was_or_new d whole) [
+  right_summary right = right_of g new (ordered_written s.block s.number s.seq old new writes right.ordered) (λ d whole. elim (was_or_new d whole) [
     | inl was ↦ stays_right s.block s.number s.seq old new writes g right d was
     | inr is ↦ subst (IsRightOne new) (sym is) new_right
   ])

@@ -47,6 +47,11 @@ module _ (g : Geometry) (a b : Flash) (same : HasSame a b) where
     older = λ s whole. right.older s (whole_back s whole);
     versions = λ s e whole. right.versions s e (whole_back s whole);
     below = λ s l t whole matches has. right.below s l t (whole_back s whole) (matches_back s matches) (tag_same b a back s.head.block l t has);
+    ordered = record {
+      one = λ k l m t u good has has'. right.ordered.one k l m t u (good_back k good) (tag_same b a back k l t has) (tag_same b a back k m u has');
+      rise = λ k n l m t u good good' has has'.
+          right.ordered.rise k n l m t u (good_back k good) (good_back n good') (tag_same b a back k l t has) (tag_same b a back n m u has');
+    };
   }
 
   first_same : OnlyFirstHasTags a → OnlyFirstHasTags b

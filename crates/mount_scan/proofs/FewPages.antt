@@ -1,16 +1,20 @@
 -- How many pages of some blocks are read.
-use Rattle.std.specs.Prelude.{◌≡◌, ◌<◌, ◌≤◌, ℕ, zero, suc, ◌+◌, ◌*◌, ◌-◌, Bool, true, List, Some, length, slice_get}
-use Rattle.std.proofs.Common.{sym, ◌∙◌, ap, subst, arith, get_or}
-use Rattle.std.proofs.Math.Nat.{mul-le-mul_left}
+use Rattle.std.specs.Prelude.{◌≡◌, ◌≢◌, ◌⊎◌, ◌↔◌, ◌<◌, ◌≤◌, ℕ, zero, suc, ◌+◌, ◌-◌, Bool, true, false, List, Some, length, slice_get}
+use Rattle.std.proofs.Common.{refl, sym, ◌∙◌, ap, inl, inr, arith, get_or}
+use Rattle.std.proofs.lemmas.Bool.{cases_Bool, false≢true}
 use Rattle.std.proofs.lemmas.List.FromFn.{sum_by-map-range_with_len_more}
 use Rattle.std.proofs.lemmas.Option.{slice_get-get_or}
-use Rattle.nand_model.specs.Flash.{IsWithin}
+use Rattle.nand_model.specs.Flash.{Flash, Erased, IsWithin}
 use Rattle.nand_model.specs.Calls.{Device}
+use Rattle.page_tags.specs.declared.tag.Tag.{Tag}
 use Rattle.flash_tree.specs.Summaries.{summary_tag}
-use Rattle.flash_tree.specs.laws.Place.{tag_placed}
-use Rattle.mount_scan.specs.FewReads.{IsOther, HaveSummaries, AreDoneBelow, AreNotedSummarized, sum_below}
-use Rattle.mount_scan.specs.FirstPages.{FirstPagesBelow}
+use Rattle.flash_tree.specs.laws.Newest.{one_tag}
+use Rattle.flash_tree.specs.laws.Place.{no_tag, tag_placed}
+use Rattle.mount_scan.specs.FewReads.{AreAllDone, AreCosts, AreDoneBelow, IsOlder, IsOther, erased_pages, sum_below}
+use Rattle.mount_scan.specs.FirstPages.{BeginsWithTag, FirstPagesBelow, IsFirstPage, IsOlderThan, first_tag}
+use Rattle.mount_scan.specs.SummaryScan.{IsLeft}
 use Rattle.mount_scan.specs.declared.first_page.FirstPage.{FirstPage}
+use Rattle.mount_scan.specs.declared.first_page.FirstPage.TheVariants as firsts
 use Rattle.mount_scan.specs.declared.first_page.FirstPages.{FirstPages}
 use Rattle.mount_scan.proofs.SummaryFinds.{first_of_summary}
 
@@ -31,42 +35,118 @@ sum_within each b n lt =
     let at : b + 1 + (n - (b + 1)) ≡ n = omega (arith, lt) in
     omega (arith, sum_more each b, sum_rise each (b + 1) (n - (b + 1)), ap (sum_below each) at)
 
--- x, y and z reads before the blocks, before a block and after it: the pages of one block are read or were, for one that begins erased
-pub others_more : (pages : ℕ) (each : ℕ → ℕ) (b e next x y z : ℕ) → y + pages * e ≤ x + pages * (1 + sum_below each b) → z + pages * next ≤ y + pages * (each b + e)
-    → z + pages * next ≤ x + pages * (1 + sum_below each (b + 1))
-others_more pages each b e next x y z were is =
-    let split : pages * (each b + e) ≡ pages * each b + pages * e = grind arith in
-    let joined : pages * (1 + (sum_below each b + each b)) ≡ pages * (1 + sum_below each b) + pages * each b = grind arith in
-    let all : pages * (1 + sum_below each (b + 1)) ≡ pages * (1 + (sum_below each b + each b)) = ap (λ n. pages * (1 + n)) (sum_more each b) in
-    omega (arith, were, is, split, joined, all)
+-- x, y and z reads before the blocks, before a block and after it: e pages may be read of a block that begins erased, and then next
+pub others_more : (pages : ℕ) (costs : ℕ → ℕ) (b e next x y z : ℕ) → y + e ≤ x + (pages + sum_below costs b) → z + next ≤ y + (costs b + e) → z + next ≤ x + (pages + sum_below costs (b + 1))
+others_more pages costs b e next x y z were is = omega (arith, were, is, sum_more costs b)
 
-pub others_end : (pages : ℕ) (each : ℕ → ℕ) (b e n x y z : ℕ) → b < n → y + pages * e ≤ x + pages * (1 + sum_below each b) → z ≤ y + pages * (each b + e) → z ≤ x + pages * (1 + sum_below each n)
-others_end pages each b e n x y z lt were is =
-    let split : pages * (each b + e) ≡ pages * each b + pages * e = grind arith in
-    let joined : pages * (1 + (sum_below each b + each b)) ≡ pages * (1 + sum_below each b) + pages * each b = grind arith in
-    let within = sum_within each b n lt in
-    let most : pages * (1 + (sum_below each b + each b)) ≤ pages * (1 + sum_below each n) = mul-le-mul_left pages (omega (arith, within)) in
-    omega (arith, were, is, split, joined, most)
-
-pub others_none : (pages x : ℕ) (each : ℕ → ℕ) → x + pages * 1 ≤ x + pages * (1 + sum_below each 0)
-others_none pages x each = let most : pages * 1 ≤ pages * (1 + sum_below each 0) = mul-le-mul_left pages (omega arith) in omega (arith, most)
+pub others_end : (pages : ℕ) (costs : ℕ → ℕ) (b e n x y z : ℕ) → b < n → y + e ≤ x + (pages + sum_below costs b) → z ≤ y + (costs b + e) → z ≤ x + (pages + sum_below costs n)
+others_end pages costs b e n x y z lt were is = omega (arith, were, is, sum_within costs b n lt)
 
 -- ---- the blocks with a summary are noted
 
-pub these_noted : (d : Device) (these : ℕ → Bool) (done : List Bool) → d.honest ≡ true → IsWithin d.geometry.pages d.geometry.blocks d.flash → HaveSummaries d.geometry d.flash these
-    → AreDoneBelow d d.geometry.blocks done → AreNotedSummarized these done
-these_noted d these done honest within have are k is =
-    let (s, whole, matches, at) = have k is in
+pub all_done : (d : Device) (done : List Bool) → d.honest ≡ true → IsWithin d.geometry.pages d.geometry.blocks d.flash → AreDoneBelow d d.geometry.blocks done → AreAllDone d.geometry d.flash done
+all_done d done honest within are b not s whole matches at =
     let lt = (tag_placed d.geometry.pages d.geometry.blocks d.flash s.block 0 (summary_tag s 0) within (first_of_summary d.geometry d.flash s whole)).0 in
-    subst (λ n. slice_get done n ≡ Some true) at (are honest s lt whole matches)
+    let two : Some false ≡ Some true = sym not ∙ ap (slice_get done) (sym at) ∙ are honest s lt whole matches in
+    cc
 
--- the block that comes next begins as is noted, and is noted
-pub other_here : (d : Device) (these : ℕ → Bool) (b : ℕ) (firsts : FirstPages) (done : List Bool) (first : FirstPage) (summarized : Bool) → d.honest ≡ true → FirstPagesBelow d d.geometry.blocks firsts
-    → AreNotedSummarized these done → b < d.geometry.blocks → b < length done → first ≡ get_or firsts.pages.items b first → summarized ≡ get_or done b summarized → IsOther d these b first summarized
-other_here d these b firsts done first summarized honest below noted lt within is_first is_summarized = record {
+-- the block that comes next begins as is noted, is noted, and costs so much
+pub other_here : (d : Device) (costs : ℕ → ℕ) (b : ℕ) (firsts : FirstPages) (done : List Bool) (first : FirstPage) (summarized : Bool) → d.honest ≡ true → IsWithin d.geometry.pages d.geometry.blocks d.flash
+    → FirstPagesBelow d d.geometry.blocks firsts → AreAllDone d.geometry d.flash done → AreCosts d.geometry d.flash costs → b < d.geometry.blocks → b < length done → first ≡ get_or firsts.pages.items b first
+    → summarized ≡ get_or done b summarized → IsOther d b first summarized firsts.renewed (costs b)
+other_here d costs b firsts done first summarized honest within below all are lt in_done is_first is_summarized = record {
   honest = honest;
   first_page = below.noted.noted honest b first (slice_get-get_or firsts.pages.items b first (omega (arith, lt, below.noted.len)) ∙ ap Some (sym is_first));
-  noted = λ is.
-      let two : Some summarized ≡ Some true = sym (slice_get-get_or done b summarized within ∙ ap Some (sym is_summarized)) ∙ noted b is in
-      cc;
+  noted = λ not. all b (slice_get-get_or done b summarized in_done ∙ ap Some (sym is_summarized ∙ not));
+  latest = λ k t begins own. below.latest honest k t (tag_placed d.geometry.pages d.geometry.blocks d.flash k 0 t within begins.1).0 begins own;
+  cost_is = are b;
 }
+
+-- ---- one block
+
+-- a first page that has a tag is not erased
+begun_written : (flash : Flash) (b : ℕ) (t : Tag) → BeginsWithTag flash b t → flash.page b 0 ≢ Erased
+begun_written flash b t begins erased = no_tag flash b 0 t erased begins.1
+
+-- a block of a lower seq begins with a tag
+pub older_begins : (flash : Flash) (b renewed : ℕ) (first : FirstPage) → IsFirstPage flash b first → IsOlderThan renewed first → (t : Tag) × BeginsWithTag flash b t × (t.seq < renewed)
+older_begins flash b renewed firsts.Bad is (s, at, lt) = absurd cc
+older_begins flash b renewed firsts.Erased is (s, at, lt) = absurd cc
+older_begins flash b renewed firsts.Untagged is (s, at, lt) = absurd cc
+older_begins flash b renewed (firsts.Tagged seq) (t, begins, same, other) (s, at, lt) = let both : seq ≡ s = cc in (t, begins, omega (arith, same, both, lt))
+older_begins flash b renewed (firsts.Summary count number seq) begins (s, at, lt) = let both : seq ≡ s = cc in (first_tag count number seq, begins, omega (arith, both, lt))
+
+-- and one of no lower seq is not older than another
+not_older : (flash : Flash) (b renewed : ℕ) (first : FirstPage) → IsFirstPage flash b first → ((k : ℕ) (t : Tag) → BeginsWithTag flash k t → t.version ≡ t.group → t.seq ≤ renewed) → (IsOlderThan renewed first → ⊥)
+    → IsOlder flash b → ⊥
+not_older flash b renewed firsts.Bad is latest not (t, begins, k, u, other, own, less) = false≢true (sym begins.0 ∙ is)
+not_older flash b renewed firsts.Erased is latest not (t, begins, k, u, other, own, less) = no_tag flash b 0 t is.1 begins.1
+not_older flash b renewed firsts.Untagged is latest not (t, begins, k, u, other, own, less) = is.2 t begins.1
+not_older flash b renewed (firsts.Tagged seq) (v, is, same, no_summary) latest not (t, begins, k, u, other, own, less) =
+    let one : v ≡ t = one_tag flash b 0 v t is.1 begins.1 in
+    let most = latest k u other own in
+    not (seq, refl, omega (arith, same, ap (λ (x : Tag). x.seq) one, less, most))
+not_older flash b renewed (firsts.Summary count number seq) is latest not (t, begins, k, u, other, own, less) =
+    let one : first_tag count number seq ≡ t = one_tag flash b 0 (first_tag count number seq) t is.1 begins.1 in
+    let most = latest k u other own in
+    not (seq, refl, omega (arith, ap (λ (x : Tag). x.seq) one, less, most))
+
+-- of an older block no more pages are read than it costs
+pub older_costs : (d : Device) (b : ℕ) (first : FirstPage) (summarized : Bool) (renewed cost x y : ℕ) → IsOther d b first summarized renewed cost → summarized ≡ false → IsOlderThan renewed first → y ≤ x + d.geometry.pages
+    → ((q : ℕ) → d.flash.page b q ≡ Erased → y ≤ x + (q + 1)) → y ≤ x + cost
+older_costs d b first summarized renewed cost x y is not older most up_to =
+    let (t, begins, lt) = older_begins d.flash b renewed first is.first_page older in
+    elim (is.cost_is begins.0 (begun_written d.flash b t begins) (is.noted not)) [
+      | inl all ↦ omega (arith, most, all)
+      | inr (it, (q, erased, less)) ↦ let read = up_to q erased in omega (arith, read, less)
+    ]
+
+-- nor of one that does not begin erased and is not older
+pub other_costs : (d : Device) (b : ℕ) (first : FirstPage) (summarized : Bool) (renewed cost : ℕ) → IsOther d b first summarized renewed cost → summarized ≡ false → (first ≡ firsts.Bad → ⊥) → (first ≡ firsts.Erased → ⊥)
+    → (IsOlderThan renewed first → ⊥) → d.geometry.pages ≤ cost
+other_costs d b first summarized renewed cost is not good written other =
+    let (is_good, is_written) = begun first is.first_page good written in
+    elim (is.cost_is is_good is_written (is.noted not)) [
+      | inl all ↦ all
+      | inr (it, at) ↦ absurd (not_older d.flash b renewed first is.first_page is.latest other it)
+    ] where
+      begun : (first : FirstPage) → IsFirstPage d.flash b first → (first ≡ firsts.Bad → ⊥) → (first ≡ firsts.Erased → ⊥) → (d.flash.bad b ≡ false) × (d.flash.page b 0 ≢ Erased)
+      begun firsts.Bad is good written = absurd (good refl)
+      begun firsts.Erased is good written = absurd (written refl)
+      begun firsts.Untagged is good written = (is.0, is.1)
+      begun (firsts.Tagged seq) (t, begins, same, other) good written = (begins.0, begun_written d.flash b t begins)
+      begun (firsts.Summary count number seq) is good written = (is.0, begun_written d.flash b (first_tag count number seq) is)
+
+-- of any block whose tags are read, no more than it costs, where the pages of one that begins erased are counted apart
+erased_or_other : (first : FirstPage) → (first ≡ firsts.Erased) ⊎ (first ≡ firsts.Erased → ⊥)
+erased_or_other firsts.Bad = inr (λ same. cc)
+erased_or_other firsts.Erased = inl refl
+erased_or_other firsts.Untagged = inr (λ same. cc)
+erased_or_other (firsts.Tagged seq) = inr (λ same. cc)
+erased_or_other (firsts.Summary count number seq) = inr (λ same. cc)
+
+module _ (d : Device) (b : ℕ) (first : FirstPage) (summarized erased : Bool) (renewed cost x y : ℕ) (is : IsOther d b first summarized renewed cost) (left : IsLeft first summarized erased)
+    (other : IsOlderThan renewed first → ⊥) (most : y ≤ x + d.geometry.pages) where
+  pub block_costs : y ≤ x + (cost + erased_pages d erased)
+  block_costs = elim (erased_or_other first) [
+    | inl same ↦ let all : erased_pages d erased ≡ d.geometry.pages = ap (erased_pages d) (left.written same) in omega (arith, most, all)
+    | inr written ↦ let cost_is = other_costs d b first summarized renewed cost is left.other left.good written other in omega (arith, most, cost_is)
+  ]
+
+  pub block_leaves : (next : Bool) → (next ≡ true) ↔ ((erased ≡ true) ⊎ (first ≡ firsts.Erased)) → y + erased_pages d next ≤ x + (cost + erased_pages d erased)
+  block_leaves next read = elim (erased_or_other first) [
+    | inl same ↦
+        let all : erased_pages d erased ≡ d.geometry.pages = ap (erased_pages d) (left.written same) in
+        let none : erased_pages d next ≡ 0 = ap (erased_pages d) (read.1 (inr same)) in
+        omega (arith, most, all, none)
+    | inr written ↦
+        let cost_is = other_costs d b first summarized renewed cost is left.other left.good written other in
+        let same : next ≡ erased = elim (cases_Bool erased) [
+          | inl was ↦ read.1 (inl was) ∙ sym was
+          | inr not ↦ elim (cases_Bool next) [
+            | inr not_next ↦ not_next ∙ sym not
+            | inl now ↦ elim (read.0 now) [ inl was ↦ absurd (false≢true (sym not ∙ was)) | inr it ↦ absurd (written it) ]
+          ]
+        ] in
+        omega (arith, most, cost_is, ap (erased_pages d) same)
+  ]

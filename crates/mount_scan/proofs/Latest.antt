@@ -24,7 +24,7 @@ use Rattle.mount_scan.specs.Blocks.{AreTags}
 use Rattle.mount_scan.specs.Latest.{TellsBlock, IsCountedCopy, HasLatestBelow}
 use Rattle.mount_scan.proofs.Tagged.{counted_told}
 
-none_in : (f : Found) → Contains [] f → ⊥
+pub none_in : (f : Found) → Contains [] f → ⊥
 none_in f has = absurd (omega (arith, has.1))
 
 -- ---- copies

@@ -20,3 +20,4 @@ pub mod SummaryRest
 pub mod SummaryFinds
 pub mod OneSummary
 pub mod FewPages
+pub mod WrittenTags

@@ -1,7 +1,7 @@
 -- What is noted of the first pages of blocks.
-use Rattle.std.specs.Prelude.{◌≡◌, ◌<◌, ℕ, ◌+◌, true, List, [], ◌∷◌, ◌++◌, length, slice_get, Option, Some, None, IfSome}
+use Rattle.std.specs.Prelude.{◌≡◌, ◌≢◌, ◌<◌, ◌≤◌, ℕ, ◌+◌, true, List, [], ◌∷◌, ◌++◌, length, slice_get, Option, Some, None, IfSome}
 use Rattle.std.proofs.Common.{sym, ◌∙◌, ap, subst, inl, inr, arith, length-append}
-use Rattle.std.proofs.lemmas.Bool.{cases_eq, false≢true}
+use Rattle.std.proofs.lemmas.Bool.{cases_eq, cases_lt, false≢true}
 use Rattle.volume_terms.specs.laws.List.{get_push}
 use Rattle.nand_model.specs.Flash.{Flash}
 use Rattle.nand_model.specs.Calls.{Device}
@@ -13,7 +13,7 @@ use Rattle.flash_tree.specs.Places.{numbers_of}
 use Rattle.flash_tree.specs.laws.Newest.{one_tag}
 use Rattle.flash_tree.specs.laws.Place.{no_tag}
 use Rattle.mount_scan.specs.Blocks.{numbers_in, AreAtMost}
-use Rattle.mount_scan.specs.FirstPages.{BeginsWithTag, IsFirstRead, IsGoodRead, IsFirstPage, IsGoodFirst, IsRaisedToRead, AreFirstPages, AreGoodFirsts, AreNoneAbove, FirstPagesBelow, FirstReadsBelow, tag_of_read}
+use Rattle.mount_scan.specs.FirstPages.{BeginsWithTag, IsFirstRead, IsGoodRead, IsFirstPage, IsGoodFirst, IsRaisedToRead, IsRenewedBy, AreFirstPages, AreGoodFirsts, AreNoneAbove, BeginsRenewed, FirstPagesBelow, FirstReadsBelow, tag_of_read}
 use Rattle.mount_scan.specs.CheckpointCandidates.{FirstIs, IsCandidate, IsGoodTag, IsGreatestBelow}
 use Rattle.mount_scan.specs.declared.first_page.FirstReads.{FirstReads}
 use Rattle.mount_scan.specs.declared.first_page.FirstRead.{FirstRead}
@@ -68,10 +68,44 @@ raised_least flash b (reads.Tagged u) m n first is least = λ k above.
     let this = above b 0 u first.0 first.1 in
     record { version = omega (arith, is.version, were.version, this.0); group = omega (arith, is.group, were.group, this.1); seq = omega (arith, is.seq, were.seq, this.2) }
 
+-- ---- the greatest seq of a page whose version is the number of its group
+
+renewed_keeps : (read : FirstRead) (m n : ℕ) → IsRenewedBy read m n → m ≤ n
+renewed_keeps reads.Bad m n is = omega (arith, is)
+renewed_keeps reads.Erased m n is = omega (arith, is)
+renewed_keeps reads.Untagged m n is = omega (arith, is)
+renewed_keeps (reads.Tagged t) m n is = elim (cases_eq t.version t.group) [
+  | inl own ↦ let raised = is.0 own in omega (arith, raised)
+  | inr other ↦ let same = is.1 other in omega (arith, same)
+]
+
+renewed_begins : (flash : Flash) (b : ℕ) (read : FirstRead) (m n : ℕ) → IsFirstRead flash b read → IsRenewedBy read m n → (m ≢ 0 → BeginsRenewed flash m) → n ≢ 0 → BeginsRenewed flash n
+renewed_begins flash b reads.Bad m n first is were some = subst (BeginsRenewed flash) (sym is) (were (λ none. some (is ∙ none)))
+renewed_begins flash b reads.Erased m n first is were some = subst (BeginsRenewed flash) (sym is) (were (λ none. some (is ∙ none)))
+renewed_begins flash b reads.Untagged m n first is were some = subst (BeginsRenewed flash) (sym is) (were (λ none. some (is ∙ none)))
+renewed_begins flash b (reads.Tagged t) m n first is were some = elim (cases_eq t.version t.group) [
+  | inr other ↦ let same = is.1 other in subst (BeginsRenewed flash) (sym same) (were (λ none. some (same ∙ none)))
+  | inl own ↦
+      let raised = is.0 own in
+      elim (cases_lt m t.seq) [
+        | inl lt ↦ (b, t, first, own, omega (arith, raised, lt))
+        | inr past ↦ let same : n ≡ m = omega (arith, raised, past) in subst (BeginsRenewed flash) (sym same) (were (λ none. some (same ∙ none)))
+      ]
+]
+
+renewed_here : (flash : Flash) (b : ℕ) (read : FirstRead) (m n : ℕ) (t : Tag) → IsFirstRead flash b read → IsRenewedBy read m n → BeginsWithTag flash b t → t.version ≡ t.group → t.seq ≤ n
+renewed_here flash b reads.Bad m n t first is has own = absurd (false≢true (sym has.0 ∙ first))
+renewed_here flash b reads.Erased m n t first is has own = absurd (no_tag flash b 0 t first.1 has.1)
+renewed_here flash b reads.Untagged m n t first is has own = absurd (first.2 t has.1)
+renewed_here flash b (reads.Tagged u) m n t first is has own =
+    let same : u ≡ t = one_tag flash b 0 u t first.1 has.1 in
+    let raised = is.0 (ap (λ (x : Tag). x.version) same ∙ own ∙ ap (λ (x : Tag). x.group) (sym same)) in
+    omega (arith, raised, ap (λ (x : Tag). x.seq) same)
+
 -- ---- block after block
 
-pub firsts_none : (device : Device) (firsts : FirstPages) → firsts.pages.items ≡ [] → numbers_of firsts.numbers ≡ record { version = 0; group = 0; seq = 0 } → FirstPagesBelow device 0 firsts
-firsts_none device firsts empty zeros = record {
+pub firsts_none : (device : Device) (firsts : FirstPages) → firsts.pages.items ≡ [] → numbers_of firsts.numbers ≡ record { version = 0; group = 0; seq = 0 } → firsts.renewed ≡ 0 → FirstPagesBelow device 0 firsts
+firsts_none device firsts empty zeros zero = record {
   noted = record {
     len = ap (λ (xs : List FirstPage). length xs) empty;
     good = subst (AreGoodFirsts device) (sym empty) (λ b first at. absurd cc);
@@ -83,6 +117,8 @@ firsts_none device firsts empty zeros = record {
     group = omega (arith, ap (λ (x : Numbers). x.group) zeros);
     seq = omega (arith, ap (λ (x : Numbers). x.seq) zeros);
   };
+  renewed = λ honest some. absurd (some zero);
+  latest = λ honest k t lt. absurd (omega (arith, lt));
 }
 
 -- one more page is noted
@@ -96,8 +132,8 @@ noted_more P b pages page len were is k first at = elim (get_push pages page k f
 pub firsts_more :
     (d a : Device) (b : ℕ) (old new : FirstPages) (read : FirstRead) (page : FirstPage) → OnlyReads d a → new.pages.items ≡ old.pages.items ++ page ∷ [] → IsGoodRead a b read
     → (a.honest ≡ true → IsFirstRead a.flash b read) → ((flash : Flash) (k : ℕ) → IsFirstRead flash k read → IsFirstPage flash k page) → ((e : Device) (k : ℕ) → IsGoodRead e k read → IsGoodFirst e k page)
-    → IsRaisedToRead read (numbers_of old.numbers) (numbers_of new.numbers) → FirstPagesBelow d b old → FirstPagesBelow d (b + 1) new
-firsts_more d a b old new read page only pages good is noted keeps raised were = record {
+    → IsRaisedToRead read (numbers_of old.numbers) (numbers_of new.numbers) → IsRenewedBy read old.renewed new.renewed → FirstPagesBelow d b old → FirstPagesBelow d (b + 1) new
+firsts_more d a b old new read page only pages good is noted keeps raised renews were = record {
   noted = record {
     len = ap (λ (xs : List FirstPage). length xs) pages ∙ omega (arith, length-append old.pages.items (page ∷ []), were.noted.len);
     good = subst (AreGoodFirsts d) (sym pages) (noted_more (IsGoodFirst d) b old.pages.items page were.noted.len were.noted.good (keeps d b (good_back d a b read only good)));
@@ -108,6 +144,11 @@ firsts_more d a b old new read page only pages good is noted keeps raised were =
     | inl here ↦ raised_above d.flash b read (numbers_of old.numbers) (numbers_of new.numbers) t (read_is honest) raised (subst (λ j. BeginsWithTag d.flash j t) here has)
   ];
   least = λ honest. raised_least d.flash b read (numbers_of old.numbers) (numbers_of new.numbers) (read_is honest) raised (were.least honest);
+  renewed = λ honest. renewed_begins d.flash b read old.renewed new.renewed (read_is honest) renews (were.renewed honest);
+  latest = λ honest k t lt has own. elim (cases_eq k b) [
+    | inr ne ↦ let before = were.latest honest k t (omega (arith, lt, ne)) has own in omega (arith, before, renewed_keeps read old.renewed new.renewed renews)
+    | inl here ↦ renewed_here d.flash b read old.renewed new.renewed t (read_is honest) renews (subst (λ j. BeginsWithTag d.flash j t) here has) own
+  ];
 } where
   read_is : d.honest ≡ true → IsFirstRead d.flash b read
   read_is = back_honest (λ g flash. IsFirstRead flash b read) d a only is
@@ -126,9 +167,9 @@ tag_is_first flash b reads.Erased is = λ t good has. no_tag flash b 0 t is.1 ha
 tag_is_first flash b reads.Untagged is = λ t good has. is.2 t has
 tag_is_first flash b (reads.Tagged t) is = is
 
-pub best_none : (device : Device) (r : FirstReads) → r.firsts.pages.items ≡ [] → numbers_of r.firsts.numbers ≡ record { version = 0; group = 0; seq = 0 } → r.best ≡ None → FirstReadsBelow device 0 r
-best_none device r empty zeros none = record {
-  pages = firsts_none device r.firsts empty zeros;
+pub best_none : (device : Device) (r : FirstReads) → r.firsts.pages.items ≡ [] → numbers_of r.firsts.numbers ≡ record { version = 0; group = 0; seq = 0 } → r.firsts.renewed ≡ 0 → r.best ≡ None → FirstReadsBelow device 0 r
+best_none device r empty zeros zero none = record {
+  pages = firsts_none device r.firsts empty zeros zero;
   candidate = subst (λ best. IfSome best (IsCandidate device)) (sym none) tt;
   best = λ honest. subst (IsGreatestBelow device.flash 0) (sym none) (λ k t lt may. absurd (omega (arith, lt)));
 }

@@ -2,7 +2,7 @@
 use Rattle.std.specs.Prelude.{◌≡◌, ℕ, ◌+◌, ◌*◌, ◌<◌, ◌≤◌, true, false, Ok, Err}
 use Rattle.std.proofs.Common.{sym, ◌∙◌, ap, subst, arith}
 use Rattle.std.proofs.Math.Nat.{mul-le-mul_left}
-use Rattle.nand_model.specs.Flash.{Flash}
+use Rattle.nand_model.specs.Flash.{Flash, IsWithin}
 use Rattle.nand_model.specs.Calls.{Device}
 use Rattle.nand_model.specs.declared.geometry.Geometry.{Geometry}
 use Rattle.nand_model.specs.Changes.{OnlyReads}
@@ -83,3 +83,7 @@ on_honest P a b reads is honest =
 pub back_honest : (P : Geometry → Flash → Type 0) (a b : Device) → OnlyReads a b → (b.honest ≡ true → P b.geometry b.flash) → a.honest ≡ true → P a.geometry a.flash
 back_honest P a b reads is was =
     subst (λ f. P a.geometry f) (same_flash a b reads was) (subst (λ x. P x b.flash) reads.lasts.geometry (is (reads.lasts.honest ∙ was)))
+
+-- what lies outside of a device after reads is what lay there
+pub within_back : (a b : Device) → OnlyReads a b → IsWithin b.geometry.pages b.geometry.blocks b.flash → a.honest ≡ true → IsWithin a.geometry.pages a.geometry.blocks a.flash
+within_back a b reads is honest = back_honest (λ g f. IsWithin g.pages g.blocks f) a b reads (λ same. is) honest

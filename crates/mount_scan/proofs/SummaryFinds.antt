@@ -19,7 +19,7 @@ use Rattle.mount_scan.specs.Blocks.{numbers_in, AreAtMost}
 use Rattle.mount_scan.specs.Copies.{copy_at, spot_of_copy}
 use Rattle.mount_scan.specs.Keys.{HaveOneKey, AreLatest}
 use Rattle.mount_scan.specs.Summarized.{HasSummarizedFlash, FindsNeeded, IsKey}
-use Rattle.mount_scan.specs.SummaryScan.{HasKnown, HasAsNew, IsSummarizedBlock, IsBehindErased, IsScannedBelow}
+use Rattle.mount_scan.specs.SummaryScan.{HasKnown, HasAsNew, IsSummarizedBlock, IsBehindErased, IsReadOlder, IsScannedBelow}
 use Rattle.mount_scan.specs.declared.page_copy.PageCopy.{PageCopy}
 use Rattle.mount_scan.specs.laws.Order.{not_after_on}
 
@@ -90,20 +90,25 @@ module _ (d : Device) (summarized : HasSummarizedFlash d) (within : IsWithin d.g
       | inr ne ↦ findable.in_order o c 0 s key is (omega (arith, ne)) behind.erased.1
     ]
 
+    own_key : Holds flash s.tag.object s.tag.chunk s
+    own_key = record {
+      group = is.holds.group;
+      whole = is.holds.whole;
+      index = is.holds.index;
+      within = is.holds.within;
+      block = is.holds.block;
+      page = is.holds.page;
+      has = is.holds.has;
+      object = refl;
+      chunk = refl;
+    }
+
     as_new : HasAsNew list s
     as_new = elim (below.scanned summarized.0 s.block (tag_placed d.geometry.pages d.geometry.blocks flash s.block s.page s.tag within is.holds.has).0 (ap flash.bad is.holds.block ∙ is.holds.whole.good)) [
-      | inl read ↦ read.pages s refl (subst (λ k. k < 2 ^ 32) (sym is.holds.chunk) low) (record {
-        group = is.holds.group;
-        whole = is.holds.whole;
-        index = is.holds.index;
-        within = is.holds.within;
-        block = is.holds.block;
-        page = is.holds.page;
-        has = is.holds.has;
-        object = refl;
-        chunk = refl;
-      })
-      | inr other ↦ elim other [ inl sum ↦ by_summary sum | inr behind ↦ absurd (not_erased behind) ]
+      | inl read ↦ read.pages s refl (subst (λ k. k < 2 ^ 32) (sym is.holds.chunk) low) own_key
+      | inr (inl sum) ↦ by_summary sum
+      | inr (inr (inl behind)) ↦ absurd (not_erased behind)
+      | inr (inr (inr older)) ↦ older.pages s refl (subst (λ k. k < 2 ^ 32) (sym is.holds.chunk) low) own_key (λ l lt. findable.in_order o c l s key is lt)
     ]
 
     -- no copy of the key comes after the page
@@ -142,13 +147,26 @@ module _ (d : Device) (summarized : HasSummarizedFlash d) (within : IsWithin d.g
         seq = omega (arith, less.1, most.seq);
       }
 
+  -- nor one of a block that is older than another above those of that one's first page
+  below_newer : (b p : ℕ) (t : Tag) → flash.bad b ≡ false → HasTag flash b p t → IsReadOlder flash b list → AreAtMost (numbers_in t) n
+  below_newer b p t good has read =
+      let (first, begins, k, u, other, own, less) = read.older in
+      let same = right.right.ordered.one b p 0 t first good has begins.1 in
+      let rise = right.right.ordered.rise b k p 0 t u good other.0 has other.1 (omega (arith, same, less)) in
+      let at = (tag_placed d.geometry.pages d.geometry.blocks flash k 0 u within other.1).0 in
+      let most : AreAtMost (numbers_in u) n = below.above summarized.0 k u at other in
+      record {
+        version = omega (arith, has.valid.version, rise, own, most.version);
+        group = omega (arith, rise, most.group);
+        seq = omega (arith, same, less, most.seq);
+      }
+
   above_each : (b p : ℕ) (t : Tag) → flash.bad b ≡ false → HasTag flash b p t → AreAtMost (numbers_in t) n
   above_each b p t good has = elim (below.scanned summarized.0 b (tag_placed d.geometry.pages d.geometry.blocks flash b p t within has).0 good) [
     | inl read ↦ read.numbers p t has
-    | inr other ↦ elim other [
-      | inl sum ↦ below_summary b p t has sum
-      | inr behind ↦ absurd (right.first behind.other b p t behind.before behind.first behind.erased has)
-    ]
+    | inr (inl sum) ↦ below_summary b p t has sum
+    | inr (inr (inl behind)) ↦ absurd (right.first behind.other b p t behind.before behind.first behind.erased has)
+    | inr (inr (inr older)) ↦ below_newer b p t good has older
   ]
 
   -- the numbers are the greatest

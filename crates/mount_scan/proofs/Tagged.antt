@@ -14,30 +14,23 @@ use Rattle.flash_tree.specs.Groups.{HasTag, Group, IsPart, IsGroup}
 use Rattle.flash_tree.specs.Newest.{Holds}
 use Rattle.flash_tree.specs.laws.Newest.{one_tag}
 use Rattle.flash_tree.specs.declared.place.Found.{Found}
-use Rattle.flash_tree.specs.Places.{spot_of, group_of, TagIs}
+use Rattle.flash_tree.specs.Places.{spot_of, group_of, CountsByTag, TagIs}
 use Rattle.flash_tree.specs.laws.Place.{same_flash, tag_placed, counts_by_tag}
 use Rattle.mount_scan.specs.Scanned.{AreCounted, ArePlaced, IsPlaceBefore, TellsCounted}
 use Rattle.mount_scan.specs.laws.Scan.{found_of, listed_spot}
 use Rattle.mount_scan.specs.Runs.{IsPartOf, IsRun, IsCountedIn, AddsCounted}
 use Rattle.mount_scan.specs.Blocks.{AreTags, AreCountedBelow, TellsBelow}
 
-module _ (f : Flash) (b pages blocks : ℕ) (tags : List (Option Tag)) (within : IsWithin pages blocks f) (len : length tags ≡ pages) (told : AreTags f b tags) where
-  told_is : (p : ℕ) (t : Tag) (o : Option Tag) → HasTag f b p t → slice_get tags p ≡ Some o → TagIs f b p o → slice_get tags p ≡ Some (Some t)
+-- ---- some tags of a block
+
+module _ (f : Flash) (b : ℕ) (tags : List (Option Tag)) where
+  pub told_is : (p : ℕ) (t : Tag) (o : Option Tag) → HasTag f b p t → slice_get tags p ≡ Some o → TagIs f b p o → slice_get tags p ≡ Some (Some t)
   told_is p t None has at is = absurd (is t has)
   told_is p t (Some u) has at is = at ∙ ap (λ (v : Tag). Some (Some v)) (one_tag f b p u t is has)
 
-  -- a tag on the flash stands in the list
-  pub tag_told : (p : ℕ) (t : Tag) → HasTag f b p t → slice_get tags p ≡ Some (Some t)
-  tag_told p t has =
-      let lt : p < length tags = omega (arith, (tag_placed pages blocks f b p t within has).1, len) in
-      let at : slice_get tags p ≡ Some (get_or tags p None) = slice_get-get_or tags p None lt in
-      told_is p t (get_or tags p None) has at (told p (get_or tags p None) at)
-
-  -- a whole group of the flash is a run in the list
-  group_told : (g : Group) → g.block ≡ b → IsGroup f g → (first : Tag) × (IsRun tags g.start first) × (first.count ≡ g.size)
-  group_told g block whole =
-      let has_at : (i : ℕ) (lt : i < g.size) → slice_get tags (g.start + i) ≡ Some (Some (whole.each i lt).tag) = λ i lt.
-      tag_told (g.start + i) (whole.each i lt).tag (subst (λ k. HasTag f k (g.start + i) (whole.each i lt).tag) block (whole.each i lt).has) in
+  -- a whole group whose tags are listed is a run in the list
+  run_of : (g : Group) (whole : IsGroup f g) → ((i : ℕ) (lt : i < g.size) → slice_get tags (g.start + i) ≡ Some (Some (whole.each i lt).tag)) → (first : Tag) × (IsRun tags g.start first) × (first.count ≡ g.size)
+  run_of g whole has_at =
       let some : 0 < g.size = omega (arith, whole.some) in
       let first : IsPart f g 0 = whole.each 0 some in
       let start : g.start + 0 ≡ g.start = omega arith in (
@@ -59,16 +52,59 @@ module _ (f : Flash) (b pages blocks : ℕ) (tags : List (Option Tag)) (within :
         first.count,
       )
 
-  -- a run in the list is a whole group of the flash
-  run_told : (start : ℕ) (first : Tag) → f.bad b ≡ false → 1 ≤ first.count → IsRun tags start first
-      → IsGroup f (record { block = b; start = start; size = first.count; number = first.group; seq = first.seq })
-  run_told start first good some run = record {
-    good = good;
-    some = some;
-    each = λ i lt.
-        let part : IsPartOf tags start first i = run.each i lt in
-        record { tag = part.tag; has = told (start + i) (Some part.tag) part.there; index = part.index; count = part.count; group = part.group; seq = part.seq };
-  }
+  -- a valid page is counted in the list, where the tags of its group are listed
+  pub held_counted : (x : Found) → x.block ≡ b → (by_tag : CountsByTag f x.tag.object x.tag.chunk (spot_of x))
+      → ((i : ℕ) (lt : i < x.tag.count) → slice_get tags (x.page - x.tag.index + i) ≡ Some (Some (by_tag.whole.each i lt).tag)) → x.page < length tags → slice_get tags x.page ≡ Some (Some x.tag)
+      → IsCountedIn b tags (length tags) x
+  held_counted x here by_tag each before tag =
+      let run = run_of (group_of (spot_of x)) by_tag.whole each in
+      record {
+        block = here;
+        before = before;
+        tag = tag;
+        start = x.page - x.tag.index;
+        within = record { first = run.0; run = run.1; from = omega arith; to = omega (arith, by_tag.start, run.2, by_tag.has.valid.index) };
+      }
+
+  module _ (there : (p : ℕ) (t : Tag) → slice_get tags p ≡ Some (Some t) → HasTag f b p t) where
+    -- a run in the list is a whole group of the flash
+    group_of_run : (start : ℕ) (first : Tag) → f.bad b ≡ false → 1 ≤ first.count → IsRun tags start first
+        → IsGroup f (record { block = b; start = start; size = first.count; number = first.group; seq = first.seq })
+    group_of_run start first good some run = record {
+      good = good;
+      some = some;
+      each = λ i lt.
+          let part : IsPartOf tags start first i = run.each i lt in
+          record { tag = part.tag; has = there (start + i) part.tag part.there; index = part.index; count = part.count; group = part.group; seq = part.seq };
+    }
+
+    -- what is counted in the list is a valid page
+    pub counted_held : (x : Found) → f.bad b ≡ false → IsCountedIn b tags (length tags) x → (x.block ≡ b) × Holds f x.tag.object x.tag.chunk (spot_of x)
+    counted_held x good is =
+        let run = is.within in (
+          is.block,
+          record {
+            group = record { block = b; start = is.start; size = run.first.count; number = run.first.group; seq = run.first.seq };
+            whole = group_of_run is.start run.first good (omega (arith, run.from, run.to)) run.run;
+            index = x.page - is.start;
+            within = omega (arith, run.from, run.to);
+            block = is.block;
+            page = omega (arith, run.from);
+            has = subst (λ k. HasTag f k x.page x.tag) (sym is.block) (there x.page x.tag is.tag);
+            object = refl;
+            chunk = refl;
+          },
+        )
+
+-- ---- all of them
+
+module _ (f : Flash) (b pages blocks : ℕ) (tags : List (Option Tag)) (within : IsWithin pages blocks f) (len : length tags ≡ pages) (told : AreTags f b tags) where
+  -- a tag on the flash stands in the list
+  pub tag_told : (p : ℕ) (t : Tag) → HasTag f b p t → slice_get tags p ≡ Some (Some t)
+  tag_told p t has =
+      let lt : p < length tags = omega (arith, (tag_placed pages blocks f b p t within has).1, len) in
+      let at : slice_get tags p ≡ Some (get_or tags p None) = slice_get-get_or tags p None lt in
+      told_is f b tags p t (get_or tags p None) has at (told p (get_or tags p None) at)
 
   -- what counts in a block is told by its tags
   pub counted_told : (x : Found) → f.bad b ≡ false → ((x.block ≡ b) × Holds f x.tag.object x.tag.chunk (spot_of x)) ↔ IsCountedIn b tags (length tags) x
@@ -76,29 +112,10 @@ module _ (f : Flash) (b pages blocks : ℕ) (tags : List (Option Tag)) (within :
     λ holds.
         let by_tag = (counts_by_tag f x.tag.object x.tag.chunk (spot_of x)).0 holds.1 in
         let has : HasTag f b x.page x.tag = subst (λ k. HasTag f k x.page x.tag) holds.0 by_tag.has in
-        let run = group_told (group_of (spot_of x)) holds.0 by_tag.whole in
-        record {
-          block = holds.0;
-          before = omega (arith, (tag_placed pages blocks f b x.page x.tag within has).1, len);
-          tag = tag_told x.page x.tag has;
-          start = x.page - x.tag.index;
-          within = record { first = run.0; run = run.1; from = omega arith; to = omega (arith, by_tag.start, run.2, has.valid.index) };
-        },
-    λ is.
-        let run = is.within in (
-          is.block,
-          record {
-            group = record { block = b; start = is.start; size = run.first.count; number = run.first.group; seq = run.first.seq };
-            whole = run_told is.start run.first good (omega (arith, run.from, run.to)) run.run;
-            index = x.page - is.start;
-            within = omega (arith, run.from, run.to);
-            block = is.block;
-            page = omega (arith, run.from);
-            has = subst (λ k. HasTag f k x.page x.tag) (sym is.block) (told x.page (Some x.tag) is.tag);
-            object = refl;
-            chunk = refl;
-          },
-        ),
+        held_counted f b tags x holds.0 by_tag
+        (λ i lt. tag_told (x.page - x.tag.index + i) (by_tag.whole.each i lt).tag (subst (λ k. HasTag f k (x.page - x.tag.index + i) (by_tag.whole.each i lt).tag) holds.0 (by_tag.whole.each i lt).has))
+        (omega (arith, (tag_placed pages blocks f b x.page x.tag within has).1, len)) (tag_told x.page x.tag has),
+    counted_held f b tags (λ p t at. told p (Some t) at) x good,
   )
 
   -- with what counts in a block it is the next block's turn

@@ -1,66 +1,69 @@
 -- How many pages a scan by summaries reads.
-use Rattle.std.specs.Prelude.{◌≡◌, ◌<◌, ◌≤◌, ℕ, ◌+◌, ◌*◌, Bool, true, false, List, Some, Result, map, sum, slice_get, if◌then◌else◌}
+use Rattle.std.specs.Prelude.{◌≡◌, ◌≢◌, ◌⊎◌, ◌<◌, ◌≤◌, ℕ, ◌+◌, ◌*◌, Bool, true, false, List, Some, Result, map, sum, slice_get, if◌then◌else◌}
 use Rattle.std.specs.List.{range_with_len}
-use Rattle.nand_model.specs.Flash.{Flash, Page, Erased, Written, Uncorrectable}
+use Rattle.nand_model.specs.Flash.{Flash, Erased}
 use Rattle.nand_model.specs.Calls.{Device}
 use Rattle.nand_model.specs.declared.geometry.Geometry.{Geometry}
 use Rattle.page_tags.specs.declared.tag.Tag.{Tag}
 use Rattle.flash_tree.specs.Summaries.{Summary, IsWholeSummary, MatchesBlock, BeginsSummary}
-use Rattle.mount_scan.specs.FirstPages.{BeginsWithTag, IsFirstPage}
+use Rattle.mount_scan.specs.FirstPages.{BeginsWithTag, IsFirstPage, IsRenewedBelow}
 use Rattle.mount_scan.specs.FoundCheckpoint.{ReadsAtMost}
 use Rattle.mount_scan.specs.declared.fault.ScanFault.{ScanFault}
 use Rattle.mount_scan.specs.declared.first_page.FirstPage.{FirstPage}
-
--- whether a page is other than erased
-abbrev pub is_written : Page → Bool
-is_written Erased = false
-is_written (Written bytes tag) = true
-is_written Uncorrectable = true
-
--- 1 for a good block that does not begin erased and is not one of these, else 0
-abbrev pub one_other : Flash → (ℕ → Bool) → ℕ → ℕ
-one_other flash these k = if flash.bad k then 0 else (if these k then 0 else (if is_written (flash.page k 0) then 1 else 0))
 
 -- the sum of these numbers of the blocks below b
 abbrev pub sum_below : (ℕ → ℕ) → ℕ → ℕ
 sum_below each b = sum (map each (range_with_len 0 b))
 
--- each of these blocks has a whole summary that matches it
-abbrev pub HaveSummaries : Geometry → Flash → (ℕ → Bool) → Type 0
-HaveSummaries g flash these = (k : ℕ) → these k ≡ true → (s : Summary) × IsWholeSummary g flash s × MatchesBlock flash s × (s.head.block ≡ k)
-
 -- a block that begins with a summary's first tag has no greater count there than this
 abbrev pub AreSizes : Flash → (ℕ → ℕ) → Type 0
 AreSizes flash sizes = (k : ℕ) (t : Tag) → BeginsWithTag flash k t → BeginsSummary t → t.count ≤ sizes k
+
+-- no whole summary is of this block as it was allocated last
+abbrev pub LacksSummary : Geometry → Flash → ℕ → Type 0
+LacksSummary g flash b = (s : Summary) → IsWholeSummary g flash s → MatchesBlock flash s → s.head.block ≡ b → ⊥
+
+-- a block was allocated after this one that begins with a page whose version is the number of its group: with one that is no copy
+abbrev pub IsOlder : Flash → ℕ → Type 0
+IsOlder flash b = (t : Tag) × BeginsWithTag flash b t × (k : ℕ) × (u : Tag) × BeginsWithTag flash k u × (u.version ≡ u.group) × (t.seq < u.seq)
+
+-- So many pages of a block are read at most, where it has no summary and does not begin erased: all, or, where it is older than another
+-- block, those up to its first erased page.
+abbrev pub IsCost : Geometry → Flash → (b cost : ℕ) → Type 0
+IsCost g flash b cost = flash.bad b ≡ false → flash.page b 0 ≢ Erased → LacksSummary g flash b
+    → (g.pages ≤ cost) ⊎ (IsOlder flash b × ((q : ℕ) × (flash.page b q ≡ Erased) × (q < cost)))
+
+-- and so of each block
+abbrev pub AreCosts : Geometry → Flash → (ℕ → ℕ) → Type 0
+AreCosts g flash costs = (b : ℕ) → IsCost g flash b (costs b)
 
 -- Of any device: each page is read twice, at most.
 abbrev pub ReadsTwice : {T : Type 0} → Device → Device → Result T ScanFault → Type 0
 ReadsTwice old new result = ReadsAtMost (2 * old.geometry.pages * old.geometry.blocks) old new result
 
--- Of an honest device these pages are read at most: those of the summaries, and all of a block that begins erased and of the others that
--- do not and are none of these, where each of these has a summary.
+-- Of an honest device these pages are read at most: those of the summaries, all of a block that begins erased, and of the others that have
+-- no summary as many as each costs.
 abbrev pub ReadsByNeed : Device → Device → Type 0
-ReadsByNeed old new = old.honest ≡ true → (these : ℕ → Bool) (sizes : ℕ → ℕ) → HaveSummaries old.geometry old.flash these → AreSizes old.flash sizes
-    → new.reads ≤ old.reads + sum_below sizes old.geometry.blocks + old.geometry.pages * (1 + sum_below (one_other old.flash these) old.geometry.blocks)
+ReadsByNeed old new = old.honest ≡ true → (sizes costs : ℕ → ℕ) → AreSizes old.flash sizes → AreCosts old.geometry old.flash costs
+    → new.reads ≤ old.reads + sum_below sizes old.geometry.blocks + (old.geometry.pages + sum_below costs old.geometry.blocks)
 
 -- each whole summary in a block below b that matches its block is noted
 abbrev pub AreDoneBelow : Device → ℕ → List Bool → Type 0
 AreDoneBelow device b done = device.honest ≡ true → (s : Summary) → s.block < b → IsWholeSummary device.geometry device.flash s → MatchesBlock device.flash s → slice_get done s.head.block ≡ Some true
 
--- 1 while no block was read that begins erased, then 0
-abbrev pub one_erased : Bool → ℕ
-one_erased erased = if erased then 0 else 1
+-- each block that has a summary is noted
+abbrev pub AreAllDone : Geometry → Flash → List Bool → Type 0
+AreAllDone g flash done = (b : ℕ) → slice_get done b ≡ Some false → LacksSummary g flash b
 
--- of an honest device: the block begins so, and is noted if it is one of these
-pub record IsOther (device : Device) (these : ℕ → Bool) (b : ℕ) (first : FirstPage) (summarized : Bool) : Type 0 where
+-- all pages of a block while none was read that begins erased, then none
+abbrev pub erased_pages : Device → Bool → ℕ
+erased_pages device erased = if erased then 0 else device.geometry.pages
+
+-- of an honest device: the block begins so, is noted if it has a summary, and costs so much; and no block begins with a page of its own
+-- group's number and a greater seq than this one
+pub record IsOther (device : Device) (b : ℕ) (first : FirstPage) (summarized : Bool) (renewed cost : ℕ) : Type 0 where
   pub honest : device.honest ≡ true
   pub first_page : IsFirstPage device.flash b first
-  pub noted : these b ≡ true → summarized ≡ true
-
--- how many pages of the block are read at most
-abbrev pub most_pages : Device → (ℕ → Bool) → (b : ℕ) → (erased : Bool) → ℕ
-most_pages device these b erased = device.geometry.pages * (one_other device.flash these b + one_erased erased)
-
--- each of these blocks is noted
-abbrev pub AreNotedSummarized : (ℕ → Bool) → List Bool → Type 0
-AreNotedSummarized these done = (k : ℕ) → these k ≡ true → slice_get done k ≡ Some true
+  pub noted : summarized ≡ false → LacksSummary device.geometry device.flash b
+  pub latest : (k : ℕ) (t : Tag) → BeginsWithTag device.flash k t → t.version ≡ t.group → t.seq ≤ renewed
+  pub cost_is : IsCost device.geometry device.flash b cost

@@ -1,5 +1,5 @@
 -- The first pages of blocks.
-use Rattle.std.specs.Prelude.{◌≡◌, ◌≢◌, ◌<◌, ℕ, true, false, List, Option, Some, None, IfSome, length, slice_get}
+use Rattle.std.specs.Prelude.{◌≡◌, ◌≢◌, ◌<◌, ◌≤◌, ℕ, max, true, false, List, Option, Some, None, IfSome, length, slice_get}
 use Rattle.nand_model.specs.Flash.{Flash, Erased}
 use Rattle.nand_model.specs.Calls.{Device}
 use Rattle.page_tags.specs.declared.tag.Tag.{Tag}
@@ -91,6 +91,25 @@ IsRaisedToRead reads.Erased old new = new ≡ old
 IsRaisedToRead reads.Untagged old new = new ≡ old
 IsRaisedToRead (reads.Tagged t) old new = IsRaisedTo t old new
 
+-- a seq is raised to that of a tag that was read, where the tag's version is the number of its group
+abbrev pub IsRenewedBy : FirstRead → (old new : ℕ) → Type 0
+IsRenewedBy reads.Bad old new = new ≡ old
+IsRenewedBy reads.Erased old new = new ≡ old
+IsRenewedBy reads.Untagged old new = new ≡ old
+IsRenewedBy (reads.Tagged t) old new = (t.version ≡ t.group → new ≡ max old t.seq) × (t.version ≢ t.group → new ≡ old)
+
+-- a good block begins with a tag of this seq, whose version is the number of its group
+abbrev pub BeginsRenewed : Flash → ℕ → Type 0
+BeginsRenewed flash seq = (k : ℕ) × (t : Tag) × BeginsWithTag flash k t × (t.version ≡ t.group) × (t.seq ≡ seq)
+
+-- no good block below b begins so with a greater seq
+abbrev pub IsRenewedBelow : Flash → (b seq : ℕ) → Type 0
+IsRenewedBelow flash b seq = (k : ℕ) (t : Tag) → k < b → BeginsWithTag flash k t → t.version ≡ t.group → t.seq ≤ seq
+
+-- the first page has a tag of a lower seq than this one
+abbrev pub IsOlderThan : ℕ → FirstPage → Type 0
+IsOlderThan seq first = (s : ℕ) × (seq_of_first first ≡ Some s) × (s < seq)
+
 -- the tag that was read, if one was
 abbrev pub tag_of_read : FirstRead → Option Tag
 tag_of_read reads.Bad = None
@@ -124,6 +143,8 @@ pub record FirstPagesBelow (device : Device) (b : ℕ) (firsts : FirstPages) : T
   pub noted : AreNoted device b firsts.pages.items
   pub above : device.honest ≡ true → AreAboveFirsts device.flash b (numbers_of firsts.numbers)
   pub least : device.honest ≡ true → AreNoneAbove device.flash (numbers_of firsts.numbers)
+  pub renewed : device.honest ≡ true → firsts.renewed ≢ 0 → BeginsRenewed device.flash firsts.renewed
+  pub latest : device.honest ≡ true → IsRenewedBelow device.flash b firsts.renewed
 
 -- what was read of the first pages of a device
 abbrev pub AreFirstsOf : Device → FirstPages → Type 0

@@ -18,3 +18,4 @@ pub mod Summarized
 pub mod SummaryScan
 pub mod Faults
 pub mod FewReads
+pub mod WrittenBlocks

@@ -1,5 +1,5 @@
 -- What is known in the midst of a scan by summaries.
-use Rattle.std.specs.Prelude.{◌≡◌, ◌⊎◌, ◌<◌, ◌≤◌, ◌^◌, ℕ, Bool, true, false, List, Some, length, slice_get, Contains}
+use Rattle.std.specs.Prelude.{◌≡◌, ◌≢◌, ◌⊎◌, ◌<◌, ◌≤◌, ◌^◌, ℕ, Bool, true, false, List, Some, length, slice_get, Contains}
 use Rattle.nand_model.specs.Flash.{Flash}
 use Rattle.nand_model.specs.Calls.{Device}
 use Rattle.nand_model.specs.declared.geometry.Geometry.{Geometry}
@@ -15,7 +15,9 @@ use Rattle.mount_scan.specs.Copies.{HasValidName, copy_at, spot_of_copy}
 use Rattle.mount_scan.specs.Keys.{HaveOneKey}
 use Rattle.mount_scan.specs.Latest.{IsCountedCopy}
 use Rattle.mount_scan.specs.Listed.{listed}
-use Rattle.mount_scan.specs.FirstPages.{IsFirstPage, AreAboveFirsts, AreNoneAbove}
+use Rattle.mount_scan.specs.WrittenBlocks.{IsWrittenUpTo}
+use Rattle.mount_scan.specs.FewReads.{IsOlder}
+use Rattle.mount_scan.specs.FirstPages.{IsFirstPage, AreAboveFirsts, AreNoneAbove, BeginsRenewed}
 use Rattle.mount_scan.specs.declared.page_copy.PageCopy.{PageCopy}
 use Rattle.mount_scan.specs.declared.first_page.FirstPage.{FirstPage}
 use Rattle.mount_scan.specs.declared.first_page.FirstPage.TheVariants as firsts
@@ -69,6 +71,12 @@ pub record IsSummarizedBlock (g : Geometry) (flash : Flash) (b : ℕ) (list : Li
   pub block : summary.head.block ≡ b
   pub pages : CoversSummary summary list
 
+-- The tags of the block were read up to the first erased page, and another begins with a page of a greater seq, whose version is the
+-- number of its group.
+pub record IsReadOlder (flash : Flash) (b : ℕ) (list : List PageCopy) : Type 0 where
+  pub pages : (s : Spot) → s.block ≡ b → s.tag.chunk < 2 ^ 32 → Holds flash s.tag.object s.tag.chunk s → IsWrittenUpTo flash b s.page → HasAsNew list s
+  pub older : IsOlder flash b
+
 -- the block begins with an erased page, and so does one before it
 pub record IsBehindErased (flash : Flash) (b : ℕ) : Type 0 where
   pub erased : BeginsErased flash b
@@ -78,7 +86,7 @@ pub record IsBehindErased (flash : Flash) (b : ℕ) : Type 0 where
 
 -- why no more of the block's tags have to be read
 abbrev pub IsScanned : Geometry → Flash → ℕ → List PageCopy → Numbers → Type 0
-IsScanned g flash b list n = IsReadBlock flash b list n ⊎ (IsSummarizedBlock g flash b list ⊎ IsBehindErased flash b)
+IsScanned g flash b list n = IsReadBlock flash b list n ⊎ (IsSummarizedBlock g flash b list ⊎ (IsBehindErased flash b ⊎ IsReadOlder flash b list))
 
 -- the blocks that are noted have summaries, whose pages were added
 abbrev pub AreSummarized : Geometry → Flash → List Bool → List PageCopy → Type 0
@@ -118,6 +126,7 @@ pub record IsRestBelow (device : Device) (b : ℕ) (done : List Bool) (rest : Re
   pub below : IsScannedBelow device b (listed rest.newest) (numbers_of rest.seen.numbers)
   pub summarized : device.honest ≡ true → AreSummarized device.geometry device.flash done (listed rest.newest)
   pub erased : device.honest ≡ true → rest.erased ≡ true → (j : ℕ) × (j < b) × BeginsErased device.flash j
+  pub renewed : device.honest ≡ true → rest.renewed ≢ 0 → BeginsRenewed device.flash rest.renewed
 
 -- the block has this first page, and is noted as summarized or not
 pub record IsNextBlock (device : Device) (b : ℕ) (done : List Bool) (first : FirstPage) (summarized : Bool) : Type 0 where

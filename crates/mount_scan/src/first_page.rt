@@ -8,7 +8,7 @@ ghost use Rattle.flash_tree.specs.Summaries.{BeginsSummary};
 ghost use Rattle.mount_scan.specs.FoundCheckpoint.{ReadsAtMost};
 ghost use Rattle.mount_scan.specs.CheckpointCandidates.{IsGoodTag};
 ghost use Rattle.mount_scan.specs.FirstPages.{BeginsWithTag, IsFirstRead, IsGoodRead, IsFirstPage, IsGoodFirst};
-ghost use Rattle.mount_scan.specs.FirstPages.{FirstReadsBelow, HasSeqAt, IsRaisedToRead, seq_of_first, tag_of_read, tag_of_summary};
+ghost use Rattle.mount_scan.specs.FirstPages.{FirstReadsBelow, HasSeqAt, IsOlderThan, IsRaisedToRead, IsRenewedBy, seq_of_first, tag_of_read, tag_of_summary};
 
 use crate::ScanFault;
 use crate::checkpoint_candidate::{Candidate, best_with};
@@ -53,6 +53,8 @@ pub struct FirstPages {
     pub pages: Vec<FirstPage>,
     /// The greatest numbers of these tags.
     pub numbers: TagNumbers,
+    /// The greatest seq of those whose version is the number of their group, as it is where a page was not copied; 0 where there is none.
+    pub renewed: u64,
 }
 
 /// What was read of the first pages, and which of them a checkpoint may begin with.
@@ -144,6 +146,16 @@ fn seq_of_first(first: FirstPage) -> Option<u64>
     }
 }
 
+/// Whether a first page has a tag of a lower seq than this one.
+pub(crate) fn is_older(first: FirstPage, renewed: u64) -> bool
+    ensures { IsTrue result ↔ IsOlderThan renewed first }
+{
+    match seq_of_first(first) {
+        Some(seq) => seq < renewed,
+        None => false,
+    }
+}
+
 /// Whether the first page of a block has a tag with this seq.
 pub(crate) fn has_seq(pages: &[FirstPage], block: u32, seq: u64) -> bool
     ensures { IsTrue result ↔ HasSeqAt pages.now block seq }
@@ -191,6 +203,24 @@ impl FirstRead {
             FirstRead::Tagged(tag) => raised_to(numbers, tag),
         }
     }
+
+    /// A seq, raised to that of its tag, if it has one whose version is the number of its group.
+    fn renewed(&self, seq: u64) -> u64
+        ensures { IsRenewedBy self.now seq result }
+    {
+        match self {
+            FirstRead::Bad => seq,
+            FirstRead::Erased => seq,
+            FirstRead::Untagged => seq,
+            FirstRead::Tagged(tag) => {
+                if tag.version == tag.group {
+                    seq.max(tag.seq)
+                } else {
+                    seq
+                }
+            }
+        }
+    }
 }
 
 /// Adds the first page of one more block.
@@ -203,6 +233,7 @@ fn add_first<N: Nand>(device: &mut N, block: u32, reads: &mut FirstReads) -> Res
     let read = read_first(device, block)?;
     reads.firsts.pages.push(read.page())?;
     reads.firsts.numbers = read.raised(reads.firsts.numbers);
+    reads.firsts.renewed = read.renewed(reads.firsts.renewed);
     reads.best = best_with(reads.best, block, read.tag());
     Ok(())
 }
@@ -224,6 +255,7 @@ pub(crate) fn read_first_pages<N: Nand>(
                 group: 0,
                 seq: 0,
             },
+            renewed: 0,
         },
         best: None,
     };

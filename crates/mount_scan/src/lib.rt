@@ -23,6 +23,7 @@ mod raise;
 mod summary_pages;
 mod summary_scan;
 mod whole;
+mod written;
 
 pub use answer::{NewestScan, Scan};
 pub use bucket::Bucket;

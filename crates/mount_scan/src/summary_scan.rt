@@ -5,7 +5,7 @@ ghost use Rattle.nand_model.specs.Changes.{OnlyReads};
 ghost use Rattle.flash_tree.specs.Newest.{AreGreatest};
 ghost use Rattle.flash_tree.specs.Places.{numbers_of};
 ghost use Rattle.mount_scan.specs.FoundCheckpoint.{ReadsAtMost};
-ghost use Rattle.mount_scan.specs.FewReads.{IsOther, AreNotedSummarized, ReadsTwice, ReadsByNeed, most_pages, one_erased, one_other, sum_below};
+ghost use Rattle.mount_scan.specs.FewReads.{IsOther, AreAllDone, AreCosts, ReadsTwice, ReadsByNeed, erased_pages, sum_below};
 ghost use Rattle.mount_scan.specs.FirstPages.{AreFirstsOf, AreNoneAbove};
 ghost use Rattle.mount_scan.specs.Listed.{listed};
 ghost use Rattle.mount_scan.specs.Summarized.{HasSummarizedFlash, FindsNeeded};
@@ -15,9 +15,10 @@ ghost use Rattle.mount_scan.specs.declared.first_page.FirstPage.TheVariants as f
 use crate::FoundPages;
 use crate::answer::NewestScan;
 use crate::fault::ScanFault;
-use crate::first_page::{FirstPage, FirstPages};
+use crate::first_page::{FirstPage, FirstPages, is_older};
 use crate::summary_pages::{SummaryPages, read_summaries};
 use crate::whole::{Seen, find_block};
+use crate::written::find_written;
 use nand_model::Nand;
 use page_tags::Tag;
 use std::alloc::Global;
@@ -30,6 +31,8 @@ struct Rest {
     newest: FoundPages,
     /// Whether the tags of a block were read that begins with an erased page.
     erased: bool,
+    /// Of the blocks whose first page has a lower seq the tags are read up to the first erased page alone.
+    renewed: u64,
 }
 
 /// Whether the tags of a block are read.
@@ -70,12 +73,23 @@ fn find_left<N: Nand>(
     ensures reads { ReadsAtMost (N.state device.old).geometry.pages (N.state device.old) (N.state device.new) result }
     ensures scans { (d : Device) (done : List Bool) → OnlyReads d (N.state device.old) → IsNextBlock d block done first summarized
         → IsRestBelow d block done rest.old → OnOk result (IsRestBelow d (block + 1) done rest.new) }
-    ensures few { (d : Device) (these : ℕ → Bool) → OnlyReads d (N.state device.old) → IsOther d these block first summarized
-        → (N.state device.new).reads ≤ (N.state device.old).reads + most_pages d these block rest.old.erased }
-    ensures left { (d : Device) (these : ℕ → Bool) → OnlyReads d (N.state device.old) → IsOther d these block first summarized
-        → OnOk result ((N.state device.new).reads + d.geometry.pages * one_erased rest.new.erased ≤ (N.state device.old).reads + most_pages d these block rest.old.erased) }
+    ensures renewed { rest.new.renewed ≡ rest.old.renewed }
+    ensures few { (d : Device) (cost : ℕ) → OnlyReads d (N.state device.old) → IsOther d block first summarized rest.old.renewed cost
+        → (N.state device.new).reads ≤ (N.state device.old).reads + (cost + erased_pages d rest.old.erased) }
+    ensures left { (d : Device) (cost : ℕ) → OnlyReads d (N.state device.old) → IsOther d block first summarized rest.old.renewed cost
+        → OnOk result ((N.state device.new).reads + erased_pages d rest.new.erased ≤ (N.state device.old).reads + (cost + erased_pages d rest.old.erased)) }
 {
     if !is_left(first, summarized, rest.erased) {
+        return Ok(());
+    }
+    if is_older(first, rest.renewed) {
+        find_written(
+            device,
+            block,
+            &mut rest.tags,
+            &mut rest.seen,
+            &mut rest.newest,
+        )?;
         return Ok(());
     }
     find_block(
@@ -99,9 +113,9 @@ fn find_rest<N: Nand>(
     requires pages { length firsts.now.pages.items ≡ (N.state device.old).geometry.blocks }
     requires done { length summarized.done.items ≡ (N.state device.old).geometry.blocks }
     ensures reads { ReadsAtMost ((N.state device.old).geometry.pages * (N.state device.old).geometry.blocks) (N.state device.old) (N.state device.new) result }
-    ensures few { (d : Device) (these : ℕ → Bool) → OnlyReads d (N.state device.old) → d.honest ≡ true → AreFirstsOf d firsts.now
-        → AreNotedSummarized these summarized.done.items
-        → (N.state device.new).reads ≤ (N.state device.old).reads + d.geometry.pages * (1 + sum_below (one_other d.flash these) d.geometry.blocks) }
+    ensures few { (d : Device) (costs : ℕ → ℕ) → OnlyReads d (N.state device.old) → d.honest ≡ true → AreFirstsOf d firsts.now
+        → AreAllDone d.geometry d.flash summarized.done.items → AreCosts d.geometry d.flash costs
+        → (N.state device.new).reads ≤ (N.state device.old).reads + (d.geometry.pages + sum_below costs d.geometry.blocks) }
     ensures scanned { (d : Device) → OnlyReads d (N.state device.old) → AreFirstsOf d firsts.now → AreSummaryPages d summarized
         → IfOk result (IsScannedAll d) }
 {
@@ -111,6 +125,7 @@ fn find_rest<N: Nand>(
         seen: Seen::with(alloc, firsts.numbers),
         newest,
         erased: false,
+        renewed: firsts.renewed,
     };
     for block in 0..device.geometry().blocks() {
         let at = block as usize;

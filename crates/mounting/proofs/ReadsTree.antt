@@ -14,7 +14,7 @@ use Rattle.flash_tree.specs.laws.Place.{same_flash}
 use Rattle.page_store.specs.Checked.{HasTrueFlash}
 use Rattle.mount_scan.specs.FoundCheckpoint.{IsWholeOn, ReadsFew}
 use Rattle.flash_tree.specs.Checkpoints.{Checkpoint}
-use Rattle.mount_scan.specs.FewReads.{AreSizes, HaveSummaries, ReadsByNeed, one_other, sum_below}
+use Rattle.mount_scan.specs.FewReads.{AreCosts, AreSizes, ReadsByNeed, sum_below}
 use Rattle.mount_scan.specs.Scanned.{good_pages}
 use Rattle.pages.specs.Maps.{PageMap, has}
 use Rattle.tree_walk.specs.Looked.{looked_pages}
@@ -25,7 +25,7 @@ use Rattle.volume_terms.specs.Sizes.{Sizes, IsSizes}
 use Rattle.chunk_index.specs.declared.index.Index.{Index}
 use Rattle.mounting.specs.Mounted.{IsTreeShown}
 use Rattle.mounting.specs.Named.{IsReadAs, IsTrustedSince}
-use Rattle.mounting.specs.Reads.{AreSummarized, EndsMount, ReadsAll, ReadsAllTags, ReadsByCheckpoint, ReadsBySummaries, ReadsNeeded, ReadsScanned, ReadsThrough, ReadsTree, ReadsWithoutCheckpoint, all_pages, needed_pages}
+use Rattle.mounting.specs.Reads.{ArePriced, EndsMount, ReadsAll, ReadsAllTags, ReadsByCheckpoint, ReadsBySummaries, ReadsNeeded, ReadsScanned, ReadsThrough, ReadsTree, ReadsWithoutCheckpoint, all_pages, needed_pages}
 use Rattle.mounting.proofs.Noting.{true_after}
 
 -- the laws that are used
@@ -144,42 +144,40 @@ tags_seen a b seen read few honest spare objects sound =
 -- ---- by summaries
 
 -- as many are needed
-needed_same : (a b : Device) (these : ℕ → Bool) (sizes : ℕ → ℕ) → OnlyReads a b → a.honest ≡ true → needed_pages b these sizes ≡ needed_pages a these sizes
-needed_same a b these sizes reads honest =
-    ap (λ (f : Flash). sum_below sizes b.geometry.blocks + b.geometry.pages * (1 + sum_below (one_other f these) b.geometry.blocks)) (same_flash a b reads honest)
-    ∙ ap (λ (g : Geometry). sum_below sizes g.blocks + g.pages * (1 + sum_below (one_other a.flash these) g.blocks)) reads.lasts.geometry
+needed_same : (a b : Device) (sizes costs : ℕ → ℕ) → OnlyReads a b → needed_pages b sizes costs ≡ needed_pages a sizes costs
+needed_same a b sizes costs reads = ap (λ (g : Geometry). sum_below sizes g.blocks + (g.pages + sum_below costs g.blocks)) reads.lasts.geometry
 
-summarized_after : (a b : Device) (these : ℕ → Bool) (sizes : ℕ → ℕ) → OnlyReads a b → a.honest ≡ true → AreSummarized a these sizes → AreSummarized b these sizes
-summarized_after a b these sizes reads honest (have, are) =
+priced_after : (a b : Device) (sizes costs : ℕ → ℕ) → OnlyReads a b → a.honest ≡ true → ArePriced a sizes costs → ArePriced b sizes costs
+priced_after a b sizes costs reads honest (are, cost) =
     let flash : a.flash ≡ b.flash = sym (same_flash a b reads honest) in (
-      subst (λ (g : Geometry). HaveSummaries g b.flash these) (sym reads.lasts.geometry) (subst (λ (f : Flash). HaveSummaries a.geometry f these) flash have),
       subst (λ (f : Flash). AreSizes f sizes) flash are,
+      subst (λ (g : Geometry). AreCosts g b.flash costs) (sym reads.lasts.geometry) (subst (λ (f : Flash). AreCosts a.geometry f costs) flash cost),
     )
 
 -- first what a scan by summaries needs is read, and then the tree
 pub reads_needed : (a b c : Device) (spare : ℕ) (tree : Tree) → OnlyReads a b → a.honest ≡ true → ReadsByNeed a b → ReadsThrough b c spare tree → ReadsNeeded a c spare tree
-reads_needed a b c spare tree reads honest need then these sizes (have, are) =
-    let first = need honest these sizes have are in
+reads_needed a b c spare tree reads honest need then sizes costs (are, cost) =
+    let first = need honest sizes costs are cost in
     let same : tree_pages (sizes_of b.geometry spare) tree ≡ tree_pages (sizes_of a.geometry spare) tree = ap (λ (g : Geometry). tree_pages (sizes_of g spare) tree) reads.lasts.geometry in
     omega (arith, first, then, same)
 
 -- of a flash that is sound
 pub reads_summaries : (a b seen : Device) → (since : IsTrustedSince a b seen) → (is : HasTrueFlash a) → ReadLaws → (x : Index) (spare : ℕ) (tree : Tree) (objects : Objects) → ReadsNeeded a b spare tree
     → Answers seen.geometry seen.flash (IsTreeOf spare objects) → IsTreeShown seen x spare tree objects → ReadsBySummaries a b
-reads_summaries a b seen since is laws x spare tree objects few answers shown s other sound these sizes are =
+reads_summaries a b seen since is laws x spare tree objects few answers shown s other sound sizes costs are =
     let looked = looked_as a seen (geometry a b seen since is) (flash a b seen since is) laws x spare tree objects answers shown s other sound in
-    let read = few these sizes are in
+    let read = few sizes costs are in
     omega (arith, read, looked)
 
 -- where a scan would follow, the flash was not sound
 pub summaries_not : (a e new : Device) (fault : RootFault) → ((spare : ℕ) (tree : Objects) → IsSoundFlash a.geometry a.flash spare tree → EndsMount e fault) → (EndsMount e fault → ⊥) → ReadsBySummaries a new
-summaries_not a e new fault ends not spare objects sound these sizes are = absurd (not (ends spare objects sound))
+summaries_not a e new fault ends not spare objects sound sizes costs are = absurd (not (ends spare objects sound))
 
 -- after the search, which found no checkpoint
 pub without_after : (a b new : Device) → OnlyReads a b → b.reads ≤ a.reads + (a.geometry.blocks + a.geometry.pages) → (HasTrueFlash b → ReadsBySummaries b new) → ReadsWithoutCheckpoint a new
-without_after a b new reads first few is none spare objects sound these sizes are =
-    let then = few (true_after a b reads is) spare objects (sound_after a b spare objects reads is.0 sound) these sizes (summarized_after a b these sizes reads is.0 are) in
-    let need = needed_same a b these sizes reads is.0 in
+without_after a b new reads first few is none spare objects sound sizes costs are =
+    let then = few (true_after a b reads is) spare objects (sound_after a b spare objects reads is.0 sound) sizes costs (priced_after a b sizes costs reads is.0 are) in
+    let need = needed_same a b sizes costs reads in
     let looked : looked_pages (sizes_of b.geometry spare) objects ≡ looked_pages (sizes_of a.geometry spare) objects = ap (λ (g : Geometry). looked_pages (sizes_of g spare) objects) reads.lasts.geometry in
     omega (arith, first, then, need, looked)
 
@@ -189,9 +187,9 @@ without_not a new c whole is none = absurd (none c (whole is.0))
 
 -- a device that is trusted is read as it is
 pub without_seen : (a b seen : Device) → IsTrustedSince a b seen → ReadsWithoutCheckpoint a b → ReadsWithoutCheckpoint a seen
-without_seen a b seen since few is none spare objects sound these sizes are =
+without_seen a b seen since few is none spare objects sound sizes costs are =
     let same : seen.reads ≡ b.reads = ap (λ (d : Device). d.reads) since.read.seen_is in
-    let less = few is none spare objects sound these sizes are in
+    let less = few is none spare objects sound sizes costs are in
     omega (arith, less, same)
 
 -- what is said of each result

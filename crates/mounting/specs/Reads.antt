@@ -1,13 +1,13 @@
 -- How many pages a mount reads.
 -- From: this project.
-use Rattle.std.specs.Prelude.{◌≡◌, ◌⊎◌, ◌≤◌, ℕ, ◌+◌, ◌*◌, Bool, true}
+use Rattle.std.specs.Prelude.{◌≡◌, ◌⊎◌, ◌≤◌, ℕ, ◌+◌, true}
 use Rattle.nand_model.specs.Calls.{Device}
 use Rattle.posix_profile.specs.State.{Objects}
 use Rattle.flash_tree.specs.Checkpoints.{Checkpoint, IsWhole}
 use Rattle.flash_tree.specs.Mount.{sizes_of}
 use Rattle.flash_tree.specs.Sound.{IsSoundFlash}
 use Rattle.chunk_index.specs.declared.index.Index.{Index}
-use Rattle.mount_scan.specs.FewReads.{AreSizes, HaveSummaries, one_other, sum_below}
+use Rattle.mount_scan.specs.FewReads.{AreCosts, AreSizes, sum_below}
 use Rattle.mount_scan.specs.Scanned.{good_pages}
 use Rattle.page_store.specs.Checked.{HasTrueFlash}
 use Rattle.page_store.specs.Shown.{kept_data}
@@ -56,31 +56,31 @@ ReadsAllTags old new = old.honest ≡ true → (spare : ℕ) (tree : Objects) �
 abbrev pub LacksCheckpoint : Device → Type 0
 LacksCheckpoint device = (c : Checkpoint) → IsWhole device.geometry device.flash c → ⊥
 
--- how many pages a scan by summaries reads at most, where these blocks have one and the summaries are of these sizes: those of the
--- summaries, and all of a block that begins erased and of the others that do not and are none of these
-abbrev pub needed_pages : Device → (ℕ → Bool) → (ℕ → ℕ) → ℕ
-needed_pages device these sizes = sum_below sizes device.geometry.blocks + device.geometry.pages * (1 + sum_below (one_other device.flash these) device.geometry.blocks)
+-- how many pages a scan by summaries reads at most, where summaries are of these sizes and blocks without one cost so much: those of the
+-- summaries, all of a block that begins erased, and of the others that have no summary as many as each costs
+abbrev pub needed_pages : Device → (sizes costs : ℕ → ℕ) → ℕ
+needed_pages device sizes costs = sum_below sizes device.geometry.blocks + (device.geometry.pages + sum_below costs device.geometry.blocks)
 
--- these blocks have summaries, and a block that begins with one has no more pages of it than is said here
-abbrev pub AreSummarized : Device → (ℕ → Bool) → (ℕ → ℕ) → Type 0
-AreSummarized device these sizes = HaveSummaries device.geometry device.flash these × AreSizes device.flash sizes
+-- a block that begins with a summary has no more pages of it than is said here, and of one that has none no more are read
+abbrev pub ArePriced : Device → (sizes costs : ℕ → ℕ) → Type 0
+ArePriced device sizes costs = AreSizes device.flash sizes × AreCosts device.geometry device.flash costs
 
 -- at most the pages that a scan by summaries needs were read, and those of the tree's headers and slots
 abbrev pub ReadsNeeded : Device → Device → (spare : ℕ) → Tree → Type 0
-ReadsNeeded old new spare tree = (these : ℕ → Bool) (sizes : ℕ → ℕ) → AreSummarized old these sizes
-    → new.reads ≤ old.reads + needed_pages old these sizes + tree_pages (sizes_of old.geometry spare) tree
+ReadsNeeded old new spare tree = (sizes costs : ℕ → ℕ) → ArePriced old sizes costs
+    → new.reads ≤ old.reads + needed_pages old sizes costs + tree_pages (sizes_of old.geometry spare) tree
 
 -- of a sound flash: at most the pages that a scan by summaries needs were read, and those that are looked up to see its tree
 abbrev pub ReadsBySummaries : Device → Device → Type 0
-ReadsBySummaries old new = (spare : ℕ) (tree : Objects) → IsSoundFlash old.geometry old.flash spare tree → (these : ℕ → Bool) (sizes : ℕ → ℕ) → AreSummarized old these sizes
-    → new.reads ≤ old.reads + needed_pages old these sizes + looked_pages (sizes_of old.geometry spare) tree
+ReadsBySummaries old new = (spare : ℕ) (tree : Objects) → IsSoundFlash old.geometry old.flash spare tree → (sizes costs : ℕ → ℕ) → ArePriced old sizes costs
+    → new.reads ≤ old.reads + needed_pages old sizes costs + looked_pages (sizes_of old.geometry spare) tree
 
 -- of an honest device with a true and sound flash without a whole checkpoint: at most a page of each block and the pages of one, those
 -- that a scan by summaries needs, and those that are looked up to see the tree were read
 abbrev pub ReadsWithoutCheckpoint : Device → Device → Type 0
 ReadsWithoutCheckpoint old new =
-    HasTrueFlash old → LacksCheckpoint old → (spare : ℕ) (tree : Objects) → IsSoundFlash old.geometry old.flash spare tree → (these : ℕ → Bool) (sizes : ℕ → ℕ) → AreSummarized old these sizes
-    → new.reads ≤ old.reads + old.geometry.blocks + old.geometry.pages + needed_pages old these sizes + looked_pages (sizes_of old.geometry spare) tree
+    HasTrueFlash old → LacksCheckpoint old → (spare : ℕ) (tree : Objects) → IsSoundFlash old.geometry old.flash spare tree → (sizes costs : ℕ → ℕ) → ArePriced old sizes costs
+    → new.reads ≤ old.reads + old.geometry.blocks + old.geometry.pages + needed_pages old sizes costs + looked_pages (sizes_of old.geometry spare) tree
 
 -- How many pages a mount reads at most, by a checkpoint or without one.
 pub record ReadsAtMost (old new : Device) : Type 0 where

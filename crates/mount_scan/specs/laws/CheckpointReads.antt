@@ -1,5 +1,5 @@
 -- What was found of a device is so still after more reads of it.
-use Rattle.std.specs.Prelude.{◌≡◌, ◌<◌, ◌≤◌, ℕ, Bool, true, length, ◌+◌, ◌*◌}
+use Rattle.std.specs.Prelude.{◌≡◌, ◌≢◌, ◌<◌, ◌≤◌, ℕ, Bool, true, length, ◌+◌, ◌*◌}
 use Rattle.std.proofs.Common.{sym, ◌∙◌, ap, subst}
 use Rattle.volume_terms.specs.Rounding.{ceiling}
 use Rattle.nand_model.specs.Calls.{Device}
@@ -10,7 +10,7 @@ use Rattle.flash_tree.specs.Checkpoints.{Checkpoint, IsWhole}
 use Rattle.flash_tree.specs.laws.Place.{same_flash}
 use Rattle.mount_scan.specs.FoundCheckpoint.{HasForm, IsWholeOn}
 use Rattle.flash_tree.specs.Places.{numbers_of}
-use Rattle.mount_scan.specs.FirstPages.{IsGoodFirst, AreFirstPages, AreAboveFirsts, AreNoneAbove, AreFirstsOf}
+use Rattle.mount_scan.specs.FirstPages.{IsGoodFirst, AreFirstPages, AreAboveFirsts, AreNoneAbove, AreFirstsOf, BeginsRenewed, IsRenewedBelow}
 use Rattle.mount_scan.specs.declared.first_page.FirstPage.{FirstPage}
 use Rattle.mount_scan.specs.declared.first_page.FirstPage.TheVariants as firsts
 use Rattle.mount_scan.specs.declared.first_page.FirstPages.{FirstPages}
@@ -50,6 +50,9 @@ firsts_read a b pages reads are = record {
   above = λ honest. subst (λ n. AreAboveFirsts b.flash n (numbers_of pages.numbers)) (ap (λ (g : Geometry). g.blocks) (sym reads.lasts.geometry))
       (subst (λ (f : Flash). AreAboveFirsts f a.geometry.blocks (numbers_of pages.numbers)) (flash honest) (are.above (before honest)));
   least = λ honest. subst (λ (f : Flash). AreNoneAbove f (numbers_of pages.numbers)) (flash honest) (are.least (before honest));
+  renewed = λ honest. subst (λ (f : Flash). pages.renewed ≢ 0 → BeginsRenewed f pages.renewed) (flash honest) (are.renewed (before honest));
+  latest = λ honest. subst (λ n. IsRenewedBelow b.flash n pages.renewed) (ap (λ (g : Geometry). g.blocks) (sym reads.lasts.geometry))
+      (subst (λ (f : Flash). IsRenewedBelow f a.geometry.blocks pages.renewed) (flash honest) (are.latest (before honest)));
 } where
   before : b.honest ≡ true → a.honest ≡ true
   before honest = sym reads.lasts.honest ∙ honest

@@ -10,7 +10,7 @@ use Rattle.mount_scan.proofs.first_page.read_first_pages.Goals as goal
 pub loop-block-init : goal.loop-block-init
 loop-block-init g c = record {
   read = read_none (g.N.Nand.state c.args.device.now);
-  below = best_none (g.N.Nand.state c.args.device.now) _ c.in_ok-with_capacity.ensures.items refl refl;
+  below = best_none (g.N.Nand.state c.args.device.now) _ c.in_ok-with_capacity.ensures.items refl refl refl;
 }
 
 pub add_first-requires : goal.add_first-requires

@@ -3,19 +3,20 @@ use Rattle.std.proofs.lemmas.Option.{slice_get-get_or}
 use Rattle.nand_model.specs.declared.geometry.Geometry.{Geometry}
 use Rattle.nand_model.specs.laws.Changes.{only_reads_on}
 use Rattle.flash_tree.specs.Places.{numbers_of}
-use Rattle.mount_scan.specs.FewReads.{IsOther, one_other, sum_below}
+use Rattle.mount_scan.specs.FewReads.{IsOther, sum_below}
 use Rattle.mount_scan.specs.Listed.{listed}
 use Rattle.mount_scan.specs.SummaryScan.{IsNextBlock, IsScannedBelow}
-use Rattle.mount_scan.proofs.FewPages.{other_here, others_none, others_more, others_end}
-use Rattle.mount_scan.proofs.ReadCount.{read_zero, read_pages}
+use Rattle.mount_scan.proofs.FewPages.{other_here, others_more, others_end}
+use Rattle.mount_scan.proofs.ReadCount.{read_zero, read_pages, within_back}
 use Rattle.mount_scan.proofs.SummaryRest.{rest_none}
 use Rattle.mount_scan.proofs.summary_scan.find_rest.Goals as goal
 
 pub loop-block-init : goal.loop-block-init
 loop-block-init g c = record {
   read = read_zero (g.N.Nand.state c.args.device.now).geometry.pages (g.N.Nand.state c.args.device.now);
-  few = λ d these only honest firsts noted. others_none d.geometry.pages _ (one_other d.flash these);
-  rest = λ d only firsts is. rest_none d c.args.firsts.now c.args.summarized _ refl c.with.ensures.numbers refl firsts is;
+  renewed = refl;
+  few = λ d costs only honest firsts all are. omega arith;
+  rest = λ d only firsts is. rest_none d c.args.firsts.now c.args.summarized _ refl c.with.ensures.numbers refl refl firsts is;
 }
 
 pub loop-block-preserved : goal.loop-block-preserved
@@ -24,12 +25,14 @@ loop-block-preserved g c =
     let within : c.loop-block.block < (g.N.Nand.state c.args.device.now).geometry.blocks = omega (arith, c.loop-block-test.true, c.blocks-block-end.ensures, ap (λ (x : Geometry). x.blocks) c.geometry.ensures) in
     record {
       read = read_pages c.loop-block.block _ _ _ tt c.loop-block.invariant.read c.in_ok-find_left.ensures.reads;
-      few = λ d these before honest firsts noted.
+      renewed = c.in_ok-find_left.ensures.renewed ∙ c.loop-block.invariant.renewed;
+      few = λ d costs before honest firsts all are.
           let lt : c.loop-block.block < d.geometry.blocks = omega (arith, within, ap (λ (x : Geometry). x.blocks) before.lasts.geometry) in
-          let other : IsOther d these c.loop-block.block c.index.result.now c.index-in-loop-block.result.now =
-          other_here d these c.loop-block.block c.args.firsts.now c.args.summarized.done.items c.index.result.now c.index-in-loop-block.result.now honest firsts noted lt (omega (arith, within, c.requires.done)) c.index.ensures c.index-in-loop-block.ensures in
-          others_more d.geometry.pages (one_other d.flash these) c.loop-block.block _ _ _ _ _ (c.loop-block.invariant.few d these before honest firsts noted)
-          (c.in_ok-find_left.ensures.left d these (only_reads_on d _ _ before only) other);
+          others_more d.geometry.pages costs c.loop-block.block _ _ _ _ _ (c.loop-block.invariant.few d costs before honest firsts all are)
+          (c.in_ok-find_left.ensures.left d (costs c.loop-block.block) (only_reads_on d _ _ before only)
+          (subst (λ seq. IsOther d c.loop-block.block c.index.result.now c.index-in-loop-block.result.now seq (costs c.loop-block.block)) (sym c.loop-block.invariant.renewed)
+          (other_here d costs c.loop-block.block c.args.firsts.now c.args.summarized.done.items c.index.result.now c.index-in-loop-block.result.now honest (within_back d _ before (g.met.N.Nand.within c.args.device.now) honest) firsts
+          all are lt (omega (arith, within, c.requires.done)) c.index.ensures c.index-in-loop-block.ensures)));
       rest = λ d before firsts is.
           let next : IsNextBlock d c.loop-block.block c.args.summarized.done.items c.index.result.now c.index-in-loop-block.result.now = record {
             block = omega (arith, within, ap (λ (x : Geometry). x.blocks) before.lasts.geometry);
@@ -45,18 +48,18 @@ returns-clause-scanned g c d only firsts is =
     subst (λ b. IsScannedBelow d b (listed c.loop-block.rest.newest) (numbers_of c.loop-block.rest.seen.numbers)) end (c.loop-block.invariant.rest d only firsts is).below
 
 pub returns-in_err-find_left-clause-few : goal.returns-in_err-find_left-clause-few
-returns-in_err-find_left-clause-few g c d these before honest firsts noted =
+returns-in_err-find_left-clause-few g c d costs before honest firsts all are =
     let only = c.loop-block.invariant.read.only in
     let within : c.loop-block.block < (g.N.Nand.state c.args.device.now).geometry.blocks = omega (arith, c.loop-block-test.true, c.blocks-block-end.ensures, ap (λ (x : Geometry). x.blocks) c.geometry.ensures) in
     let lt : c.loop-block.block < d.geometry.blocks = omega (arith, within, ap (λ (x : Geometry). x.blocks) before.lasts.geometry) in
-    let other : IsOther d these c.loop-block.block c.index.result.now c.index-in-loop-block.result.now =
-    other_here d these c.loop-block.block c.args.firsts.now c.args.summarized.done.items c.index.result.now c.index-in-loop-block.result.now honest firsts noted lt (omega (arith, within, c.requires.done)) c.index.ensures c.index-in-loop-block.ensures in
-    others_end d.geometry.pages (one_other d.flash these) c.loop-block.block _ d.geometry.blocks _ _ _ lt (c.loop-block.invariant.few d these before honest firsts noted)
-    (c.in_err-find_left.ensures.few d these (only_reads_on d _ _ before only) other)
+    others_end d.geometry.pages costs c.loop-block.block _ d.geometry.blocks _ _ _ lt (c.loop-block.invariant.few d costs before honest firsts all are)
+    (c.in_err-find_left.ensures.few d (costs c.loop-block.block) (only_reads_on d _ _ before only)
+    (subst (λ seq. IsOther d c.loop-block.block c.index.result.now c.index-in-loop-block.result.now seq (costs c.loop-block.block)) (sym c.loop-block.invariant.renewed)
+    (other_here d costs c.loop-block.block c.args.firsts.now c.args.summarized.done.items c.index.result.now c.index-in-loop-block.result.now honest (within_back d _ before (g.met.N.Nand.within c.args.device.now) honest) firsts all
+    are lt (omega (arith, within, c.requires.done)) c.index.ensures c.index-in-loop-block.ensures)))
 
 pub returns-clause-few : goal.returns-clause-few
-returns-clause-few g c d these before honest firsts noted =
+returns-clause-few g c d costs before honest firsts all are =
     let end : c.loop-block.block ≡ d.geometry.blocks = omega (arith, c.loop-block.auto.block-end, c.loop-block-test.false, c.blocks-block-end.ensures, ap (λ (x : Geometry). x.blocks) c.geometry.ensures, ap (λ (x : Geometry). x.blocks) before.lasts.geometry) in
-    let was = c.loop-block.invariant.few d these before honest firsts noted in
-    let all : d.geometry.pages * (1 + sum_below (one_other d.flash these) c.loop-block.block) ≡ d.geometry.pages * (1 + sum_below (one_other d.flash these) d.geometry.blocks) = ap (λ b. d.geometry.pages * (1 + sum_below (one_other d.flash these) b)) end in
-    omega (arith, was, all)
+    let was = c.loop-block.invariant.few d costs before honest firsts all are in
+    omega (arith, was, ap (sum_below costs) end)

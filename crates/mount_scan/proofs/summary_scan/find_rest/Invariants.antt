@@ -1,7 +1,7 @@
-use Rattle.std.proofs.Common.{◌≡◌, ◌≤◌, ◌+◌, ◌*◌, ℕ, Bool, true}
+use Rattle.std.proofs.Common.{◌≡◌, ◌≤◌, ◌+◌, ◌*◌, ℕ, true}
 use Rattle.nand_model.specs.Calls.{Device}
 use Rattle.nand_model.specs.Changes.{OnlyReads}
-use Rattle.mount_scan.specs.FewReads.{AreNotedSummarized, one_erased, one_other, sum_below}
+use Rattle.mount_scan.specs.FewReads.{AreAllDone, AreCosts, erased_pages, sum_below}
 use Rattle.mount_scan.specs.FirstPages.{FirstPagesBelow}
 use Rattle.mount_scan.specs.SummaryScan.{AreSummaryPages, IsRestBelow}
 use Rattle.mount_scan.proofs.ReadCount.{HasRead}
@@ -10,7 +10,8 @@ use Rattle.mount_scan.proofs.summary_scan.find_rest.Given as goal
 abbrev pub invariant-loop-block : goal.invariant-loop-block
 invariant-loop-block g l = record {
   read : HasRead ((g.N.Nand.state l.fn.device).geometry.pages * l.block) (g.N.Nand.state l.fn.device) (g.N.Nand.state l.device);
-  few : (d : Device) (these : ℕ → Bool) → OnlyReads d (g.N.Nand.state l.fn.device) → d.honest ≡ true → FirstPagesBelow d d.geometry.blocks l.firsts → AreNotedSummarized these l.done.items
-      → (g.N.Nand.state l.device).reads + d.geometry.pages * one_erased l.rest.erased ≤ (g.N.Nand.state l.fn.device).reads + d.geometry.pages * (1 + sum_below (one_other d.flash these) l.block);
+  renewed : l.rest.renewed ≡ l.firsts.renewed;
+  few : (d : Device) (costs : ℕ → ℕ) → OnlyReads d (g.N.Nand.state l.fn.device) → d.honest ≡ true → FirstPagesBelow d d.geometry.blocks l.firsts → AreAllDone d.geometry d.flash l.done.items
+      → AreCosts d.geometry d.flash costs → (g.N.Nand.state l.device).reads + erased_pages d l.rest.erased ≤ (g.N.Nand.state l.fn.device).reads + (d.geometry.pages + sum_below costs l.block);
   rest : (d : Device) → OnlyReads d (g.N.Nand.state l.fn.device) → FirstPagesBelow d d.geometry.blocks l.firsts → AreSummaryPages d l.fn.summarized → IsRestBelow d l.block l.done.items l.rest;
 }

@@ -5,7 +5,7 @@ use Rattle.flash_tree.specs.Places.{numbers_of}
 use Rattle.mount_scan.specs.FirstPages.{AreGoodFirsts, AreNoted}
 use Rattle.mount_scan.specs.Listed.{listed}
 use Rattle.mount_scan.specs.SummaryScan.{IsScannedAll}
-use Rattle.mount_scan.proofs.FewPages.{these_noted}
+use Rattle.mount_scan.proofs.FewPages.{all_done}
 use Rattle.mount_scan.proofs.SummaryFinds.{finds_needed, greatest_summarized}
 use Rattle.mount_scan.proofs.summary_scan.scan_summaries.Goals as goal
 
@@ -34,26 +34,26 @@ returns-clause-least g c honest =
     scanned.least honest
 
 pub returns-in_err-summarized-clause-few : goal.returns-in_err-summarized-clause-few
-returns-in_err-summarized-clause-few g c honest these sizes have fits =
+returns-in_err-summarized-clause-few g c honest sizes costs fits are =
     let d : Device = g.N.Nand.state c.args.device.now in
     let noted : AreNoted d d.geometry.blocks c.deref.result.now = subst (AreNoted d d.geometry.blocks) (sym c.deref.ensures.value) c.requires.noted in
     let next = c.in_err-summarized.ensures.few d sizes (only_reads_here d) honest noted fits in
     omega (arith, next)
 
 pub returns-in_err-scan-clause-few : goal.returns-in_err-scan-clause-few
-returns-in_err-scan-clause-few g c honest these sizes have fits =
+returns-in_err-scan-clause-few g c honest sizes costs fits are =
     let d : Device = g.N.Nand.state c.args.device.now in
     let noted : AreNoted d d.geometry.blocks c.deref.result.now = subst (AreNoted d d.geometry.blocks) (sym c.deref.ensures.value) c.requires.noted in
     let next = c.in_ok-summarized.ensures.few d sizes (only_reads_here d) honest noted fits in
-    let done = these_noted d these c.in_ok-summarized.summarized.done.items honest (g.met.N.Nand.within c.args.device.now) have (c.in_ok-summarized.ensures.done d (only_reads_here d) noted) in
-    let last = c.in_err-scan.ensures.few d these c.in_ok-summarized.ensures.reads.only honest c.requires done in
+    let all = all_done d c.in_ok-summarized.summarized.done.items honest (g.met.N.Nand.within c.args.device.now) (c.in_ok-summarized.ensures.done d (only_reads_here d) noted) in
+    let last = c.in_err-scan.ensures.few d costs c.in_ok-summarized.ensures.reads.only honest c.requires all are in
     omega (arith, next, last)
 
 pub returns-clause-few : goal.returns-clause-few
-returns-clause-few g c honest these sizes have fits =
+returns-clause-few g c honest sizes costs fits are =
     let d : Device = g.N.Nand.state c.args.device.now in
     let noted : AreNoted d d.geometry.blocks c.deref.result.now = subst (AreNoted d d.geometry.blocks) (sym c.deref.ensures.value) c.requires.noted in
     let next = c.in_ok-summarized.ensures.few d sizes (only_reads_here d) honest noted fits in
-    let done = these_noted d these c.in_ok-summarized.summarized.done.items honest (g.met.N.Nand.within c.args.device.now) have (c.in_ok-summarized.ensures.done d (only_reads_here d) noted) in
-    let last = c.in_ok-scan.ensures.few d these c.in_ok-summarized.ensures.reads.only honest c.requires done in
+    let all = all_done d c.in_ok-summarized.summarized.done.items honest (g.met.N.Nand.within c.args.device.now) (c.in_ok-summarized.ensures.done d (only_reads_here d) noted) in
+    let last = c.in_ok-scan.ensures.few d costs c.in_ok-summarized.ensures.reads.only honest c.requires all are in
     omega (arith, next, last)

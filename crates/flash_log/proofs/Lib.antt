@@ -31,3 +31,4 @@ pub mod CheckpointListed
 pub mod CheckpointNoting
 pub mod CheckpointWritten
 pub mod CheckpointShown
+pub mod NotedPages

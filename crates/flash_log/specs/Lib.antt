@@ -25,5 +25,6 @@ pub mod CheckpointWriting
 pub mod Sealing
 pub mod SummarySource
 pub mod SummaryMaking
+pub mod Noted
 pub mod Gathering
 pub mod laws

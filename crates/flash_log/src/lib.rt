@@ -16,6 +16,7 @@ mod law;
 mod log;
 mod moving;
 mod next_block;
+mod noted;
 mod origin;
 mod refresh;
 mod retirement;

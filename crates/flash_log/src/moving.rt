@@ -163,6 +163,7 @@ impl<N: Nand> Log<N> {
             → OpenEnds block count self.old.spare (log_state self.old) (log_state self.new) result }
     {
         self.room.list(&self.index, block);
+        self.room.note_copies(&self.blocks);
         move_open(
             &mut self.device,
             &mut self.blocks,

@@ -18,6 +18,7 @@ use transactions::{CopyOf, PageName};
 #[derive(Drop)]
 pub struct MoveRoom {
     keys: Vec<KeptKey>,
+    /// The pages of the open block, as far as they were noted; and then those of a summary.
     pub(crate) entries: Vec<CheckEntry>,
     pub(crate) copies: Vec<CopyOf>,
     /// One page, by way of which groups are written.
@@ -54,14 +55,19 @@ impl MoveRoom {
         copy_all(&self.keys, &mut self.copies);
     }
 
-    /// Lists the pages that are committed in a block as entries of a summary.
-    pub(crate) fn list_entries(&mut self, index: &Index, block: u32)
+    /// Lists the pages that are committed in a block, so many of them, as entries of a summary: those that were noted, where these are
+    /// all, and else by a pass over the index.
+    pub(crate) fn list_entries(&mut self, index: &Index, block: u32, count: u32)
+        requires counted { count ≡ kept_in index.now block }
         requires keys { kept_in index.now block ≤ vec_capacity self.old.keys }
         requires entries { kept_in index.now block ≤ vec_capacity self.old.entries }
         ensures lists { ListsEntries block (kept_pages index.now) self.new.entries.items }
         ensures count { length self.new.entries.items ≡ kept_in index.now block }
         ensures same { SameRoom self.old self.new }
     {
+        if self.keep_noted(index, block, count) {
+            return;
+        }
         the_sorted_list_of_a_block_is_whole();
         index.kept_by_page(block, &mut self.keys);
         enter_all(&self.keys, &mut self.entries);

@@ -141,7 +141,9 @@ impl<N: Nand> Log<N> {
         }
         let geometry = self.blocks.geometry();
         the_counts_are_of_the_keys();
-        self.room.list_entries(&self.index, written.block);
+        let committed = self.blocks.entry(written.block).kept;
+        self.room
+            .list_entries(&self.index, written.block, committed);
         let Some(source) = SummarySource::new(
             written.block,
             written.seq,

@@ -82,6 +82,7 @@ fn take_turn<N: Nand>(log: &mut Log<N>, buffer: &mut Buffer) -> Result<Turn, Roo
     if log.blocks.next_group() >= NUMBER_END {
         return Err(RoomFault::Worn);
     }
+    log.room.note_pages(&log.blocks, buffer.pages());
     write_in_room(log, buffer)
 }
 

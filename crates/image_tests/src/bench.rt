@@ -27,14 +27,14 @@ const TIMES: FlashTimes = FlashTimes {
 /// come with it. Then a directory: its header, the page of names and the root's header.
 const LINES: &str = "open /f wc\nrepeat 3\nwrite 0 hello\nfsync 0\nend\nmark\nmkdir /d\nsync\n";
 
-/// Each mount looks for a checkpoint by one tag of each block. Without one it reads the 32 tags of each block in which pages were
-/// programmed besides, of one at first and of two then, and those of one that is erased.
+/// Each mount looks for a checkpoint by one tag of each block. Without one it reads besides the 32 tags of the newest block and of one
+/// that is erased; and the second time of the root's first one that of its page, and of the erased one behind it.
 const TEXT: &str = "\
 mount: 72 tags and 1 pages read, 0 programs, 0 erases, 0 marks, 1.990 ms of the flash
 part 0: 0 tags and 1 pages read, 8 programs, 1 erases, 0 marks, 3.575 ms of the flash
 part 1: 0 tags and 0 pages read, 3 programs, 0 erases, 0 marks, 0.750 ms of the flash
 whole: 0 tags and 1 pages read, 11 programs, 1 erases, 0 marks, 4.325 ms of the flash
-mount by a scan: 104 tags and 5 pages read, 0 programs, 0 erases, 0 marks, 3.141 ms of the flash
+mount by a scan: 74 tags and 5 pages read, 0 programs, 0 erases, 0 marks, 2.343 ms of the flash
 unmount: 0 tags and 0 pages read, 1 programs, 1 erases, 0 marks, 1.750 ms of the flash
 mount by its checkpoint: 8 tags and 6 pages read, 0 programs, 0 erases, 0 marks, 0.662 ms of the flash
 15 bytes written to files, 5632 programmed: write amplification 375.46

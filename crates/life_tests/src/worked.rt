@@ -51,8 +51,9 @@ const MADE: &str = "mkdir /z\nsync\n";
 /// more for the new name.
 const ERASE: u64 = 75;
 
-/// Once a block has a page of a cut sync its tags are read too.
-const NEXT_ERASE: u64 = ERASE + 32;
+/// Once a block has a page of a cut sync its 32 tags are read, and of the root's block, which is no longer the newest, that of the header
+/// and of the erased page behind it.
+const NEXT_ERASE: u64 = ERASE + 2;
 
 /// The device after three sessions on a formatted one, of which each leaves the pages of the call at which it is cut: in its second
 /// program, in its erase, and in its mount.

@@ -133,11 +133,11 @@ enum Way {
 }
 
 /// The way of a mount that made so many calls: eight tags, two pages of the checkpoint and seven of the tree; or the tags of seven first
-/// pages at the least, and all those of four blocks: three in which pages were written, and one that begins erased.
+/// pages at the least, and all those of two blocks: that which was written last, and one that begins erased.
 fn way_of(calls: u64) -> Option<Way> {
     match calls {
         17 => Some(Way::Checkpoint),
-        135.. => Some(Way::Scan),
+        71.. => Some(Way::Scan),
         _ => None,
     }
 }

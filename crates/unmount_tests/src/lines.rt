@@ -46,6 +46,15 @@ pub(crate) fn mount(rt: &impl Abort, alloc: Global, mut nand: MemNand) -> Mounte
     mount_as_it_is(rt, alloc, nand)
 }
 
+/// The same by all tags.
+pub(crate) fn mount_scanned(rt: &impl Abort, alloc: Global, mut nand: MemNand) -> Mounted {
+    nand.power_up();
+    match Volume::mount_scanned(alloc, nand) {
+        Ok(volume) => volume,
+        Err((_nand, fault)) => panic!(rt; "{fault:?}"),
+    }
+}
+
 /// The device after a mount and no command.
 pub(crate) fn mounted(rt: &impl Abort, alloc: Global, nand: MemNand) -> MemNand {
     abandon(mount(rt, alloc, nand))

@@ -166,8 +166,8 @@ fn expect_read_only(rt: &impl Abort, alloc: Global, nand: MemNand, calls: u64) {
     assert_eq!(rt; nand.changes(), 0);
 }
 
-/// A volume with more bad blocks than there are to spare is only read, with a checkpoint and without: then the tags of the two blocks in
-/// which pages were written are read, and those of one that begins erased.
+/// A volume with more bad blocks than there are to spare is only read, with a checkpoint and without: then two tags of the block of the
+/// format are read, up to its first erased page, all of the block that was written last, and those of one that begins erased.
 #[test]
 fn a_read_only_volume_writes_no_checkpoint(rt: HostRuntime) {
     let alloc = rt.alloc();
@@ -182,7 +182,7 @@ fn a_read_only_volume_writes_no_checkpoint(rt: HostRuntime) {
     );
     assert_eq!(rt; ended.changes(), 2);
     expect_read_only(&rt, alloc, worn(&rt, ended), 10);
-    expect_read_only(&rt, alloc, worn(&rt, lost), 6 + 3 * 32 + 3)
+    expect_read_only(&rt, alloc, worn(&rt, lost), 6 + 2 + 2 * 32 + 3)
 }
 
 /// The root of a volume without names, whose only page has this number.
@@ -212,10 +212,11 @@ fn expect_at(rt: &impl Abort, alloc: Global, number: u64, changes: u64, calls: u
     let _ = lost_session(rt, alloc, nand, "list /", "names 1 a\n");
 }
 
-/// The last number is 2^62 - 1: it is left for a checkpoint, or not. Without one the tags of three blocks are read.
+/// The last number is 2^62 - 1: it is left for a checkpoint, or not. Without one two tags of the block of the root are read, up to its
+/// first erased page, and all of two blocks more.
 #[test]
 fn a_checkpoint_needs_a_number(rt: HostRuntime) {
     let alloc = rt.alloc();
     expect_at(&rt, alloc, (1 << 62) - 3, 6, 12);
-    expect_at(&rt, alloc, (1 << 62) - 2, 4, 8 + 3 * 32 + 3)
+    expect_at(&rt, alloc, (1 << 62) - 2, 4, 8 + 2 + 2 * 32 + 3)
 }

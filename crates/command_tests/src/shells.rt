@@ -56,171 +56,110 @@ const CREATE: OpenFlags = OpenFlags {
     append: false,
 };
 
-#[test]
-fn each_line_of_the_table_asks_for_its_command(rt: HostRuntime) {
-    let alloc = rt.alloc();
+/// The lines that open a file.
+fn ask_to_open(rt: &impl Abort, alloc: Global) {
     for (line, flags) in [
         ("open /a r", READ),
         ("open /a cw", CREATE),
         ("open /a atxcwr", APPEND),
     ] {
-        asks(
-            &rt,
-            alloc,
-            line,
-            Command::Open {
-                path: path(&rt, alloc, b"/a"),
-                flags,
-            },
-        );
+        let path = path(rt, alloc, b"/a");
+        asks(rt, alloc, line, Command::Open { path, flags });
     }
+}
+
+/// The lines that write bytes.
+fn ask_to_write(rt: &impl Abort, alloc: Global) {
+    for (line, wanted) in [
+        ("write 2 a\\x20b\\\\", b"a b\\".as_slice()),
+        ("write 2 \\e", b"".as_slice()),
+    ] {
+        let bytes = text(alloc, wanted).expect(rt, "memory");
+        asks(rt, alloc, line, Command::Write { fd: 2, bytes });
+    }
+}
+
+/// The lines that seek.
+fn ask_to_seek(rt: &impl Abort, alloc: Global) {
+    for (line, offset, whence) in [
+        ("seek 1 -0 set", 0, Whence::Set),
+        ("seek 1 9223372036854775807 cur", i64::MAX, Whence::Cur),
+        ("seek 1 -9223372036854775808 end", i64::MIN, Whence::End),
+    ] {
+        let command = Command::Seek {
+            fd: 1,
+            offset,
+            whence,
+        };
+        asks(rt, alloc, line, command);
+    }
+}
+
+/// The lines that cut a file.
+fn ask_to_truncate(rt: &impl Abort, alloc: Global) {
+    for (line, length) in [
+        ("truncate 7 00000000000000000000000005", 5),
+        ("truncate 7 -5", -5),
+    ] {
+        asks(rt, alloc, line, Command::Truncate { fd: 7, length });
+    }
+}
+
+/// The lines that make a directory.
+fn ask_for_a_directory(rt: &impl Abort, alloc: Global) {
+    for (line, name) in [
+        ("  mkdir   /a\tb\r ", b"/a\tb\r".as_slice()),
+        ("\\x6dkdir \\x2Fa\\xfF", b"/a\xff".as_slice()),
+        ("m\\ekdir \\e", b"".as_slice()),
+    ] {
+        let path = path(rt, alloc, name);
+        asks(rt, alloc, line, Command::Mkdir { path });
+    }
+}
+
+/// The other lines of one path.
+fn ask_with_a_path(rt: &impl Abort, alloc: Global) {
+    let root = path(rt, alloc, b"/");
+    asks(rt, alloc, "stat /", Command::Stat { path: root });
+    let root = path(rt, alloc, b"/");
+    asks(rt, alloc, "list /", Command::List { path: root });
+    let name = path(rt, alloc, b"/b");
+    asks(rt, alloc, "rmdir /b", Command::Rmdir { path: name });
+    let name = path(rt, alloc, b"/b");
+    asks(rt, alloc, "unlink /b", Command::Unlink { path: name });
+}
+
+/// The lines of two paths.
+fn ask_with_two_paths(rt: &impl Abort, alloc: Global) {
+    let old = path(rt, alloc, b"/a");
+    let new = path(rt, alloc, b"/b");
+    asks(rt, alloc, "link /a /b", Command::Link { old, new });
+    let old = path(rt, alloc, b"/a");
+    let new = path(rt, alloc, b"/b");
+    asks(rt, alloc, "rename /a /b", Command::Rename { old, new });
+}
+
+#[test]
+fn each_line_of_the_table_asks_for_its_command(rt: HostRuntime) {
+    let alloc = rt.alloc();
     asks(&rt, alloc, "close 3", Command::Close { fd: 3 });
     asks(&rt, alloc, "fsync 00", Command::Fsync { fd: 0 });
+    let count = u32::MAX;
     asks(
         &rt,
         alloc,
         "read 1 4294967295",
-        Command::Read {
-            fd: 1,
-            count: u32::MAX,
-        },
-    );
-    asks(
-        &rt,
-        alloc,
-        "write 2 a\\x20b\\\\",
-        Command::Write {
-            fd: 2,
-            bytes: text(alloc, b"a b\\").expect(&rt, "memory"),
-        },
-    );
-    asks(
-        &rt,
-        alloc,
-        "write 2 \\e",
-        Command::Write {
-            fd: 2,
-            bytes: text(alloc, b"").expect(&rt, "memory"),
-        },
-    );
-    asks(
-        &rt,
-        alloc,
-        "seek 1 -0 set",
-        Command::Seek {
-            fd: 1,
-            offset: 0,
-            whence: Whence::Set,
-        },
-    );
-    asks(
-        &rt,
-        alloc,
-        "seek 1 9223372036854775807 cur",
-        Command::Seek {
-            fd: 1,
-            offset: i64::MAX,
-            whence: Whence::Cur,
-        },
-    );
-    asks(
-        &rt,
-        alloc,
-        "seek 1 -9223372036854775808 end",
-        Command::Seek {
-            fd: 1,
-            offset: i64::MIN,
-            whence: Whence::End,
-        },
-    );
-    asks(
-        &rt,
-        alloc,
-        "truncate 7 00000000000000000000000005",
-        Command::Truncate { fd: 7, length: 5 },
-    );
-    asks(
-        &rt,
-        alloc,
-        "truncate 7 -5",
-        Command::Truncate { fd: 7, length: -5 },
+        Command::Read { fd: 1, count },
     );
     asks(&rt, alloc, "sync", Command::Sync);
     asks(&rt, alloc, "space", Command::Space);
-    asks(
-        &rt,
-        alloc,
-        "stat /",
-        Command::Stat {
-            path: path(&rt, alloc, b"/"),
-        },
-    );
-    asks(
-        &rt,
-        alloc,
-        "  mkdir   /a\tb\r ",
-        Command::Mkdir {
-            path: path(&rt, alloc, b"/a\tb\r"),
-        },
-    );
-    asks(
-        &rt,
-        alloc,
-        "\\x6dkdir \\x2Fa\\xfF",
-        Command::Mkdir {
-            path: path(&rt, alloc, b"/a\xff"),
-        },
-    );
-    asks(
-        &rt,
-        alloc,
-        "m\\ekdir \\e",
-        Command::Mkdir {
-            path: path(&rt, alloc, b""),
-        },
-    );
-    asks(
-        &rt,
-        alloc,
-        "rmdir /b",
-        Command::Rmdir {
-            path: path(&rt, alloc, b"/b"),
-        },
-    );
-    asks(
-        &rt,
-        alloc,
-        "unlink /b",
-        Command::Unlink {
-            path: path(&rt, alloc, b"/b"),
-        },
-    );
-    asks(
-        &rt,
-        alloc,
-        "list /",
-        Command::List {
-            path: path(&rt, alloc, b"/"),
-        },
-    );
-    asks(
-        &rt,
-        alloc,
-        "link /a /b",
-        Command::Link {
-            old: path(&rt, alloc, b"/a"),
-            new: path(&rt, alloc, b"/b"),
-        },
-    );
-    asks(
-        &rt,
-        alloc,
-        "rename /a /b",
-        Command::Rename {
-            old: path(&rt, alloc, b"/a"),
-            new: path(&rt, alloc, b"/b"),
-        },
-    )
+    ask_to_open(&rt, alloc);
+    ask_to_write(&rt, alloc);
+    ask_to_seek(&rt, alloc);
+    ask_to_truncate(&rt, alloc);
+    ask_for_a_directory(&rt, alloc);
+    ask_with_a_path(&rt, alloc);
+    ask_with_two_paths(&rt, alloc)
 }
 
 /// Bad lines, by what is wrong: the name, the words after it, a number, flags, an escape.
@@ -269,9 +208,31 @@ fn moments_and_empty_lines(rt: HostRuntime) {
     }
 }
 
-#[test]
-fn each_reply_has_its_text(rt: HostRuntime) {
-    let alloc = rt.alloc();
+/// Asserts that a reply has this text.
+fn replies(rt: &impl Abort, alloc: Global, reply: Reply, wanted: &str) {
+    assert_eq!(rt;
+        reply_of(rt, alloc, &reply).as_slice(),
+        wanted.as_bytes(),
+        "{wanted}"
+    );
+}
+
+/// The texts of replies with bytes.
+fn reply_with_bytes(rt: &impl Abort, alloc: Global) {
+    for (bytes, wanted) in [
+        (
+            b"!~ \\\x00\x7f\xff\n".as_slice(),
+            "data 8 !~\\x20\\\\\\x00\\x7f\\xff\\x0a\n",
+        ),
+        (b"".as_slice(), "data 0 \\e\n"),
+    ] {
+        let bytes = text(alloc, bytes).expect(rt, "memory");
+        replies(rt, alloc, Reply::Data(bytes), wanted);
+    }
+}
+
+/// The texts of replies with what is known of an object.
+fn reply_with_infos(rt: &impl Abort, alloc: Global) {
     let file = Info {
         kind: Kind::File,
         object: 2,
@@ -286,46 +247,47 @@ fn each_reply_has_its_text(rt: HostRuntime) {
         size: 0,
         moment: 7,
     };
+    for (info, wanted) in [
+        (file, "info file 2 1 10 18446744073709551615\n"),
+        (directory, "info dir 1 3 0 7\n"),
+    ] {
+        replies(rt, alloc, Reply::Info(info), wanted);
+    }
+}
+
+/// The texts of replies with names.
+fn reply_with_names(rt: &impl Abort, alloc: Global) {
+    let names = vec![in alloc;
+        text(alloc, b"a b").expect(rt, "memory"),
+        text(alloc, b"c\\").expect(rt, "memory"),
+    ]
+    .expect(rt, "memory");
+    let none = Reply::Names(NameList::new(Vec::new(alloc)));
+    replies(rt, alloc, none, "names 0\n");
+    let some = Reply::Names(NameList::new(names));
+    replies(rt, alloc, some, "names 2 a\\x20b c\\\\\n");
+}
+
+#[test]
+fn each_reply_has_its_text(rt: HostRuntime) {
+    let alloc = rt.alloc();
     let space = SpaceInfo {
         unit: 512,
         total: 100,
         free: 0,
     };
-    let names = vec![in alloc;
-        text(alloc, b"a b").expect(&rt, "memory"),
-        text(alloc, b"c\\").expect(&rt, "memory"),
-    ]
-    .expect(&rt, "memory");
-    for (reply, wanted) in [
-        (Reply::Done, "ok\n"),
-        (Reply::Fd(0), "fd 0\n"),
-        (
-            Reply::Data(text(alloc, b"!~ \\\x00\x7f\xff\n").expect(&rt, "memory")),
-            "data 8 !~\\x20\\\\\\x00\\x7f\\xff\\x0a\n",
-        ),
-        (
-            Reply::Data(text(alloc, b"").expect(&rt, "memory")),
-            "data 0 \\e\n",
-        ),
-        (Reply::Wrote(4_294_967_295), "wrote 4294967295\n"),
-        (Reply::At(10), "at 10\n"),
-        (Reply::Info(file), "info file 2 1 10 18446744073709551615\n"),
-        (Reply::Info(directory), "info dir 1 3 0 7\n"),
-        (Reply::Names(NameList::new(Vec::new(alloc))), "names 0\n"),
-        (
-            Reply::Names(NameList::new(names)),
-            "names 2 a\\x20b c\\\\\n",
-        ),
-        (Reply::SpaceInfo(space), "space 512 100 0\n"),
-        (Reply::Error(Errno::ENAMETOOLONG), "error ENAMETOOLONG\n"),
-        (Reply::Error(Errno::EIO), "error EIO\n"),
-    ] {
-        assert_eq!(rt;
-            reply_of(&rt, alloc, &reply).as_slice(),
-            wanted.as_bytes(),
-            "{wanted}"
-        );
-    }
+    replies(&rt, alloc, Reply::Done, "ok\n");
+    replies(&rt, alloc, Reply::Fd(0), "fd 0\n");
+    let wrote = Reply::Wrote(4_294_967_295);
+    replies(&rt, alloc, wrote, "wrote 4294967295\n");
+    replies(&rt, alloc, Reply::At(10), "at 10\n");
+    replies(&rt, alloc, Reply::SpaceInfo(space), "space 512 100 0\n");
+    let long = Reply::Error(Errno::ENAMETOOLONG);
+    replies(&rt, alloc, long, "error ENAMETOOLONG\n");
+    replies(&rt, alloc, Reply::Error(Errno::EIO), "error EIO\n");
+    reply_with_bytes(&rt, alloc);
+    reply_with_infos(&rt, alloc);
+    reply_with_names(&rt, alloc)
 }
 
 /// It answers Done to each directory that it is asked to make, and to a list the two bytes of how many these were and

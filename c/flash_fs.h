@@ -160,11 +160,11 @@ struct flash_fs {
 int flash_fs_format(struct flash_fs *fs, const struct flash_driver *driver, uint32_t spare);
 
 /* Mounts the volume of a device. It only reads: after an unmount mostly the tag of the first page of each block, and some pages
- * of a list of the pages in use; else that tag, and all tags of each block in which pages were programmed and of one that is
- * erased. Besides these it reads about a page for each file, and those of directories. It takes memory by the number of pages
- * that are in use, which an unmount or an abandon gives back. Errors: EBUSY the volume, or another of the driver, is mounted;
- * EINVAL sizes out of range, or an address of `fs`; ENOVOLUME, ENEWER, EDAMAGED what the device holds; EIO; ENOMEM; EMFILE.
- * After an error the volume is not mounted, unless it was before.
+ * of a list of the pages in use; else that tag, the pages of summaries of blocks, and of each block without one the tags of the
+ * pages that were programmed, of the newest and of one that is erased all. Besides these it reads about a page for each file,
+ * and those of directories. It takes memory by the number of pages that are in use, which an unmount or an abandon gives back.
+ * Errors: EBUSY the volume, or another of the driver, is mounted; EINVAL sizes out of range, or an address of `fs`; ENOVOLUME,
+ * ENEWER, EDAMAGED what the device holds; EIO; ENOMEM; EMFILE. After an error the volume is not mounted, unless it was before.
  */
 int flash_fs_mount(struct flash_fs *fs, const struct flash_driver *driver);
 

@@ -1,6 +1,7 @@
 pub mod Maps
 pub mod Changes
 pub mod State
+pub mod Sound
 pub mod Stores
 pub mod Refreshing
 pub mod Faults

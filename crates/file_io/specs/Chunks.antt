@@ -1,8 +1,10 @@
 -- The chunks of a file, counted from 0: chunk k of its bytes is chunk 1 + k of the object.
+use Rattle.std.specs.Global.{Vec}
 use Rattle.std.specs.Prelude.{◌≡◌, ◌<◌, ◌≤◌, ◌⊎◌, ℕ, zero, suc, ◌+◌, ◌-◌, ◌*◌, ◌/◌, ◌%◌, true, List, ◌++◌, length, take, drop, slice_get, slice_index, Option, Some, None}
 use Rattle.page_tags.specs.Headers.{is_present}
 use Rattle.pages.specs.Maps.{IsPageOf, PageMap}
 use Rattle.pages.specs.Changes.{AreApart}
+use Rattle.pages.specs.State.{PagesState}
 use Rattle.flash_tree.specs.declared.place.FreshPage.{FreshPage}
 
 -- over so many chunks n bytes from a place on extend
@@ -29,6 +31,14 @@ pub record HoldsChunk (d : ℕ) (bytes : List ℕ) (k : ℕ) (page : List ℕ) :
 abbrev pub HoldChunks : ℕ → List ℕ → List FreshPage → Type 0
 HoldChunks d bytes pages = (i k : ℕ) (p : FreshPage) → slice_get pages i ≡ Some p → p.key.chunk ≡ 1 + k → HoldsChunk d bytes k p.bytes.items
 
+-- the page, which is as long as a page of the store, has the bytes of chunk k, and zeros where the file has none
+abbrev pub HoldsChunkIn : PagesState → List ℕ → ℕ → Vec ℕ → Type 0
+HoldsChunkIn p bytes k page = HoldsChunk p.page_bytes bytes k page.items
+
+-- each of the pages that is of a chunk of bytes holds it so
+abbrev pub HoldChunksIn : PagesState → List ℕ → Vec FreshPage → Type 0
+HoldChunksIn p bytes pages = HoldChunks p.page_bytes bytes pages.items
+
 -- the pages are of these chunks of the object, one of each
 pub record AreOf (o : ℕ) (IsOne : ℕ → Type 0) (pages : List FreshPage) : Type 0 where
   pub each : (i : ℕ) (p : FreshPage) → slice_get pages i ≡ Some p → (p.key.object ≡ o) × IsOne p.key.chunk
@@ -46,6 +56,22 @@ pub record IsTail (d len : ℕ) (bits : List ℕ) (k c : ℕ) : Type 0 where
 pub record IsAmong (k n c : ℕ) : Type 0 where
   pub from : k < c
   pub to : c ≤ n
+
+-- the chunk of a place, counted from 0
+abbrev pub first_chunk : ℕ → ℕ → ℕ
+first_chunk d off = off / d
+
+-- the chunk behind that of the last of n bytes from a place on
+abbrev pub end_chunk : ℕ → ℕ → ℕ → ℕ
+end_chunk d off n = (off + n - 1) / d + 1
+
+-- this holds where n bytes from a place on go over the whole of chunk k
+abbrev pub IfNoneStays : PagesState → ℕ → ℕ → ℕ → Type 0 → Type 0
+IfNoneStays p k off n A = off ≤ k * p.page_bytes → k * p.page_bytes + p.page_bytes ≤ off + n → A
+
+-- this holds of a sound store, where chunk k has a byte before n bytes from a place on, or behind them
+abbrev pub IfPartStays : PagesState → ℕ → ℕ → ℕ → Type 0 → Type 0
+IfPartStays p k off n A = p.sound ≡ true → (k * p.page_bytes < off) ⊎ (off + n < k * p.page_bytes + p.page_bytes) → A
 
 -- chunk c has a byte from one place on and before another
 pub record HasByte (d from end c : ℕ) : Type 0 where

@@ -4,3 +4,5 @@ pub mod Heads
 pub mod Chunks
 pub mod Parts
 pub mod Cuts
+pub mod Reads
+pub mod Writes

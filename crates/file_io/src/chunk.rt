@@ -5,8 +5,8 @@ ghost use Rattle.volume_terms.specs.Sizes.{Sizes};
 ghost use Rattle.pages.specs.Changes.{AreSized};
 ghost use Rattle.pages.specs.State.{OnlyFinds, KeepsPower};
 ghost use Rattle.file_io.specs.Files.{FileIn, HasPages};
-ghost use Rattle.file_io.specs.Heads.{IsHeadOf, bits_in};
-ghost use Rattle.file_io.specs.Chunks.{AreOf, HoldChunks, HoldsChunk, IsPartLast, IsTail};
+ghost use Rattle.file_io.specs.Heads.{IsHeadOf, bits_in, HasChunkPage, HasTailPage, OfHead};
+ghost use Rattle.file_io.specs.Chunks.{AreOf, HoldChunks, HoldsChunk, IsPartLast, IsTail, HoldChunksIn, HoldsChunkIn};
 ghost use Rattle.pages.specs.Faults.{MayLackMemory, SaysWhyMaking};
 
 use crate::file_head::FileHead;
@@ -37,14 +37,11 @@ pub(crate) fn chunk_bytes<P: Pages>(
     ensures finds { OnlyFinds (P.state pages.old) (P.state pages.new) }
     ensures asked { (P.state pages.new).asked ≤ (P.state pages.old).asked + 1 }
     ensures power { OnOk result (KeepsPower (P.state pages.old) (P.state pages.new)) }
-    ensures told { (P.state pages.old).sound ≡ true → is_present (bits_in head.now) (1 + index) ≡ true
-        → OnOk result ((page : List ℕ) × ((P.state pages.old).present object (1 + index) ≡ Some page)) }
+    ensures told { (P.state pages.old).sound ≡ true → OnOk result (HasChunkPage (P.state pages.old) object head.now index) }
     ensures size { IfOk result (λ bytes. length bytes.items ≡ (P.state pages.old).page_bytes) }
-    ensures holds { (z : Sizes) (moment : ℕ) (all : List ℕ) (f : FileIn (P.state pages.old) z object moment all)
-        → IsHeadOf head.now f.reads.fields → IfOk result (λ bytes. HoldsChunk (P.state pages.old).page_bytes all index bytes.items) }
+    ensures holds { OfHead (P.state pages.old) object head.now (λ all. IfOk result (HoldsChunkIn (P.state pages.old) all index)) }
     ensures why { IfErr result (SaysWhyMaking (P.state pages.new)) }
-    ensures fault { (z : Sizes) (moment : ℕ) (all : List ℕ) (f : FileIn (P.state pages.old) z object moment all)
-        → IsHeadOf head.now f.reads.fields → IfErr result (MayLackMemory (P.state pages.new)) }
+    ensures fault { OfHead (P.state pages.old) object head.now (λ all. IfErr result (MayLackMemory (P.state pages.new))) }
 {
     let page_bytes = u64::from(pages.page_bytes());
     if !is_present(head.bits(), 1 + index) {
@@ -77,16 +74,13 @@ pub(crate) fn tail_pages<P: Pages>(
     ensures asked { (P.state pages.new).asked ≤ (P.state pages.old).asked + 1 }
     ensures power { OnOk result (KeepsPower (P.state pages.old) (P.state pages.new)) }
     ensures unasked { before ≤ head.now.length / (P.state pages.old).page_bytes → (P.state pages.new).asked ≡ (P.state pages.old).asked }
-    ensures told { (P.state pages.old).sound ≡ true → head.now.length / (P.state pages.old).page_bytes < before
-        → OnOk result (HasPages (P.state pages.old).present object (bits_in head.now) (IsPartLast (P.state pages.old).page_bytes head.now.length)) }
+    ensures told { (P.state pages.old).sound ≡ true → OnOk result (HasTailPage (P.state pages.old) object head.now before) }
     ensures of { IfOk result (λ fresh. AreOf object (IsTail (P.state pages.old).page_bytes head.now.length (bits_in head.now) before) fresh.items) }
     ensures few { IfOk result (λ fresh. length fresh.items ≤ 1) }
     ensures sized { IfOk result (λ fresh. AreSized fresh.items (P.state pages.old).page_bytes) }
-    ensures hold { (z : Sizes) (moment : ℕ) (all : List ℕ) (f : FileIn (P.state pages.old) z object moment all)
-        → IsHeadOf head.now f.reads.fields → IfOk result (λ fresh. HoldChunks (P.state pages.old).page_bytes all fresh.items) }
+    ensures hold { OfHead (P.state pages.old) object head.now (λ all. IfOk result (HoldChunksIn (P.state pages.old) all)) }
     ensures why { IfErr result (SaysWhyMaking (P.state pages.new)) }
-    ensures fault { (z : Sizes) (moment : ℕ) (all : List ℕ) (f : FileIn (P.state pages.old) z object moment all)
-        → IsHeadOf head.now f.reads.fields → IfErr result (MayLackMemory (P.state pages.new)) }
+    ensures fault { OfHead (P.state pages.old) object head.now (λ all. IfErr result (MayLackMemory (P.state pages.new))) }
 {
     let page_bytes = u64::from(pages.page_bytes());
     let index = head.length / page_bytes;

@@ -7,8 +7,8 @@ ghost use Rattle.flash_tree.specs.Tree.{ReadsFile};
 ghost use Rattle.volume_terms.specs.Sizes.{Sizes};
 ghost use Rattle.pages.specs.Maps.{PageMap, has};
 ghost use Rattle.pages.specs.State.{OnlyFinds, KeepsPower};
-ghost use Rattle.file_io.specs.Files.{FileIn, HasFileHeader};
-ghost use Rattle.file_io.specs.Heads.{IsHeadOf, SaysHead, bits_in};
+ghost use Rattle.file_io.specs.Files.{FileIn, HasFileHeader, IsEmptyFile, OfFile};
+ghost use Rattle.file_io.specs.Heads.{IsHeadOf, SaysHead, bits_in, head_fields};
 ghost use Rattle.pages.specs.Faults.{MayLack, MayLackMemory, SaysWhy, SaysWhyMaking};
 ghost use Rattle.pages.specs.declared.fault.PageFault.TheVariants as faults;
 
@@ -48,14 +48,11 @@ pub fn read_info<P: Pages>(pages: &mut P, object: u64) -> Result<FileInfo, PageF
     ensures finds { OnlyFinds (P.state pages.old) (P.state pages.new) }
     ensures asked { (P.state pages.new).asked ≤ (P.state pages.old).asked + 1 }
     ensures power { OnOk result (KeepsPower (P.state pages.old) (P.state pages.new)) }
-    ensures length { (z : Sizes) (moment : ℕ) (all : List ℕ) (f : FileIn (P.state pages.old) z object moment all)
-        → IfOk result (λ info. info.length ≡ length all) }
-    ensures moment { (z : Sizes) (moment : ℕ) (all : List ℕ) (f : FileIn (P.state pages.old) z object moment all)
-        → IfOk result (λ info. info.moment ≡ moment) }
+    ensures length { OfFile (P.state pages.old) object (λ z moment all f. IfOk result (λ info. info.length ≡ length all)) }
+    ensures moment { OfFile (P.state pages.old) object (λ z moment all f. IfOk result (λ info. info.moment ≡ moment)) }
     ensures told { (P.state pages.old).sound ≡ true → OnOk result (HasFileHeader (P.state pages.old) object) }
     ensures why { IfErr result (SaysWhy (P.state pages.old) (P.state pages.new)) }
-    ensures fault { (z : Sizes) (moment : ℕ) (all : List ℕ) (f : FileIn (P.state pages.old) z object moment all)
-        → IfErr result (MayLack (P.state pages.old) (P.state pages.new)) }
+    ensures fault { OfFile (P.state pages.old) object (λ z moment all f. IfErr result (MayLack (P.state pages.old) (P.state pages.new))) }
 {
     load(pages, Key { object, chunk: 0 })?;
     let header = decode_file(pages.page())?;
@@ -74,14 +71,12 @@ pub(crate) fn read_head<P: Pages>(
     ensures finds { OnlyFinds (P.state pages.old) (P.state pages.new) }
     ensures asked { (P.state pages.new).asked ≤ (P.state pages.old).asked + 1 }
     ensures power { OnOk result (KeepsPower (P.state pages.old) (P.state pages.new)) }
-    ensures head { (z : Sizes) (moment : ℕ) (all : List ℕ) (f : FileIn (P.state pages.old) z object moment all)
-        → IfOk result (λ head. IsHeadOf head f.reads.fields) }
+    ensures head { OfFile (P.state pages.old) object (λ z moment all f. IfOk result (λ head. IsHeadOf head f.reads.fields)) }
     ensures size { IfOk result (λ head. length head.page.items ≡ (P.state pages.old).page_bytes) }
-    ensures valid { IfOk result (λ head. IsHeader (P.state pages.old).page_bytes (file_fields head.length head.moment (bits_in head))) }
+    ensures valid { IfOk result (λ head. IsHeader (P.state pages.old).page_bytes (head_fields head)) }
     ensures told { (P.state pages.old).sound ≡ true → IfOk result (SaysHead (P.state pages.old) object) }
     ensures why { IfErr result (SaysWhyMaking (P.state pages.new)) }
-    ensures fault { (z : Sizes) (moment : ℕ) (all : List ℕ) (f : FileIn (P.state pages.old) z object moment all)
-        → IfErr result (MayLackMemory (P.state pages.new)) }
+    ensures fault { OfFile (P.state pages.old) object (λ z moment all f. IfErr result (MayLackMemory (P.state pages.new))) }
 {
     load(pages, Key { object, chunk: 0 })?;
     let page = pages.page();
@@ -121,7 +116,7 @@ pub fn create<P: Pages>(
     ensures chunk { IfOk result (λ page. page.key.chunk ≡ 0) }
     ensures size { IfOk result (λ page. length page.bytes.items ≡ (P.state pages.now).page_bytes) }
     ensures reads { (z : Sizes) (m : PageMap) → z.page_bytes ≡ (P.state pages.now).page_bytes
-        → IfOk result (λ page. m object 0 ≡ Some page.bytes.items → ReadsFile z (has m) object moment []) }
+        → IfOk result (IsEmptyFile z m object moment) }
     ensures fault { IfErr result (λ e. e ≡ faults.NoMemory) }
 {
     let page = vec![in alloc; 0u8; pages.page_bytes() as usize]?;

@@ -2,10 +2,11 @@
 ghost use Rattle.std.specs.Prelude.{◌≡◌, ◌<◌, ◌≤◌, ◌+◌, ◌-◌, ◌*◌, ◌/◌, ℕ, true, List, IfOk, IfErr, OnOk, length, min, take, drop};
 ghost use Rattle.volume_terms.specs.Sizes.{Sizes};
 ghost use Rattle.pages.specs.State.{OnlyFinds, KeepsPower};
-ghost use Rattle.file_io.specs.Files.{FileIn, HasOnly};
+ghost use Rattle.file_io.specs.Files.{FileIn, HasOnly, OfFileOnly};
 ghost use Rattle.file_io.specs.Chunks.{chunks_over, one_page, count_pages, overwritten};
 ghost use Rattle.file_io.specs.Parts.{part_from, part_of};
 ghost use Rattle.pages.specs.Faults.{MayLack};
+ghost use Rattle.file_io.specs.Reads.{AsksForPage, AsksForPages, HasRead, filled, read_count};
 
 use crate::overwriting::{clear, overwrite};
 use flash_tree::Key;
@@ -28,12 +29,11 @@ fn read_part<P: Pages>(
     ensures finds { OnlyFinds (P.state pages.old) (P.state pages.new) }
     ensures asked { (P.state pages.new).asked ≤ (P.state pages.old).asked + 1 }
     ensures power { OnOk result (KeepsPower (P.state pages.old) (P.state pages.new)) }
-    ensures holes { (P.state pages.old).sound ≡ true → (P.state pages.new).asked ≤ (P.state pages.old).asked + one_page ((P.state pages.old).present object (1 + index)) }
+    ensures holes { (P.state pages.old).sound ≡ true → AsksForPage (P.state pages.old) (P.state pages.new) object (1 + index) }
     ensures size { length buffer.new ≡ length buffer.old }
     ensures rest { drop (end - offset) buffer.new ≡ drop (end - offset) buffer.old }
-    ensures part { (z : Sizes) (moment : ℕ) (all : List ℕ) (f : FileIn (P.state pages.old) z object moment all)
-        → HasOnly (P.state pages.old).present object f.reads.fields → end ≤ length all
-        → OnOk result (buffer.new ≡ overwritten buffer.old (part_from z.page_bytes index offset - offset) (part_of z.page_bytes index offset end all)) }
+    ensures part { OfFileOnly (P.state pages.old) object (λ z moment all f. end ≤ length all
+        → OnOk result (buffer.new ≡ filled f index offset end buffer.old)) }
     ensures fault { IfErr result (MayLack (P.state pages.old) (P.state pages.new)) }
 {
     let page_bytes = u64::from(pages.page_bytes());
@@ -70,14 +70,11 @@ pub fn read_at<P: Pages>(
     ensures finds { OnlyFinds (P.state pages.old) (P.state pages.new) }
     ensures power { OnOk result (KeepsPower (P.state pages.old) (P.state pages.new)) }
     ensures size { length buffer.new ≡ length buffer.old }
-    ensures count { IfOk result (λ count. count ≡ min (length buffer.old) (len - offset)) }
+    ensures count { IfOk result (λ count. count ≡ read_count buffer.old len offset) }
     ensures rest { IfOk result (λ count. drop count buffer.new ≡ drop count buffer.old) }
-    ensures read { (z : Sizes) (moment : ℕ) (all : List ℕ) (f : FileIn (P.state pages.old) z object moment all)
-        → HasOnly (P.state pages.old).present object f.reads.fields → len ≡ length all
-        → IfOk result (λ count. take count buffer.new ≡ take (length buffer.old) (drop offset all)) }
-    ensures asked { (P.state pages.new).asked ≤ (P.state pages.old).asked + chunks_over (P.state pages.old).page_bytes offset (min (length buffer.old) (len - offset)) }
-    ensures holes { (P.state pages.old).sound ≡ true
-        → (P.state pages.new).asked ≤ (P.state pages.old).asked + count_pages (P.state pages.old).present object (1 + offset / (P.state pages.old).page_bytes) (chunks_over (P.state pages.old).page_bytes offset (min (length buffer.old) (len - offset))) }
+    ensures read { OfFileOnly (P.state pages.old) object (λ z moment all f. len ≡ length all → IfOk result (HasRead all offset buffer.old buffer.new)) }
+    ensures asked { (P.state pages.new).asked ≤ (P.state pages.old).asked + chunks_over (P.state pages.old).page_bytes offset (read_count buffer.old len offset) }
+    ensures holes { (P.state pages.old).sound ≡ true → AsksForPages (P.state pages.old) (P.state pages.new) object offset (read_count buffer.old len offset) }
     ensures fault { IfErr result (MayLack (P.state pages.old) (P.state pages.new)) }
 {
     let page_bytes = u64::from(pages.page_bytes());

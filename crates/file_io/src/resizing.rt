@@ -8,9 +8,10 @@ ghost use Rattle.pages.specs.Maps.{changed};
 ghost use Rattle.pages.specs.Changes.{IsChange, IsNothing, IsOnlyOf};
 ghost use Rattle.pages.specs.State.{OnlyFinds, KeepsPower};
 ghost use Rattle.pages.specs.Faults.{MayLackMemory, SaysWhyMaking};
-ghost use Rattle.file_io.specs.Files.{Becomes, FileIn, HasFileHeader, HasPages};
+ghost use Rattle.file_io.specs.Files.{Becomes, FileIn, HasFileHeader, HasPages, HasForLength, OfFile};
 ghost use Rattle.file_io.specs.Chunks.{IsPartLast};
 ghost use Rattle.file_io.specs.Cuts.{CutsFrom};
+ghost use Rattle.file_io.specs.Writes.{IsChangeIn, MakesLength};
 
 use crate::bits::mark_in;
 use crate::chunk::tail_pages;
@@ -69,20 +70,14 @@ pub fn set_length<P: Pages>(
     requires { len ≤ greatest_told (P.state pages.old).page_bytes kinds.File }
     ensures finds { OnlyFinds (P.state pages.old) (P.state pages.new) }
     ensures power { OnOk result (KeepsPower (P.state pages.old) (P.state pages.new)) }
-    ensures sets { (z : Sizes) (before : ℕ) (all : List ℕ) (f : FileIn (P.state pages.old) z object before all)
-        → IfOk result (λ change. Becomes z (P.state pages.old).present (changed change (P.state pages.old).present) object f.reads.fields
-        0 0 moment (resized all len)) }
-    ensures same { (z : Sizes) (before : ℕ) (all : List ℕ) (f : FileIn (P.state pages.old) z object before all) → moment ≡ before → len ≡ length all
-        → IfOk result IsNothing }
+    ensures sets { OfFile (P.state pages.old) object (λ z before all f. IfOk result (MakesLength f len moment)) }
+    ensures same { OfFile (P.state pages.old) object (λ z before all f. moment ≡ before → len ≡ length all → IfOk result IsNothing) }
     ensures only { IfOk result (λ change. IsOnlyOf change object) }
-    ensures change { IfOk result (λ change. IsChange change (P.state pages.old).page_bytes 2) }
-    ensures asked { (z : Sizes) (before : ℕ) (all : List ℕ) (f : FileIn (P.state pages.old) z object before all)
-        → (P.state pages.new).asked ≤ (P.state pages.old).asked + 1 + min 1 (len - length all) }
-    ensures told { (P.state pages.old).sound ≡ true → OnOk result ((h : HasFileHeader (P.state pages.old) object)
-        × (h.fields.length < len → HasPages (P.state pages.old).present object h.fields.bits (IsPartLast (P.state pages.old).page_bytes h.fields.length))) }
+    ensures change { IfOk result (IsChangeIn (P.state pages.old) 2) }
+    ensures asked { OfFile (P.state pages.old) object (λ z before all f. (P.state pages.new).asked ≤ (P.state pages.old).asked + 1 + min 1 (len - length all)) }
+    ensures told { (P.state pages.old).sound ≡ true → OnOk result (HasForLength (P.state pages.old) object len) }
     ensures why { IfErr result (SaysWhyMaking (P.state pages.new)) }
-    ensures fault { (z : Sizes) (before : ℕ) (all : List ℕ) (f : FileIn (P.state pages.old) z object before all)
-        → IfErr result (MayLackMemory (P.state pages.new)) }
+    ensures fault { OfFile (P.state pages.old) object (λ z before all f. IfErr result (MayLackMemory (P.state pages.new))) }
 {
     let head = read_head(alloc, pages, object)?;
     let size = u64::from(pages.page_bytes());

@@ -7,10 +7,11 @@ ghost use Rattle.volume_terms.specs.Sizes.{Sizes};
 ghost use Rattle.pages.specs.Maps.{changed, IsPageOf};
 ghost use Rattle.pages.specs.Changes.{AreSized, IsChange, IsNothing, IsOnlyOf};
 ghost use Rattle.pages.specs.State.{OnlyFinds, KeepsPower};
-ghost use Rattle.file_io.specs.Files.{Becomes, FileIn, HasFileHeader, HasPages};
-ghost use Rattle.file_io.specs.Heads.{IsHeadOf, bits_in};
-ghost use Rattle.file_io.specs.Chunks.{AreOf, HoldChunks, HoldsChunk, IsAmong, IsPartKept, IsWritten};
+ghost use Rattle.file_io.specs.Files.{Becomes, FileIn, HasFileHeader, HasPages, HasForWrite, HasKeptPages, OfFile};
+ghost use Rattle.file_io.specs.Heads.{IsHeadOf, bits_in, HasChunkPage, OfHead, head_fields};
+ghost use Rattle.file_io.specs.Chunks.{AreOf, HoldChunks, HoldsChunk, IsAmong, IsPartKept, IsWritten, HoldChunksIn, HoldsChunkIn, IfNoneStays, IfPartStays};
 ghost use Rattle.pages.specs.Faults.{MayLackMemory, SaysWhyMaking};
+ghost use Rattle.file_io.specs.Writes.{AreFewOver, AsksForWrite, HasNoHeader, IfHeaderStays, IsChangeIn, IsWrittenBy, MakesWritten, with_parts};
 
 use crate::bits::{has_all, mark_in};
 use crate::chunk::{chunk_bytes, tail_pages};
@@ -39,19 +40,13 @@ fn written_bytes<P: Pages>(
     ensures finds { OnlyFinds (P.state pages.old) (P.state pages.new) }
     ensures asked { (P.state pages.new).asked ≤ (P.state pages.old).asked + 1 }
     ensures power { OnOk result (KeepsPower (P.state pages.old) (P.state pages.new)) }
-    ensures unasked { offset ≤ index * (P.state pages.old).page_bytes
-        → index * (P.state pages.old).page_bytes + (P.state pages.old).page_bytes ≤ offset + length bytes.now
-        → (P.state pages.new).asked ≡ (P.state pages.old).asked }
-    ensures told { (P.state pages.old).sound ≡ true
-        → (index * (P.state pages.old).page_bytes < offset) ⊎ (offset + length bytes.now < index * (P.state pages.old).page_bytes + (P.state pages.old).page_bytes)
-        → is_present (bits_in head.now) (1 + index) ≡ true → OnOk result ((page : List ℕ) × ((P.state pages.old).present object (1 + index) ≡ Some page)) }
+    ensures unasked { IfNoneStays (P.state pages.old) index offset (length bytes.now) ((P.state pages.new).asked ≡ (P.state pages.old).asked) }
+    ensures told { IfPartStays (P.state pages.old) index offset (length bytes.now) (OnOk result (HasChunkPage (P.state pages.old) object head.now index)) }
     ensures size { IfOk result (λ page. length page.items ≡ (P.state pages.old).page_bytes) }
-    ensures holds { (z : Sizes) (moment : ℕ) (all : List ℕ) (f : FileIn (P.state pages.old) z object moment all)
-        → IsHeadOf head.now f.reads.fields
-        → IfOk result (λ page. HoldsChunk (P.state pages.old).page_bytes (written all offset bytes.now) index page.items) }
+    ensures holds { OfHead (P.state pages.old) object head.now (λ all.
+        IfOk result (HoldsChunkIn (P.state pages.old) (written all offset bytes.now) index)) }
     ensures why { IfErr result (SaysWhyMaking (P.state pages.new)) }
-    ensures fault { (z : Sizes) (moment : ℕ) (all : List ℕ) (f : FileIn (P.state pages.old) z object moment all)
-        → IsHeadOf head.now f.reads.fields → IfErr result (MayLackMemory (P.state pages.new)) }
+    ensures fault { OfHead (P.state pages.old) object head.now (λ all. IfErr result (MayLackMemory (P.state pages.new))) }
 {
     let page_bytes = u64::from(pages.page_bytes());
     let begin = index * page_bytes;
@@ -81,22 +76,15 @@ fn written_pages<P: Pages>(
     requires small { offset + length bytes.now < 2 ^ 32 }
     requires short { head.now.length < 2 ^ 32 }
     ensures finds { OnlyFinds (P.state pages.old) (P.state pages.new) }
-    ensures asked { (P.state pages.new).asked ≤ (P.state pages.old).asked + min 1 (offset - head.now.length)
-        + min 1 (offset % (P.state pages.old).page_bytes) + min 1 ((offset + length bytes.now) % (P.state pages.old).page_bytes) }
+    ensures asked { (P.state pages.new).asked ≤ with_parts (P.state pages.old).page_bytes head.now.length offset (length bytes.now) (P.state pages.old).asked }
     ensures power { OnOk result (KeepsPower (P.state pages.old) (P.state pages.new)) }
-    ensures told { (P.state pages.old).sound ≡ true
-        → OnOk result (HasPages (P.state pages.old).present object (bits_in head.now) (IsPartKept (P.state pages.old).page_bytes head.now.length offset (length bytes.now))) }
-    ensures of { IfOk result (λ fresh. AreOf object (IsWritten (P.state pages.old).page_bytes head.now.length (bits_in head.now)
-        (offset / (P.state pages.old).page_bytes) ((offset + length bytes.now - 1) / (P.state pages.old).page_bytes + 1)) fresh.items) }
-    ensures few { IfOk result (λ fresh. length fresh.items + offset / (P.state pages.old).page_bytes
-        ≤ (offset + length bytes.now - 1) / (P.state pages.old).page_bytes + 2) }
+    ensures told { (P.state pages.old).sound ≡ true → OnOk result (HasKeptPages (P.state pages.old) object (head_fields head.now) offset (length bytes.now)) }
+    ensures of { IfOk result (λ fresh. AreOf object (IsWrittenBy (P.state pages.old) head.now offset (length bytes.now)) fresh.items) }
+    ensures few { IfOk result (λ fresh. AreFewOver (P.state pages.old) offset (length bytes.now) fresh.items) }
     ensures sized { IfOk result (λ fresh. AreSized fresh.items (P.state pages.old).page_bytes) }
-    ensures hold { (z : Sizes) (moment : ℕ) (all : List ℕ) (f : FileIn (P.state pages.old) z object moment all)
-        → IsHeadOf head.now f.reads.fields
-        → IfOk result (λ fresh. HoldChunks (P.state pages.old).page_bytes (written all offset bytes.now) fresh.items) }
+    ensures hold { OfHead (P.state pages.old) object head.now (λ all. IfOk result (HoldChunksIn (P.state pages.old) (written all offset bytes.now))) }
     ensures why { IfErr result (SaysWhyMaking (P.state pages.new)) }
-    ensures fault { (z : Sizes) (moment : ℕ) (all : List ℕ) (f : FileIn (P.state pages.old) z object moment all)
-        → IsHeadOf head.now f.reads.fields → IfErr result (MayLackMemory (P.state pages.new)) }
+    ensures fault { OfHead (P.state pages.old) object head.now (λ all. IfErr result (MayLackMemory (P.state pages.new))) }
 {
     let page_bytes = u64::from(pages.page_bytes());
     let first = offset / page_bytes;
@@ -130,25 +118,18 @@ pub fn write_at<P: Pages>(
     requires { offset + length bytes.now ≤ greatest_told (P.state pages.old).page_bytes kinds.File }
     ensures finds { OnlyFinds (P.state pages.old) (P.state pages.new) }
     ensures power { OnOk result (KeepsPower (P.state pages.old) (P.state pages.new)) }
-    ensures writes { (z : Sizes) (before : ℕ) (all : List ℕ) (f : FileIn (P.state pages.old) z object before all) → 1 ≤ length bytes.now
-        → IfOk result (λ change. Becomes z (P.state pages.old).present (changed change (P.state pages.old).present) object f.reads.fields
-        (offset / z.page_bytes) ((offset + length bytes.now - 1) / z.page_bytes + 1) moment (written all offset bytes.now)) }
+    ensures writes { OfFile (P.state pages.old) object (λ z before all f. 1 ≤ length bytes.now → IfOk result (MakesWritten f offset bytes.now moment)) }
     ensures same { length bytes.now ≡ 0
         → IfOk result IsNothing }
     ensures only { IfOk result (λ change. IsOnlyOf change object) }
     ensures change { (chunks : ℕ) → length bytes.now ≤ chunks * (P.state pages.old).page_bytes
-        → IfOk result (λ change. IsChange change (P.state pages.old).page_bytes (chunks + 3)) }
-    ensures quiet { (z : Sizes) (before : ℕ) (all : List ℕ) (f : FileIn (P.state pages.old) z object before all) → moment ≡ before → offset + length bytes.now ≤ length all
-        → ((c : ℕ) → IsAmong (offset / z.page_bytes) ((offset + length bytes.now - 1) / z.page_bytes + 1) c → is_present f.reads.fields.bits c ≡ true)
-        → IfOk result (λ change. (i : ℕ) → IsPageOf change.pages.items object 0 i → ⊥) }
-    ensures asked { (z : Sizes) (before : ℕ) (all : List ℕ) (f : FileIn (P.state pages.old) z object before all)
-        → (P.state pages.new).asked ≤ (P.state pages.old).asked + 1 + min 1 (offset - length all)
-        + min 1 (offset % z.page_bytes) + min 1 ((offset + length bytes.now) % z.page_bytes) }
-    ensures told { (P.state pages.old).sound ≡ true → OnOk result ((h : HasFileHeader (P.state pages.old) object)
-        × HasPages (P.state pages.old).present object h.fields.bits (IsPartKept (P.state pages.old).page_bytes h.fields.length offset (length bytes.now))) }
+        → IfOk result (IsChangeIn (P.state pages.old) (chunks + 3)) }
+    ensures quiet { OfFile (P.state pages.old) object (λ z before all f.
+        IfHeaderStays f moment offset (length bytes.now) (IfOk result (HasNoHeader object))) }
+    ensures asked { OfFile (P.state pages.old) object (λ z before all f. AsksForWrite f (P.state pages.new) offset (length bytes.now)) }
+    ensures told { (P.state pages.old).sound ≡ true → OnOk result (HasForWrite (P.state pages.old) object offset (length bytes.now)) }
     ensures why { IfErr result (SaysWhyMaking (P.state pages.new)) }
-    ensures fault { (z : Sizes) (before : ℕ) (all : List ℕ) (f : FileIn (P.state pages.old) z object before all)
-        → IfErr result (MayLackMemory (P.state pages.new)) }
+    ensures fault { OfFile (P.state pages.old) object (λ z before all f. IfErr result (MayLackMemory (P.state pages.new))) }
 {
     let head = read_head(alloc, pages, object)?;
     let size = u64::from(pages.page_bytes());

@@ -18,6 +18,15 @@ pub record DirIn (p : PagesState) (z : Sizes) (o moment : ℕ) (entries : Entrie
   pub size : z.page_bytes ≡ p.page_bytes
   pub reads : ReadsDir z (has p.present) o moment entries
 
+-- a directory, as it is read from the pages of a volume
+pub record Directory : Type 0 where
+  pub sizes : Sizes
+  pub pages : PageMap
+  pub object : ℕ
+  pub moment : ℕ
+  pub entries : Entries
+  pub reads : ReadsDir sizes (has pages) object moment entries
+
 -- slot i of the directory is this entry
 abbrev pub SlotOf : Sizes → PageMap → ℕ → ℕ → Entry → Type 0
 SlotOf z m d i entry = SlotIs z (has m) d i entry

@@ -5,6 +5,7 @@ use Rattle.page_tags.specs.Slots.{Entry}
 use Rattle.page_tags.specs.declared.header.ObjectKind.TheVariants as kinds
 use Rattle.flash_tree.specs.Tree.{HasHeader}
 use Rattle.flash_tree.specs.declared.place.FreshPage.{FreshPage}
+use Rattle.name_index.specs.Covering.{HasHashes}
 use Rattle.name_index.specs.Hashes.{fnv1a}
 use Rattle.name_index.specs.Names.{Holds}
 use Rattle.name_index.specs.declared.index.NameIndex.{NameIndex}
@@ -38,3 +39,13 @@ pub record WritesNewSlots (z : Sizes) (m : PageMap) (change : Change) (d before 
   pub kind : fields.kind ≡ kinds.Directory
   pub few : later < 2 ^ 32
   pub written : WritesPast z change d before later
+
+-- where the page is of slots, and of an object that none of the pages says to be no directory, the index has the hash of each name on it
+abbrev pub HashesPage : NameIndex → List FreshPage → ℕ → FreshPage → Type 0
+HashesPage names pages n page = 1 ≤ page.key.chunk → (SaysNoDirectory pages page.key.object → ⊥) → HoldsPage names n page
+
+-- this holds of each directory after the change whose new slots lie on pages of it, and of whose names before the index has the hashes: of the
+-- pages after the change, and of how many slots there are then
+abbrev pub OfNewSlots : ℕ → Change → NameIndex → (Sizes → PageMap → ℕ → ℕ → Type 0) → Type 0
+OfNewSlots bytes change names A =
+    (z : Sizes) (m : PageMap) (d before later : ℕ) → z.page_bytes ≡ bytes → WritesNewSlots z m change d before later → HasHashes names z m d before → A z (changed change m) d later

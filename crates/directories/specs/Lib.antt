@@ -2,6 +2,7 @@ pub mod Heads
 pub mod HeadPages
 pub mod Slots
 pub mod Directories
+pub mod Stores
 pub mod Faults
 pub mod Writes
 pub mod Listings
@@ -10,4 +11,5 @@ pub mod Taking
 pub mod SlotLists
 pub mod Hashing
 pub mod Leaving
+pub mod Changing
 pub mod laws

@@ -1,5 +1,5 @@
 -- Directories whose names an index holds, and what a look-up through it tells.
-use Rattle.std.specs.Prelude.{◌≡◌, ◌≢◌, ◌<◌, ◌≤◌, ◌+◌, ℕ, true, List, length, Option, Some, None, slice_get}
+use Rattle.std.specs.Prelude.{◌≡◌, ◌≢◌, ◌<◌, ◌≤◌, ◌+◌, ℕ, true, List, length, Option, Some, None, Result, IfOk, slice_get}
 use Rattle.std.specs.FinMap as map
 use Rattle.flash_tree.specs.Tree.{ReadsDir}
 use Rattle.page_tags.specs.Slots.{Entry}
@@ -24,14 +24,22 @@ pub record NamedIn (names : NameIndex) (p : PagesState) (z : Sizes) (o moment : 
   pub reads : ReadsDir z (has p.present) o moment entries
   pub hashes : HasHashes names z p.present o (map.len entries)
 
+-- the slot is held under the hash of the name
+abbrev pub IsHeld : NameIndex → ℕ → List ℕ → ℕ → Type 0
+IsHeld names directory name slot = Holds names directory (fnv1a name) slot
+
 -- each of the slots is held under the hash of the name, and none stands twice in the list
 pub record AreHeld (names : NameIndex) (directory : ℕ) (name slots : List ℕ) : Type 0 where
-  pub held : (i s : ℕ) → slice_get slots i ≡ Some s → Holds names directory (fnv1a name) s
+  pub held : (i s : ℕ) → slice_get slots i ≡ Some s → IsHeld names directory name s
   pub once : (i j s : ℕ) → slice_get slots i ≡ Some s → slice_get slots j ≡ Some s → i ≡ j
 
 -- no more pages are asked for than slots are held under the name's hash, each once
 abbrev pub AsksHeld : NameIndex → ℕ → List ℕ → ℕ → ℕ → Type 0
 AsksHeld names directory name old new = (slots : List ℕ) × AreHeld names directory name slots × (new ≤ old + length slots)
+
+-- six pages are asked for, and no more besides than the one relation and then the other allow
+abbrev pub AsksBoth : (ℕ → ℕ → Type 0) → (ℕ → ℕ → Type 0) → PagesState → PagesState → Type 0
+AsksBoth R S old new = (mid : ℕ) × R (old.asked + 6) mid × S mid new.asked
 
 -- where a name is among so many slots; or of those that may have it, each has another
 abbrev pub FindsHeld : (ℕ → Type 0) → (ℕ → Entry → Type 0) → ℕ → List ℕ → Option Located → Type 0
@@ -45,7 +53,7 @@ LeadsHeld held at count name (Some object) = (i : ℕ) × (i < count) × ((e : E
 
 -- what is told of a name is what the header says, and the slots that the index has under its hash
 abbrev pub TellsHeld : NameIndex → Sizes → PagesState → ℕ → List ℕ → Option ℕ → Type 0
-TellsHeld names z p d name found = (h : IsHeaded p d) × LeadsHeld (Holds names d (fnv1a name)) (SlotOf z p.present d) h.fields.length name found
+TellsHeld names z p d name found = (h : IsHeaded p d) × LeadsHeld (IsHeld names d name) (SlotOf z p.present d) h.fields.length name found
 
 -- there is a change exactly where they say that the name is there
 abbrev pub TellsHeldChange : {A : Type 0} → NameIndex → Sizes → PagesState → ℕ → List ℕ → Option A → Type 0
@@ -67,6 +75,11 @@ pub record IsSought (z : Sizes) (p : PagesState) (o : ℕ) (name : List ℕ) (so
   pub head : IsHeadOf sought.head r.fields
   pub found : IsFoundAt r.slots entries name sought.found
 
+-- what was sought in the directory that the object is, of whose names the index has the hashes, is its header, and where the name is
+abbrev pub IsSoughtIn : {E : Type 0} → NameIndex → PagesState → ℕ → List ℕ → Result Sought E → Type 0
+IsSoughtIn names p o name result =
+    (z : Sizes) (moment : ℕ) (entries : Entries) (d : NamedIn names p z o moment entries) → IfOk result (λ sought. IsSought z p o name sought moment entries d.reads)
+
 -- what is told of it, whatever is there
 abbrev pub TellsSought : NameIndex → Sizes → PagesState → ℕ → List ℕ → Sought → Type 0
-TellsSought names z p d name sought = SaysHead p d sought.head × FindsHeld (Holds names d (fnv1a name)) (SlotOf z p.present d) sought.head.length name sought.found
+TellsSought names z p d name sought = SaysHead p d sought.head × FindsHeld (IsHeld names d name) (SlotOf z p.present d) sought.head.length name sought.found

@@ -5,9 +5,13 @@ use Rattle.page_tags.specs.Slots.{Entry, slot_bytes}
 use Rattle.flash_tree.specs.Slots.{IsTreeSlot}
 use Rattle.directories.specs.declared.lookup.Located.{Located}
 
+-- the bytes of slot k of a page
+abbrev pub slot_in : List ℕ → ℕ → List ℕ
+slot_in page k = take slot_length (drop (slot_length * k) page)
+
 -- slot k of a page is this entry
 abbrev pub SlotAt : List ℕ → ℕ → Entry → Type 0
-SlotAt page k entry = IsTreeSlot entry × (take slot_length (drop (slot_length * k) page) ≡ slot_bytes entry)
+SlotAt page k entry = IsTreeSlot entry × (slot_in page k ≡ slot_bytes entry)
 
 -- the slot has this name and leads to the object that is told, or it has another name and none is told
 abbrev pub NamedBy : Entry → List ℕ → Option ℕ → Type 0
@@ -31,3 +35,7 @@ pub record IsLocated (at : ℕ → Entry → Type 0) (from to : ℕ) (name : Lis
 abbrev pub Finds : (ℕ → Entry → Type 0) → ℕ → ℕ → List ℕ → Option Located → Type 0
 Finds at from to name None = (i : ℕ) → from ≤ i → i < to → (e : Entry) × at i e × (e.name ≢ name)
 Finds at from to name (Some found) = IsLocated at from to name found
+
+-- this holds of the entry that the bytes of a slot are
+abbrev pub OfEntry : List ℕ → (Entry → Type 0) → Type 0
+OfEntry bytes A = (entry : Entry) → IsTreeSlot entry → bytes ≡ slot_bytes entry → A entry

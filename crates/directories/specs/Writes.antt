@@ -1,16 +1,21 @@
 -- What the change of a directory writes, and what it leaves.
-use Rattle.std.specs.Prelude.{◌≡◌, ◌≢◌, ◌⊎◌, ◌<◌, ◌≤◌, ℕ, ◌+◌, ◌-◌, ◌*◌, ◌/◌, ◌%◌, min, List, [], ◌∷◌, length, take, drop, Some, slice_index}
+use Rattle.std.specs.Prelude.{◌≡◌, ◌≢◌, ◌⊎◌, ◌<◌, ◌≤◌, ℕ, ◌+◌, ◌-◌, ◌*◌, ◌/◌, ◌%◌, ◌++◌, min, List, [], ◌∷◌, length, take, replicate, Some, Result, IfOk, slice_index}
 use Rattle.std.specs.Int.{div_ceil}
 use Rattle.page_tags.specs.Headers.{IsHeader, header_bytes}
+use Rattle.page_tags.specs.SlotEntry.{entry_of}
 use Rattle.page_tags.specs.Slots.{Entry}
+use Rattle.page_tags.specs.declared.slot.Slot.{Slot}
 use Rattle.volume_terms.specs.Sizes.{Sizes, page_slots, slot_length}
 use Rattle.pages.specs.Maps.{PageMap, IsPageOf, changed}
+use Rattle.pages.specs.State.{PagesState}
 use Rattle.flash_tree.specs.declared.place.FreshPage.{FreshPage}
+use Rattle.flash_tree.specs.declared.place.Key.{Key}
 use Rattle.pages.specs.declared.change.Change.{Change}
 use Rattle.pages.specs.declared.change.Cut.{Cut}
 use Rattle.directories.specs.Heads.{fields_in}
-use Rattle.directories.specs.Slots.{SlotAt}
-use Rattle.directories.specs.Directories.{SlotOf}
+use Rattle.directories.specs.Slots.{SlotAt, slot_in}
+use Rattle.directories.specs.Directories.{SlotOf, HasOnly, HasBeside}
+use Rattle.directories.specs.Stores.{ObjectIn, OfPages}
 use Rattle.directories.specs.declared.head.DirectoryHead.{DirectoryHead}
 use Rattle.directories.specs.declared.writing.Writing.{Writing}
 
@@ -54,7 +59,7 @@ HasKey change o c = (i : ℕ) × IsPageOf change.pages.items o c i
 
 -- the bytes of slot i of the directory's page, whatever they say
 abbrev pub IsSlotBytes : Sizes → PageMap → ℕ → ℕ → List ℕ → Type 0
-IsSlotBytes z m d i bytes = (page : List ℕ) × (m d (1 + i / page_slots z) ≡ Some page) × (bytes ≡ take slot_length (drop (slot_length * (i % page_slots z)) page))
+IsSlotBytes z m d i bytes = (page : List ℕ) × (m d (1 + i / page_slots z) ≡ Some page) × (bytes ≡ slot_in page (i % page_slots z))
 
 -- each page of the directory's slots that the change writes is zero past the last of so many
 abbrev pub EndsInZeros : Sizes → Change → ℕ → ℕ → Type 0
@@ -71,3 +76,42 @@ pub record LosesSlot (z : Sizes) (old : PageMap) (change : Change) (d : ℕ) (he
 abbrev pub CutsBehind : ℕ → ℕ → ℕ → Change → Type 0
 CutsBehind d n len change = ((len % n ≢ 0) × (change.cuts.items ≡ []))
     ⊎ ((len % n ≡ 0) × ((cut : Cut) × (change.cuts.items ≡ cut ∷ []) × (cut.object ≡ d) × (cut.from ≡ 1 + len / n)))
+
+-- the key has the page that it had before the change
+abbrev pub KeepsKey : PageMap → ℕ → ℕ → Change → Type 0
+KeepsKey m o c change = changed change m o c ≡ m o c
+
+-- the page of each slot that stays and stands on the page of the one that is written is there
+abbrev pub HasPageOf : Sizes → PageMap → ℕ → Writing → Type 0
+HasPageOf z m d writing = HasBeside z m d (min writing.before writing.afterwards) writing.number
+
+-- after the change the directory has this header, and the slots that it had
+abbrev pub WritesHead : Sizes → PageMap → ℕ → DirectoryHead → Change → Type 0
+WritesHead z old d head change =
+    HasHead z (changed change old) d head × ((count : ℕ) → KeepsSlots z old (changed change old) d count count) × ((count : ℕ) → EndsInZeros z change d count)
+
+-- after the change the directory has this header and this slot, the others that stay are those that it had, and past the last all is zero
+abbrev pub WritesSlot : ObjectIn → Writing → Slot → DirectoryHead → Change → Type 0
+WritesSlot it writing slot head change =
+    HasHead it.sizes (changed change it.pages) it.object head
+    × SlotOf it.sizes (changed change it.pages) it.object writing.number (entry_of slot)
+    × KeepsSlots it.sizes it.pages (changed change it.pages) it.object (min writing.before writing.afterwards) writing.number
+    × EndsInZeros it.sizes change it.object writing.afterwards
+
+-- after the change the directory has one slot more than the header says, which is this one, and its moment; the others are those that it had
+abbrev pub PushesSlot : ObjectIn → DirectoryHead → Slot → ℕ → Change → Type 0
+PushesSlot it head slot moment change =
+    HasHead it.sizes (changed change it.pages) it.object (record { spare = head.spare; length = head.length + 1; moment = moment })
+    × SlotOf it.sizes (changed change it.pages) it.object head.length (entry_of slot)
+    × KeepsSlots it.sizes it.pages (changed change it.pages) it.object head.length head.length
+    × EndsInZeros it.sizes change it.object (head.length + 1)
+
+-- of a sound store: where the directory had no page behind those of so many slots, it has none behind those of so many others after the change
+abbrev pub Shortens : {E : Type 0} → PagesState → ℕ → ℕ → ℕ → Result Change E → Type 0
+Shortens p d from to result = OfPages p (λ z old. HasOnly z old d from → IfOk result (λ change. HasOnly z (changed change old) d to))
+
+-- the bytes are so many slots of the key's page, if there are any, and zeros behind them
+abbrev pub HasFirstSlots : PagesState → Key → ℕ → List ℕ → Type 0
+HasFirstSlots p key count bytes =
+    (xs : List ℕ) × (count ≢ 0 → p.present key.object key.chunk ≡ Some xs) × (slot_length * count ≤ length xs)
+    × (bytes ≡ take (slot_length * count) xs ++ replicate (p.page_bytes - slot_length * count) 0)

@@ -1,14 +1,11 @@
 // The look-up of a name.
-ghost use Rattle.std.specs.Prelude.{◌≡◌, ◌<◌, ◌^◌, ℕ, true, OnOk, IfOk, IfErr};
+ghost use Rattle.std.specs.Prelude.{◌≡◌, ◌<◌, ◌^◌, OnOk, IfOk, IfErr};
 ghost use Rattle.std.specs.FinMap as map;
-ghost use Rattle.name_index.specs.Hashes.{fnv1a};
-ghost use Rattle.name_index.specs.Names.{Holds};
-ghost use Rattle.volume_terms.specs.Sizes.{Sizes};
-ghost use Rattle.posix_profile.specs.State.{Entries};
 ghost use Rattle.pages.specs.Faults.{MayLack, SaysWhy};
 ghost use Rattle.pages.specs.State.{OnlyFinds, KeepsPower};
-ghost use Rattle.directories.specs.Directories.{DirIn, SlotOf};
-ghost use Rattle.directories.specs.Named.{NamedIn, AsksHeld, LeadsHeld};
+ghost use Rattle.directories.specs.Named.{AsksHeld, LeadsHeld, IsHeld};
+ghost use Rattle.directories.specs.Stores.{OfSlots};
+ghost use Rattle.directories.specs.Changing.{OfDir, OfNamed};
 
 use crate::seeking::search_held;
 use name_index::NameIndex;
@@ -26,13 +23,10 @@ pub fn find<P: Pages>(
     ensures finds { OnlyFinds (P.state pages.old) (P.state pages.new) }
     ensures asked { AsksHeld names.now directory name.now (P.state pages.old).asked (P.state pages.new).asked }
     ensures power { OnOk result (KeepsPower (P.state pages.old) (P.state pages.new)) }
-    ensures found { (z : Sizes) (moment : ℕ) (entries : Entries) (d : NamedIn names.now (P.state pages.old) z directory moment entries)
-        → count ≡ map.len entries → IfOk result (λ found. found ≡ map.get entries name.now) }
-    ensures told { count < 2 ^ 32 → (P.state pages.old).sound ≡ true → (z : Sizes) → z.page_bytes ≡ (P.state pages.old).page_bytes
-        → IfOk result (LeadsHeld (Holds names.now directory (fnv1a name.now)) (SlotOf z (P.state pages.old).present directory) count name.now) }
+    ensures found { OfNamed names.now (P.state pages.old) directory (λ d. count ≡ map.len d.entries → IfOk result (λ it. it ≡ map.get d.entries name.now)) }
+    ensures told { count < 2 ^ 32 → OfSlots (P.state pages.old) directory (λ _ s. IfOk result (LeadsHeld (IsHeld names.now directory name.now) s count name.now)) }
     ensures why { IfErr result (SaysWhy (P.state pages.old) (P.state pages.new)) }
-    ensures fault { (z : Sizes) (moment : ℕ) (entries : Entries) (d : DirIn (P.state pages.old) z directory moment entries)
-        → count ≡ map.len entries → IfErr result (MayLack (P.state pages.old) (P.state pages.new)) }
+    ensures fault { OfDir (P.state pages.old) directory (λ d. count ≡ map.len d.entries → IfErr result (MayLack (P.state pages.old) (P.state pages.new))) }
 {
     let found = search_held(names, pages, directory, slots_of(count), name)?;
     match found {

@@ -2,11 +2,12 @@
 ghost use Rattle.std.specs.Prelude.{◌≡◌, ◌≤◌, ◌+◌, true, OnOk, IfOk, IfErr, IfSome, IsSomeAnd, length, option_copied};
 ghost use Rattle.page_tags.specs.Headers.{Fields, IsHeaderOf};
 ghost use Rattle.page_tags.specs.declared.header.ObjectKind.TheVariants as kinds;
-ghost use Rattle.pages.specs.Afterwards.{after, IsSizedBy};
+ghost use Rattle.pages.specs.Afterwards.{IsSizedBy};
 ghost use Rattle.pages.specs.Faults.{MayLack, SaysWhy};
 ghost use Rattle.pages.specs.State.{OnlyFinds, KeepsPower};
 ghost use Rattle.directories.specs.HeadPages.{IsHeadIn, IsHeadPage};
-ghost use Rattle.directories.specs.Heads.{IsHeadOf, IsHeaded, SaysHead};
+ghost use Rattle.directories.specs.Heads.{IsHeadOf, SaysHead};
+ghost use Rattle.directories.specs.Stores.{later, OfHeaded};
 
 use flash_tree::{FreshPage, Key};
 use page_tags::{Format, Header, ObjectKind, decode_header, encode_header};
@@ -29,7 +30,7 @@ pub fn read_head<P: Pages>(pages: &mut P, directory: u64) -> Result<DirectoryHea
     ensures power { OnOk result (KeepsPower (P.state pages.old) (P.state pages.new)) }
     ensures told { (P.state pages.old).sound ≡ true → IfOk result (SaysHead (P.state pages.old) directory) }
     ensures why { IfErr result (SaysWhy (P.state pages.old) (P.state pages.new)) }
-    ensures fault { (P.state pages.old).sound ≡ true → IsHeaded (P.state pages.old) directory → IfErr result (MayLack (P.state pages.old) (P.state pages.new)) }
+    ensures fault { OfHeaded (P.state pages.old) directory (IfErr result (MayLack (P.state pages.old) (P.state pages.new))) }
 {
     head_after(pages, None, directory)
 }
@@ -44,10 +45,9 @@ pub(crate) fn head_after<P: Pages>(
     ensures finds { OnlyFinds (P.state pages.old) (P.state pages.new) }
     ensures asked { (P.state pages.new).asked ≤ (P.state pages.old).asked + 1 }
     ensures power { OnOk result (KeepsPower (P.state pages.old) (P.state pages.new)) }
-    ensures told { (P.state pages.old).sound ≡ true → IfOk result (SaysHead (after (option_copied earlier.entry) (P.state pages.old)) directory) }
+    ensures told { (P.state pages.old).sound ≡ true → IfOk result (SaysHead (later earlier.entry (P.state pages.old)) directory) }
     ensures why { IfErr result (SaysWhy (P.state pages.old) (P.state pages.new)) }
-    ensures fault { (P.state pages.old).sound ≡ true → IsHeaded (after (option_copied earlier.entry) (P.state pages.old)) directory
-        → IfErr result (MayLack (P.state pages.old) (P.state pages.new)) }
+    ensures fault { OfHeaded (later earlier.entry (P.state pages.old)) directory (IfErr result (MayLack (P.state pages.old) (P.state pages.new))) }
 {
     let key = Key {
         object: directory,

@@ -4,10 +4,12 @@ ghost use Rattle.name_index.specs.Hashes.{fnv1a};
 ghost use Rattle.name_index.specs.Names.{Holds};
 ghost use Rattle.page_tags.specs.Slots.{Entry, slot_bytes};
 ghost use Rattle.flash_tree.specs.Slots.{IsTreeSlot};
-ghost use Rattle.volume_terms.specs.Sizes.{Sizes, slot_length};
+ghost use Rattle.volume_terms.specs.Sizes.{slot_length};
 ghost use Rattle.pages.specs.Changes.{AreSized};
 ghost use Rattle.pages.specs.Maps.{IsPageOf};
 ghost use Rattle.directories.specs.Leaving.{IsFirstPage, WritesHash, WritesNoName, LeavesName, KeepsHash};
+ghost use Rattle.directories.specs.Stores.{OfSize};
+ghost use Rattle.directories.specs.Slots.{OfEntry};
 
 use crate::page::slot_of;
 use flash_tree::{FreshPage, Key, decode_tree_slot};
@@ -32,9 +34,8 @@ pub fn left_slot(
     name: &[u8],
 ) -> Option<LeftSlot>
     requires { AreSized change.now.pages.items page_bytes }
-    ensures left { IfSome result (λ left. (z : Sizes) → z.page_bytes ≡ page_bytes → LeavesName z change.now directory (fnv1a name.now) left) }
-    ensures none { let hash = fnv1a name.now in
-        IfNone result ((z : Sizes) → z.page_bytes ≡ page_bytes → KeepsHash (Holds names.now directory hash) z change.now directory hash) }
+    ensures left { IfSome result (λ left. OfSize page_bytes (λ z. LeavesName z change.now directory (fnv1a name.now) left)) }
+    ensures none { let hash = fnv1a name.now in IfNone result (OfSize page_bytes (λ z. KeepsHash (Holds names.now directory hash) z change.now directory hash)) }
 {
     let hash = name_hash(name);
     let mut from: u32 = 0;
@@ -55,8 +56,8 @@ pub fn left_slot(
 /// The hash of the name that one of these pages has in a slot of a directory, if one does.
 fn hash_in(pages: &[FreshPage], page_bytes: u32, directory: u64, slot: u32) -> Option<u32>
     requires { AreSized pages.now page_bytes }
-    ensures hash { IfSome result (λ hash. (z : Sizes) → z.page_bytes ≡ page_bytes → WritesHash z pages.now directory slot hash) }
-    ensures none { IfNone result ((z : Sizes) → z.page_bytes ≡ page_bytes → WritesNoName z pages.now directory slot) }
+    ensures hash { IfSome result (λ hash. OfSize page_bytes (λ z. WritesHash z pages.now directory slot hash)) }
+    ensures none { IfNone result (OfSize page_bytes (λ z. WritesNoName z pages.now directory slot)) }
 {
     let slots = page_bytes / SLOT_BYTES as u32;
     if slots == 0 {
@@ -88,7 +89,7 @@ fn page_of(pages: &[FreshPage], page_bytes: u32, key: Key) -> Option<&[u8]>
 /// The hash of the name that the bytes of a slot have, if they are one.
 fn hash_of_slot(bytes: &[u8]) -> Option<u32>
     requires { length bytes.now ≡ slot_length }
-    ensures hash { IfSome result (λ hash. (e : Entry) → IsTreeSlot e → bytes.now ≡ slot_bytes e → fnv1a e.name ≡ hash) }
+    ensures hash { IfSome result (λ hash. OfEntry bytes.now (λ e. fnv1a e.name ≡ hash)) }
     ensures none { IfNone result ((e : Entry) → IsTreeSlot e → bytes.now ≢ slot_bytes e) }
 {
     let slot = decode_tree_slot(bytes)?;

@@ -1,15 +1,16 @@
 // What slots say of a name.
-ghost use Rattle.std.specs.Prelude.{◌≡◌, ◌<◌, ◌≤◌, ◌+◌, ◌*◌, ◌/◌, ◌^◌, true, OnOk, IfOk, IfErr, IfSome, IsOk, length, option_copied};
+ghost use Rattle.std.specs.Prelude.{◌≡◌, ◌<◌, ◌≤◌, ◌+◌, ◌*◌, ◌/◌, ◌^◌, OnOk, IfOk, IfErr, IfSome, IsOk, length, option_copied};
 ghost use Rattle.std.specs.Int.{div_ceil};
 ghost use Rattle.page_tags.specs.Slots.{Entry, slot_bytes};
 ghost use Rattle.flash_tree.specs.Slots.{IsTreeSlot};
-ghost use Rattle.volume_terms.specs.Sizes.{Sizes, page_slots, slot_length};
-ghost use Rattle.pages.specs.Afterwards.{after, IsSizedBy};
+ghost use Rattle.volume_terms.specs.Sizes.{slot_length};
+ghost use Rattle.pages.specs.Afterwards.{IsSizedBy};
 ghost use Rattle.pages.specs.Faults.{MayLack, SaysWhy};
 ghost use Rattle.pages.specs.State.{OnlyFinds, KeepsPower};
 ghost use Rattle.pages.specs.declared.fault.PageFault.TheVariants as faults;
-ghost use Rattle.directories.specs.Directories.{SlotOf, TellsSlot};
-ghost use Rattle.directories.specs.Slots.{NamedBy, SlotAt, AreSlots, Finds};
+ghost use Rattle.directories.specs.Directories.{TellsSlot};
+ghost use Rattle.directories.specs.Slots.{NamedBy, SlotAt, AreSlots, Finds, OfEntry};
+ghost use Rattle.directories.specs.Stores.{later, OfPages, OfSlots, OfSlotted, OfSlotAt, OfChunkSlots};
 
 use crate::page::slot_of;
 use flash_tree::{Key, decode_tree_slot};
@@ -33,11 +34,9 @@ pub fn find_in_slot<P: Pages>(
     ensures finds { OnlyFinds (P.state pages.old) (P.state pages.new) }
     ensures asked { (P.state pages.new).asked ≤ (P.state pages.old).asked + 1 }
     ensures power { OnOk result (KeepsPower (P.state pages.old) (P.state pages.new)) }
-    ensures told { (P.state pages.old).sound ≡ true → (z : Sizes) → z.page_bytes ≡ (P.state pages.old).page_bytes
-        → IfOk result (TellsSlot z (P.state pages.old).present directory place name.now) }
+    ensures told { OfPages (P.state pages.old) (λ z m. IfOk result (TellsSlot z m directory place name.now)) }
     ensures why { IfErr result (SaysWhy (P.state pages.old) (P.state pages.new)) }
-    ensures fault { (P.state pages.old).sound ≡ true → (z : Sizes) → z.page_bytes ≡ (P.state pages.old).page_bytes
-        → (e : Entry) → SlotOf z (P.state pages.old).present directory place e → IfErr result (MayLack (P.state pages.old) (P.state pages.new)) }
+    ensures fault { OfSlotAt (P.state pages.old) directory place (IfErr result (MayLack (P.state pages.old) (P.state pages.new))) }
 {
     let slots = pages.page_bytes() / SLOT_BYTES as u32;
     let key = Key {
@@ -61,11 +60,9 @@ pub(crate) fn search<P: Pages>(
     ensures asked { (P.state pages.new).asked ≤ (P.state pages.old).asked + div_ceil length ((P.state pages.old).page_bytes / slot_length) }
     ensures power { OnOk result (KeepsPower (P.state pages.old) (P.state pages.new)) }
     ensures within { IfOk result (λ found. IfSome found (λ it. it.place < length)) }
-    ensures told { (P.state pages.old).sound ≡ true → (z : Sizes) → z.page_bytes ≡ (P.state pages.old).page_bytes
-        → IfOk result (Finds (SlotOf z (after (option_copied earlier.entry) (P.state pages.old)).present directory) 0 length name.now) }
+    ensures told { OfSlots (later earlier.entry (P.state pages.old)) directory (λ _ at. IfOk result (Finds at 0 length name.now)) }
     ensures why { IfErr result (SaysWhy (P.state pages.old) (P.state pages.new)) }
-    ensures fault { (P.state pages.old).sound ≡ true → (z : Sizes) → z.page_bytes ≡ (P.state pages.old).page_bytes
-        → AreSlots (SlotOf z (after (option_copied earlier.entry) (P.state pages.old)).present directory) 0 length → IfErr result (MayLack (P.state pages.old) (P.state pages.new)) }
+    ensures fault { OfSlotted (later earlier.entry (P.state pages.old)) directory length (IfErr result (MayLack (P.state pages.old) (P.state pages.new))) }
 {
     let slots = pages.page_bytes() / SLOT_BYTES as u32;
     for chunk in 0..length.div_ceil(slots) {
@@ -94,12 +91,9 @@ fn search_chunk<P: Pages>(
     ensures asked { (P.state pages.new).asked ≤ (P.state pages.old).asked + 1 }
     ensures power { OnOk result (KeepsPower (P.state pages.old) (P.state pages.new)) }
     ensures within { IfOk result (λ found. IfSome found (λ it. it.place < chunk * ((P.state pages.old).page_bytes / slot_length) + count)) }
-    ensures told { (P.state pages.old).sound ≡ true → (z : Sizes) → z.page_bytes ≡ (P.state pages.old).page_bytes
-        → IfOk result (Finds (SlotOf z (after (option_copied earlier.entry) (P.state pages.old)).present directory) (chunk * page_slots z) (chunk * page_slots z + count) name.now) }
+    ensures told { OfSlots (later earlier.entry (P.state pages.old)) directory (λ n at. IfOk result (Finds at (chunk * n) (chunk * n + count) name.now)) }
     ensures why { IfErr result (SaysWhy (P.state pages.old) (P.state pages.new)) }
-    ensures fault { (P.state pages.old).sound ≡ true → (z : Sizes) → z.page_bytes ≡ (P.state pages.old).page_bytes → 1 ≤ count
-        → AreSlots (SlotOf z (after (option_copied earlier.entry) (P.state pages.old)).present directory) (chunk * page_slots z) (chunk * page_slots z + count)
-        → IfErr result (MayLack (P.state pages.old) (P.state pages.new)) }
+    ensures fault { OfChunkSlots (later earlier.entry (P.state pages.old)) directory chunk count (IfErr result (MayLack (P.state pages.old) (P.state pages.new))) }
 {
     let key = Key {
         object: directory,
@@ -139,7 +133,7 @@ fn named_in(bytes: &[u8], name: &[u8]) -> Result<Option<u64>, PageFault>
     requires { length bytes.now ≡ slot_length }
     ensures told { IfOk result (λ found. (entry : Entry) × IsTreeSlot entry × (bytes.now ≡ slot_bytes entry) × NamedBy entry name.now found) }
     ensures damaged { IfErr result (λ fault. fault ≡ faults.Damaged) }
-    ensures ok { (entry : Entry) → IsTreeSlot entry → bytes.now ≡ slot_bytes entry → IsOk result }
+    ensures ok { OfEntry bytes.now (λ _. IsOk result) }
 {
     let Some(slot) = decode_tree_slot(bytes) else {
         return Err(PageFault::Damaged);

@@ -4,14 +4,12 @@ ghost use Rattle.name_index.specs.Covering.{HasHashes};
 ghost use Rattle.name_index.specs.Hashes.{fnv1a};
 ghost use Rattle.name_index.specs.Names.{Holds};
 ghost use Rattle.page_tags.specs.Headers.{Fields, IsHeaderOf};
-ghost use Rattle.page_tags.specs.Slots.{Entry, slot_bytes};
 ghost use Rattle.page_tags.specs.declared.header.ObjectKind.TheVariants as kinds;
-ghost use Rattle.flash_tree.specs.Slots.{IsTreeSlot};
 ghost use Rattle.flash_tree.specs.declared.place.FreshPage.{FreshPage};
-ghost use Rattle.volume_terms.specs.Sizes.{Sizes, slot_length};
+ghost use Rattle.volume_terms.specs.Sizes.{slot_length};
 ghost use Rattle.pages.specs.Changes.{AreSized};
-ghost use Rattle.pages.specs.Maps.{PageMap, changed};
-ghost use Rattle.directories.specs.Hashing.{HoldsMore, HoldsPage, SaysNoDirectory, WritesNewSlots};
+ghost use Rattle.directories.specs.Hashing.{HoldsMore, HoldsPage, SaysNoDirectory, HashesPage, OfNewSlots};
+ghost use Rattle.directories.specs.Slots.{OfEntry};
 
 use crate::page::slot_of;
 use flash_tree::{FreshPage, Key, decode_tree_slot};
@@ -36,8 +34,7 @@ pub fn hash_change(
     requires most { page_bytes ≤ 4096 }
     requires sized { AreSized change.now.pages.items page_bytes }
     ensures kept { HoldsMore names.old names.new }
-    ensures hashes { (z : Sizes) (m : PageMap) (d before later : ℕ) → z.page_bytes ≡ page_bytes → WritesNewSlots z m change.now d before later → HasHashes names.old z m d before
-        → OnOk result (HasHashes names.new z (changed change.now m) d later) }
+    ensures hashes { OfNewSlots page_bytes change.now names.old (λ z m d count. OnOk result (HasHashes names.new z m d count)) }
 {
     hash_pages(names, page_bytes, &change.pages)
 }
@@ -48,8 +45,7 @@ fn hash_pages(names: &mut NameIndex, page_bytes: u32, pages: &[FreshPage]) -> Re
     requires most { page_bytes ≤ 4096 }
     requires sized { AreSized pages.now page_bytes }
     ensures kept { HoldsMore names.old names.new }
-    ensures all { OnOk result ((i : ℕ) (page : FreshPage) → slice_get pages.now i ≡ Some page → 1 ≤ page.key.chunk → (SaysNoDirectory pages.now page.key.object → ⊥)
-        → HoldsPage names.new (page_bytes / slot_length) page) }
+    ensures all { OnOk result ((i : ℕ) (page : FreshPage) → slice_get pages.now i ≡ Some page → HashesPage names.new pages.now (page_bytes / slot_length) page) }
 {
     for page in pages {
         hash_one(names, page_bytes, pages, page)?;
@@ -69,7 +65,7 @@ fn hash_one(
     requires sized { AreSized pages.now page_bytes }
     requires here { length page.now.bytes.items ≡ page_bytes }
     ensures kept { HoldsMore names.old names.new }
-    ensures all { OnOk result (1 ≤ page.now.key.chunk → (SaysNoDirectory pages.now page.now.key.object → ⊥) → HoldsPage names.new (page_bytes / slot_length) page.now) }
+    ensures all { OnOk result (HashesPage names.new pages.now (page_bytes / slot_length) page.now) }
 {
     if page.key.chunk == 0 {
         return Ok(());
@@ -133,7 +129,7 @@ fn hash_slot(
 ) -> Result<(), AllocError>
     requires { length bytes.now ≡ slot_length }
     ensures kept { HoldsMore names.old names.new }
-    ensures here { OnOk result ((e : Entry) → IsTreeSlot e → bytes.now ≡ slot_bytes e → number < 2 ^ 32 → Holds names.new directory (fnv1a e.name) number) }
+    ensures here { OnOk result (OfEntry bytes.now (λ e. number < 2 ^ 32 → Holds names.new directory (fnv1a e.name) number)) }
 {
     let Some(slot) = decode_tree_slot(bytes) else {
         return Ok(());

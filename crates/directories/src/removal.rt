@@ -1,15 +1,14 @@
 // The removal of a slot.
-ghost use Rattle.std.specs.Prelude.{◌≡◌, ◌<◌, ◌≤◌, ◌+◌, ◌^◌, ℕ, [], true, OnOk, IfOk, IfErr, option_copied};
-ghost use Rattle.page_tags.specs.Slots.{Entry};
+ghost use Rattle.std.specs.Prelude.{◌≡◌, ◌<◌, ◌≤◌, ◌+◌, ◌^◌, ℕ, [], OnOk, IfOk, IfErr, option_copied};
 ghost use Rattle.volume_terms.specs.Sizes.{Sizes};
-ghost use Rattle.pages.specs.Afterwards.{after, IsSizedBy};
+ghost use Rattle.pages.specs.Afterwards.{IsSizedBy};
 ghost use Rattle.pages.specs.Changes.{IsChange, IsOnlyOf};
 ghost use Rattle.pages.specs.Faults.{MayLack, SaysWhy, MayLackMemory, SaysWhyMaking};
 ghost use Rattle.pages.specs.Maps.{PageMap, changed};
 ghost use Rattle.pages.specs.State.{OnlyFinds, KeepsPower};
-ghost use Rattle.directories.specs.Directories.{HasOnly, SlotOf};
-ghost use Rattle.directories.specs.Slots.{AreSlots};
-ghost use Rattle.directories.specs.Writes.{HasHead, HasKey, IsSlotBytes, KeepsBehind, KeepsSlots, EndsInZeros, LosesSlot, CutsBehind};
+ghost use Rattle.directories.specs.Writes.{HasKey, IsSlotBytes, KeepsBehind, LosesSlot, CutsBehind, KeepsKey, WritesHead, Shortens};
+ghost use Rattle.directories.specs.Stores.{later, OfPages, OfSlotted, OfSlotAt};
+ghost use Rattle.pages.specs.Sound.{OfSound};
 
 use crate::head::{DirectoryHead, head_page};
 use crate::page::slot_of;
@@ -38,16 +37,10 @@ pub(crate) fn remove_slot<P: Pages>(
     ensures change { IfOk result (λ change. IsChange change (P.state pages.old).page_bytes 2) }
     ensures only { IfOk result (λ change. IsOnlyOf change directory) }
     ensures head { IfOk result (λ change. HasKey change directory 0) }
-    ensures removes { (P.state pages.old).sound ≡ true → (z : Sizes) → z.page_bytes ≡ (P.state pages.old).page_bytes
-        → let old = (after (option_copied earlier.entry) (P.state pages.old)).present in
-        IfOk result (λ change. LosesSlot z old change directory shorter place) }
-    ensures besides { (P.state pages.old).sound ≡ true → (z : Sizes) → z.page_bytes ≡ (P.state pages.old).page_bytes
-        → let old = (after (option_copied earlier.entry) (P.state pages.old)).present in
-        HasOnly z old directory (shorter.length + 1) → IfOk result (λ change. HasOnly z (changed change old) directory shorter.length) }
+    ensures removes { OfPages (later earlier.entry (P.state pages.old)) (λ z old. IfOk result (λ change. LosesSlot z old change directory shorter place)) }
+    ensures besides { Shortens (later earlier.entry (P.state pages.old)) directory (shorter.length + 1) shorter.length result }
     ensures why { IfErr result (SaysWhyMaking (P.state pages.new)) }
-    ensures fault { (P.state pages.old).sound ≡ true → (z : Sizes) → z.page_bytes ≡ (P.state pages.old).page_bytes
-        → AreSlots (SlotOf z (after (option_copied earlier.entry) (P.state pages.old)).present directory) 0 (shorter.length + 1)
-        → IfErr result (MayLackMemory (P.state pages.new)) }
+    ensures fault { OfSlotted (later earlier.entry (P.state pages.old)) directory (shorter.length + 1) (IfErr result (MayLackMemory (P.state pages.new))) }
 {
     let slots = pages.page_bytes() / SLOT_BYTES as u32;
     let change = shorten(alloc, pages, earlier, directory, place, shorter)?;
@@ -74,15 +67,10 @@ fn shorten<P: Pages>(
     ensures cuts { IfOk result (λ change. change.cuts.items ≡ []) }
     ensures only { IfOk result (λ change. IsOnlyOf change directory) }
     ensures head { IfOk result (λ change. HasKey change directory 0) }
-    ensures shortens { (P.state pages.old).sound ≡ true → (z : Sizes) → z.page_bytes ≡ (P.state pages.old).page_bytes
-        → let old = (after (option_copied earlier.entry) (P.state pages.old)).present in
-        IfOk result (λ change. LosesSlot z old change directory shorter place) }
-    ensures pages { (P.state pages.old).sound ≡ true → (z : Sizes) (m : PageMap) → z.page_bytes ≡ (P.state pages.old).page_bytes
-        → IfOk result (λ change. KeepsBehind z m (changed change m) directory shorter.length) }
+    ensures shortens { OfPages (later earlier.entry (P.state pages.old)) (λ z old. IfOk result (λ change. LosesSlot z old change directory shorter place)) }
+    ensures pages { OfSound (P.state pages.old) (λ z. (m : PageMap) → IfOk result (λ change. KeepsBehind z m (changed change m) directory shorter.length)) }
     ensures why { IfErr result (SaysWhyMaking (P.state pages.new)) }
-    ensures fault { (P.state pages.old).sound ≡ true → (z : Sizes) → z.page_bytes ≡ (P.state pages.old).page_bytes
-        → AreSlots (SlotOf z (after (option_copied earlier.entry) (P.state pages.old)).present directory) 0 (shorter.length + 1)
-        → IfErr result (MayLackMemory (P.state pages.new)) }
+    ensures fault { OfSlotted (later earlier.entry (P.state pages.old)) directory (shorter.length + 1) (IfErr result (MayLackMemory (P.state pages.new))) }
 {
     if place < shorter.length {
         fill(alloc, pages, earlier, directory, place, shorter)
@@ -134,15 +122,10 @@ fn fill<P: Pages>(
     ensures cuts { IfOk result (λ change. change.cuts.items ≡ []) }
     ensures only { IfOk result (λ change. IsOnlyOf change directory) }
     ensures head { IfOk result (λ change. HasKey change directory 0) }
-    ensures fills { (P.state pages.old).sound ≡ true → (z : Sizes) → z.page_bytes ≡ (P.state pages.old).page_bytes
-        → let old = (after (option_copied earlier.entry) (P.state pages.old)).present in
-        IfOk result (λ change. LosesSlot z old change directory shorter place) }
-    ensures pages { (P.state pages.old).sound ≡ true → (z : Sizes) (m : PageMap) → z.page_bytes ≡ (P.state pages.old).page_bytes
-        → IfOk result (λ change. KeepsBehind z m (changed change m) directory shorter.length) }
+    ensures fills { OfPages (later earlier.entry (P.state pages.old)) (λ z old. IfOk result (λ change. LosesSlot z old change directory shorter place)) }
+    ensures pages { OfSound (P.state pages.old) (λ z. (m : PageMap) → IfOk result (λ change. KeepsBehind z m (changed change m) directory shorter.length)) }
     ensures why { IfErr result (SaysWhyMaking (P.state pages.new)) }
-    ensures fault { (P.state pages.old).sound ≡ true → (z : Sizes) → z.page_bytes ≡ (P.state pages.old).page_bytes
-        → AreSlots (SlotOf z (after (option_copied earlier.entry) (P.state pages.old)).present directory) 0 (shorter.length + 1)
-        → IfErr result (MayLackMemory (P.state pages.new)) }
+    ensures fault { OfSlotted (later earlier.entry (P.state pages.old)) directory (shorter.length + 1) (IfErr result (MayLackMemory (P.state pages.new))) }
 {
     let bytes = slot_bytes(pages, earlier, directory, shorter.length)?;
     let Some(last) = decode_tree_slot(&bytes) else {
@@ -167,11 +150,9 @@ fn slot_bytes<P: Pages>(
     ensures finds { OnlyFinds (P.state pages.old) (P.state pages.new) }
     ensures asked { (P.state pages.new).asked ≤ (P.state pages.old).asked + 1 }
     ensures power { OnOk result (KeepsPower (P.state pages.old) (P.state pages.new)) }
-    ensures told { (P.state pages.old).sound ≡ true → (z : Sizes) → z.page_bytes ≡ (P.state pages.old).page_bytes
-        → IfOk result (λ bytes. IsSlotBytes z (after (option_copied earlier.entry) (P.state pages.old)).present directory number bytes) }
+    ensures told { OfPages (later earlier.entry (P.state pages.old)) (λ z old. IfOk result (IsSlotBytes z old directory number)) }
     ensures why { IfErr result (SaysWhy (P.state pages.old) (P.state pages.new)) }
-    ensures fault { (P.state pages.old).sound ≡ true → (z : Sizes) (e : Entry) → z.page_bytes ≡ (P.state pages.old).page_bytes
-        → SlotOf z (after (option_copied earlier.entry) (P.state pages.old)).present directory number e → IfErr result (MayLack (P.state pages.old) (P.state pages.new)) }
+    ensures fault { OfSlotAt (later earlier.entry (P.state pages.old)) directory number (IfErr result (MayLack (P.state pages.old) (P.state pages.new))) }
 {
     let slots = pages.page_bytes() / SLOT_BYTES as u32;
     let key = Key {
@@ -197,10 +178,8 @@ fn head_change(
     ensures cuts { IfOk result (λ change. change.cuts.items ≡ []) }
     ensures only { IfOk result (λ change. IsOnlyOf change directory) }
     ensures head { IfOk result (λ change. HasKey change directory 0) }
-    ensures writes { (z : Sizes) (old : PageMap) → z.page_bytes ≡ page_bytes → IfOk result (λ change. HasHead z (changed change old) directory head
-        × ((count : ℕ) → KeepsSlots z old (changed change old) directory count count)
-        × ((count : ℕ) → EndsInZeros z change directory count)) }
-    ensures pages { (m : PageMap) (c : ℕ) → 1 ≤ c → IfOk result (λ change. changed change m directory c ≡ m directory c) }
+    ensures writes { (z : Sizes) (old : PageMap) → z.page_bytes ≡ page_bytes → IfOk result (WritesHead z old directory head) }
+    ensures pages { (m : PageMap) (c : ℕ) → 1 ≤ c → IfOk result (KeepsKey m directory c) }
 {
     let page = head_page(alloc, page_bytes, directory, head)?;
     let pages = vec![in alloc; page]?;

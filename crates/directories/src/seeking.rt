@@ -1,15 +1,13 @@
 // The search of a name through an index.
-ghost use Rattle.std.specs.Prelude.{◌≡◌, ◌<◌, ◌+◌, ℕ, List, true, OnOk, IfOk, IfErr, IfSome};
-ghost use Rattle.name_index.specs.Hashes.{fnv1a};
-ghost use Rattle.name_index.specs.Names.{Holds};
+ghost use Rattle.std.specs.Prelude.{◌≡◌, ◌<◌, ◌+◌, ℕ, List, OnOk, IfOk, IfErr, IfSome};
 ghost use Rattle.page_tags.specs.Slots.{Entry};
-ghost use Rattle.volume_terms.specs.Sizes.{Sizes};
 ghost use Rattle.posix_profile.specs.State.{Entries};
 ghost use Rattle.pages.specs.Faults.{MayLack, SaysWhy};
 ghost use Rattle.pages.specs.State.{OnlyFinds, KeepsPower};
-ghost use Rattle.directories.specs.Directories.{DirIn, SlotOf};
-ghost use Rattle.directories.specs.Named.{NamedIn, AsksHeld, FindsHeld, StandsAt, IsFoundAt, IsSought, TellsSought};
-ghost use Rattle.directories.specs.Slots.{AreSlots};
+ghost use Rattle.directories.specs.Named.{AsksHeld, FindsHeld, StandsAt, IsFoundAt, TellsSought, IsHeld, IsSoughtIn};
+ghost use Rattle.directories.specs.Stores.{OfSlots, OfSlotted};
+ghost use Rattle.directories.specs.Changing.{OfDir};
+ghost use Rattle.pages.specs.Sound.{OfSound};
 
 use crate::head::{DirectoryHead, read_head};
 use crate::lookup::{Located, find_in_slot};
@@ -47,11 +45,9 @@ pub(crate) fn search_held<P: Pages>(
     ensures asked { AsksHeld names.now directory name.now (P.state pages.old).asked (P.state pages.new).asked }
     ensures power { OnOk result (KeepsPower (P.state pages.old) (P.state pages.new)) }
     ensures within { IfOk result (λ found. IfSome found (λ it. it.place < length)) }
-    ensures told { (P.state pages.old).sound ≡ true → (z : Sizes) → z.page_bytes ≡ (P.state pages.old).page_bytes
-        → IfOk result (FindsHeld (Holds names.now directory (fnv1a name.now)) (SlotOf z (P.state pages.old).present directory) length name.now) }
+    ensures told { OfSlots (P.state pages.old) directory (λ _ at. IfOk result (FindsHeld (IsHeld names.now directory name.now) at length name.now)) }
     ensures why { IfErr result (SaysWhy (P.state pages.old) (P.state pages.new)) }
-    ensures fault { (P.state pages.old).sound ≡ true → (z : Sizes) → z.page_bytes ≡ (P.state pages.old).page_bytes
-        → AreSlots (SlotOf z (P.state pages.old).present directory) 0 length → IfErr result (MayLack (P.state pages.old) (P.state pages.new)) }
+    ensures fault { OfSlotted (P.state pages.old) directory length (IfErr result (MayLack (P.state pages.old) (P.state pages.new))) }
 {
     let hash = name_hash(name);
     let mut from: u32 = 0;
@@ -81,13 +77,10 @@ pub(crate) fn seek<P: Pages>(
     ensures asked { AsksHeld names.now directory name.now ((P.state pages.old).asked + 1) (P.state pages.new).asked }
     ensures power { OnOk result (KeepsPower (P.state pages.old) (P.state pages.new)) }
     ensures within { IfOk result (λ sought. IfSome sought.found (λ it. it.place < sought.head.length)) }
-    ensures told { (P.state pages.old).sound ≡ true → (z : Sizes) → z.page_bytes ≡ (P.state pages.old).page_bytes
-        → IfOk result (TellsSought names.now z (P.state pages.old) directory name.now) }
-    ensures sought { (z : Sizes) (moment : ℕ) (entries : Entries) (d : NamedIn names.now (P.state pages.old) z directory moment entries)
-        → IfOk result (λ sought. IsSought z (P.state pages.old) directory name.now sought moment entries d.reads) }
+    ensures told { OfSound (P.state pages.old) (λ z. IfOk result (TellsSought names.now z (P.state pages.old) directory name.now)) }
+    ensures sought { IsSoughtIn names.now (P.state pages.old) directory name.now result }
     ensures why { IfErr result (SaysWhy (P.state pages.old) (P.state pages.new)) }
-    ensures fault { (z : Sizes) (moment : ℕ) (entries : Entries) (d : DirIn (P.state pages.old) z directory moment entries)
-        → IfErr result (MayLack (P.state pages.old) (P.state pages.new)) }
+    ensures fault { OfDir (P.state pages.old) directory (λ d. IfErr result (MayLack (P.state pages.old) (P.state pages.new))) }
 {
     let head = read_head(pages, directory)?;
     let found = search_held(names, pages, directory, head.length, name)?;

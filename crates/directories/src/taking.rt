@@ -1,17 +1,16 @@
 // The removal of a name.
-ghost use Rattle.std.specs.Prelude.{◌≡◌, ◌+◌, ℕ, true, None, OnOk, IfOk, IfErr, IfSome, IfNone};
+ghost use Rattle.std.specs.Prelude.{◌≡◌, ◌+◌, None, OnOk, IfOk, IfErr, IfNone};
 ghost use Rattle.std.specs.FinMap as map;
-ghost use Rattle.volume_terms.specs.Sizes.{Sizes};
-ghost use Rattle.posix_profile.specs.State.{Entries};
 ghost use Rattle.pages.specs.Changes.{IsChange, IsOnlyOf};
 ghost use Rattle.pages.specs.Faults.{MayLackMemory, SaysWhyMaking};
-ghost use Rattle.pages.specs.Maps.{changed};
 ghost use Rattle.pages.specs.State.{OnlyFinds, KeepsPower};
-ghost use Rattle.directories.specs.Directories.{DirIn, HasOnly, ReadsDirectory, IsNamed};
-ghost use Rattle.directories.specs.Named.{NamedIn, AsksHeld, TellsHeldChange};
+ghost use Rattle.directories.specs.Directories.{IsNamed};
+ghost use Rattle.directories.specs.Named.{AsksHeld, TellsHeldChange};
 ghost use Rattle.directories.specs.SlotLists.{IsWithout, RewritesHeld};
-ghost use Rattle.directories.specs.Taking.{TakesName, IsMovedTo};
+ghost use Rattle.directories.specs.Taking.{IsMovedTo};
 ghost use Rattle.directories.specs.Writes.{HasKey};
+ghost use Rattle.directories.specs.Changing.{IfMade, IfTaken, OfDir, OfNamed, Becomes, Ends, EndsAfter, TakesFrom};
+ghost use Rattle.pages.specs.Sound.{OfSound};
 
 use crate::head::DirectoryHead;
 use crate::lookup::Located;
@@ -60,23 +59,16 @@ pub(crate) fn take_name<P: Pages>(
     ensures finds { OnlyFinds (P.state pages.old) (P.state pages.new) }
     ensures asked { AsksHeld names.now directory name.now ((P.state pages.old).asked + 3) (P.state pages.new).asked }
     ensures power { OnOk result (KeepsPower (P.state pages.old) (P.state pages.new)) }
-    ensures change { IfOk result (λ made. IfSome made (λ taken. IsChange taken.change (P.state pages.old).page_bytes 2)) }
-    ensures only { IfOk result (λ made. IfSome made (λ taken. IsOnlyOf taken.change directory)) }
-    ensures head { IfOk result (λ made. IfSome made (λ taken. HasKey taken.change directory 0)) }
-    ensures named { (z : Sizes) (before : ℕ) (entries : Entries) (d : NamedIn names.now (P.state pages.old) z directory before entries)
-        → IfOk result (λ made. IfNone made (map.get entries name.now ≡ None)) }
-    ensures takes { (z : Sizes) (before : ℕ) (entries : Entries) (d : NamedIn names.now (P.state pages.old) z directory before entries)
-        → IfOk result (λ made. IfSome made (TakesName z (P.state pages.old).present directory d.reads.slots name.now)) }
-    ensures removes { (z : Sizes) (before : ℕ) (entries : Entries) (d : NamedIn names.now (P.state pages.old) z directory before entries)
-        → IfOk result (λ made. IfSome made (λ taken. ReadsDirectory z (changed taken.change (P.state pages.old).present) directory moment (map.remove entries name.now) d.reads.fields.spare)) }
-    ensures besides { (z : Sizes) (before : ℕ) (entries : Entries) (d : NamedIn names.now (P.state pages.old) z directory before entries)
-        → HasOnly z (P.state pages.old).present directory (map.len entries)
-        → IfOk result (λ made. IfSome made (λ taken. HasOnly z (changed taken.change (P.state pages.old).present) directory (map.len (map.remove entries name.now)))) }
-    ensures told { (P.state pages.old).sound ≡ true → (z : Sizes) → z.page_bytes ≡ (P.state pages.old).page_bytes
-        → IfOk result (TellsHeldChange names.now z (P.state pages.old) directory name.now) }
+    ensures change { IfTaken result (λ change. IsChange change (P.state pages.old).page_bytes 2) }
+    ensures only { IfTaken result (λ change. IsOnlyOf change directory) }
+    ensures head { IfTaken result (λ change. HasKey change directory 0) }
+    ensures named { OfNamed names.now (P.state pages.old) directory (λ d. IfOk result (λ made. IfNone made (map.get d.entries name.now ≡ None))) }
+    ensures takes { OfNamed names.now (P.state pages.old) directory (λ d. IfMade result (TakesFrom d name.now)) }
+    ensures removes { OfNamed names.now (P.state pages.old) directory (λ d. IfTaken result (Becomes d moment (map.remove d.entries name.now))) }
+    ensures besides { OfNamed names.now (P.state pages.old) directory (λ d. Ends d → IfTaken result (EndsAfter d (map.remove d.entries name.now))) }
+    ensures told { OfSound (P.state pages.old) (λ z. IfOk result (TellsHeldChange names.now z (P.state pages.old) directory name.now)) }
     ensures why { IfErr result (SaysWhyMaking (P.state pages.new)) }
-    ensures fault { (z : Sizes) (before : ℕ) (entries : Entries) (d : DirIn (P.state pages.old) z directory before entries)
-        → IfErr result (MayLackMemory (P.state pages.new)) }
+    ensures fault { OfDir (P.state pages.old) directory (λ d. IfErr result (MayLackMemory (P.state pages.new))) }
 {
     let sought = seek(names, pages, directory, name)?;
     let Some(found) = sought.found else {
@@ -110,21 +102,15 @@ pub fn remove<P: Pages>(
     ensures finds { OnlyFinds (P.state pages.old) (P.state pages.new) }
     ensures asked { AsksHeld names.now directory name.now ((P.state pages.old).asked + 3) (P.state pages.new).asked }
     ensures power { OnOk result (KeepsPower (P.state pages.old) (P.state pages.new)) }
-    ensures change { IfOk result (λ made. IfSome made (λ change. IsChange change (P.state pages.old).page_bytes 2)) }
-    ensures only { IfOk result (λ made. IfSome made (λ change. IsOnlyOf change directory)) }
-    ensures named { (z : Sizes) (before : ℕ) (entries : Entries) (d : NamedIn names.now (P.state pages.old) z directory before entries)
-        → IfOk result (λ made. IsNamed entries name.now made) }
-    ensures removes { (z : Sizes) (before : ℕ) (entries : Entries) (d : NamedIn names.now (P.state pages.old) z directory before entries)
-        → IfOk result (λ made. IfSome made (λ change. ReadsDirectory z (changed change (P.state pages.old).present) directory moment (map.remove entries name.now) d.reads.fields.spare)) }
-    ensures besides { (z : Sizes) (before : ℕ) (entries : Entries) (d : NamedIn names.now (P.state pages.old) z directory before entries)
-        → HasOnly z (P.state pages.old).present directory (map.len entries)
-        → IfOk result (λ made. IfSome made (λ change. HasOnly z (changed change (P.state pages.old).present) directory (map.len (map.remove entries name.now)))) }
-    ensures told { (P.state pages.old).sound ≡ true → (z : Sizes) → z.page_bytes ≡ (P.state pages.old).page_bytes
-        → IfOk result (TellsHeldChange names.now z (P.state pages.old) directory name.now) }
-    ensures slots { IfOk result (λ made. IfSome made (RewritesHeld names.now (P.state pages.old) directory (IsWithout name.now))) }
+    ensures change { IfMade result (λ change. IsChange change (P.state pages.old).page_bytes 2) }
+    ensures only { IfMade result (λ change. IsOnlyOf change directory) }
+    ensures named { OfNamed names.now (P.state pages.old) directory (λ d. IfOk result (IsNamed d.entries name.now)) }
+    ensures removes { OfNamed names.now (P.state pages.old) directory (λ d. IfMade result (Becomes d moment (map.remove d.entries name.now))) }
+    ensures besides { OfNamed names.now (P.state pages.old) directory (λ d. Ends d → IfMade result (EndsAfter d (map.remove d.entries name.now))) }
+    ensures told { OfSound (P.state pages.old) (λ z. IfOk result (TellsHeldChange names.now z (P.state pages.old) directory name.now)) }
+    ensures slots { IfMade result (RewritesHeld names.now (P.state pages.old) directory (IsWithout name.now)) }
     ensures why { IfErr result (SaysWhyMaking (P.state pages.new)) }
-    ensures fault { (z : Sizes) (before : ℕ) (entries : Entries) (d : DirIn (P.state pages.old) z directory before entries)
-        → IfErr result (MayLackMemory (P.state pages.new)) }
+    ensures fault { OfDir (P.state pages.old) directory (λ d. IfErr result (MayLackMemory (P.state pages.new))) }
 {
     match take_name(alloc, names, pages, directory, name, moment)? {
         Some(taken) => Ok(Some(taken.change)),

@@ -1,16 +1,16 @@
 // A slot of a directory that is written, with the directory's header.
-ghost use Rattle.std.specs.Prelude.{◌≡◌, ◌≢◌, ◌<◌, ◌≤◌, ◌+◌, ◌-◌, ◌*◌, ◌/◌, ◌++◌, min, ℕ, List, [], true, Some, IfOk, OnOk, IfErr, take, length, replicate, option_copied};
+ghost use Rattle.std.specs.Prelude.{◌≡◌, ◌≢◌, ◌<◌, ◌≤◌, ◌+◌, ◌-◌, ◌*◌, ◌/◌, ◌++◌, [], true, IfOk, OnOk, IfErr, length, option_copied};
 ghost use Rattle.page_tags.specs.SlotEntry.{entry_of};
 ghost use Rattle.flash_tree.specs.Slots.{IsTreeSlot};
-ghost use Rattle.volume_terms.specs.Sizes.{Sizes, page_slots, slot_length};
-ghost use Rattle.pages.specs.Afterwards.{after, IsSizedBy};
+ghost use Rattle.volume_terms.specs.Sizes.{page_slots, slot_length};
+ghost use Rattle.pages.specs.Afterwards.{IsSizedBy};
 ghost use Rattle.pages.specs.Changes.{IsChange, IsOnlyOf};
 ghost use Rattle.pages.specs.Faults.{MayLackMemory, SaysWhyMaking};
 ghost use Rattle.pages.specs.Maps.{PageMap, changed};
 ghost use Rattle.pages.specs.State.{OnlyFinds, KeepsPower};
-ghost use Rattle.directories.specs.Directories.{SlotOf, HasBeside};
-ghost use Rattle.directories.specs.Slots.{AreSlots};
-ghost use Rattle.directories.specs.Writes.{IsSlotsPage, IsSlotPage, HasHead, HasKey, KeepsPages, KeepsSlots, EndsInZeros};
+ghost use Rattle.directories.specs.Writes.{IsSlotsPage, IsSlotPage, HasKey, KeepsPages, HasPageOf, WritesSlot, HasFirstSlots};
+ghost use Rattle.directories.specs.Stores.{later, OfPages, OfSlotted, OfSource, OfObject};
+ghost use Rattle.pages.specs.Sound.{OfSound};
 
 use crate::head::{DirectoryHead, head_page};
 use crate::page::{copy_slots, write_slot};
@@ -42,14 +42,9 @@ fn page_with<P: Pages>(
     ensures asked { (P.state pages.new).asked ≤ (P.state pages.old).asked + 1 }
     ensures power { OnOk result (KeepsPower (P.state pages.old) (P.state pages.new)) }
     ensures size { IfOk result (λ page. length page.items ≡ (P.state pages.old).page_bytes) }
-    ensures page { (P.state pages.old).sound ≡ true → IfOk result (λ page. (xs : List ℕ)
-        × (count ≢ 0 → (after (option_copied earlier.entry) (P.state pages.old)).present key.object key.chunk ≡ Some xs)
-        × (slot_length * count ≤ length xs)
-        × (page.items ≡ take (slot_length * count) xs ++ replicate ((P.state pages.old).page_bytes - slot_length * count) 0)) }
+    ensures page { (P.state pages.old).sound ≡ true → IfOk result (λ page. HasFirstSlots (later earlier.entry (P.state pages.old)) key count page.items) }
     ensures why { IfErr result (SaysWhyMaking (P.state pages.new)) }
-    ensures fault { (P.state pages.old).sound ≡ true
-        → (count ≢ 0 → (xs : List ℕ) × ((after (option_copied earlier.entry) (P.state pages.old)).present key.object key.chunk ≡ Some xs))
-        → IfErr result (MayLackMemory (P.state pages.new)) }
+    ensures fault { OfSource (later earlier.entry (P.state pages.old)) key count (IfErr result (MayLackMemory (P.state pages.new))) }
 {
     let mut page = vec![in alloc; 0u8; pages.page_bytes() as usize]?;
     if count == 0 {
@@ -76,14 +71,10 @@ pub(crate) fn slot_page<P: Pages>(
     ensures asked { (P.state pages.new).asked ≤ (P.state pages.old).asked + 1 }
     ensures power { OnOk result (KeepsPower (P.state pages.old) (P.state pages.new)) }
     ensures sized { IfOk result (IsSlotsPage directory (P.state pages.old).page_bytes) }
-    ensures page { (P.state pages.old).sound ≡ true → (z : Sizes) → z.page_bytes ≡ (P.state pages.old).page_bytes
-        → IfOk result (IsSlotPage z (after (option_copied earlier.entry) (P.state pages.old)).present directory writing (entry_of slot.now)) }
-    ensures beside { (P.state pages.old).sound ≡ true → (z : Sizes) → z.page_bytes ≡ (P.state pages.old).page_bytes
-        → OnOk result (HasBeside z (after (option_copied earlier.entry) (P.state pages.old)).present directory (min writing.before writing.afterwards) writing.number) }
+    ensures page { OfPages (later earlier.entry (P.state pages.old)) (λ z old. IfOk result (IsSlotPage z old directory writing (entry_of slot.now))) }
+    ensures beside { OfPages (later earlier.entry (P.state pages.old)) (λ z old. OnOk result (HasPageOf z old directory writing)) }
     ensures why { IfErr result (SaysWhyMaking (P.state pages.new)) }
-    ensures fault { (P.state pages.old).sound ≡ true → (z : Sizes) → z.page_bytes ≡ (P.state pages.old).page_bytes
-        → AreSlots (SlotOf z (after (option_copied earlier.entry) (P.state pages.old)).present directory) 0 writing.before
-        → IfErr result (MayLackMemory (P.state pages.new)) }
+    ensures fault { OfSlotted (later earlier.entry (P.state pages.old)) directory writing.before (IfErr result (MayLackMemory (P.state pages.new))) }
 {
     let slots = pages.page_bytes() / SLOT_BYTES as u32;
     let chunk = writing.number / slots;
@@ -118,22 +109,12 @@ pub(crate) fn write<P: Pages>(
     ensures cuts { IfOk result (λ change. change.cuts.items ≡ []) }
     ensures only { IfOk result (λ change. IsOnlyOf change directory) }
     ensures head { IfOk result (λ change. HasKey change directory 0) }
-    ensures slot { (P.state pages.old).sound ≡ true → (z : Sizes) → z.page_bytes ≡ (P.state pages.old).page_bytes
-        → IfOk result (λ change. HasKey change directory (1 + writing.number / page_slots z)) }
-    ensures writes { (P.state pages.old).sound ≡ true → (z : Sizes) → z.page_bytes ≡ (P.state pages.old).page_bytes
-        → let old = (after (option_copied earlier.entry) (P.state pages.old)).present in
-        IfOk result (λ change. HasHead z (changed change old) directory head
-        × SlotOf z (changed change old) directory writing.number (entry_of slot.now)
-        × KeepsSlots z old (changed change old) directory (min writing.before writing.afterwards) writing.number
-        × EndsInZeros z change directory writing.afterwards) }
-    ensures pages { (P.state pages.old).sound ≡ true → (z : Sizes) (m : PageMap) → z.page_bytes ≡ (P.state pages.old).page_bytes
-        → IfOk result (λ change. KeepsPages z m (changed change m) directory writing.number) }
-    ensures beside { (P.state pages.old).sound ≡ true → (z : Sizes) → z.page_bytes ≡ (P.state pages.old).page_bytes
-        → OnOk result (HasBeside z (after (option_copied earlier.entry) (P.state pages.old)).present directory (min writing.before writing.afterwards) writing.number) }
+    ensures slot { OfSound (P.state pages.old) (λ z. IfOk result (λ change. HasKey change directory (1 + writing.number / page_slots z))) }
+    ensures writes { OfObject (later earlier.entry (P.state pages.old)) directory (λ it. IfOk result (WritesSlot it writing slot.now head)) }
+    ensures pages { OfSound (P.state pages.old) (λ z. (m : PageMap) → IfOk result (λ change. KeepsPages z m (changed change m) directory writing.number)) }
+    ensures beside { OfPages (later earlier.entry (P.state pages.old)) (λ z old. OnOk result (HasPageOf z old directory writing)) }
     ensures why { IfErr result (SaysWhyMaking (P.state pages.new)) }
-    ensures fault { (P.state pages.old).sound ≡ true → (z : Sizes) → z.page_bytes ≡ (P.state pages.old).page_bytes
-        → AreSlots (SlotOf z (after (option_copied earlier.entry) (P.state pages.old)).present directory) 0 writing.before
-        → IfErr result (MayLackMemory (P.state pages.new)) }
+    ensures fault { OfSlotted (later earlier.entry (P.state pages.old)) directory writing.before (IfErr result (MayLackMemory (P.state pages.new))) }
 {
     let slot_page = slot_page(alloc, pages, earlier, directory, writing, slot)?;
     let head_page = head_page(alloc, pages.page_bytes(), directory, head)?;

@@ -106,7 +106,7 @@ returns-clause-besides g c = λ z moment entries d absent only.
     (only_written z m (changed change m) c.args.directory n c.in-Some.length some (omega (arith, more)) keeps (map.len entries) (omega (arith, more, counted)) only))
     (returns-clause-adds g c z moment entries d absent)
     (c.write.ensures.writes sound_on' z size_on')
-    (c.write.ensures.pages sound_on' z m size_on')
+    (c.write.ensures.pages sound_on' z size_on' m)
 
 pub returns-clause-told : goal.returns-clause-told
 returns-clause-told g c = λ sound z size.

@@ -19,7 +19,7 @@ pub returns-in_err-bytes-clause-fault : goal.returns-in_err-bytes-clause-fault
 returns-in_err-bytes-clause-fault g c = λ sound z size are.
     let s = are c.args.shorter.length (omega arith) (omega arith) in
     let p = err_from_is_err_and c.from_residual.result c.from_residual.ensures.1 in
-    rw (p.1, p.2) (lacks_memory (g.P.Pages.state c.args.pages.now) (g.P.Pages.state c.slot_bytes.new.pages) _ (c.in_err-bytes.ensures.fault sound z s.0 size s.1))
+    rw (p.1, p.2) (lacks_memory (g.P.Pages.state c.args.pages.now) (g.P.Pages.state c.slot_bytes.new.pages) _ (c.in_err-bytes.ensures.fault sound z size s.0 s.1))
 
 pub returns-in_default-clause-fault : goal.returns-in_default-clause-fault
 returns-in_default-clause-fault g c = λ sound z size are.
@@ -59,9 +59,9 @@ returns-clause-fault g c = λ sound z size are.
     (subst (λ (k : PageMap). AreSlots (SlotOf z (by k) c.args.directory) 0 (c.args.shorter.length + 1)) (sym finds.present) are)
 
 pub returns-clause-pages : goal.returns-clause-pages
-returns-clause-pages g c = λ sound z m size.
+returns-clause-pages g c = λ sound z size m.
     let finds = c.slot_bytes.ensures.finds in
     let low = (g.met.P.Pages.sized c.args.pages.now).0 in
     let some : 1 ≤ page_slots z = omega (arith, low, size) in
     on_ok _ _ c.write.result (λ change keeps. kept_behind z m (changed change m) c.args.directory c.args.place c.args.shorter.length some c.requires.within keeps)
-    (c.write.ensures.pages (finds.sound ∙ sound) z m (size ∙ sym finds.page_bytes))
+    (c.write.ensures.pages (finds.sound ∙ sound) z (size ∙ sym finds.page_bytes) m)

@@ -39,4 +39,4 @@ returns-clause-besides g c = λ sound z size only.
     let slots : n ≡ page_slots z = ap (λ k. k / 272) (c.page_bytes.ensures.bytes ∙ sym size) in
     let some : 1 ≤ n = omega (arith, c.page_bytes.ensures.least) in
     only_behind z m c.args.directory c.args.shorter.length c.in_ok-change.change c.in_ok-cut.cut c.in_ok-cut.ensures.pages c.in_ok-change.ensures.cuts n slots some c.in_ok-cut.ensures.cuts
-    (λ k. c.in_ok-change.ensures.pages sound z k size) only
+    (λ k. c.in_ok-change.ensures.pages sound z size k) only

@@ -20,4 +20,4 @@ returns-in_ok-head_change-clause-shortens g c = λ sound z size.
     }
 
 pub returns-in_ok-head_change-clause-pages : goal.returns-in_ok-head_change-clause-pages
-returns-in_ok-head_change-clause-pages g c = λ sound z m size k behind. c.in_ok-head_change.ensures.pages m k (omega (arith, behind))
+returns-in_ok-head_change-clause-pages g c = λ sound z size m k behind. c.in_ok-head_change.ensures.pages m k (omega (arith, behind))

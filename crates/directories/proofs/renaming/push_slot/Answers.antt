@@ -29,7 +29,7 @@ returns-clause-fault g c = λ sound z size are.
     on_err _ _ c.write.result (λ fault is. says_more _ _ _ _ _ _ (g.P.Pages.state c.write.new.pages) fault (λ x. x) (λ x. x) (λ x. absurd x) is) (c.write.ensures.fault sound z size are)
 
 pub returns-clause-pages : goal.returns-clause-pages
-returns-clause-pages g c = λ sound z m size. c.write.ensures.pages sound z m size
+returns-clause-pages g c = λ sound z size m. c.write.ensures.pages sound z size m
 
 pub returns-clause-slot : goal.returns-clause-slot
 returns-clause-slot g c = λ sound z size. c.write.ensures.slot sound z size

@@ -146,7 +146,7 @@ returns-else-number-head-clause-besides g c = λ z moment entries d stands only.
     (only_written z m (changed change m) c.args.directory c.in-Some.number n some within keeps (map.len entries) (omega (arith, counted)) only))
     (returns-else-number-head-clause-puts g c z moment entries d stands)
     (c.write.ensures.writes sound_on' z size_on')
-    (c.write.ensures.pages sound_on' z m size_on')
+    (c.write.ensures.pages sound_on' z size_on' m)
 
 pub returns-in-None-clause-besides : goal.returns-in-None-clause-besides
 returns-in-None-clause-besides g c = λ z moment entries d stands only.
@@ -174,7 +174,7 @@ returns-in-None-clause-besides g c = λ z moment entries d stands only.
     (only_written z m (changed change m) c.args.directory n (n + 1) some (omega arith) keeps (map.len entries) (omega (arith, counted)) only))
     (returns-in-None-clause-puts g c z moment entries d stands)
     (c.push_slot.ensures.pushes sound_on' z size_on')
-    (c.push_slot.ensures.pages sound_on' z m size_on')
+    (c.push_slot.ensures.pages sound_on' z size_on' m)
 
 pub returns-else-number-head-clause-slot : goal.returns-else-number-head-clause-slot
 returns-else-number-head-clause-slot g c = λ z moment entries d stands.
@@ -200,7 +200,7 @@ returns-else-number-head-clause-slot g c = λ z moment entries d stands.
     λ k low high. absurd (omega (arith, count, counted, low, high)))
     (returns-else-number-head-clause-puts g c z moment entries d stands)
     (c.write.ensures.writes sound_on' z size_on')
-    (c.write.ensures.pages sound_on' z m size_on')
+    (c.write.ensures.pages sound_on' z size_on' m)
 
 pub returns-in-None-clause-slot : goal.returns-in-None-clause-slot
 returns-in-None-clause-slot g c = λ z moment entries d stands.

@@ -55,7 +55,7 @@ returns-clause-writes g c = λ sound z size.
     )
 
 pub returns-clause-pages : goal.returns-clause-pages
-returns-clause-pages g c = λ sound z m size.
+returns-clause-pages g c = λ sound z size m.
     let old : PagesState = g.P.Pages.state c.args.pages.now in
     let bytes : c.page_bytes.result ≡ old.page_bytes = c.page_bytes.ensures.bytes ∙ c.slot_page.ensures.finds.page_bytes in
     let head_is = subst (λ n. IsHeadPage c.in_ok-head_page.head_page n c.args.directory c.args.head) bytes c.in_ok-head_page.ensures in

@@ -1,0 +1,88 @@
+-- What a change makes of a directory.
+use Rattle.std.specs.Prelude.{◌≡◌, ℕ, List, Option, None, Result, IfOk, IfSome}
+use Rattle.std.specs.FinMap as map
+use Rattle.std.specs.Int.{div_ceil}
+use Rattle.page_tags.specs.Slots.{Entry}
+use Rattle.page_tags.specs.declared.slot.Slot.{Slot}
+use Rattle.name_index.specs.declared.index.NameIndex.{NameIndex}
+use Rattle.volume_terms.specs.Sizes.{Sizes, page_slots}
+use Rattle.posix_profile.specs.State.{Entries}
+use Rattle.pages.specs.Maps.{changed}
+use Rattle.pages.specs.State.{PagesState}
+use Rattle.pages.specs.declared.change.Change.{Change}
+use Rattle.directories.specs.Directories.{DirIn, Directory, HasOnly, ReadsDirectory}
+use Rattle.directories.specs.Hashing.{WritesPast}
+use Rattle.directories.specs.Named.{NamedIn, StandsAt}
+use Rattle.directories.specs.SlotLists.{PutsSlot}
+use Rattle.directories.specs.Taking.{TakesName}
+use Rattle.directories.specs.declared.renaming.Route.{Route}
+use Rattle.directories.specs.declared.taking.Taken.{Taken}
+
+-- this holds of what was made, where something was
+abbrev pub IfMade : {A E : Type 0} → Result (Option A) E → (A → Type 0) → Type 0
+IfMade result P = IfOk result (λ made. IfSome made P)
+
+-- this holds of the change by which a name was taken, where one was
+abbrev pub IfTaken : {E : Type 0} → Result (Option Taken) E → (Change → Type 0) → Type 0
+IfTaken result P = IfMade result (λ taken. P taken.change)
+
+-- the entries, of which the slot's name leads to its object
+abbrev pub with_slot : Entries → Slot → Entries
+with_slot entries slot = map.insert entries slot.name.now slot.object
+
+-- the entries without a name, of which the slot's name then leads to its object
+abbrev pub with_moved : Entries → List ℕ → Slot → Entries
+with_moved entries from slot = with_slot (map.remove entries from) slot
+
+-- none of the entries has the slot's name
+abbrev pub IsNew : Entries → Slot → Type 0
+IsNew entries slot = map.get entries slot.name.now ≡ None
+
+-- this holds of the directory that the object is in a sound store
+abbrev pub OfDir : PagesState → ℕ → (Directory → Type 0) → Type 0
+OfDir p o A =
+    (z : Sizes) (before : ℕ) (entries : Entries) (d : DirIn p z o before entries)
+    → A (record { sizes = z; pages = p.present; object = o; moment = before; entries = entries; reads = d.reads })
+
+-- the same of a directory of whose names the index has the hashes
+abbrev pub OfNamed : NameIndex → PagesState → ℕ → (Directory → Type 0) → Type 0
+OfNamed names p o A =
+    (z : Sizes) (before : ℕ) (entries : Entries) (d : NamedIn names p z o before entries)
+    → A (record { sizes = z; pages = p.present; object = o; moment = before; entries = entries; reads = d.reads })
+
+-- the same of a directory in which the slot's name stands at this place, or nowhere, and of its entries with the slot
+abbrev pub OfPut : PagesState → ℕ → Slot → Option ℕ → (Directory → Entries → Type 0) → Type 0
+OfPut p o slot place A = OfDir p o (λ d. StandsAt d.reads.slots d.entries slot.name.now place → A d (with_slot d.entries slot))
+
+-- this holds where both ends of a route are directories of whose names the index has the hashes: of the entries of its target
+abbrev pub OfRoute : NameIndex → PagesState → Route → (Entries → Type 0) → Type 0
+OfRoute names p route A =
+    (z : Sizes) (s t : ℕ) (left entries : Entries) (source : NamedIn names p z route.source s left) (target : NamedIn names p z route.target t entries) → A entries
+
+-- how many pages the slots of a directory take
+abbrev pub pages_of : Directory → ℕ
+pages_of d = div_ceil (map.len d.entries) (page_slots d.sizes)
+
+-- after the change the object is the directory with these entries, and with the spare blocks that were there
+abbrev pub Becomes : Directory → ℕ → Entries → Change → Type 0
+Becomes d moment new change = ReadsDirectory d.sizes (changed change d.pages) d.object moment new d.reads.fields.spare
+
+-- the object has no page behind those of the directory's slots
+abbrev pub Ends : Directory → Type 0
+Ends d = HasOnly d.sizes d.pages d.object (map.len d.entries)
+
+-- after the change it has none behind those of so many slots as there are of these entries
+abbrev pub EndsAfter : Directory → Entries → Change → Type 0
+EndsAfter d new change = HasOnly d.sizes (changed change d.pages) d.object (map.len new)
+
+-- each slot behind those of the directory, up to so many, lies on a page of the change
+abbrev pub WritesNew : Directory → ℕ → Change → Type 0
+WritesNew d count change = WritesPast d.sizes change d.object (map.len d.entries) count
+
+-- the change puts the entry into the directory's slots, and writes each page of theirs that becomes another
+abbrev pub PutsIn : Directory → Entry → Change → Type 0
+PutsIn d entry change = PutsSlot d.sizes change d.object entry d.reads.slots
+
+-- the name's slot goes from the directory's: the last one stands in its place
+abbrev pub TakesFrom : Directory → List ℕ → Taken → Type 0
+TakesFrom d name taken = TakesName d.sizes d.pages d.object d.reads.slots name taken

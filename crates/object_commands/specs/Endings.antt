@@ -5,13 +5,17 @@ use Rattle.volume_terms.specs.Sizes.{Sizes}
 use Rattle.posix_profile.specs.HandleSteps.{may_write}
 use Rattle.posix_profile.specs.State.{Objects, Handle, Handles, State}
 use Rattle.posix_profile.specs.Outcomes.{Outcome}
+use Rattle.posix_profile.specs.Runs.{is_stop}
+use Rattle.posix_profile.specs.laws.Error.{KeepsOnError}
 use Rattle.posix_profile.specs.laws.Sound.{IsSound}
 use Rattle.posix_profile.specs.declared.reply.Errno.TheVariants as errors
 use Rattle.posix_profile.specs.declared.reply.Reply.{Reply}
 use Rattle.posix_profile.specs.declared.reply.Reply.TheVariants as replies
 use Rattle.object_store.specs.Stores.{Meaning, Has, settled}
 use Rattle.command_plans.specs.Classes.{Class, Telling, Changing, Syncing, is_error}
+use Rattle.command_plans.specs.Plans.{IsPlan, frees}
 use Rattle.command_plans.specs.Tables.{handles_in}
+use Rattle.command_plans.specs.declared.plan.Plan.{Plan}
 use Rattle.object_commands.specs.declared.volume.Volume.{Volume}
 
 -- no descriptor may write
@@ -35,6 +39,14 @@ pub record IsAt {S : Type 0} (m : Meaning S) (z : Sizes) (s : State) (v : Volume
   pub handles : handles_in v.table ≡ s.handles
   pub sound : IsSound z s
   pub only_read : v.read_only ≡ true → IsOnlyRead m s v.store
+
+-- this holds, by the sizes of the volume, at each state that the volume stands for
+abbrev pub OfVolume : {S : Type 0} (m : Meaning S) → Volume S → (Sizes → State → Type 0) → Type 0
+OfVolume m v A = (z : Sizes) (s : State) → IsAt m z s v → A z s
+
+-- the store was only read, or its device left as it was
+abbrev pub ReadsOrLeaves : {S : Type 0} (m : Meaning S) → S → S → Type 0
+ReadsOrLeaves m a b = m.reads a b ⊎ m.leaves a b
 
 -- what a done command leaves of a store: one that tells, and one that is answered by an error, only reads; one that may
 -- change makes a change or only reads; a done sync commits
@@ -76,3 +88,10 @@ CommandEnds m z class takes_none s meant a b told =
     IsDone m z class s meant a b told
     ⊎ ((takes_none ≡ false) × IsPassedOver m z s a b told)
     ⊎ IsStopped m class s meant a b told
+
+-- From each state that the volume stands for it ends as the command does that the plan is for, whatever that is, if it leads to
+-- a sound state, is not answered by EIO, changes nothing by an error, and of a read-only volume nothing at all.
+abbrev pub CarriesOut : {S : Type 0} (m : Meaning S) → Volume S → Plan → Reply → Volume S → Type 0
+CarriesOut m old plan reply new = OfVolume m old (λ z s. (class : Class) (meant : Outcome) → IsPlan z class s meant plan
+    → IsSound z meant.state → is_stop meant.reply ≡ false → KeepsOnError s meant → (old.read_only ≡ true → StaysReading s meant.state)
+    → CommandEnds m z class (frees plan.work) s meant old new reply)

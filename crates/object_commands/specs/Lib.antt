@@ -1,5 +1,10 @@
+pub mod States
+pub mod Tasks
 pub mod Names
+pub mod Renames
 pub mod Opens
+pub mod Writes
+pub mod Seeks
 pub mod Reads
 pub mod Volumes
 pub mod Serving

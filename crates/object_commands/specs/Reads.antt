@@ -1,7 +1,7 @@
 -- What a read of a file answers.
 use Rattle.std.specs.Prelude.{◌≡◌, ◌⊎◌, ◌≤◌, ℕ, ◌+◌, List, length, min, take, drop, Some, Result, Ok, Err}
 use Rattle.std.specs.FinMap as map
-use Rattle.posix_profile.specs.State.{Handle, State, IsFile}
+use Rattle.posix_profile.specs.State.{Handle, Objects, State, IsFile}
 use Rattle.posix_profile.specs.Changes.{with_offset}
 use Rattle.posix_profile.specs.HandleSteps.{read_step}
 use Rattle.posix_profile.specs.Outcomes.{Outcome, answer, refuse}
@@ -11,7 +11,7 @@ use Rattle.posix_profile.specs.declared.reply.Errno.{Errno}
 use Rattle.posix_profile.specs.declared.reply.Errno.TheVariants as errors
 use Rattle.posix_profile.specs.declared.reply.Reply.{Reply}
 use Rattle.posix_profile.specs.declared.reply.Reply.TheVariants as replies
-use Rattle.object_store.specs.Facts.{bytes_of}
+use Rattle.object_store.specs.Facts.{bytes_of, bytes_from}
 use Rattle.object_store.specs.declared.refusal.Refusal.{Refusal}
 use Rattle.object_store.specs.declared.refusal.Refusal.TheVariants as refusals
 use Rattle.command_plans.specs.Tables.{handle_of}
@@ -28,6 +28,10 @@ read_told s fd handle there = answer (with_offset s fd handle (handle.offset + l
 -- the bytes from the offset, at most so many
 abbrev pub read_of : State → ℕ → Handle → ℕ → List ℕ → Outcome
 read_of s fd handle count bytes = read_told s fd handle (take count (drop handle.offset bytes))
+
+-- the bytes of a file from the offset of a descriptor on, at most so many
+abbrev pub bytes_at : Objects → OpenDescription → ℕ → List ℕ
+bytes_at objects description count = bytes_from objects description.object description.offset count
 
 -- The descriptor stands for a file that it may read: a read of it answers bytes of the file.
 pub record IsReadable (s : State) (fd : ℕ) (description : OpenDescription) : Type 0 where

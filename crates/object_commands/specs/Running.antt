@@ -1,5 +1,5 @@
 -- What a run of commands answers and leaves.
-use Rattle.std.specs.Prelude.{◌≡◌, ◌⊎◌, ◌<◌, ◌||◌, ◌++◌, ℕ, zero, suc, Bool, true, false, List, [], ◌∷◌, length, take, All, Some, slice_get}
+use Rattle.std.specs.Prelude.{◌≡◌, ◌⊎◌, ◌<◌, ◌≤◌, ◌||◌, ◌++◌, ℕ, zero, suc, Bool, true, false, List, [], ◌∷◌, length, take, All, Some, slice_get, Result, OnOk}
 use Rattle.std.specs.List.{list_any}
 use Rattle.posix_profile.specs.Losses.{LossLeaves}
 use Rattle.posix_profile.specs.Runs.{is_stop, is_no_memory, after_one, after, AllStopped, StopsFor, RunHolds}
@@ -11,7 +11,7 @@ use Rattle.posix_profile.specs.declared.reply.Reply.{Reply}
 use Rattle.object_store.specs.Stores.{Meaning}
 use Rattle.command_plans.specs.Classes.{Telling, class_of, is_error, makes_no_call}
 use Rattle.object_commands.specs.Volumes.{store_of, is_read_only, is_stopped}
-use Rattle.object_commands.specs.Endings.{IsAt}
+use Rattle.object_commands.specs.Endings.{IsAt, OfVolume, ReadsOrLeaves}
 use Rattle.object_commands.specs.declared.volume.Volume.{Volume}
 
 -- after a reply of EIO each reply is EIO
@@ -47,7 +47,7 @@ InTurn {S} left (suc n) a b = (x : S) × InTurn left n a x × left x b
 
 -- so many calls in turn, each of which only reads or leaves the device as it is
 abbrev pub ReadsInTurn : {S : Type 0} (m : Meaning S) → ℕ → S → S → Type 0
-ReadsInTurn m = InTurn (λ a b. m.reads a b ⊎ m.leaves a b)
+ReadsInTurn m = InTurn (ReadsOrLeaves m)
 
 -- The store failed in the command at this place, from where the commands before it had left it, and was not called since.
 pub record Failure {S : Type 0} (m : Meaning S) (z : Sizes) (read_only : Bool) (s : State) (commands : List Stamped) (answered : List Reply) (a b : S) : Type 0 where
@@ -87,4 +87,8 @@ pub record Runs {S : Type 0} (m : Meaning S) (commands : List Stamped) (n : ℕ)
   pub stopped : is_stopped a ≡ true → AllStopped answered × (b ≡ a)
   pub leaves : All (λ (stamped : Stamped). makes_no_call stamped.command ≡ true) (take n commands) → InTurn m.leaves n (store_of a) (store_of b)
   pub power : list_any is_stop answered ≡ false → m.has_power (store_of a) ≡ true → m.has_power (store_of b) ≡ true
-  pub ran : is_stopped a ≡ false → (z : Sizes) (s : State) → IsAt m z s a → Ran m z s commands answered a b
+  pub ran : is_stopped a ≡ false → OfVolume m a (λ z s. Ran m z s commands answered a b)
+
+-- this holds of the number of commands that were done, which are the first ones, and all of them if the call ends well
+abbrev pub OfFirst : {E : Type 0} → List Stamped → Result (Unit {0}) E → (ℕ → Type 0) → Type 0
+OfFirst commands result A = (n : ℕ) × (n ≤ length commands) × OnOk result (n ≡ length commands) × A n

@@ -1,20 +1,11 @@
 // The commands that change names: Mkdir, Unlink, Rmdir, Link.
-ghost use Rattle.std.specs.Prelude.{◌≡◌, ◌≢◌, ◌⊎◌, ℕ, List, [], ◌∷◌, Some, None, nat_lt};
-ghost use Rattle.std.specs.FinMap as map;
-ghost use Rattle.volume_terms.specs.Sizes.{Sizes};
-ghost use Rattle.posix_profile.specs.State.{Objects, State, IsFile, is_directory, is_file, entries_of};
-ghost use Rattle.posix_profile.specs.Names.{prune};
-ghost use Rattle.posix_profile.specs.NameSteps.{mkdir_at, mkdir_step, name_removed, unlink_step, rmdir_step, link_at, link_step};
-ghost use Rattle.posix_profile.specs.Outcomes.{answer, unless, at_place};
-ghost use Rattle.posix_profile.specs.laws.Path.{IsPlace};
-ghost use Rattle.posix_profile.specs.Paths.{resolve};
-ghost use Rattle.command_plans.specs.Paths.{place_of};
-ghost use Rattle.object_store.specs.Changes.{without, NamesNothing};
+ghost use Rattle.std.specs.Prelude.{◌≡◌, ◌⊎◌, Some, None};
+ghost use Rattle.posix_profile.specs.NameSteps.{mkdir_at, mkdir_step, unlink_step, rmdir_step, link_at, link_step};
 ghost use Rattle.object_store.specs.Stores.{KeepsPower};
 ghost use Rattle.command_plans.specs.Classes.{Changing};
-ghost use Rattle.object_commands.specs.Names.{Unnames, LeadsHere, EndsInName, rmdir_named, rmdir_at};
-ghost use Rattle.command_plans.specs.Plans.{Holds, Plans, Tries, IsPlan};
-ghost use Rattle.command_plans.specs.Tables.{handles_in};
+ghost use Rattle.object_commands.specs.States.{OfStore, OfState, IfFile};
+ghost use Rattle.object_commands.specs.Tasks.{TriesTo, PlansOn, PlansAt, PlansFor};
+ghost use Rattle.object_commands.specs.Names.{OfPlace, OfAbsent, OfName, DropsUnkept, RemovesName, UnlinksObject, RemovesDirectory, rmdir_named, rmdir_at, link_to};
 
 use command_plans::facts::{has_other_name, is_directory};
 use command_plans::path::PathPlace;
@@ -35,8 +26,8 @@ fn mkdir_absent<'a, S: ObjectStore>(
     moment: u64,
     place: PathPlace<'a>,
 ) -> Result<Plan<'a>, Errno>
-    ensures { (z : Sizes) (s : State) → Holds S.meaning z s store.now → IsPlace s.objects (place_of place.entry) → (place_of place.entry).object ≡ None
-        → Tries z Changing s (mkdir_at z read_only moment s (place_of place.entry) None) result }
+    ensures { OfStore S.meaning store.now (λ z s.
+        OfAbsent s place.entry (λ p. TriesTo z s (mkdir_at z read_only moment s p None) result)) }
 {
     if read_only {
         return Err(Errno::EROFS);
@@ -61,8 +52,8 @@ fn mkdir_at<'a, S: ObjectStore>(
     moment: u64,
     place: PathPlace<'a>,
 ) -> Result<Plan<'a>, Errno>
-    ensures { (z : Sizes) (s : State) → Holds S.meaning z s store.now → IsPlace s.objects (place_of place.entry)
-        → Tries z Changing s (mkdir_at z read_only moment s (place_of place.entry) (place_of place.entry).object) result }
+    ensures { OfStore S.meaning store.now (λ z s.
+        OfPlace s place.entry (λ p. TriesTo z s (mkdir_at z read_only moment s p p.object) result)) }
 {
     match place.object {
         Some(_) => Err(Errno::EEXIST),
@@ -80,8 +71,8 @@ pub(crate) fn mkdir<'a, S: ObjectStore>(
 ) -> Result<Plan<'a>, Refusal>
     ensures reads { S.meaning.reads store.old store.new }
     ensures power { KeepsPower S.meaning store.old store.new result }
-    ensures plans { (z : Sizes) (s : State) → Holds S.meaning z s store.old
-        → Plans S.meaning z Changing s (mkdir_step z read_only moment s path.now) store.old store.new result }
+    ensures plans { PlansOn S.meaning (store.old, store.new) (λ z s.
+        (Changing, mkdir_step z read_only moment s path.now)) result }
 {
     let place = find_place(alloc, store, path)?;
     hand_on(mkdir_at(store, read_only, moment, place))
@@ -90,9 +81,7 @@ pub(crate) fn mkdir<'a, S: ObjectStore>(
 /// The object, if nothing keeps it but one name.
 pub(crate) fn unkept<S: ObjectStore>(store: &S, table: &DescriptorTable, number: u64) -> Option<u64>
     ensures only { (result ≡ None) ⊎ (result ≡ Some number) }
-    ensures left { (z : Sizes) (s : State) → Holds S.meaning z s store.now → handles_in table.now ≡ s.handles
-        → (left : Objects) (directory : ℕ) (name : List ℕ) → Unnames s.objects left directory name number
-        → without result left ≡ (prune (record s { objects = left })).objects }
+    ensures left { OfState S.meaning store.now table.now (λ z s. DropsUnkept s number result) }
 {
     if has_other_name(store, number) {
         return None;
@@ -111,9 +100,7 @@ fn remove_at<'a, S: ObjectStore>(
     place: PathPlace<'a>,
     number: u64,
 ) -> Plan<'a>
-    ensures { (z : Sizes) (s : State) → Holds S.meaning z s store.now → handles_in table.now ≡ s.handles
-        → LeadsHere s.objects (place_of place.entry) number → NamesNothing s.objects number
-        → IsPlan z Changing s (answer (name_removed moment s (place_of place.entry)) Reply.Done) result }
+    ensures { OfState S.meaning store.now table.now (RemovesName moment place.entry number result) }
 {
     change(
         Reply::Done,
@@ -134,11 +121,7 @@ fn unlink_object<'a, S: ObjectStore>(
     place: PathPlace<'a>,
     number: u64,
 ) -> Result<Plan<'a>, Errno>
-    ensures { (z : Sizes) (s : State) → Holds S.meaning z s store.now → handles_in table.now ≡ s.handles
-        → IsPlace s.objects (place_of place.entry) → (place_of place.entry).object ≡ Some number
-        → Tries z Changing s (unless s
-        ((is_directory (map.get s.objects number), Errno.EPERM) ∷ (read_only, Errno.EROFS) ∷ [])
-        (answer (name_removed moment s (place_of place.entry)) Reply.Done)) result }
+    ensures { OfState S.meaning store.now table.now (UnlinksObject read_only moment place.entry number result) }
 {
     if is_directory(store, number) {
         return Err(Errno::EPERM);
@@ -160,8 +143,8 @@ pub(crate) fn unlink<'a, S: ObjectStore>(
 ) -> Result<Plan<'a>, Refusal>
     ensures reads { S.meaning.reads store.old store.new }
     ensures power { KeepsPower S.meaning store.old store.new result }
-    ensures plans { (z : Sizes) (s : State) → Holds S.meaning z s store.old → handles_in table.now ≡ s.handles
-        → Plans S.meaning z Changing s (unlink_step read_only moment s path.now) store.old store.new result }
+    ensures plans { PlansAt S.meaning (store.old, store.new) table.now (λ z s.
+        (Changing, unlink_step read_only moment s path.now)) result }
 {
     let found = find_object(alloc, store, path)?;
     hand_on(unlink_object(store, table, read_only, moment, found.place, found.number))
@@ -176,13 +159,7 @@ fn rmdir_object<'a, S: ObjectStore>(
     place: PathPlace<'a>,
     number: u64,
 ) -> Result<Plan<'a>, Errno>
-    ensures { (z : Sizes) (s : State) → Holds S.meaning z s store.now → handles_in table.now ≡ s.handles
-        → EndsInName s.objects (place_of place.entry) → (place_of place.entry).object ≡ Some number
-        → Tries z Changing s (unless s
-        ((is_file (map.get s.objects number), Errno.ENOTDIR)
-        ∷ (nat_lt 0 (map.len (entries_of (map.get s.objects number))), Errno.ENOTEMPTY)
-        ∷ (read_only, Errno.EROFS) ∷ [])
-        (answer (name_removed moment s (place_of place.entry)) Reply.Done)) result }
+    ensures { OfState S.meaning store.now table.now (RemovesDirectory read_only moment place.entry number result) }
 {
     if is_file(store, number) {
         return Err(Errno::ENOTDIR);
@@ -204,9 +181,8 @@ fn rmdir_named<'a, S: ObjectStore>(
     moment: u64,
     place: PathPlace<'a>,
 ) -> Result<Plan<'a>, Errno>
-    ensures { (z : Sizes) (s : State) → Holds S.meaning z s store.now → handles_in table.now ≡ s.handles
-        → EndsInName s.objects (place_of place.entry)
-        → Tries z Changing s (rmdir_named read_only moment s (place_of place.entry)) result }
+    ensures { OfState S.meaning store.now table.now (λ z s.
+        OfName s place.entry (λ p. TriesTo z s (rmdir_named read_only moment s p) result)) }
 {
     match place.object {
         Some(number) => rmdir_object(store, table, read_only, moment, place, number),
@@ -222,8 +198,8 @@ fn rmdir_at<'a, S: ObjectStore>(
     moment: u64,
     place: PathPlace<'a>,
 ) -> Result<Plan<'a>, Errno>
-    ensures { (z : Sizes) (s : State) → Holds S.meaning z s store.now → handles_in table.now ≡ s.handles → IsPlace s.objects (place_of place.entry)
-        → Tries z Changing s (rmdir_at read_only moment s (place_of place.entry)) result }
+    ensures { OfState S.meaning store.now table.now (λ z s.
+        OfPlace s place.entry (λ p. TriesTo z s (rmdir_at read_only moment s p) result)) }
 {
     if ends_in_dot(place) {
         return Err(Errno::EINVAL);
@@ -248,8 +224,8 @@ pub(crate) fn rmdir<'a, S: ObjectStore>(
 ) -> Result<Plan<'a>, Refusal>
     ensures reads { S.meaning.reads store.old store.new }
     ensures power { KeepsPower S.meaning store.old store.new result }
-    ensures plans { (z : Sizes) (s : State) → Holds S.meaning z s store.old → handles_in table.now ≡ s.handles
-        → Plans S.meaning z Changing s (rmdir_step read_only moment s path.now) store.old store.new result }
+    ensures plans { PlansAt S.meaning (store.old, store.new) table.now (λ z s.
+        (Changing, rmdir_step read_only moment s path.now)) result }
 {
     let place = find_place(alloc, store, path)?;
     hand_on(rmdir_at(store, table, read_only, moment, place))
@@ -263,8 +239,8 @@ fn link_absent<'a, S: ObjectStore>(
     number: u64,
     to: PathPlace<'a>,
 ) -> Result<Plan<'a>, Errno>
-    ensures { (z : Sizes) (s : State) → Holds S.meaning z s store.now → IsFile s.objects number → IsPlace s.objects (place_of to.entry) → (place_of to.entry).object ≡ None
-        → Tries z Changing s (link_at z read_only moment s number (place_of to.entry) None) result }
+    ensures { OfStore S.meaning store.now (λ z s.
+        IfFile s number (OfAbsent s to.entry (λ p. TriesTo z s (link_at z read_only moment s number p None) result))) }
 {
     if to.slash_follows {
         return Err(Errno::ENOENT);
@@ -293,8 +269,8 @@ fn link_at<'a, S: ObjectStore>(
     number: u64,
     to: PathPlace<'a>,
 ) -> Result<Plan<'a>, Errno>
-    ensures { (z : Sizes) (s : State) → Holds S.meaning z s store.now → IsFile s.objects number → IsPlace s.objects (place_of to.entry)
-        → Tries z Changing s (link_at z read_only moment s number (place_of to.entry) (place_of to.entry).object) result }
+    ensures { OfStore S.meaning store.now (λ z s.
+        IfFile s number (OfPlace s to.entry (λ p. TriesTo z s (link_at z read_only moment s number p p.object) result))) }
 {
     match to.object {
         Some(_) => Err(Errno::EEXIST),
@@ -313,8 +289,8 @@ fn link_to<'a, S: ObjectStore>(
 ) -> Result<Plan<'a>, Refusal>
     ensures reads { S.meaning.reads store.old store.new }
     ensures power { KeepsPower S.meaning store.old store.new result }
-    ensures plans { (z : Sizes) (s : State) → Holds S.meaning z s store.old → IsFile s.objects number
-        → Plans S.meaning z Changing s (at_place s (resolve s.objects new.now) (λ to. link_at z read_only moment s number to to.object)) store.old store.new result }
+    ensures plans { PlansFor S.meaning (store.old, store.new) number (λ z s.
+        (Changing, link_to z read_only moment s number new.now)) result }
 {
     let to = find_place(alloc, store, new)?;
     hand_on(link_at(store, read_only, moment, number, to))
@@ -331,8 +307,8 @@ pub(crate) fn link<'a, S: ObjectStore>(
 ) -> Result<Plan<'a>, Refusal>
     ensures reads { S.meaning.reads store.old store.new }
     ensures power { KeepsPower S.meaning store.old store.new result }
-    ensures plans { (z : Sizes) (s : State) → Holds S.meaning z s store.old
-        → Plans S.meaning z Changing s (link_step z read_only moment s old.now new.now) store.old store.new result }
+    ensures plans { PlansOn S.meaning (store.old, store.new) (λ z s.
+        (Changing, link_step z read_only moment s old.now new.now)) result }
 {
     let found = find_object(alloc, store, old)?;
     if is_directory(store, found.number) {

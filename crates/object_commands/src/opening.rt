@@ -1,19 +1,16 @@
 // The commands on descriptors that change objects: Open and Close.
-ghost use Rattle.std.specs.Prelude.{◌≡◌, ◌<◌, true, not, ◌&&◌, ◌||◌, Some, None, is_some};
+ghost use Rattle.std.specs.Prelude.{◌≡◌, ◌<◌, true, not, ◌&&◌, ◌||◌};
 ghost use Rattle.std.specs.FinMap as map;
-ghost use Rattle.volume_terms.specs.Sizes.{Sizes, descriptors};
-ghost use Rattle.posix_profile.specs.State.{Handle, Object, State, IsFile, is_directory};
-ghost use Rattle.posix_profile.specs.Names.{prune};
-ghost use Rattle.posix_profile.specs.laws.Path.{IsPlace};
-ghost use Rattle.posix_profile.specs.laws.Sound.{IsSound};
-ghost use Rattle.posix_profile.specs.HandleSteps.{may_write, open_found, open_absent, open_at, open_step, close_step};
-ghost use Rattle.command_plans.specs.Paths.{place_of};
-ghost use Rattle.posix_profile.specs.Paths.{resolve};
+ghost use Rattle.volume_terms.specs.Sizes.{descriptors};
+ghost use Rattle.posix_profile.specs.State.{is_directory};
+ghost use Rattle.posix_profile.specs.HandleSteps.{may_write, open_found, open_absent, close_step};
 ghost use Rattle.object_store.specs.Stores.{KeepsPower};
-ghost use Rattle.command_plans.specs.Classes.{Changing, is_there, tells_if};
-ghost use Rattle.command_plans.specs.Plans.{Holds, Plans, Tries, Frees, LeavesDevice, CanDo, Suits, worked, frees, leaves_device};
-ghost use Rattle.object_commands.specs.Opens.{open_found_on, open_absent_on, cut_by, opened};
-ghost use Rattle.command_plans.specs.Tables.{handles_in};
+ghost use Rattle.command_plans.specs.Classes.{Changing};
+ghost use Rattle.command_plans.specs.Plans.{Frees, LeavesDevice, CanDo, Suits, worked, frees, leaves_device};
+ghost use Rattle.object_commands.specs.Names.{OfAbsent};
+ghost use Rattle.object_commands.specs.Opens.{IfOpen, OfOpenable, OpensAt, TriesOpen, closed, cut_by, open_found_on, open_new, open_task, opened};
+ghost use Rattle.object_commands.specs.States.{OfStore, OfState, IfThere};
+ghost use Rattle.object_commands.specs.Tasks.{PlansAt, TriesTo};
 
 use crate::writing::may_write;
 use command_plans::facts::{is_directory, is_named};
@@ -34,11 +31,9 @@ fn forgotten<'a, S: ObjectStore>(
     fd: u32,
     number: u64,
 ) -> StoreWork<'a>
-    ensures leaves { (z : Sizes) (s : State) → Holds S.meaning z s store.now → handles_in table.now ≡ s.handles
-        → (handle : Handle) → map.get s.handles fd ≡ Some handle → number ≡ handle.object
-        → worked s.objects result ≡ (prune (record s { handles = map.remove s.handles fd })).objects }
-    ensures can { (z : Sizes) (s : State) → Holds S.meaning z s store.now → handles_in table.now ≡ s.handles
-        → (handle : Handle) → map.get s.handles fd ≡ Some handle → number ≡ handle.object → CanDo z s.objects result }
+    ensures leaves { OfState S.meaning store.now table.now (λ z s.
+        IfOpen s fd number (worked s.objects result ≡ (closed s fd).objects)) }
+    ensures can { OfState S.meaning store.now table.now (λ z s. IfOpen s fd number (CanDo z s.objects result)) }
     ensures suits { Suits Changing Reply.Done result }
     ensures memory { frees result ≡ true }
     ensures device { leaves_device result ≡ true }
@@ -61,8 +56,7 @@ pub(crate) fn close<'a, S: ObjectStore>(
     table: &DescriptorTable,
     fd: u32,
 ) -> Result<Plan<'a>, Errno>
-    ensures plans { (z : Sizes) (s : State) → Holds S.meaning z s store.now → handles_in table.now ≡ s.handles
-        → Tries z Changing s (close_step s fd) result }
+    ensures plans { OfState S.meaning store.now table.now (λ z s. TriesTo z s (close_step s fd) result) }
     ensures memory { Frees result }
     ensures device { LeavesDevice result }
 {
@@ -92,7 +86,8 @@ fn asks_for_a_file(flags: OpenFlags) -> bool
 
 /// Whether the object is a directory, and the flags ask for what no directory does.
 fn is_wrong_kind<S: ObjectStore>(store: &S, number: u64, flags: OpenFlags) -> bool
-    ensures { (z : Sizes) (s : State) → Holds S.meaning z s store.now → result ≡ is_directory (map.get s.objects number) && (flags.create || may_write flags.access || flags.trunc) }
+    ensures { OfStore S.meaning store.now (λ z s.
+        result ≡ is_directory (map.get s.objects number) && (flags.create || may_write flags.access || flags.trunc)) }
 {
     is_directory(store, number) && asks_for_a_file(flags)
 }
@@ -150,8 +145,8 @@ fn open_found_on<'a>(
     number: u64,
     fd: u32,
 ) -> Result<Plan<'a>, Errno>
-    ensures { (z : Sizes) (s : State) → IsSound z s → fd < descriptors → (flags.trunc ≡ true → IsFile s.objects number)
-        → Tries z (tells_if (not flags.trunc) Changing) s (open_found_on z read_only moment s flags number fd) result }
+    ensures { OfOpenable flags number fd (λ z s.
+        TriesOpen z s flags (open_found_on z read_only moment s flags number fd) result) }
 {
     if is_write_refused(read_only, flags) {
         return Err(Errno::EROFS);
@@ -168,9 +163,8 @@ fn open_found<'a, S: ObjectStore>(
     flags: OpenFlags,
     number: u64,
 ) -> Result<Plan<'a>, Errno>
-    ensures { (z : Sizes) (s : State) → Holds S.meaning z s store.now → handles_in table.now ≡ s.handles
-        → (x : Object) → map.get s.objects number ≡ Some x
-        → Tries z (tells_if (not flags.trunc) Changing) s (open_found z read_only moment s flags number) result }
+    ensures { OfState S.meaning store.now table.now (λ z s.
+        IfThere s number (TriesOpen z s flags (open_found z read_only moment s flags number) result)) }
 {
     if is_exclusive(flags) {
         return Err(Errno::EEXIST);
@@ -193,9 +187,8 @@ fn open_absent_on<'a, S: ObjectStore>(
     place: PathPlace<'a>,
     fd: u32,
 ) -> Result<Plan<'a>, Errno>
-    ensures { (z : Sizes) (s : State) → Holds S.meaning z s store.now → fd < descriptors
-        → IsPlace s.objects (place_of place.entry) → (place_of place.entry).object ≡ None
-        → Tries z Changing s (open_absent_on z read_only moment s flags (place_of place.entry) fd) result }
+    ensures { OfStore S.meaning store.now (λ z s.
+        fd < descriptors → OfAbsent s place.entry (λ p. TriesTo z s (open_new z read_only moment s flags p fd) result)) }
 {
     if read_only {
         return Err(Errno::EROFS);
@@ -220,9 +213,8 @@ fn open_absent<'a, S: ObjectStore>(
     flags: OpenFlags,
     place: PathPlace<'a>,
 ) -> Result<Plan<'a>, Errno>
-    ensures { (z : Sizes) (s : State) → Holds S.meaning z s store.now → handles_in table.now ≡ s.handles
-        → IsPlace s.objects (place_of place.entry) → (place_of place.entry).object ≡ None
-        → Tries z Changing s (open_absent z read_only moment s flags (place_of place.entry)) result }
+    ensures { OfState S.meaning store.now table.now (λ z s.
+        OfAbsent s place.entry (λ p. TriesTo z s (open_absent z read_only moment s flags p) result)) }
 {
     if !flags.create {
         return Err(Errno::ENOENT);
@@ -245,8 +237,7 @@ fn open_at<'a, S: ObjectStore>(
     flags: OpenFlags,
     place: PathPlace<'a>,
 ) -> Result<Plan<'a>, Errno>
-    ensures { (z : Sizes) (s : State) → Holds S.meaning z s store.now → handles_in table.now ≡ s.handles → IsPlace s.objects (place_of place.entry)
-        → Tries z (tells_if (is_some (place_of place.entry).object && not flags.trunc) Changing) s (open_at z read_only moment s flags (place_of place.entry) (place_of place.entry).object) result }
+    ensures { OfState S.meaning store.now table.now (OpensAt read_only moment flags place.entry result) }
 {
     match place.object {
         Some(number) => open_found(store, table, read_only, moment, flags, number),
@@ -266,8 +257,7 @@ pub(crate) fn open<'a, S: ObjectStore>(
 ) -> Result<Plan<'a>, Refusal>
     ensures reads { S.meaning.reads store.old store.new }
     ensures power { KeepsPower S.meaning store.old store.new result }
-    ensures plans { (z : Sizes) (s : State) → Holds S.meaning z s store.old → handles_in table.now ≡ s.handles
-        → Plans S.meaning z (tells_if (is_there (resolve s.objects path.now) && not flags.trunc) Changing) s (open_step z read_only moment s path.now flags) store.old store.new result }
+    ensures plans { PlansAt S.meaning (store.old, store.new) table.now (open_task read_only moment path.now flags) result }
 {
     if cuts_what_is_only_read(flags) {
         return Err(Refusal::Error(Errno::EINVAL));

@@ -1,23 +1,16 @@
 // Rename.
-ghost use Rattle.std.specs.Prelude.{◌≡◌, ◌≢◌, ◌&&◌, ◌||◌, ℕ, false, List, [], ◌∷◌, Some, None, not, is_none, nat_lt};
+ghost use Rattle.std.specs.Prelude.{◌≡◌, ◌&&◌, ◌||◌, [], ◌∷◌, is_none};
 ghost use Rattle.std.specs.Result.{result_err};
-ghost use Rattle.std.specs.FinMap as map;
-ghost use Rattle.posix_profile.specs.Charge.{fits};
-ghost use Rattle.posix_profile.specs.Changes.{with_name, without_name};
-ghost use Rattle.posix_profile.specs.Names.{Names, Reached};
-ghost use Rattle.posix_profile.specs.NameSteps.{at_object, is_below, is_object, name_moved, rename_step, rename_to, rename_tests_onto};
-ghost use Rattle.posix_profile.specs.Outcomes.{change_to, unless};
-ghost use Rattle.posix_profile.specs.laws.Path.{IsPlace};
-ghost use Rattle.posix_profile.specs.Paths.{first_error, is_dot, is_dot_dot, resolve};
-ghost use Rattle.volume_terms.specs.Sizes.{Sizes};
-ghost use Rattle.posix_profile.specs.State.{Object, Objects, State, IsDirectory, is_directory, entries_of};
+ghost use Rattle.posix_profile.specs.Names.{Reached};
+ghost use Rattle.posix_profile.specs.NameSteps.{is_below, is_object};
+ghost use Rattle.posix_profile.specs.Paths.{first_error};
+ghost use Rattle.posix_profile.specs.State.{IsDirectory};
 ghost use Rattle.command_plans.specs.Paths.{place_of};
-ghost use Rattle.object_store.specs.Changes.{NamesNothing};
-ghost use Rattle.object_store.specs.Stores.{Has, KeepsPower};
-ghost use Rattle.command_plans.specs.Classes.{Changing, is_one, lead_to_one, tells_if};
-ghost use Rattle.object_commands.specs.Names.{EndsInName, rename_onto, rename_places};
-ghost use Rattle.command_plans.specs.Plans.{Holds, IsPlan, Plans, Tries};
-ghost use Rattle.command_plans.specs.Tables.{handles_in};
+ghost use Rattle.object_store.specs.Stores.{KeepsPower};
+ghost use Rattle.object_commands.specs.Names.{OfPlace};
+ghost use Rattle.object_commands.specs.Renames.{is_inside, replace_tests, rename_error, have_dots, IsRoomForMove, renaming, MovesOnto, MovesToAbsent, MovesName, RenamesOnto, RenamesTo, RenamesPlaces, rename_task};
+ghost use Rattle.object_commands.specs.States.{OfObjects, OfStore, OfState, IfThere};
+ghost use Rattle.object_commands.specs.Tasks.{PlansAt};
 
 use crate::naming::unkept;
 use command_plans::facts::is_directory;
@@ -42,8 +35,8 @@ fn is_same(place: PathPlace<'_>, number: u64) -> bool
 
 /// Whether the directory is this object or lies below it.
 fn is_below<S: ObjectStore>(store: &S, number: u64, directory: u64) -> bool
-    ensures { (z : Sizes) (objects : Objects) → Has S.meaning z objects store.now → IsDirectory objects directory → Reached objects directory
-        → result ≡ is_below objects number directory }
+    ensures { OfObjects S.meaning store.now (λ z objects.
+        IsDirectory objects directory → Reached objects directory → result ≡ is_below objects number directory) }
 {
     let mut here = directory;
     for step in 0..store.charge() {
@@ -60,8 +53,8 @@ fn is_below<S: ObjectStore>(store: &S, number: u64, directory: u64) -> bool
 
 /// Whether a directory would lie below itself.
 fn goes_below<S: ObjectStore>(store: &S, number: u64, directory: u64) -> bool
-    ensures { (z : Sizes) (objects : Objects) → Has S.meaning z objects store.now → IsDirectory objects directory → Reached objects directory
-        → result ≡ (is_directory (map.get objects number) && is_below objects number directory) }
+    ensures { OfObjects S.meaning store.now (λ z objects.
+        IsDirectory objects directory → Reached objects directory → result ≡ is_inside objects number directory) }
 {
     if !is_directory(store, number) {
         return false;
@@ -71,7 +64,7 @@ fn goes_below<S: ObjectStore>(store: &S, number: u64, directory: u64) -> bool
 
 /// The first error of a rename onto an object that is there: a file replaces a file, and a directory one without entries.
 fn test_replaced(is_file: bool, file_there: bool, entries_there: u64) -> Result<(), Errno>
-    ensures { result_err result ≡ first_error ((is_file && not file_there, Errno.EISDIR) ∷ (not is_file && file_there, Errno.ENOTDIR) ∷ (not is_file && nat_lt 0 entries_there, Errno.ENOTEMPTY) ∷ []) }
+    ensures { result_err result ≡ first_error (replace_tests is_file file_there entries_there) }
 {
     if is_file && !file_there {
         return Err(Errno::EISDIR);
@@ -97,9 +90,8 @@ fn test_absent(is_file: bool, slash_follows: bool) -> Result<(), Errno>
 
 /// The first error of a rename of an object onto a place.
 fn test_onto<S: ObjectStore>(store: &S, number: u64, to: PathPlace<'_>) -> Result<(), Errno>
-    ensures { (z : Sizes) (s : State) → Holds S.meaning z s store.now → IsPlace s.objects (place_of to.entry)
-        → (x : Object) → map.get s.objects number ≡ Some x
-        → result_err result ≡ first_error (rename_tests_onto s number (place_of to.entry) (place_of to.entry).object) }
+    ensures { OfStore S.meaning store.now (λ z s.
+        OfPlace s to.entry (λ p. IfThere s number (result_err result ≡ rename_error s number p))) }
 {
     match to.object {
         Some(there) => test_replaced(
@@ -113,9 +105,7 @@ fn test_onto<S: ObjectStore>(store: &S, number: u64, to: PathPlace<'_>) -> Resul
 
 /// Whether there is room for a move to an absent name. In the same directory there always is.
 fn has_move_room<S: ObjectStore>(store: &S, from: PathPlace<'_>, to: PathPlace<'_>) -> bool
-    ensures { (z : Sizes) (objects : Objects) → Has S.meaning z objects store.now → IsDirectory objects to.entry.directory
-        → (moment number : ℕ) (a b : List ℕ) → Names objects from.entry.directory a number → map.get (entries_of (map.get objects to.entry.directory)) b ≡ None
-        → result ≡ fits z (with_name (without_name objects moment from.entry.directory a) moment to.entry.directory b number) }
+    ensures { OfObjects S.meaning store.now (IsRoomForMove from.entry.directory to.entry.directory result) }
 {
     if from.directory == to.directory {
         return true;
@@ -135,10 +125,7 @@ fn move_onto<'a, S: ObjectStore>(
     number: u64,
     there: u64,
 ) -> Plan<'a>
-    ensures { (z : Sizes) (s : State) → Holds S.meaning z s store.now → handles_in table.now ≡ s.handles
-        → EndsInName s.objects (place_of from.entry) → (place_of from.entry).object ≡ Some number
-        → EndsInName s.objects (place_of to.entry) → (place_of to.entry).object ≡ Some there → there ≢ number → NamesNothing s.objects there
-        → IsPlan z Changing s (change_to z s (name_moved moment s (place_of from.entry) (place_of to.entry) number) Reply.Done) result }
+    ensures { OfState S.meaning store.now table.now (MovesOnto moment (renaming from.entry to.entry number) there result) }
 {
     change(
         Reply::Done,
@@ -160,10 +147,7 @@ fn move_to_absent<'a, S: ObjectStore>(
     to: PathPlace<'a>,
     number: u64,
 ) -> Result<Plan<'a>, Errno>
-    ensures { (z : Sizes) (s : State) → Holds S.meaning z s store.now
-        → EndsInName s.objects (place_of from.entry) → (place_of from.entry).object ≡ Some number
-        → IsPlace s.objects (place_of to.entry) → (place_of to.entry).object ≡ None
-        → Tries z Changing s (change_to z s (name_moved moment s (place_of from.entry) (place_of to.entry) number) Reply.Done) result }
+    ensures { OfStore S.meaning store.now (MovesToAbsent moment (renaming from.entry to.entry number) result) }
 {
     if !has_move_room(store, from, to) {
         return Err(Errno::ENOSPC);
@@ -189,11 +173,7 @@ fn move_name<'a, S: ObjectStore>(
     to: PathPlace<'a>,
     number: u64,
 ) -> Result<Plan<'a>, Errno>
-    ensures { (z : Sizes) (s : State) → Holds S.meaning z s store.now → handles_in table.now ≡ s.handles
-        → EndsInName s.objects (place_of from.entry) → (place_of from.entry).object ≡ Some number
-        → EndsInName s.objects (place_of to.entry) → is_object number (place_of to.entry).object ≡ false
-        → None ≡ first_error (rename_tests_onto s number (place_of to.entry) (place_of to.entry).object)
-        → Tries z Changing s (change_to z s (name_moved moment s (place_of from.entry) (place_of to.entry) number) Reply.Done) result }
+    ensures { OfState S.meaning store.now table.now (MovesName moment (renaming from.entry to.entry number) result) }
 {
     match to.object {
         Some(there) => Ok(move_onto(store, table, moment, from, to, number, there)),
@@ -211,10 +191,7 @@ fn rename_onto<'a, S: ObjectStore>(
     to: PathPlace<'a>,
     number: u64,
 ) -> Result<Plan<'a>, Errno>
-    ensures { (z : Sizes) (s : State) → Holds S.meaning z s store.now → handles_in table.now ≡ s.handles
-        → EndsInName s.objects (place_of from.entry) → (place_of from.entry).object ≡ Some number
-        → EndsInName s.objects (place_of to.entry) → is_object number (place_of to.entry).object ≡ false
-        → Tries z Changing s (rename_onto z read_only moment s (place_of from.entry) (place_of to.entry) number) result }
+    ensures { OfState S.meaning store.now table.now (RenamesOnto read_only moment (renaming from.entry to.entry number) result) }
 {
     test_onto(store, number, to)?;
     if read_only {
@@ -233,10 +210,7 @@ fn rename_to<'a, S: ObjectStore>(
     to: PathPlace<'a>,
     number: u64,
 ) -> Result<Plan<'a>, Errno>
-    ensures { (z : Sizes) (s : State) → Holds S.meaning z s store.now → handles_in table.now ≡ s.handles
-        → EndsInName s.objects (place_of from.entry) → (place_of from.entry).object ≡ Some number
-        → EndsInName s.objects (place_of to.entry)
-        → Tries z (tells_if (is_object number (place_of to.entry).object) Changing) s (rename_to z read_only moment s (place_of from.entry) (place_of to.entry) number) result }
+    ensures { OfState S.meaning store.now table.now (RenamesTo read_only moment (renaming from.entry to.entry number) result) }
 {
     if is_same(to, number) {
         return Ok(tell(Reply::Done));
@@ -249,7 +223,7 @@ fn rename_to<'a, S: ObjectStore>(
 
 /// Whether one of the paths ends in `.` or `..`.
 fn have_dots(from: PathPlace<'_>, to: PathPlace<'_>) -> bool
-    ensures { result ≡ (is_dot (place_of from.entry).last || is_dot_dot (place_of from.entry).last || is_dot (place_of to.entry).last || is_dot_dot (place_of to.entry).last) }
+    ensures { result ≡ have_dots (place_of from.entry) (place_of to.entry) }
 {
     ends_in_dot(from) || ends_in_dot_dot(from) || ends_in_dot(to) || ends_in_dot_dot(to)
 }
@@ -270,9 +244,7 @@ fn rename_places<'a, S: ObjectStore>(
     from: PathPlace<'a>,
     to: PathPlace<'a>,
 ) -> Result<Plan<'a>, Errno>
-    ensures { (z : Sizes) (s : State) → Holds S.meaning z s store.now → handles_in table.now ≡ s.handles
-        → IsPlace s.objects (place_of from.entry) → IsPlace s.objects (place_of to.entry)
-        → Tries z (tells_if (is_one (place_of from.entry).object (place_of to.entry).object) Changing) s (rename_places z read_only moment s (place_of from.entry) (place_of to.entry)) result }
+    ensures { OfState S.meaning store.now table.now (RenamesPlaces read_only moment from.entry to.entry result) }
 {
     if have_dots(from, to) {
         return Err(Errno::EINVAL);
@@ -298,8 +270,7 @@ pub(crate) fn rename<'a, S: ObjectStore>(
 ) -> Result<Plan<'a>, Refusal>
     ensures reads { S.meaning.reads store.old store.new }
     ensures power { KeepsPower S.meaning store.old store.new result }
-    ensures plans { (z : Sizes) (s : State) → Holds S.meaning z s store.old → handles_in table.now ≡ s.handles
-        → Plans S.meaning z (tells_if (lead_to_one (resolve s.objects old.now) (resolve s.objects new.now)) Changing) s (rename_step z read_only moment s old.now new.now) store.old store.new result }
+    ensures plans { PlansAt S.meaning (store.old, store.new) table.now (rename_task read_only moment old.now new.now) result }
 {
     let from = find_place(alloc, store, old)?;
     let to = find_place(alloc, store, new)?;

@@ -1,16 +1,17 @@
 // The commands that only tell: Stat, List, Read, Seek, Space.
 ghost use Rattle.std.specs.Prelude.{◌≡◌, ◌<◌, ◌≤◌, ◌+◌, ◌-◌, ◌^◌, true, IfOk, length, min, pos, ◌+ℤ◌};
-ghost use Rattle.std.specs.FinMap as map;
 ghost use Rattle.volume_terms.specs.Sizes.{Sizes, descriptors};
-ghost use Rattle.posix_profile.specs.State.{Objects, State};
-ghost use Rattle.posix_profile.specs.HandleSteps.{at_file, may_read, read_step, seek_origin, seek_to, seek_step};
+ghost use Rattle.posix_profile.specs.State.{State};
+ghost use Rattle.posix_profile.specs.HandleSteps.{may_read, read_step, seek_origin, seek_to, seek_step};
 ghost use Rattle.posix_profile.specs.NameSteps.{stat_step, list_step, space_step};
-ghost use Rattle.object_store.specs.Facts.{bytes_from};
-ghost use Rattle.object_store.specs.Stores.{Has, KeepsPower};
+ghost use Rattle.object_store.specs.Stores.{KeepsPower};
 ghost use Rattle.command_plans.specs.Classes.{Telling};
-ghost use Rattle.command_plans.specs.Plans.{Holds, Plans, Tries, Frees, LeavesDevice, IsPlan, frees, leaves_device};
-ghost use Rattle.object_commands.specs.Reads.{FillsOnly, MayRead, asked_of, filled_plan};
-ghost use Rattle.command_plans.specs.Tables.{handle_of, handles_in};
+ghost use Rattle.command_plans.specs.Plans.{Tries, Frees, LeavesDevice, IsPlan, frees, leaves_device};
+ghost use Rattle.command_plans.specs.Tables.{handle_of};
+ghost use Rattle.object_commands.specs.Reads.{FillsOnly, MayRead, asked_of, bytes_at, filled_plan};
+ghost use Rattle.object_commands.specs.Seeks.{SeeksOn};
+ghost use Rattle.object_commands.specs.States.{OfObjects, OfStore, OfState};
+ghost use Rattle.object_commands.specs.Tasks.{PlansOn, PlansAt};
 
 use command_plans::facts::{file_length, length};
 use command_plans::place::find_object;
@@ -34,8 +35,7 @@ pub(crate) fn stat<'a, S: ObjectStore>(
 ) -> Result<Plan<'a>, Refusal>
     ensures reads { S.meaning.reads store.old store.new }
     ensures power { KeepsPower S.meaning store.old store.new result }
-    ensures plans { (z : Sizes) (s : State) → Holds S.meaning z s store.old
-        → Plans S.meaning z Telling s (stat_step s path.now) store.old store.new result }
+    ensures plans { PlansOn S.meaning (store.old, store.new) (λ z s. (Telling, stat_step s path.now)) result }
 {
     let found = find_object(alloc, store, path)?;
     match store.info(found.number) {
@@ -52,8 +52,7 @@ pub(crate) fn list<'a, S: ObjectStore>(
 ) -> Result<Plan<'a>, Refusal>
     ensures reads { S.meaning.reads store.old store.new }
     ensures power { KeepsPower S.meaning store.old store.new result }
-    ensures plans { (z : Sizes) (s : State) → Holds S.meaning z s store.old
-        → Plans S.meaning z Telling s (list_step s path.now) store.old store.new result }
+    ensures plans { PlansOn S.meaning (store.old, store.new) (λ z s. (Telling, list_step s path.now)) result }
 {
     let found = find_object(alloc, store, path)?;
     if is_file(store, found.number) {
@@ -80,7 +79,7 @@ fn readable<S: ObjectStore>(
     table: &DescriptorTable,
     fd: u32,
 ) -> Result<OpenDescription, Errno>
-    ensures { (z : Sizes) (s : State) → Holds S.meaning z s store.now → handles_in table.now ≡ s.handles → MayRead s fd result }
+    ensures { OfState S.meaning store.now table.now (λ z s. MayRead s fd result) }
 {
     match table.get(fd) {
         Some(description) => {
@@ -103,8 +102,8 @@ fn room_for<S: ObjectStore>(
     description: OpenDescription,
     count: u32,
 ) -> Result<Vec<u8>, AllocError>
-    ensures { (z : Sizes) (objects : Objects) → Has S.meaning z objects store.now
-        → IfOk result (λ room. length room.items ≡ length (bytes_from objects description.object description.offset count)) }
+    ensures { OfObjects S.meaning store.now (λ z objects.
+        IfOk result (λ room. length room.items ≡ length (bytes_at objects description count))) }
 {
     let rest = length(store, description.object).saturating_sub(description.offset);
     vec![in alloc; 0; rest.min(u64::from(count)) as usize]
@@ -131,8 +130,7 @@ pub(crate) fn read<'a, S: ObjectStore>(
 ) -> Result<Plan<'a>, Refusal>
     ensures reads { S.meaning.reads store.old store.new }
     ensures power { KeepsPower S.meaning store.old store.new result }
-    ensures plans { (z : Sizes) (s : State) → Holds S.meaning z s store.old → handles_in table.now ≡ s.handles
-        → Plans S.meaning z Telling s (read_step s fd count) store.old store.new result }
+    ensures plans { PlansAt S.meaning (store.old, store.new) table.now (λ z s. (Telling, read_step s fd count)) result }
 {
     let description = readable(store, table, fd)?;
     let mut bytes = room_for(alloc, store, description, count)?;
@@ -163,8 +161,8 @@ pub(crate) fn read_into<S: ObjectStore>(
     ensures power { KeepsPower S.meaning store.old store.new result }
     ensures size { length buffer.new ≡ length buffer.old }
     ensures rest { FillsOnly buffer.old buffer.new result }
-    ensures plans { (z : Sizes) (s : State) → Holds S.meaning z s store.old → handles_in table.now ≡ s.handles
-        → Plans S.meaning z Telling s (read_step s fd (asked_of buffer.old)) store.old store.new (filled_plan fd buffer.new result) }
+    ensures plans { PlansAt S.meaning (store.old, store.new) table.now (λ z s.
+        (Telling, read_step s fd (asked_of buffer.old))) (filled_plan fd buffer.new result) }
 {
     let description = readable(store, table, fd)?;
     let most = buffer.len().min(MOST_ASKED);
@@ -238,9 +236,7 @@ fn seek_open<'a, S: ObjectStore>(
     offset: i64,
     whence: Whence,
 ) -> Result<Plan<'a>, Errno>
-    ensures plans { (z : Sizes) (s : State) → Holds S.meaning z s store.now → map.get s.handles fd ≡ Some (handle_of description)
-        → Tries z Telling s (at_file s (map.get s.objects description.object) Errno.EINVAL
-        (λ bytes. seek_to s fd (handle_of description) (pos (seek_origin whence description.offset (length bytes)) +ℤ offset))) result }
+    ensures plans { OfStore S.meaning store.now (SeeksOn fd description offset whence result) }
     ensures memory { Frees result }
     ensures device { LeavesDevice result }
 {
@@ -259,8 +255,8 @@ pub(crate) fn seek<'a, S: ObjectStore>(
     offset: i64,
     whence: Whence,
 ) -> Result<Plan<'a>, Errno>
-    ensures plans { (z : Sizes) (s : State) → Holds S.meaning z s store.now → handles_in table.now ≡ s.handles
-        → Tries z Telling s (seek_step s fd offset whence) result }
+    ensures plans { OfState S.meaning store.now table.now (λ z s.
+        Tries z Telling s (seek_step s fd offset whence) result) }
     ensures memory { Frees result }
     ensures device { LeavesDevice result }
 {
@@ -272,7 +268,7 @@ pub(crate) fn seek<'a, S: ObjectStore>(
 
 /// Space.
 pub(crate) fn space<'a, S: ObjectStore>(store: &S) -> Plan<'a>
-    ensures plans { (z : Sizes) (s : State) → Holds S.meaning z s store.now → IsPlan z Telling s (space_step z s) result }
+    ensures plans { OfStore S.meaning store.now (λ z s. IsPlan z Telling s (space_step z s) result) }
     ensures memory { frees result.work ≡ true }
     ensures device { leaves_device result.work ≡ true }
 {

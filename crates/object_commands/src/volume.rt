@@ -1,26 +1,19 @@
 // A volume over any store of objects.
-ghost use Rattle.std.specs.Prelude.{◌≡◌, ◌⊎◌, ◌≤◌, ℕ, true, false, length, Err, IfOk, IfErr, OnOk, FitsSigned};
+ghost use Rattle.std.specs.Prelude.{◌≡◌, true, false, length, Err, IfOk, IfErr, OnOk, FitsSigned};
 ghost use Rattle.std.specs.Borrow.{Lends, sem};
 ghost use Rattle.std.specs.Int.{w64};
 ghost use Rattle.std.specs.FinMap as map;
-ghost use Rattle.std.specs.List.{list_any};
-ghost use Rattle.posix_profile.specs.Losses.{LossLeaves};
-ghost use Rattle.posix_profile.specs.Outcomes.{Outcome};
 ghost use Rattle.posix_profile.specs.Requests.{command_of, stamped_of};
-ghost use Rattle.posix_profile.specs.Runs.{takes_no_memory, is_stop, after, AllStopped, RunHolds};
-ghost use Rattle.volume_terms.specs.Sizes.{Sizes};
-ghost use Rattle.posix_profile.specs.laws.Error.{KeepsOnError};
-ghost use Rattle.posix_profile.specs.laws.Sound.{IsSound};
-ghost use Rattle.posix_profile.specs.State.{Objects, State};
-ghost use Rattle.posix_profile.specs.Steps.{step};
+ghost use Rattle.posix_profile.specs.Runs.{takes_no_memory, is_stop};
 ghost use Rattle.posix_profile.specs.declared.reply.Errno.TheVariants as errors;
 ghost use Rattle.posix_profile.specs.declared.reply.Reply.TheVariants as replies;
-ghost use Rattle.posix_profile.specs.declared.reply.Reply.{Reply};
-ghost use Rattle.object_store.specs.Stores.{Has, KeepsPower};
+ghost use Rattle.object_store.specs.Stores.{KeepsPower};
 ghost use Rattle.volume_terms.specs.declared.fault.StoreFault.TheVariants as faults;
-ghost use Rattle.command_plans.specs.Classes.{Class, Telling, class_of, makes_no_call};
-ghost use Rattle.command_plans.specs.Plans.{Holds, Plans, Works, IsPlan, TakesNone, LeavesDevice, CanDo, InRange, does_nothing, frees, leaves_device, handled};
+ghost use Rattle.command_plans.specs.Classes.{makes_no_call};
+ghost use Rattle.command_plans.specs.Plans.{Works, TakesNone, LeavesDevice, CanDo, InRange, does_nothing, frees, leaves_device, handled};
 ghost use Rattle.command_plans.specs.Tables.{handles_in};
+ghost use Rattle.object_commands.specs.States.{OfObjects};
+ghost use Rattle.object_commands.specs.Tasks.{PlansAt, task_of};
 
 use crate::naming::{link, mkdir, rmdir, unlink};
 use crate::opening::{close, open};
@@ -54,8 +47,7 @@ fn plan<'a, S: ObjectStore>(
 ) -> Result<Plan<'a>, Refusal>
     ensures reads { S.meaning.reads store.old store.new }
     ensures power { KeepsPower S.meaning store.old store.new result }
-    ensures plans { (z : Sizes) (s : State) → Holds S.meaning z s store.old → handles_in table.now ≡ s.handles
-        → Plans S.meaning z (class_of read_only s (command_of asked.now.request)) s (step z read_only s (stamped_of asked.now)) store.old store.new result }
+    ensures plans { PlansAt S.meaning (store.old, store.new) table.now (task_of read_only asked.now) result }
     ensures memory { takes_no_memory (command_of asked.now.request) ≡ true → TakesNone result }
     ensures leaves { makes_no_call (command_of asked.now.request) ≡ true → (store.new ≡ store.old) × LeavesDevice result }
 {
@@ -94,8 +86,8 @@ fn work<S: ObjectStore>(store: &mut S, asked: &StoreWork<'_>) -> Result<(), Stor
     ensures reads { does_nothing asked.now ≡ true → S.meaning.reads store.old store.new }
     ensures power { OnOk result (S.meaning.has_power store.new ≡ S.meaning.has_power store.old) }
     ensures leaves { leaves_device asked.now ≡ true → S.meaning.leaves store.old store.new }
-    ensures works { (z : Sizes) (objects : Objects) → Has S.meaning z objects store.old → CanDo z objects asked.now
-        → Works S.meaning objects asked.now store.old store.new result }
+    ensures works { OfObjects S.meaning store.old (λ z objects.
+        CanDo z objects asked.now → Works S.meaning objects asked.now store.old store.new result) }
     ensures fails { IfErr result (λ fault. does_nothing asked.now ≡ false) }
     ensures refused { result ≡ Err faults.NoMemory → S.meaning.reads store.old store.new }
     ensures memory { frees asked.now ≡ true → result ≡ Err faults.NoMemory → ⊥ }
@@ -137,17 +129,17 @@ pub struct Volume<S> {
 
 impl<S: ObjectStore> Volume<S> {
     ghost use Rattle.command_plans.specs.Tables.{handles_in};
-    ghost use Rattle.object_commands.specs.Volumes.{store_of, handles_of, is_read_only, is_stopped, with_stop, with_store};
+    ghost use Rattle.object_commands.specs.Volumes.{HasParts, ended, store_of, handles_of, is_read_only, is_stopped, with_stop, with_store};
     ghost use Rattle.object_commands.specs.contracts.volume.Volume.{the_row};
-    ghost use Rattle.object_commands.specs.Serving.{IsServed, StaysAsItWas, is_refusal};
-    ghost use Rattle.object_commands.specs.Endings.{IsAt, CommandEnds, StaysReading, TellsRefusal};
+    ghost use Rattle.object_commands.specs.Serving.{EndsAs, IsServed, LeavesPower, StaysAsItWas, StopsUnread, is_refusal};
+    ghost use Rattle.object_commands.specs.Endings.{CarriesOut, OfVolume, ReadsOrLeaves, TellsRefusal};
     ghost use Rattle.object_commands.specs.Reads.{LeavesRest, asked_of, read_reply, reading};
-    ghost use Rattle.object_commands.specs.Running.{Runs};
+    ghost use Rattle.object_commands.specs.Running.{OfFirst, Runs};
     ghost use Rattle.object_commands.specs.Describing.{Describes};
 
     /// A volume over the store: no descriptor is open.
     pub fn new(alloc: Global, store: S, read_only: bool) -> Result<Volume<S>, (S, AllocError)>
-        ensures volume { IfOk result (λ volume. (store_of volume ≡ store) × (handles_of volume ≡ map.empty) × (is_read_only volume ≡ read_only) × (is_stopped volume ≡ false)) }
+        ensures volume { IfOk result (HasParts store map.empty read_only false) }
         ensures given_back { IfErr result (λ back. back.0 ≡ store) }
     {
         match DescriptorTable::new(alloc) {
@@ -158,7 +150,7 @@ impl<S: ObjectStore> Volume<S> {
 
     /// A volume over the store, with these descriptors.
     pub fn over(alloc: Global, store: S, table: DescriptorTable, read_only: bool) -> Volume<S>
-        ensures { (store_of result ≡ store) × (handles_of result ≡ handles_in table) × (is_read_only result ≡ read_only) × (is_stopped result ≡ false) }
+        ensures { HasParts store (handles_in table) read_only false result }
     {
         Volume {
             alloc,
@@ -171,7 +163,7 @@ impl<S: ObjectStore> Volume<S> {
 
     /// A volume over another store, with the same descriptors: it goes on, or is stopped, as this one.
     pub fn copy_over(&self, store: S) -> Result<Volume<S>, (S, AllocError)>
-        ensures volume { IfOk result (λ copy. (store_of copy ≡ store) × (handles_of copy ≡ handles_of self.now) × (is_read_only copy ≡ is_read_only self.now) × (is_stopped copy ≡ is_stopped self.now)) }
+        ensures volume { IfOk result (HasParts store (handles_of self.now) (is_read_only self.now) (is_stopped self.now)) }
         ensures given_back { IfErr result (λ back. back.0 ≡ store) }
     {
         match self.table.copy(self.alloc) {
@@ -239,7 +231,7 @@ impl<S: ObjectStore> Volume<S> {
     /// What Stat reports of the object that a descriptor stands for, which need not have a name. It reads nothing.
     pub fn describe(&self, fd: u32) -> Result<Info, Errno>
         ensures stopped { is_stopped self.now ≡ true → result ≡ Err errors.EIO }
-        ensures describes { is_stopped self.now ≡ false → (z : Sizes) (s : State) → IsAt S.meaning z s self.now → Describes s fd result }
+        ensures describes { is_stopped self.now ≡ false → OfVolume S.meaning self.now (λ z s. Describes s fd result) }
     {
         if self.stopped {
             return Err(Errno::EIO);
@@ -272,14 +264,11 @@ impl<S: ObjectStore> Volume<S> {
         ensures keeps { is_read_only self.new ≡ is_read_only self.old }
         ensures lasts { S.meaning.lasts (store_of self.old) (store_of self.new) }
         // A reply other than EIO is given by a device that has not lost its power in the command.
-        ensures power { is_stop result ≡ false → S.meaning.has_power (store_of self.old) ≡ true → S.meaning.has_power (store_of self.new) ≡ true }
+        ensures power { LeavesPower S.meaning self.old result self.new }
         ensures reads { does_nothing plan.entry.work ≡ true → S.meaning.reads (store_of self.old) (store_of self.new) }
         ensures leaves { leaves_device plan.entry.work ≡ true → S.meaning.leaves (store_of self.old) (store_of self.new) }
         ensures refuses { is_refusal result ≡ true → StaysAsItWas S.meaning self.old self.new }
-        ensures ends { (z : Sizes) (s : State) → IsAt S.meaning z s self.old
-            → (class : Class) (meant : Outcome) → IsPlan z class s meant plan.entry → IsSound z meant.state → is_stop meant.reply ≡ false → KeepsOnError s meant
-            → (is_read_only self.old ≡ true → StaysReading s meant.state)
-            → CommandEnds S.meaning z class (frees plan.entry.work) s meant self.old (record self.new { stopped = is_stop result }) result }
+        ensures ends { CarriesOut S.meaning self.old plan.entry result (ended self.new result) }
     {
         if let Reply::Error(error) = plan.reply {
             return Reply::Error(error);
@@ -300,17 +289,14 @@ impl<S: ObjectStore> Volume<S> {
         ensures keeps { is_read_only self.new ≡ is_read_only self.old }
         ensures lasts { S.meaning.lasts (store_of self.old) (store_of self.new) }
         // A reply other than EIO is given by a device that has not lost its power in the command.
-        ensures power { is_stop result ≡ false → S.meaning.has_power (store_of self.old) ≡ true → S.meaning.has_power (store_of self.new) ≡ true }
+        ensures power { LeavesPower S.meaning self.old result self.new }
         ensures leaves { makes_no_call (command_of asked.now.request) ≡ true → S.meaning.leaves (store_of self.old) (store_of self.new) }
         ensures refuses { is_refusal result ≡ true → StaysAsItWas S.meaning self.old self.new }
-        ensures only { is_read_only self.old ≡ true → (z : Sizes) (s : State) → IsAt S.meaning z s self.old
-            → S.meaning.reads (store_of self.old) (store_of self.new) ⊎ S.meaning.leaves (store_of self.old) (store_of self.new) }
+        ensures only { is_read_only self.old ≡ true → OfVolume S.meaning self.old (λ z s.
+            ReadsOrLeaves S.meaning (store_of self.old) (store_of self.new)) }
         // A read-only volume stops only where a read failed.
-        ensures unread { is_read_only self.old ≡ true → (z : Sizes) (s : State) → IsAt S.meaning z s self.old → is_stop result ≡ true
-            → S.meaning.unread (store_of self.old) (store_of self.new) }
-        ensures ends { (z : Sizes) (s : State) → IsAt S.meaning z s self.old
-            → CommandEnds S.meaning z (class_of (is_read_only self.old) s (command_of asked.now.request)) (takes_no_memory (command_of asked.now.request)) s (step z (is_read_only self.old) s (stamped_of asked.now))
-            self.old (record self.new { stopped = is_stop result }) result }
+        ensures unread { is_read_only self.old ≡ true → StopsUnread S.meaning self.old result self.new }
+        ensures ends { EndsAs S.meaning self.old (stamped_of asked.now) result (ended self.new result) }
     {
         is_stamped(asked);
         match plan(
@@ -354,12 +340,10 @@ impl<S: ObjectStore> Volume<S> {
         ensures keeps { is_read_only self.new ≡ is_read_only self.old }
         ensures reads { S.meaning.reads (store_of self.old) (store_of self.new) }
         ensures lasts { S.meaning.lasts (store_of self.old) (store_of self.new) }
-        ensures power { is_stop (read_reply buffer.new result) ≡ false → S.meaning.has_power (store_of self.old) ≡ true → S.meaning.has_power (store_of self.new) ≡ true }
+        ensures power { LeavesPower S.meaning self.old (read_reply buffer.new result) self.new }
         ensures refuses { is_refusal (read_reply buffer.new result) ≡ true → StaysAsItWas S.meaning self.old self.new }
-        ensures unread { (z : Sizes) (s : State) → IsAt S.meaning z s self.old → is_stop (read_reply buffer.new result) ≡ true → S.meaning.unread (store_of self.old) (store_of self.new) }
-        ensures ends { (z : Sizes) (s : State) → IsAt S.meaning z s self.old
-            → CommandEnds S.meaning z Telling false s (step z (is_read_only self.old) s (reading fd (asked_of buffer.old)))
-            self.old (record self.new { stopped = is_stop (read_reply buffer.new result) }) (read_reply buffer.new result) }
+        ensures unread { StopsUnread S.meaning self.old (read_reply buffer.new result) self.new }
+        ensures ends { EndsAs S.meaning self.old (reading fd (asked_of buffer.old)) (read_reply buffer.new result) (ended self.new (read_reply buffer.new result)) }
     {
         match read_into(&mut self.store, &self.table, fd, buffer) {
             Ok(filled) => {
@@ -393,8 +377,8 @@ impl<S: ObjectStore> Volume<S> {
     pub fn run(&mut self, commands: &[Stamped], replies: &mut Vec<Reply>) -> Result<(), AllocError>
         ensures keeps { is_read_only self.new ≡ is_read_only self.old }
         ensures lasts { S.meaning.lasts (store_of self.old) (store_of self.new) }
-        ensures runs { (n : ℕ) × (n ≤ length commands.now) × OnOk result (n ≡ length commands.now)
-            × Runs S.meaning commands.now n replies.old.items replies.new.items self.old self.new }
+        ensures runs { OfFirst commands.now result (λ n.
+            Runs S.meaning commands.now n replies.old.items replies.new.items self.old self.new) }
     {
         for i in 0..commands.len() {
             replies.reserve(1)?;

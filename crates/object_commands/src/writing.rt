@@ -1,13 +1,11 @@
 // The commands that change the bytes of a file: Write and Truncate.
-ghost use Rattle.std.specs.Prelude.{◌≡◌, ◌<◌, ◌≤◌, ℕ, List, length, nat_eq, pos};
-ghost use Rattle.std.specs.FinMap as map;
-ghost use Rattle.posix_profile.specs.HandleSteps.{may_write, write_offset, write_count, write_file, write_bytes, write_step, truncate_to, truncate_step};
-ghost use Rattle.volume_terms.specs.Sizes.{Sizes, descriptors};
-ghost use Rattle.posix_profile.specs.State.{Handle, State, IsFile};
-ghost use Rattle.object_store.specs.Facts.{bytes_of};
-ghost use Rattle.command_plans.specs.Classes.{Changing, tells_if};
-ghost use Rattle.command_plans.specs.Plans.{Holds, Tries};
-ghost use Rattle.command_plans.specs.Tables.{handle_of, handles_in};
+ghost use Rattle.std.specs.Prelude.{◌≡◌, ◌≤◌, ℕ, List, length, pos};
+ghost use Rattle.posix_profile.specs.HandleSteps.{may_write, write_offset, write_file, write_bytes, write_step, truncate_to, truncate_step};
+ghost use Rattle.posix_profile.specs.State.{Handle};
+ghost use Rattle.command_plans.specs.Tables.{handle_of};
+ghost use Rattle.object_commands.specs.States.{OfStore, OfState, IfFile};
+ghost use Rattle.object_commands.specs.Tasks.{TriesTo};
+ghost use Rattle.object_commands.specs.Writes.{CountsWrite, OfOpenFile, TriesWrite};
 
 use command_plans::facts::length;
 use command_plans::plan::{HandleChange, Plan, StoreWork, change, tell};
@@ -45,9 +43,7 @@ fn write_count<S: ObjectStore>(
     size: u64,
     count: usize,
 ) -> u64
-    ensures count { (z : Sizes) (s : State) → Holds S.meaning z s store.now → IsFile s.objects description.object
-        → size ≡ length (bytes_of (map.get s.objects description.object)) → (moment : ℕ) (new : List ℕ) → count ≡ length new
-        → result ≡ write_count z moment s (handle_of description) (bytes_of (map.get s.objects description.object)) new }
+    ensures count { OfStore S.meaning store.now (CountsWrite description size count result) }
     ensures given { result ≤ count }
     ensures small { result ≤ 1048576 }
 {
@@ -68,8 +64,8 @@ fn write_file<'a, S: ObjectStore>(
     description: OpenDescription,
     new: &'a [u8],
 ) -> Result<Plan<'a>, Errno>
-    ensures { (z : Sizes) (s : State) → Holds S.meaning z s store.now → IsFile s.objects description.object → fd < descriptors
-        → Tries z Changing s (write_file z moment s fd (handle_of description) new.now (bytes_of (map.get s.objects description.object))) result }
+    ensures { OfStore S.meaning store.now (λ z s.
+        OfOpenFile s fd description (λ h bytes. TriesTo z s (write_file z moment s fd h new.now bytes) result)) }
 {
     let size = length(store, description.object);
     let offset = write_offset(description, size);
@@ -107,8 +103,8 @@ fn write_some<'a, S: ObjectStore>(
     description: OpenDescription,
     new: &'a [u8],
 ) -> Result<Plan<'a>, Errno>
-    ensures { (z : Sizes) (s : State) → Holds S.meaning z s store.now → IsFile s.objects description.object → fd < descriptors
-        → Tries z (tells_if (nat_eq (length new.now) 0) Changing) s (write_bytes z moment s fd (handle_of description) new.now) result }
+    ensures { OfStore S.meaning store.now (λ z s.
+        OfOpenFile s fd description (λ h bytes. TriesWrite z s new.now (write_bytes z moment s fd h new.now) result)) }
 {
     if new.is_empty() {
         return Ok(tell(Reply::Wrote(0)));
@@ -124,8 +120,8 @@ pub(crate) fn write<'a, S: ObjectStore>(
     fd: u32,
     new: &'a [u8],
 ) -> Result<Plan<'a>, Errno>
-    ensures { (z : Sizes) (s : State) → Holds S.meaning z s store.now → handles_in table.now ≡ s.handles
-        → Tries z (tells_if (nat_eq (length new.now) 0) Changing) s (write_step z moment s fd new.now) result }
+    ensures { OfState S.meaning store.now table.now (λ z s.
+        TriesWrite z s new.now (write_step z moment s fd new.now) result) }
 {
     match table.get(fd) {
         Some(description) => {
@@ -145,9 +141,8 @@ fn truncate_to<'a, S: ObjectStore>(
     number: u64,
     length: u64,
 ) -> Result<Plan<'a>, Errno>
-    ensures { (z : Sizes) (s : State) → Holds S.meaning z s store.now → IsFile s.objects number
-        → (handle : Handle) → number ≡ handle.object
-        → Tries z Changing s (truncate_to z moment s handle (pos length)) result }
+    ensures { OfStore S.meaning store.now (λ z s.
+        IfFile s number ((h : Handle) → number ≡ h.object → TriesTo z s (truncate_to z moment s h (pos length)) result)) }
 {
     if store.sizes().greatest_length() < length {
         return Err(Errno::EFBIG);
@@ -172,9 +167,8 @@ fn truncate_signed<'a, S: ObjectStore>(
     number: u64,
     length: i64,
 ) -> Result<Plan<'a>, Errno>
-    ensures { (z : Sizes) (s : State) → Holds S.meaning z s store.now → IsFile s.objects number
-        → (handle : Handle) → number ≡ handle.object
-        → Tries z Changing s (truncate_to z moment s handle length) result }
+    ensures { OfStore S.meaning store.now (λ z s.
+        IfFile s number ((h : Handle) → number ≡ h.object → TriesTo z s (truncate_to z moment s h length) result)) }
 {
     if length < 0 {
         return Err(Errno::EINVAL);
@@ -190,8 +184,7 @@ pub(crate) fn truncate<'a, S: ObjectStore>(
     fd: u32,
     length: i64,
 ) -> Result<Plan<'a>, Errno>
-    ensures { (z : Sizes) (s : State) → Holds S.meaning z s store.now → handles_in table.now ≡ s.handles
-        → Tries z Changing s (truncate_step z moment s fd length) result }
+    ensures { OfState S.meaning store.now table.now (λ z s. TriesTo z s (truncate_step z moment s fd length) result) }
 {
     match table.get(fd) {
         Some(description) => {

@@ -1,18 +1,14 @@
 -- What is told of a header is true of the object that is shown.
-use Rattle.std.specs.Prelude.{◌≡◌, ◌<◌, ℕ, zero, suc, ◌+◌, List, [], ◌∷◌, length, slice_get, Some, None, is_some}
-use Rattle.std.proofs.Common.{refl, sym, ◌∙◌, ap, arith}
-use Rattle.std.proofs.lemmas.Bool.{cond-false}
-use Rattle.std.specs.Ordering.{nat_cmp}
-use Rattle.std.specs.Cmp.Lexicographic.{slice_cmp, nat_list_cmp_total}
+use Rattle.std.specs.Prelude.{◌≡◌, ◌<◌, ℕ, ◌+◌, length}
+use Rattle.std.proofs.Common.{sym, ◌∙◌, ap}
 use Rattle.std.specs.FinMap as map
 use Rattle.page_tags.specs.Headers.{Fields}
-use Rattle.page_tags.specs.Slots.{Entry}
 use Rattle.page_tags.specs.declared.header.ObjectKind.TheVariants as kinds
 use Rattle.volume_terms.specs.Sizes.{Sizes, page_slots}
 use Rattle.posix_profile.specs.State.{Object, File, Dir}
 use Rattle.posix_profile.specs.Charge.{cost}
 use Rattle.volume_terms.specs.laws.Rounding.{ceiling_is}
-use Rattle.flash_tree.specs.Tree.{NewestMap, IsSingle, IsPageSize, ReadsAs, slot_pairs}
+use Rattle.flash_tree.specs.Tree.{NewestMap, IsSingle, IsPageSize, ReadsAs}
 use Rattle.flash_tree.specs.laws.Finding.{same_header}
 use Rattle.flash_tree.specs.laws.SlotCounts.{entries_len}
 use Rattle.tree_walk.specs.Heads.{SaysHead}
@@ -20,7 +16,6 @@ use Rattle.tree_walk.specs.declared.head.Head.{Head}
 use Rattle.tree_walk.specs.Visits.{head_pages}
 use Rattle.tree_walk.specs.Looked.{looked}
 use Rattle.tree_walk.specs.Units.{head_cost}
-use Rattle.tree_walk.proofs.Elements.{none_of}
 
 -- ---- heads and objects
 

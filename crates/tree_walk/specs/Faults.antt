@@ -1,5 +1,5 @@
 -- Why pages show no volume or no tree.
-use Rattle.std.specs.Prelude.{◌≡◌, ◌<◌, true}
+use Rattle.std.specs.Prelude.{◌≡◌, ◌<◌, true, Result, IfErr}
 use Rattle.pages.specs.State.{PagesState}
 use Rattle.volume_terms.specs.declared.fault.StoreFault.{StoreFault}
 use Rattle.volume_terms.specs.declared.fault.StoreFault.TheVariants as store_faults
@@ -31,6 +31,10 @@ TellsWrong amiss new = WalkFailsBy (Unit {0}) amiss new
 -- and where nothing is known of them
 abbrev pub TellsWhy : PagesState → WalkFault → Type 0
 TellsWhy new = WalkFailsBy (Unit {0}) (λ broken. Unit {0}) new
+
+-- each fault of such a call has its cause, of which one is that this is wrong with the pages
+abbrev pub IfFault : {T : Type 0} → Result T WalkFault → (Broken → Type 0) → PagesState → Type 0
+IfFault result amiss new = IfErr result (TellsWrong amiss new)
 
 -- what a fault says of the root's header: that there is none, or what is wrong with it
 abbrev pub TellsRoot : Geometry → NewestMap → RootFault → Type 0

@@ -1,3 +1,4 @@
+pub mod Pages
 pub mod Broken
 pub mod Faults
 pub mod Roots
@@ -11,4 +12,5 @@ pub mod Units
 pub mod Building
 pub mod Covering
 pub mod Looked
+pub mod TreeLaws
 pub mod laws

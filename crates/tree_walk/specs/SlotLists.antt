@@ -1,13 +1,14 @@
 -- The slots of a directory that were gone through.
-use Rattle.std.specs.Prelude.{◌≡◌, ◌≢◌, ◌⊎◌, ◌+◌, ℕ, List, [], ◌∷◌, ◌++◌, map as list_map, slice_get, Some, None}
+use Rattle.std.specs.Prelude.{◌≡◌, ◌≢◌, ◌⊎◌, ◌≤◌, ◌+◌, ◌*◌, ℕ, length, List, [], ◌∷◌, ◌++◌, map as list_map, slice_get, Some, None}
 use Rattle.std.specs.FinMap as map
 use Rattle.page_tags.specs.Slots.{Entry, slot_bytes}
 use Rattle.flash_tree.specs.Slots.{IsTreeSlot}
 use Rattle.flash_tree.specs.Mount.{AreSlots}
 use Rattle.pages.specs.Maps.{PageMap, has}
 use Rattle.posix_profile.specs.State.{Name, Entries}
-use Rattle.volume_terms.specs.Sizes.{Sizes}
+use Rattle.volume_terms.specs.Sizes.{Sizes, page_slots}
 use Rattle.name_index.specs.Hashes.{fnv1a}
+use Rattle.tree_walk.specs.Broken.{IsBrokenIn}
 use Rattle.tree_walk.specs.declared.broken.Broken.{Broken}
 use Rattle.tree_walk.specs.declared.broken.Rule.{Rule}
 use Rattle.tree_walk.specs.declared.broken.Rule.TheVariants as rules
@@ -52,3 +53,19 @@ pub record HasSlots (z : Sizes) (m : PageMap) (d n : ℕ) (seen : Slots) : Type 
 -- these are the objects that a directory of so many slots names
 abbrev pub NamesFrom : Sizes → PageMap → ℕ → ℕ → List ℕ → Type 0
 NamesFrom z m d count objects = (slots : List Entry) × AreSlots z (has m) d count slots × (objects ≡ list_map (λ entry. entry.object) slots)
+
+-- this holds, by the sizes of a volume and by its pages, where this is a page of a directory's slots
+abbrev pub OfSlotPage : SlotPage → List ℕ → (Sizes → PageMap → Type 0) → Type 0
+OfSlotPage at page A = (z : Sizes) (m : PageMap) → m at.directory (1 + at.number) ≡ Some page → z.page_bytes ≡ length page → A z m
+
+-- the slots of the pages before this one were seen
+abbrev pub SlotsBefore : Sizes → PageMap → SlotPage → Slots → Type 0
+SlotsBefore z m at seen = HasSlots z m at.directory (at.number * page_slots z) seen
+
+-- and so many of this one's
+abbrev pub SlotsUpTo : Sizes → PageMap → SlotPage → ℕ → Slots → Type 0
+SlotsUpTo z m at count seen = HasSlots z m at.directory (at.number * page_slots z + count) seen
+
+-- a directory that has at least these slots breaks the rule
+abbrev pub BreaksUpTo : Sizes → PageMap → SlotPage → ℕ → Broken → Type 0
+BreaksUpTo z m at count b = (total : ℕ) → at.number * page_slots z + count ≤ total → IsBrokenIn z m at.directory total b

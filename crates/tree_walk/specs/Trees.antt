@@ -6,6 +6,7 @@ use Rattle.std.specs.BTreeMap.{get}
 use Rattle.page_tags.specs.Headers.{Fields}
 use Rattle.flash_tree.specs.Tree.{NewestMap, HasHeader, LooksUp}
 use Rattle.flash_tree.specs.Mount.{Wrong, IsDamaged, Leads, Finds, Wrongly, Wholly, GoesThrough, NamesTwice}
+use Rattle.pages.specs.Maps.{PageMap, has}
 use Rattle.volume_terms.specs.Sizes.{Sizes, root_number}
 use Rattle.tree_walk.specs.Broken.{IsFirstBroken, wrong_of}
 use Rattle.tree_walk.specs.Heads.{SaysHead, head_looks_up}
@@ -63,6 +64,10 @@ pub record TellsHeads (z : Sizes) (m : NewestMap) (tree : Tree) : Type 0 where
   pub each : (i o : ℕ) → slice_get (objects_listed tree) i ≡ Some o → (head : Head) × (head_at tree o ≡ Some head)
   pub only : (o : ℕ) (head : Head) → head_at tree o ≡ Some head → (i : ℕ) × (slice_get (objects_listed tree) i ≡ Some o)
   pub says : (o : ℕ) (head : Head) → head_at tree o ≡ Some head → SaysHead z m o head
+
+-- this holds, by the sizes of a volume and by its pages, of a tree that has their headers
+abbrev pub OfHeads : Tree → (Sizes → PageMap → Type 0) → Type 0
+OfHeads tree A = (z : Sizes) (m : PageMap) → z.page_bytes ≡ page_size tree → TellsHeads z (has m) tree → A z m
 
 -- the page of the key is looked up to see the objects of the list
 pub record IsLookedUp (z : Sizes) (m : NewestMap) (list : List ℕ) (o c : ℕ) : Type 0 where

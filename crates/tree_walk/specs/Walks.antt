@@ -1,5 +1,5 @@
 -- A walk over the objects of a tree that is on its way.
-use Rattle.std.specs.Prelude.{◌≡◌, ◌⊎◌, ◌↔◌, ◌<◌, ◌≤◌, ℕ, true, false, List, [], ◌∷◌, ◌++◌, length, slice_get, take, sum_by, nat_eq, Some}
+use Rattle.std.specs.Prelude.{◌≡◌, ◌⊎◌, ◌↔◌, ◌<◌, ◌≤◌, ◌+◌, ℕ, true, false, List, [], ◌∷◌, ◌++◌, length, slice_get, take, sum_by, nat_eq, Some}
 use Rattle.std.specs.List.{list_any}
 use Rattle.std.specs.Ordering.{nat_cmp}
 use Rattle.std.specs.BTreeMap as table
@@ -7,11 +7,13 @@ use Rattle.std.specs.BTreeSet as set
 use Rattle.page_tags.specs.declared.header.ObjectKind.TheVariants as kinds
 use Rattle.flash_tree.specs.Tree.{NewestMap}
 use Rattle.flash_tree.specs.Mount.{Leads, Finds, with_new, ListEnd, GoesThrough}
+use Rattle.pages.specs.Maps.{PageMap, has}
+use Rattle.pages.specs.State.{PagesState}
 use Rattle.volume_terms.specs.Sizes.{Sizes, root_number}
 use Rattle.tree_walk.specs.Broken.{ComesTo, StopsAt}
 use Rattle.tree_walk.specs.Heads.{SaysHead}
 use Rattle.tree_walk.specs.Trees.{AreNamesOf, named_in}
-use Rattle.tree_walk.specs.Visits.{told_pages}
+use Rattle.tree_walk.specs.Visits.{OfSeen, told_pages}
 use Rattle.tree_walk.specs.declared.broken.Broken.{Broken}
 use Rattle.tree_walk.specs.declared.head.Head.{Head}
 use Rattle.tree_walk.specs.declared.object.Visited.{Visited}
@@ -113,6 +115,14 @@ pub record IsGoing (z : Sizes) (m : NewestMap) (n : ℕ) (walk : WalkState) : Ty
   pub says : (o : ℕ) (head : Head) → HasHead walk o head → SaysHead z m o head
   pub only : (o : ℕ) (head : Head) → HasHead walk o head → (p : ℕ) × (p < n) × (slice_get walk.objects.items p ≡ Some o)
   pub names : AreNamesOf z m walk.objects.items n walk.names.items
+
+-- this holds of the pages of a sound store, of which those of the objects before this place were visited
+abbrev pub OfGoing : PagesState → (place : ℕ) → WalkState → (Sizes → PageMap → Type 0) → Type 0
+OfGoing p place walk A = OfSeen p (λ z m. IsGoing z (has m) place walk → A z m)
+
+-- from the one walk and store to the other, at most the pages of the header and the slots of the object in this place were asked for
+abbrev pub AsksAt : Sizes → (place : ℕ) → WalkState × WalkState → PagesState × PagesState → Type 0
+AsksAt z place walks stores = stores.1.asked + pages_before z walks.0 place ≤ stores.0.asked + pages_before z walks.1 (place + 1)
 
 -- the object was named again, and is a directory
 pub record IsDirectoryAgain (walk : WalkState) (o : ℕ) : Type 0 where

@@ -8,10 +8,11 @@ ghost use Rattle.pages.specs.Maps.{PageMap};
 ghost use Rattle.pages.specs.State.{PagesState, OnlyFinds, KeepsPower};
 ghost use Rattle.volume_terms.specs.Sizes.{Sizes, page_slots};
 ghost use Rattle.name_index.specs.Covering.{HasHashes};
-ghost use Rattle.tree_walk.specs.Faults.{TellsWhy, TellsWrong};
+ghost use Rattle.tree_walk.specs.Faults.{IfFault, TellsWhy};
 ghost use Rattle.tree_walk.specs.Hashes.{Keeps};
 ghost use Rattle.tree_walk.specs.Broken.{IsBrokenIn};
-ghost use Rattle.tree_walk.specs.SlotLists.{TakesEntry, TakesNone, HasSlots, NamesFrom, broken_at};
+ghost use Rattle.tree_walk.specs.Pages.{OfPageBytes, OfPages};
+ghost use Rattle.tree_walk.specs.SlotLists.{BreaksUpTo, NamesFrom, OfSlotPage, SlotsBefore, SlotsUpTo, TakesEntry, TakesNone, broken_at};
 
 use crate::broken::{Broken, Rule};
 use crate::fault::WalkFault;
@@ -55,17 +56,13 @@ pub(crate) fn read_slots<P: Pages>(
 ) -> Result<Vec<u64>, WalkFault>
     requires few { length < 2 ^ 32 }
     ensures finds { OnlyFinds (P.state pages.old) (P.state pages.new) }
-    ensures asked { (z : Sizes) → z.page_bytes ≡ (P.state pages.old).page_bytes
-        → (P.state pages.new).asked ≤ (P.state pages.old).asked + div_ceil length (page_slots z) }
+    ensures asked { OfPageBytes (P.state pages.old) (λ z. (P.state pages.new).asked ≤ (P.state pages.old).asked + div_ceil length (page_slots z)) }
     ensures power { OnOk result (KeepsPower (P.state pages.old) (P.state pages.new)) }
-    ensures told { (P.state pages.old).sound ≡ true → (z : Sizes) → z.page_bytes ≡ (P.state pages.old).page_bytes
-        → IfOk result (λ objects. NamesFrom z (P.state pages.old).present directory length objects.items) }
-    ensures fault { (P.state pages.old).sound ≡ true → (z : Sizes) → z.page_bytes ≡ (P.state pages.old).page_bytes
-        → IfErr result (TellsWrong (IsBrokenIn z (P.state pages.old).present directory length) (P.state pages.new)) }
+    ensures told { OfPages (P.state pages.old) (λ z m. IfOk result (λ objects. NamesFrom z m directory length objects.items)) }
+    ensures fault { OfPages (P.state pages.old) (λ z m. IfFault result (IsBrokenIn z m directory length) (P.state pages.new)) }
     ensures why { IfErr result (TellsWhy (P.state pages.new)) }
     ensures keeps { Keeps names.old names.new }
-    ensures hashes { (P.state pages.old).sound ≡ true → (z : Sizes) → z.page_bytes ≡ (P.state pages.old).page_bytes
-        → OnOk result (HasHashes names.new z (P.state pages.old).present directory length) }
+    ensures hashes { OfPages (P.state pages.old) (λ z m. OnOk result (HasHashes names.new z m directory length)) }
 {
     let slots = u64::from(pages.page_bytes() / SLOT_BYTES as u32);
     let mut seen = no_slots(alloc);
@@ -125,12 +122,8 @@ fn take_chunk<P: Pages>(
     ensures finds { OnlyFinds (P.state pages.old) (P.state pages.new) }
     ensures asked { (P.state pages.new).asked ≤ (P.state pages.old).asked + 1 }
     ensures power { OnOk result (KeepsPower (P.state pages.old) (P.state pages.new)) }
-    ensures told { (P.state pages.old).sound ≡ true → (z : Sizes) → z.page_bytes ≡ (P.state pages.old).page_bytes
-        → HasSlots z (P.state pages.old).present at.directory (at.number * page_slots z) seen.old
-        → OnOk result (HasSlots z (P.state pages.old).present at.directory (at.number * page_slots z + count) seen.new) }
-    ensures fault { (P.state pages.old).sound ≡ true → (z : Sizes) (total : ℕ) → z.page_bytes ≡ (P.state pages.old).page_bytes
-        → 1 ≤ count → at.number * page_slots z + count ≤ total → HasSlots z (P.state pages.old).present at.directory (at.number * page_slots z) seen.old
-        → IfErr result (TellsWrong (IsBrokenIn z (P.state pages.old).present at.directory total) (P.state pages.new)) }
+    ensures told { OfPages (P.state pages.old) (λ z m. SlotsBefore z m at seen.old → OnOk result (SlotsUpTo z m at count seen.new)) }
+    ensures fault { OfPages (P.state pages.old) (λ z m. 1 ≤ count → SlotsBefore z m at seen.old → IfFault result (BreaksUpTo z m at count) (P.state pages.new)) }
     ensures why { IfErr result (TellsWhy (P.state pages.new)) }
 {
     match pages.find(at.key())? {
@@ -150,11 +143,8 @@ fn take_page(
     requires room { 272 * count ≤ length page.now }
     requires few { length page.now ≤ 4096 }
     requires number { at.number < 2 ^ 32 }
-    ensures told { (z : Sizes) (m : PageMap) → m at.directory (1 + at.number) ≡ Some page.now → z.page_bytes ≡ length page.now
-        → HasSlots z m at.directory (at.number * page_slots z) seen.old → OnOk result (HasSlots z m at.directory (at.number * page_slots z + count) seen.new) }
-    ensures fault { (new : PagesState) (z : Sizes) (m : PageMap) (total : ℕ) → m at.directory (1 + at.number) ≡ Some page.now → z.page_bytes ≡ length page.now
-        → at.number * page_slots z + count ≤ total → HasSlots z m at.directory (at.number * page_slots z) seen.old
-        → IfErr result (TellsWrong (IsBrokenIn z m at.directory total) new) }
+    ensures told { OfSlotPage at page.now (λ z m. SlotsBefore z m at seen.old → OnOk result (SlotsUpTo z m at count seen.new)) }
+    ensures fault { (new : PagesState) → OfSlotPage at page.now (λ z m. SlotsBefore z m at seen.old → IfFault result (BreaksUpTo z m at count) new) }
     ensures why { (new : PagesState) → IfErr result (TellsWhy new) }
 {
     for place in 0..count {
@@ -185,7 +175,7 @@ fn take_entry(
     requires size { length bytes.now ≡ 272 }
     requires number { at.number < 2 ^ 32 }
     ensures told { OnOk result ((entry : Entry) × IsTreeSlot entry × (bytes.now ≡ slot_bytes entry) × TakesEntry entry seen.old seen.new) }
-    ensures fault { (new : PagesState) → IfErr result (TellsWrong (TakesNone bytes.now at place seen.old) new) }
+    ensures fault { (new : PagesState) → IfFault result (TakesNone bytes.now at place seen.old) new }
 {
     let Some(slot) = decode_tree_slot(bytes) else {
         return Err(at.breaks(Rule::NoSlot(place)));

@@ -7,8 +7,9 @@ ghost use Rattle.pages.specs.Maps.{has};
 ghost use Rattle.pages.specs.State.{PagesState, OnlyFinds, KeepsPower};
 ghost use Rattle.volume_terms.specs.Sizes.{Sizes};
 ghost use Rattle.tree_walk.specs.Broken.{StopsAt};
-ghost use Rattle.tree_walk.specs.Faults.{TellsWhy, TellsWrong};
+ghost use Rattle.tree_walk.specs.Faults.{IfFault, TellsWhy};
 ghost use Rattle.tree_walk.specs.Heads.{IsHeadOf, IsNoHeader, SaysHead, head_looks_up};
+ghost use Rattle.tree_walk.specs.Pages.{OfPages};
 
 use crate::broken::{Broken, Rule};
 use crate::fault::WalkFault;
@@ -64,10 +65,8 @@ pub(crate) fn read_head<P: Pages>(
     ensures power { OnOk result (KeepsPower (P.state pages.old) (P.state pages.new)) }
     ensures few { IfOk result (λ head. length head.bits.items ≤ 4064) }
     ensures entries { IfOk result (λ head. head.kind ≡ kinds.Directory → head.length < 2 ^ 32) }
-    ensures told { (P.state pages.old).sound ≡ true → (z : Sizes) → z.page_bytes ≡ (P.state pages.old).page_bytes
-        → IfOk result (SaysHead z (has (P.state pages.old).present) object) }
-    ensures stops { (P.state pages.old).sound ≡ true → (z : Sizes) → z.page_bytes ≡ (P.state pages.old).page_bytes
-        → IfErr result (TellsWrong (StopsAt z (has (P.state pages.old).present) object) (P.state pages.new)) }
+    ensures told { OfPages (P.state pages.old) (λ z m. IfOk result (SaysHead z (has m) object)) }
+    ensures stops { OfPages (P.state pages.old) (λ z m. IfFault result (StopsAt z (has m) object) (P.state pages.new)) }
     ensures why { IfErr result (TellsWhy (P.state pages.new)) }
 {
     let key = Key { object, chunk: 0 };
@@ -86,7 +85,7 @@ fn decode_head(alloc: Global, page: &[u8], object: u64) -> Result<Head, WalkFaul
     requires most { length page.now ≤ 4096 }
     ensures told { IfOk result (λ head. (f : Fields) × IsHeaderOf page.now f × IsHeadOf head f) }
     ensures few { IfOk result (λ head. length head.bits.items ≤ 4064) }
-    ensures fault { (new : PagesState) → IfErr result (TellsWrong (IsNoHeader page.now object) new) }
+    ensures fault { (new : PagesState) → IfFault result (IsNoHeader page.now object) new }
 {
     let header = match decode_header(page) {
         Ok(header) => header,

@@ -4,9 +4,10 @@ ghost use Rattle.pages.specs.Maps.{has};
 ghost use Rattle.pages.specs.State.{OnlyFinds, KeepsPower};
 ghost use Rattle.volume_terms.specs.Sizes.{Sizes};
 ghost use Rattle.tree_walk.specs.Broken.{StopsAt};
-ghost use Rattle.tree_walk.specs.Faults.{TellsWhy, TellsWrong};
+ghost use Rattle.tree_walk.specs.Faults.{IfFault, TellsWhy};
 ghost use Rattle.tree_walk.specs.Hashes.{Keeps, CoversHead};
-ghost use Rattle.tree_walk.specs.Visits.{IsSeen, IsVisited, slot_pages};
+ghost use Rattle.tree_walk.specs.Pages.{OfPageBytes};
+ghost use Rattle.tree_walk.specs.Visits.{AsksForHead, IsVisited, OfSeen};
 
 use crate::broken::{Broken, Rule};
 use crate::directory::read_slots;
@@ -35,16 +36,13 @@ pub fn visit<P: KnownPages>(
     names: &mut NameIndex,
 ) -> Result<Visited, WalkFault>
     ensures finds { OnlyFinds (P.state pages.old) (P.state pages.new) }
-    ensures asked { (z : Sizes) → z.page_bytes ≡ (P.state pages.old).page_bytes
-        → IfOk result (λ visited. (P.state pages.new).asked ≤ (P.state pages.old).asked + 1 + slot_pages z visited.head.kind visited.head.length) }
+    ensures asked { OfPageBytes (P.state pages.old) (λ z. IfOk result (λ visited. AsksForHead z (P.state pages.old) (P.state pages.new) visited.head)) }
     ensures power { OnOk result (KeepsPower (P.state pages.old) (P.state pages.new)) }
-    ensures leads { (z : Sizes) → IsSeen z (P.state pages.old) → IfOk result (IsVisited z (has (P.state pages.old).present) object) }
-    ensures stops { (z : Sizes) → IsSeen z (P.state pages.old)
-        → IfErr result (TellsWrong (StopsAt z (has (P.state pages.old).present) object) (P.state pages.new)) }
+    ensures leads { OfSeen (P.state pages.old) (λ z m. IfOk result (IsVisited z (has m) object)) }
+    ensures stops { OfSeen (P.state pages.old) (λ z m. IfFault result (StopsAt z (has m) object) (P.state pages.new)) }
     ensures why { IfErr result (TellsWhy (P.state pages.new)) }
     ensures keeps { Keeps names.old names.new }
-    ensures hashes { (z : Sizes) → IsSeen z (P.state pages.old)
-        → IfOk result (λ visited. CoversHead names.new z (P.state pages.old).present object visited.head) }
+    ensures hashes { OfSeen (P.state pages.old) (λ z m. IfOk result (λ visited. CoversHead names.new z m object visited.head)) }
 {
     let head = read_head(alloc, pages, object)?;
     match head.kind {

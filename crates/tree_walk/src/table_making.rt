@@ -7,7 +7,7 @@ ghost use Rattle.posix_profile.specs.Charge.{fits};
 ghost use Rattle.flash_tree.specs.Tree.{Shows};
 ghost use Rattle.pages.specs.Maps.{PageMap, has};
 ghost use Rattle.object_store.specs.Told.{table_sizes, Tells};
-ghost use Rattle.tree_walk.specs.Trees.{IsTreeThrough};
+ghost use Rattle.tree_walk.specs.Building.{OfFitting};
 
 use crate::tree::Tree;
 use crate::tree_names::insert_names;
@@ -19,8 +19,7 @@ use volume_terms::VolumeSizes;
 /// The table of the objects of a tree.
 pub fn table(alloc: Global, tree: &Tree, sizes: VolumeSizes) -> Result<ObjectTable, AllocError>
     ensures size { IfOk result (λ table. table_sizes table ≡ volume.sizes_of sizes) }
-    ensures tells { (m : PageMap) (objects : Objects) → IsSizes (volume.sizes_of sizes) → IsTreeThrough (volume.sizes_of sizes) (has m) tree.now
-        → Shows (volume.sizes_of sizes) (has m) objects → fits (volume.sizes_of sizes) objects ≡ true → IfOk result (λ table. Tells table objects) }
+    ensures tells { OfFitting (volume.sizes_of sizes) tree.now (λ objects. IfOk result (λ table. Tells table objects)) }
 {
     let mut builder = TableBuilder::new(alloc, sizes);
     insert_objects(tree, &mut builder)?;

@@ -27,7 +27,7 @@ pub struct Tree {
 }
 
 impl Tree {
-    ghost use Rattle.tree_walk.specs.Trees.{TellsHeads, IsLookedUp, head_at, keeps_key, names_of, objects_listed, page_size};
+    ghost use Rattle.tree_walk.specs.Trees.{OfHeads, IsLookedUp, head_at, keeps_key, names_of, objects_listed, page_size};
 
     /// The numbers of the objects.
     pub fn objects(&self) -> &[u64]
@@ -54,8 +54,7 @@ impl Tree {
     /// slots.
     pub fn looks_up(&self, key: Key) -> bool
         ensures told { result ≡ keeps_key self.now key.object key.chunk }
-        ensures keys { (z : Sizes) (m : PageMap) → z.page_bytes ≡ page_size self.now → TellsHeads z (has m) self.now
-            → IsTrue result ↔ IsLookedUp z (has m) (objects_listed self.now) key.object key.chunk }
+        ensures keys { OfHeads self.now (λ z m. IsTrue result ↔ IsLookedUp z (has m) (objects_listed self.now) key.object key.chunk) }
     {
         match self.heads.get(&key.object) {
             Some(head) => head.looks_up(self.page_bytes, key.chunk),

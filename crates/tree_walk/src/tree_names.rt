@@ -7,7 +7,7 @@ ghost use Rattle.object_store.specs.Built.{sizes_built, Builds};
 ghost use Rattle.object_store.specs.Counted.{GetsName};
 ghost use Rattle.tree_walk.specs.Trees.{head_at};
 ghost use Rattle.tree_walk.specs.declared.head.Head.{Head};
-ghost use Rattle.tree_walk.specs.Building.{IsShown, IsNameless};
+ghost use Rattle.tree_walk.specs.Building.{BuildsNameless, InsertsName, OfShown};
 
 use crate::tree::{NamedObject, Tree};
 use object_store::TableBuilder;
@@ -15,8 +15,7 @@ use object_store::TableBuilder;
 /// The objects of a tree, which came without names, get them.
 pub(crate) fn insert_names(tree: &Tree, builder: &mut TableBuilder)
     ensures size { sizes_built builder.new ≡ sizes_built builder.old }
-    ensures builds { (m : PageMap) (objects part : Objects) → IsShown (sizes_built builder.old) m tree.now objects → IsNameless objects part → Builds builder.old part
-        → Builds builder.new objects }
+    ensures builds { OfShown (sizes_built builder.old) tree.now (λ objects. BuildsNameless builder.old objects → Builds builder.new objects) }
 {
     let names = tree.names();
     for place in 0..names.len() {
@@ -27,9 +26,7 @@ pub(crate) fn insert_names(tree: &Tree, builder: &mut TableBuilder)
 /// A directory whose header is told names an object.
 fn insert_name(tree: &Tree, name: NamedObject, builder: &mut TableBuilder)
     ensures size { sizes_built builder.new ≡ sizes_built builder.old }
-    ensures names { (head : Head) (objects : Objects) (bytes : List ℕ) → head_at tree.now name.directory ≡ Some head → Builds builder.old objects
-        → GetsName (sizes_built builder.old) objects head.moment name.directory bytes name.object
-        → Builds builder.new (with_name objects head.moment name.directory bytes name.object) }
+    ensures names { InsertsName tree.now name builder.old builder.new }
 {
     if let Some(head) = tree.head(name.directory) {
         builder.name(name.directory, name.object, head.moment);

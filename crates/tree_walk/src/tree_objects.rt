@@ -6,7 +6,7 @@ ghost use Rattle.posix_profile.specs.State.{Object, Objects};
 ghost use Rattle.object_store.specs.Built.{sizes_built, Builds, IsBare, CanCome};
 ghost use Rattle.tree_walk.specs.Trees.{head_at};
 ghost use Rattle.tree_walk.specs.declared.head.Head.{Head};
-ghost use Rattle.tree_walk.specs.Building.{kind_as, IsShown, IsNameless};
+ghost use Rattle.tree_walk.specs.Building.{kind_as, BuildsNameless, InsertsObject, OfShown};
 
 use crate::tree::Tree;
 use object_store::TableBuilder;
@@ -17,8 +17,7 @@ use std::alloc::AllocError;
 /// The objects of a tree come, without their names.
 pub(crate) fn insert_objects(tree: &Tree, builder: &mut TableBuilder) -> Result<(), AllocError>
     ensures size { sizes_built builder.new ≡ sizes_built builder.old }
-    ensures builds { (m : PageMap) (objects : Objects) → IsShown (sizes_built builder.old) m tree.now objects → Builds builder.old map.empty
-        → OnOk result ((part : Objects) × IsNameless objects part × Builds builder.new part) }
+    ensures builds { OfShown (sizes_built builder.old) tree.now (λ objects. Builds builder.old map.empty → OnOk result (BuildsNameless builder.new objects)) }
 {
     make_room(tree, builder)?;
     let objects = tree.objects();
@@ -44,9 +43,7 @@ fn make_room(tree: &Tree, builder: &mut TableBuilder) -> Result<(), AllocError>
 /// An object comes as its header says, without its names.
 fn insert_object(tree: &Tree, object: u64, builder: &mut TableBuilder) -> Result<(), AllocError>
     ensures size { sizes_built builder.new ≡ sizes_built builder.old }
-    ensures inserts { (head : Head) (objects : Objects) (x : Object) → head_at tree.now object ≡ Some head → Builds builder.old objects
-        → IsBare (kind_as head.kind) head.moment head.length x → CanCome (sizes_built builder.old) objects object x
-        → OnOk result (Builds builder.new (map.insert objects object x)) }
+    ensures inserts { InsertsObject tree.now object builder.old builder.new result }
 {
     match tree.head(object) {
         Some(head) => builder.insert(object, kind_of(head.kind), head.moment, head.length),

@@ -6,7 +6,7 @@ ghost use Rattle.posix_profile.specs.State.{Objects};
 ghost use Rattle.posix_profile.specs.Charge as costs;
 ghost use Rattle.flash_tree.specs.Tree.{Shows};
 ghost use Rattle.pages.specs.Maps.{PageMap, has};
-ghost use Rattle.tree_walk.specs.Trees.{IsTreeThrough};
+ghost use Rattle.tree_walk.specs.Building.{OfThrough};
 ghost use Rattle.tree_walk.specs.Units.{head_cost, told_cost};
 
 use crate::{Head, Tree};
@@ -15,8 +15,7 @@ use volume_terms::VolumeSizes;
 
 /// The units that the objects of a tree cost, or the greatest number of 64 bits where they cost more.
 pub fn charge(tree: &Tree, sizes: VolumeSizes) -> u64
-    ensures { (m : PageMap) (objects : Objects) → IsTreeThrough (sizes_of sizes) (has m) tree.now → Shows (sizes_of sizes) (has m) objects
-        → result ≡ min (costs.charge (sizes_of sizes) objects) (2 ^ 64 - 1) }
+    ensures { OfThrough (sizes_of sizes) tree.now (λ objects. result ≡ min (costs.charge (sizes_of sizes) objects) (2 ^ 64 - 1)) }
 {
     let objects = tree.objects();
     let mut units: u64 = 0;

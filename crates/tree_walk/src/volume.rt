@@ -5,6 +5,7 @@ ghost use Rattle.flash_tree.specs.Mount.{IsVolume, IsDamaged, HasWrongRoot, size
 ghost use Rattle.pages.specs.Maps.{PageMap, has};
 ghost use Rattle.pages.specs.State.{OnlyFinds, KeepsPower};
 ghost use Rattle.tree_walk.specs.Faults.{RootFailsBy, TellsRoot};
+ghost use Rattle.tree_walk.specs.Pages.{OfSized};
 ghost use Rattle.tree_walk.specs.Roots.{SpareTold, NoSpareTold};
 ghost use Rattle.tree_walk.specs.Trees.{IsTreeThrough};
 
@@ -22,10 +23,8 @@ pub fn root<P: Pages>(pages: &mut P, geometry: Geometry) -> Result<u16, RootFaul
     ensures finds { OnlyFinds (P.state pages.old) (P.state pages.new) }
     ensures asked { (P.state pages.new).asked ≤ (P.state pages.old).asked + 1 }
     ensures power { OnOk result (KeepsPower (P.state pages.old) (P.state pages.new)) }
-    ensures volume { (P.state pages.old).sound ≡ true → geometry.bytes ≡ (P.state pages.old).page_bytes
-        → IfOk result (IsVolume geometry (has (P.state pages.old).present)) }
-    ensures fault { (P.state pages.old).sound ≡ true → geometry.bytes ≡ (P.state pages.old).page_bytes
-        → IfErr result (TellsRoot geometry (has (P.state pages.old).present)) }
+    ensures volume { OfSized geometry (P.state pages.old) (IfOk result (IsVolume geometry (has (P.state pages.old).present))) }
+    ensures fault { OfSized geometry (P.state pages.old) (IfErr result (TellsRoot geometry (has (P.state pages.old).present))) }
     ensures why { IfErr result (RootFailsBy (P.state pages.old) (P.state pages.new)) }
 {
     let key = Key {

@@ -4,11 +4,11 @@ ghost use Rattle.page_tags.specs.declared.header.ObjectKind.TheVariants as kinds
 ghost use Rattle.pages.specs.Maps.{has};
 ghost use Rattle.pages.specs.State.{OnlyFinds, KeepsPower};
 ghost use Rattle.volume_terms.specs.Sizes.{Sizes};
-ghost use Rattle.tree_walk.specs.Faults.{TellsWhy, TellsWrong};
+ghost use Rattle.tree_walk.specs.Faults.{IfFault, TellsWhy};
 ghost use Rattle.tree_walk.specs.Hashes.{CoversHeads, CoversTree};
-ghost use Rattle.tree_walk.specs.Visits.{IsSeen};
+ghost use Rattle.tree_walk.specs.Visits.{OfSeen};
 ghost use Rattle.tree_walk.specs.Trees.{IsTreeThrough, IsWrongBy, named_in, page_size, tree_pages};
-ghost use Rattle.tree_walk.specs.Walks.{Begins, HasAgain, HasHead, IsGoing, IsDirectoryAgain, Knows, Puts, StopsOn, Visits, pages_before};
+ghost use Rattle.tree_walk.specs.Walks.{AsksAt, Begins, HasAgain, HasHead, IsGoing, IsDirectoryAgain, Knows, OfGoing, Puts, StopsOn, Visits};
 ghost use Rattle.tree_walk.specs.declared.fault.WalkFault.TheVariants as faults;
 
 use crate::broken::{Broken, Rule};
@@ -33,13 +33,12 @@ pub fn walk<P: KnownPages>(
 ) -> Result<Tree, WalkFault>
     ensures finds { OnlyFinds (P.state pages.old) (P.state pages.new) }
     ensures power { OnOk result (KeepsPower (P.state pages.old) (P.state pages.new)) }
-    ensures asked { (z : Sizes) → IsSeen z (P.state pages.old) → IfOk result (λ tree. (P.state pages.new).asked ≤ (P.state pages.old).asked + tree_pages z tree) }
-    ensures tree { (z : Sizes) → IsSeen z (P.state pages.old) → IfOk result (IsTreeThrough z (has (P.state pages.old).present)) }
+    ensures asked { OfSeen (P.state pages.old) (λ z m. IfOk result (λ tree. (P.state pages.new).asked ≤ (P.state pages.old).asked + tree_pages z tree)) }
+    ensures tree { OfSeen (P.state pages.old) (λ z m. IfOk result (IsTreeThrough z (has m))) }
     ensures size { IfOk result (λ tree. page_size tree ≡ (P.state pages.old).page_bytes) }
-    ensures fault { (z : Sizes) → IsSeen z (P.state pages.old)
-        → IfErr result (TellsWrong (IsWrongBy z (has (P.state pages.old).present)) (P.state pages.new)) }
+    ensures fault { OfSeen (P.state pages.old) (λ z m. IfFault result (IsWrongBy z (has m)) (P.state pages.new)) }
     ensures why { IfErr result (TellsWhy (P.state pages.new)) }
-    ensures hashes { (z : Sizes) → IsSeen z (P.state pages.old) → IfOk result (CoversTree names.new z (P.state pages.old).present) }
+    ensures hashes { OfSeen (P.state pages.old) (λ z m. IfOk result (CoversTree names.new z m)) }
 {
     let mut walk = begin(alloc)?;
     let mut place = 0;
@@ -113,15 +112,11 @@ impl WalkState {
         ensures finds { OnlyFinds (P.state pages.old) (P.state pages.new) }
         ensures power { OnOk result (KeepsPower (P.state pages.old) (P.state pages.new)) }
         ensures knows { OnOk result (Knows self.new) }
-        ensures goes { (z : Sizes) → IsSeen z (P.state pages.old) → IsGoing z (has (P.state pages.old).present) place self.old
-            → OnOk result (IsGoing z (has (P.state pages.old).present) (place + 1) self.new) }
-        ensures stops { (z : Sizes) → IsSeen z (P.state pages.old)
-            → IfErr result (TellsWrong (StopsOn z (has (P.state pages.old).present) self.old place) (P.state pages.new)) }
-        ensures asked { (z : Sizes) → IsSeen z (P.state pages.old) → IsGoing z (has (P.state pages.old).present) place self.old
-            → OnOk result ((P.state pages.new).asked + pages_before z self.old place ≤ (P.state pages.old).asked + pages_before z self.new (place + 1)) }
+        ensures goes { OfGoing (P.state pages.old) place self.old (λ z m. OnOk result (IsGoing z (has m) (place + 1) self.new)) }
+        ensures stops { OfSeen (P.state pages.old) (λ z m. IfFault result (StopsOn z (has m) self.old place) (P.state pages.new)) }
+        ensures asked { OfGoing (P.state pages.old) place self.old (λ z m. OnOk result (AsksAt z place (self.old, self.new) (P.state pages.old, P.state pages.new))) }
         ensures why { IfErr result (TellsWhy (P.state pages.new)) }
-        ensures hashes { (z : Sizes) → IsSeen z (P.state pages.old) → CoversHeads names.old z (P.state pages.old).present self.old.heads
-            → OnOk result (CoversHeads names.new z (P.state pages.old).present self.new.heads) }
+        ensures hashes { OfSeen (P.state pages.old) (λ z m. CoversHeads names.old z m self.old.heads → OnOk result (CoversHeads names.new z m self.new.heads)) }
     {
         let object = self.objects[place];
         let visited = visit(alloc, pages, object, names)?;

@@ -8,7 +8,7 @@ use Rattle.pages.specs.laws.State.{finds_none, finds_on}
 use Rattle.tree_walk.proofs.Telling.{tells_as}
 use Rattle.tree_walk.specs.Hashes.{HoldsEach}
 use Rattle.tree_walk.specs.Broken.{IsBrokenIn}
-use Rattle.tree_walk.specs.SlotLists.{HasSlots}
+use Rattle.tree_walk.specs.SlotLists.{BreaksUpTo, HasSlots}
 use Rattle.tree_walk.proofs.Hashing.{has_hashes}
 use Rattle.tree_walk.proofs.SlotSteps.{no_slots}
 use Rattle.tree_walk.proofs.SlotPages.{IsChunk, is_chunk, all_chunks}
@@ -69,9 +69,9 @@ returns-in_err-take_chunk-clause-fault g c = λ sound z size.
     let first = subst (λ (m : PageMap). HasSlots z m c.args.directory (c.loop-chunk.chunk * page_slots z) c.loop-chunk.seen) (sym finds.present)
     (subst (λ k. HasSlots z old.present c.args.directory k c.loop-chunk.seen) is.start (c.loop-chunk.invariant.slots sound z size)) in
     let p = err_from_is_err_and c.from_residual.result c.from_residual.ensures.1 in
-    rw (p.1, p.2) (tells_as (IsBrokenIn z (g.P.Pages.state c.loop-chunk.pages).present c.args.directory c.args.length) (IsBrokenIn z old.present c.args.directory c.args.length)
-    (λ broken lacks. subst (λ (m : PageMap). IsBrokenIn z m c.args.directory c.args.length broken) finds.present lacks) (g.P.Pages.state c.take_chunk.new.pages) _
-    (c.in_err-take_chunk.ensures.fault (finds.sound ∙ sound) z c.args.length (size ∙ sym finds.page_bytes) is.some is.most first))
+    rw (p.1, p.2) (tells_as (BreaksUpTo z (g.P.Pages.state c.loop-chunk.pages).present (record { directory = c.args.directory; number = c.loop-chunk.chunk }) c.min-count.result) (IsBrokenIn z old.present c.args.directory c.args.length)
+    (λ broken lacks. subst (λ (m : PageMap). IsBrokenIn z m c.args.directory c.args.length broken) finds.present (lacks c.args.length is.most)) (g.P.Pages.state c.take_chunk.new.pages) _
+    (c.in_err-take_chunk.ensures.fault (finds.sound ∙ sound) z (size ∙ sym finds.page_bytes) is.some first))
 
 pub returns-clause-asked : goal.returns-clause-asked
 returns-clause-asked g c = λ z size.

@@ -2,14 +2,13 @@ use Rattle.std.proofs.Common.{◌≡◌, ◌≤◌, ◌<◌, ◌+◌, ◌*◌, �
 use Rattle.std.proofs.lemmas.Result.{err_from_is_err_and}
 use Rattle.volume_terms.specs.Sizes.{page_slots}
 use Rattle.volume_terms.specs.laws.Rounding.{slots_fit}
-use Rattle.tree_walk.specs.Broken.{IsBrokenIn}
-use Rattle.tree_walk.specs.SlotLists.{HasSlots, TakesNone}
+use Rattle.tree_walk.specs.SlotLists.{BreaksUpTo, HasSlots, TakesNone}
 use Rattle.tree_walk.proofs.SlotSteps.{one_more, slot_of_page, taken_none}
 use Rattle.tree_walk.proofs.Telling.{tells_as, tells_why}
 use Rattle.tree_walk.proofs.directory.take_page.Goals as goal
 
 pub returns-in_err-take_entry-clause-fault : goal.returns-in_err-take_entry-clause-fault
-returns-in_err-take_entry-clause-fault c = λ new z m total there size within first.
+returns-in_err-take_entry-clause-fault c = λ new z m there size first.
     let page = c.args.page.now in
     let place : ℕ = c.loop-place.place in
     let less : place < c.args.count = c.loop-place-test.true in
@@ -17,8 +16,8 @@ returns-in_err-take_entry-clause-fault c = λ new z m total there size within fi
     let at = c.args.at in
     let h = c.loop-place.invariant z m there size first in
     let p = err_from_is_err_and c.from_residual.result c.from_residual.ensures.1 in
-    rw (p.1, p.2) (tells_as (TakesNone c.slot_of.result.now at place c.loop-place.seen) (IsBrokenIn z m at.directory total)
-    (taken_none z m at place page total c.loop-place.seen (omega (arith, less, fits)) (omega (arith, less, within)) there h c.slot_of.result.now c.slot_of.ensures.bytes)
+    rw (p.1, p.2) (tells_as (TakesNone c.slot_of.result.now at place c.loop-place.seen) (BreaksUpTo z m at c.args.count)
+    (λ broken none total within. taken_none z m at place page total c.loop-place.seen (omega (arith, less, fits)) (omega (arith, less, within)) there h c.slot_of.result.now c.slot_of.ensures.bytes broken none)
     new _ (c.in_err-take_entry.ensures.fault new))
 
 pub returns-in_err-take_entry-clause-why : goal.returns-in_err-take_entry-clause-why

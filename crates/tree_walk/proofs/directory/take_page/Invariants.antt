@@ -1,4 +1,4 @@
-use Rattle.std.proofs.Common.{◌≡◌, ◌+◌, ◌*◌, ℕ, Some, length}
+use Rattle.std.proofs.Common.{◌≡◌, ◌+◌, ◌*◌, Some, length}
 use Rattle.volume_terms.specs.Sizes.{Sizes, page_slots}
 use Rattle.pages.specs.Maps.{PageMap}
 use Rattle.tree_walk.specs.SlotLists.{HasSlots}

@@ -1,4 +1,4 @@
-use Rattle.std.proofs.Common.{◌≡◌, ◌∙◌, List, ℕ, true, false, IsSome, IsNone, sym, ap, subst, rules}
+use Rattle.std.proofs.Common.{◌∙◌, List, ℕ, IsSome, IsNone, sym, ap, subst}
 use Rattle.std.proofs.lemmas.Result.{err_from_is_err_and}
 use Rattle.page_tags.specs.Headers.{is_present}
 use Rattle.flash_tree.specs.Mount.{Leads, Finds}

@@ -8,4 +8,4 @@ returns-clause-tells c = λ m objects sizes of shows fit.
     let shown = subst (λ (z : Sizes). IsShown z m c.args.tree.now objects) (sym c.new-builder.ensures.size) (record { sizes = sizes; tree_of = of; shows = shows; fit = fit }) in
     let part = c.in_ok-insert_objects.ensures.builds m objects shown c.new-builder.ensures.builds in
     let still = subst (λ (z : Sizes). IsShown z m c.args.tree.now objects) (sym c.in_ok-insert_objects.ensures.size) shown in
-    c.finish.ensures.tells objects (c.insert_names.ensures.builds m objects part.0 still part.1 part.2)
+    c.finish.ensures.tells objects (c.insert_names.ensures.builds m objects still part)

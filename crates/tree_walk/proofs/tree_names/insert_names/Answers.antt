@@ -60,12 +60,12 @@ loop-place-preserved c = record {
 }
 
 pub returns-clause-builds : goal.returns-clause-builds
-returns-clause-builds c = λ m objects part shown nameless start.
+returns-clause-builds c = λ m objects shown builds.
     let z : Sizes = sizes_built c.args.builder.now in
     let size : IsPageSize z.page_bytes = page_size z shown.sizes in
     let tree : Tree = c.args.tree.now in
     let slots = slots_of z size m tree objects shown.tree_of shown.shows in
-    let so_far = c.loop-place.invariant.builds m objects part shown nameless start in
+    let so_far = c.loop-place.invariant.builds m objects builds.0 shown builds.1 builds.2 in
     let enough : length slots.0 ≤ c.loop-place.place =
     omega (arith, c.loop-place-test.false, ap length c.names-names.ensures, ap length slots.1.pairs_are, length-map slots.0 name_of) in
     let same = all_came objects slots.0 c.loop-place.place so_far.0 so_far.1 (λ d o name names.

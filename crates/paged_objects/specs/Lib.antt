@@ -10,3 +10,6 @@ pub mod Holding
 pub mod Naming
 pub mod Counting
 pub mod Plans
+pub mod Placed
+pub mod Making
+pub mod PageLaws

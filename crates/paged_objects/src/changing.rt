@@ -20,6 +20,9 @@ ghost use Rattle.paged_objects.specs.Ending.{HasPages, EndsPages, StaysAs};
 ghost use Rattle.paged_objects.specs.Known.{HasNamed, HasObjects, StaysIn, state_with, sizes_in};
 ghost use Rattle.paged_objects.specs.Changing.{ChangeEnds, LeavesBy, HasLeftBy, outcome_of};
 ghost use Rattle.paged_objects.specs.Faults.{ReadFailsBy};
+ghost use Rattle.file_io.specs.Writes.{IsChangeIn};
+ghost use Rattle.paged_objects.specs.Making.{EndsBy, IfPlanned, IsFoundIn, LeftMade, Makes, MakesBy, NamesBy, NamesMade, OfTaken, StaysIfRefused};
+ghost use Rattle.paged_objects.specs.Placed.{OfStored, OfTold};
 
 use crate::dropping::drop_names;
 use crate::fault::fault_of;
@@ -57,10 +60,8 @@ fn find_object<P: PageStore>(
 ) -> Result<Option<u64>, StoreFault>
     ensures finds { OnlyFinds (P.state pages.old) (P.state pages.new) }
     ensures power { OnOk result (KeepsPower (P.state pages.old) (P.state pages.new)) }
-    ensures found { (z : Sizes) (objects : Objects) → HasNamed names.now z (P.state pages.old) objects → Tells table.now objects → IsDirectory objects directory
-        → IfOk result (λ found. found ≡ map.get (entries_of (map.get objects directory)) name.now) }
-    ensures fault { (z : Sizes) (objects : Objects) → HasNamed names.now z (P.state pages.old) objects → Tells table.now objects → IsDirectory objects directory
-        → IfErr result (ReadFailsBy (P.state pages.new)) }
+    ensures found { OfTold names.now table.now (P.state pages.old) (λ a. IsDirectory a.objects directory → IfOk result (IsFoundIn a directory name.now)) }
+    ensures fault { OfTold names.now table.now (P.state pages.old) (λ a. IsDirectory a.objects directory → IfErr result (ReadFailsBy (P.state pages.new))) }
 {
     match find(names, pages, directory, table.entry_count(directory), name) {
         Ok(found) => Ok(found),
@@ -77,10 +78,10 @@ fn find_replaced<P: PageStore>(
 ) -> Result<Option<u64>, StoreFault>
     ensures finds { OnlyFinds (P.state pages.old) (P.state pages.new) }
     ensures power { OnOk result (KeepsPower (P.state pages.old) (P.state pages.new)) }
-    ensures found { (z : Sizes) (objects : Objects) → HasNamed names.now z (P.state pages.old) objects → Tells table.now objects → CanMake z objects change.now
-        → IfOk result (LedBefore objects change.now) }
-    ensures fault { (z : Sizes) (objects : Objects) → HasNamed names.now z (P.state pages.old) objects → Tells table.now objects → CanMake z objects change.now
-        → IfErr result (ReadFailsBy (P.state pages.new)) }
+    ensures found { OfTold names.now table.now (P.state pages.old) (λ a.
+        CanMake a.sizes a.objects change.now → IfOk result (LedBefore a.objects change.now)) }
+    ensures fault { OfTold names.now table.now (P.state pages.old) (λ a.
+        CanMake a.sizes a.objects change.now → IfErr result (ReadFailsBy (P.state pages.new))) }
 {
     match change {
         ObjectChange::Create { .. } => Ok(None),
@@ -103,8 +104,7 @@ fn take<P: PageStore>(pages: &mut P, planned: Change) -> Result<(), StoreFault>
     ensures goes_on { GoesOn (P.state pages.old) (P.state pages.new) }
     ensures power { OnOk result (KeepsPower (P.state pages.old) (P.state pages.new)) }
     ensures present { (P.state pages.old).sound ≡ true → OnOk result (SamePages (P.state pages.new).present (changed planned (P.state pages.old).present)) }
-    ensures makes { (z : Sizes) (old new : Objects) → HasPages z (P.state pages.old) old → length planned.pages.items ≤ (P.state pages.old).most
-        → HoldsObjects z (changed planned (P.state pages.old).present) new → EndsPages z (P.state pages.old) (P.state pages.new) old new result }
+    ensures makes { OfTaken (P.state pages.old) planned (λ z old new. EndsPages z (P.state pages.old) (P.state pages.new) old new result) }
     ensures refused { IsErrOf result faults.NoMemory → StaysAs (P.state pages.old) (P.state pages.new) }
 {
     if planned.pages.len() > pages.most_pages() as usize {
@@ -124,14 +124,11 @@ fn plan_named<P: PageStore>(
     ensures finds { OnlyFinds (P.state pages.old) (P.state pages.new) }
     ensures power { OnOk result (KeepsPower (P.state pages.old) (P.state pages.new)) }
     ensures kept { HoldsMore names.old names.new }
-    ensures change { IfOk result (λ it. IsChange it (P.state pages.old).page_bytes (most_pages (P.state pages.old).page_bytes change.now)) }
+    ensures change { IfOk result (IsChangeIn (P.state pages.old) (most_pages (P.state pages.old).page_bytes change.now)) }
     ensures numbered { IfOk result (λ it. AreOfTrees it.pages.items) }
-    ensures makes { (z : Sizes) (objects : Objects) → HasNamed names.old z (P.state pages.old) objects → CanMake z objects change.now → new ≡ new_number objects
-        → IfOk result (λ it. HoldsObjects z (changed it (P.state pages.old).present) (made objects change.now)) }
-    ensures names { (z : Sizes) (objects : Objects) → HasNamed names.old z (P.state pages.old) objects → CanMake z objects change.now → new ≡ new_number objects
-        → IfOk result (λ it. HasNames names.new z (changed it (P.state pages.old).present) (made objects change.now)) }
-    ensures fault { (z : Sizes) (objects : Objects) → HasNamed names.old z (P.state pages.old) objects → CanMake z objects change.now → new ≡ new_number objects
-        → IfErr result (ReadFailsBy (P.state pages.new)) }
+    ensures makes { OfStored names.old (P.state pages.old) (λ a. IfPlanned a change.now new (IfOk result (MakesBy a change.now))) }
+    ensures names { OfStored names.old (P.state pages.old) (λ a. IfPlanned a change.now new (IfOk result (NamesBy a names.new change.now))) }
+    ensures fault { OfStored names.old (P.state pages.old) (λ a. IfPlanned a change.now new (IfErr result (ReadFailsBy (P.state pages.new)))) }
 {
     match plan(names, pages, alloc, change, new) {
         Ok(planned) => {
@@ -181,12 +178,11 @@ fn change_pages<P: PageStore>(
     ensures goes_on { GoesOn (P.state pages.old) (P.state pages.new) }
     ensures power { OnOk result (KeepsPower (P.state pages.old) (P.state pages.new)) }
     ensures kept { HoldsMore names.old names.new }
-    ensures makes { (z : Sizes) (objects : Objects) → HasNamed names.old z (P.state pages.old) objects → CanMake z objects change.now → new ≡ new_number objects
-        → EndsPages z (P.state pages.old) (P.state pages.new) objects (made objects change.now) (outcome_of result) }
-    ensures names { (z : Sizes) (objects : Objects) → HasNamed names.old z (P.state pages.old) objects → CanMake z objects change.now → new ≡ new_number objects
-        → OnOk result (HasNames names.new z (P.state pages.new).present (made objects change.now)) }
-    ensures left { (z : Sizes) (objects : Objects) → HasNamed names.old z (P.state pages.old) objects → CanMake z objects change.now → new ≡ new_number objects
-        → IfOk result (HasLeftBy z (P.state pages.new).present (made objects change.now) change.now) }
+    ensures makes { OfStored names.old (P.state pages.old) (λ a. IfPlanned a change.now new (EndsBy a change.now (P.state pages.new) result)) }
+    ensures names { OfStored names.old (P.state pages.old) (λ a.
+        IfPlanned a change.now new (OnOk result (NamesMade a names.new (P.state pages.new) change.now))) }
+    ensures left { OfStored names.old (P.state pages.old) (λ a.
+        IfPlanned a change.now new (IfOk result (LeftMade a (P.state pages.new) change.now))) }
     ensures refused { IsErrOf result faults.NoMemory → StaysAs (P.state pages.old) (P.state pages.new) }
 {
     let planned = plan_named(names, pages, alloc, change, new)?;
@@ -206,9 +202,8 @@ pub(crate) fn make<P: PageStore>(
     ensures goes_on { GoesOn (P.state pages.old) (P.state pages.new) }
     ensures power { OnOk result (KeepsPower (P.state pages.old) (P.state pages.new)) }
     ensures sizes { table_sizes table.new ≡ table_sizes table.old }
-    ensures makes { (objects : Objects) → let old = state_with (P.state pages.old) table.old names.old in HasObjects old objects → CanMake (sizes_in old) objects change.now
-        → ChangeEnds old (state_with (P.state pages.new) table.new names.new) objects (made objects change.now) result }
-    ensures refused { IsErrOf result faults.NoMemory → StaysIn (state_with (P.state pages.old) table.old names.old) (state_with (P.state pages.new) table.new names.new) }
+    ensures makes { Makes (state_with (P.state pages.old) table.old names.old) (state_with (P.state pages.new) table.new names.new) change.now result }
+    ensures refused { StaysIfRefused (state_with (P.state pages.old) table.old names.old) (state_with (P.state pages.new) table.new names.new) result }
 {
     prepare(table, change)?;
     let replaced = find_replaced(table, names, pages, change)?;
@@ -229,8 +224,7 @@ pub(crate) fn forget<P: PageStore>(
     ensures goes_on { GoesOn (P.state pages.old) (P.state pages.new) }
     ensures device { (P.state pages.new).device ≡ (P.state pages.old).device }
     ensures sizes { table_sizes table.new ≡ table_sizes table.old }
-    ensures makes { (objects : Objects) → let old = state_with (P.state pages.old) table.old names.old in HasObjects old objects → CanMake (sizes_in old) objects (changes.Forget number)
-        → ChangeEnds old (state_with (P.state pages.new) table.new names.new) objects (map.remove objects number) result }
+    ensures makes { Makes (state_with (P.state pages.old) table.old names.old) (state_with (P.state pages.new) table.new names.new) (changes.Forget number) result }
     ensures memory { result ≡ Err faults.NoMemory → ⊥ }
 {
     let whole = Cut {

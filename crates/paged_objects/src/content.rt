@@ -10,6 +10,10 @@ ghost use Rattle.pages.specs.Faults.{MayLackMemory, SaysWhyChanging};
 ghost use Rattle.pages.specs.Maps.{changed};
 ghost use Rattle.pages.specs.State.{OnlyFinds, KeepsPower};
 ghost use Rattle.paged_objects.specs.Holding.{HoldsIn, HoldsObjects};
+ghost use Rattle.file_io.specs.Writes.{IsChangeIn};
+ghost use Rattle.paged_objects.specs.Making.{IfWithin, MakesAll, MakesBy, after_write};
+ghost use Rattle.paged_objects.specs.Placed.{OfHeld};
+ghost use Rattle.object_store.specs.declared.change.ObjectChange.TheVariants as changes;
 
 use file_io::{read_info, set_length, write_at};
 use pages::{Change, PageFault, Pages};
@@ -31,14 +35,12 @@ pub fn write<P: Pages>(
     ensures finds { OnlyFinds (P.state pages.old) (P.state pages.new) }
     ensures power { OnOk result (KeepsPower (P.state pages.old) (P.state pages.new)) }
     ensures change { (chunks : ℕ) → length bytes.now ≤ chunks * (P.state pages.old).page_bytes
-        → IfOk result (λ change. IsChange change (P.state pages.old).page_bytes (chunks + 3)) }
+        → IfOk result (IsChangeIn (P.state pages.old) (chunks + 3)) }
     ensures only { IfOk result (λ change. IsOnlyOf change number) }
-    ensures writes { (z : Sizes) (objects : Objects) → HoldsIn (P.state pages.old) z objects → IsFile objects number
-        → IfOk result (λ change. HoldsObjects z (changed change (P.state pages.old).present)
-        (with_bytes objects moment number (written (bytes_of (map.get objects number)) offset bytes.now))) }
+    ensures writes { OfHeld (P.state pages.old) (λ a. IsFile a.objects number
+        → IfOk result (MakesAll a (after_write a.objects number offset bytes.now moment))) }
     ensures why { IfErr result (SaysWhyChanging (P.state pages.new)) }
-    ensures fault { (z : Sizes) (objects : Objects) → HoldsIn (P.state pages.old) z objects → IsFile objects number
-        → offset + length bytes.now ≤ greatest_length z → IfErr result (MayLackMemory (P.state pages.new)) }
+    ensures fault { OfHeld (P.state pages.old) (λ a. IfWithin a number (offset + length bytes.now) (IfErr result (MayLackMemory (P.state pages.new)))) }
 {
     let most = most_bytes(pages);
     if offset > most || bytes.len() as u64 > most - offset {
@@ -60,14 +62,12 @@ fn touch<P: Pages>(
 ) -> Result<Change, PageFault>
     ensures finds { OnlyFinds (P.state pages.old) (P.state pages.new) }
     ensures power { OnOk result (KeepsPower (P.state pages.old) (P.state pages.new)) }
-    ensures change { IfOk result (λ change. IsChange change (P.state pages.old).page_bytes 2) }
+    ensures change { IfOk result (IsChangeIn (P.state pages.old) 2) }
     ensures only { IfOk result (λ change. IsOnlyOf change number) }
-    ensures touches { (z : Sizes) (objects : Objects) → HoldsIn (P.state pages.old) z objects → IsFile objects number
-        → IfOk result (λ change. HoldsObjects z (changed change (P.state pages.old).present)
-        (with_bytes objects moment number (written (bytes_of (map.get objects number)) offset []))) }
+    ensures touches { OfHeld (P.state pages.old) (λ a. IsFile a.objects number
+        → IfOk result (MakesAll a (after_write a.objects number offset [] moment))) }
     ensures why { IfErr result (SaysWhyChanging (P.state pages.new)) }
-    ensures fault { (z : Sizes) (objects : Objects) → HoldsIn (P.state pages.old) z objects → IsFile objects number
-        → offset ≤ greatest_length z → IfErr result (MayLackMemory (P.state pages.new)) }
+    ensures fault { OfHeld (P.state pages.old) (λ a. IfWithin a number offset (IfErr result (MayLackMemory (P.state pages.new)))) }
 {
     let info = read_info(pages, number)?;
     resize(pages, alloc, number, info.length.max(offset), moment)
@@ -85,14 +85,11 @@ pub fn resize<P: Pages>(
 ) -> Result<Change, PageFault>
     ensures finds { OnlyFinds (P.state pages.old) (P.state pages.new) }
     ensures power { OnOk result (KeepsPower (P.state pages.old) (P.state pages.new)) }
-    ensures change { IfOk result (λ change. IsChange change (P.state pages.old).page_bytes 2) }
+    ensures change { IfOk result (IsChangeIn (P.state pages.old) 2) }
     ensures only { IfOk result (λ change. IsOnlyOf change number) }
-    ensures resizes { (z : Sizes) (objects : Objects) → HoldsIn (P.state pages.old) z objects → IsFile objects number
-        → IfOk result (λ change. HoldsObjects z (changed change (P.state pages.old).present)
-        (with_bytes objects moment number (resized (bytes_of (map.get objects number)) length))) }
+    ensures resizes { OfHeld (P.state pages.old) (λ a. IsFile a.objects number → IfOk result (MakesBy a (changes.Resize number length moment))) }
     ensures why { IfErr result (SaysWhyChanging (P.state pages.new)) }
-    ensures fault { (z : Sizes) (objects : Objects) → HoldsIn (P.state pages.old) z objects → IsFile objects number
-        → length ≤ greatest_length z → IfErr result (MayLackMemory (P.state pages.new)) }
+    ensures fault { OfHeld (P.state pages.old) (λ a. IfWithin a number length (IfErr result (MayLackMemory (P.state pages.new)))) }
 {
     if length > most_bytes(pages) {
         return Err(PageFault::Full);

@@ -6,6 +6,8 @@ ghost use Rattle.pages.specs.Changes.{IsChange, IsOnlyOf};
 ghost use Rattle.pages.specs.Maps.{PageMap, changed};
 ghost use Rattle.pages.specs.declared.fault.PageFault.TheVariants as faults;
 ghost use Rattle.paged_objects.specs.Holding.{HoldsObject};
+ghost use Rattle.file_io.specs.Writes.{IsChangeIn};
+ghost use Rattle.paged_objects.specs.Making.{HoldsEmpty, OfBare, OfUnused};
 
 use directories::{DirectoryHead, head_page};
 use flash_tree::FreshPage;
@@ -24,8 +26,8 @@ fn first_page<P: Pages>(
     ensures object { IfOk result (λ page. page.key.object ≡ number) }
     ensures chunk { IfOk result (λ page. page.key.chunk ≡ 0) }
     ensures size { IfOk result (λ page. length page.bytes.items ≡ (P.state pages.now).page_bytes) }
-    ensures holds { (z : Sizes) (m : PageMap) → z.page_bytes ≡ (P.state pages.now).page_bytes → number ≢ root_number → ((c : ℕ) → 1 ≤ c → m number c ≡ None)
-        → IfOk result (λ page. m number 0 ≡ Some page.bytes.items → HoldsObject z m number (Some (empty_object kind moment))) }
+    ensures holds { OfBare (P.state pages.now) number (λ z m.
+        IfOk result (λ page. m number 0 ≡ Some page.bytes.items → HoldsEmpty z m number kind moment)) }
     ensures fault { IfErr result (λ e. e ≡ faults.NoMemory) }
 {
     match kind {
@@ -49,10 +51,9 @@ pub(crate) fn new_object<P: Pages>(
     kind: Kind,
     moment: u64,
 ) -> Result<Change, PageFault>
-    ensures change { IfOk result (λ change. IsChange change (P.state pages.now).page_bytes 1) }
+    ensures change { IfOk result (IsChangeIn (P.state pages.now) 1) }
     ensures only { IfOk result (λ change. IsOnlyOf change number) }
-    ensures holds { (z : Sizes) (m : PageMap) → z.page_bytes ≡ (P.state pages.now).page_bytes → number ≢ root_number → ((c : ℕ) → m number c ≡ None)
-        → IfOk result (λ change. HoldsObject z (changed change m) number (Some (empty_object kind moment))) }
+    ensures holds { OfUnused (P.state pages.now) number (λ z m. IfOk result (λ change. HoldsEmpty z (changed change m) number kind moment)) }
     ensures fault { IfErr result (λ e. e ≡ faults.NoMemory) }
 {
     let page = first_page(pages, alloc, number, kind, moment)?;

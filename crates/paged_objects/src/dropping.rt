@@ -8,6 +8,7 @@ ghost use Rattle.object_store.specs.Told.{Tells};
 ghost use Rattle.pages.specs.Maps.{PageMap};
 ghost use Rattle.paged_objects.specs.Naming.{HasNames};
 ghost use Rattle.paged_objects.specs.Changing.{HasLeft, HasLeftBy};
+ghost use Rattle.paged_objects.specs.Making.{HasLeftName, OfNames, OfNamesMade};
 
 use directories::LeftSlot;
 use name_index::{NameIndex, name_hash};
@@ -21,8 +22,7 @@ pub(crate) fn drop_names(
     change: &ObjectChange<'_>,
     left: Option<LeftSlot>,
 )
-    ensures { (z : Sizes) (m : PageMap) (objects : Objects) → HasNames names.old z m (made objects change.now) → Tells table.now (made objects change.now)
-        → HasLeftBy z m (made objects change.now) change.now left → HasNames names.new z m (made objects change.now) }
+    ensures { OfNamesMade names.old table.now change.now (λ z m new. HasLeftBy z m new change.now left → HasNames names.new z m new) }
 {
     match change {
         ObjectChange::Create { .. } => {}
@@ -49,8 +49,7 @@ fn drop_name(
     entry: DirectoryEntry<'_>,
     left: Option<LeftSlot>,
 )
-    ensures { (z : Sizes) (m : PageMap) (objects : Objects) → HasNames names.old z m objects → Tells table.now objects
-        → HasLeft z m objects entry.entry.directory (fnv1a entry.entry.name.now) left → HasNames names.new z m objects }
+    ensures { OfNames names.old table.now (λ z m objects. HasLeftName z m objects entry.entry left → HasNames names.new z m objects) }
 {
     let hash = name_hash(entry.name);
     drop_behind(names, table, entry.directory, hash);
@@ -62,7 +61,7 @@ fn drop_name(
 
 /// Drops a hash from the slot behind the last one of a directory.
 fn drop_behind(names: &mut NameIndex, table: &ObjectTable, directory: u64, hash: u32)
-    ensures { (z : Sizes) (m : PageMap) (objects : Objects) → HasNames names.old z m objects → Tells table.now objects → HasNames names.new z m objects }
+    ensures { OfNames names.old table.now (λ z m objects. HasNames names.new z m objects) }
 {
     if let Ok(slot) = u32::try_from(table.entry_count(directory)) {
         names.remove(directory, hash, slot);

@@ -8,6 +8,7 @@ ghost use Rattle.pages.specs.Maps.{changed};
 ghost use Rattle.directories.specs.Hashing.{HoldsMore};
 ghost use Rattle.paged_objects.specs.Holding.{HoldsObjects};
 ghost use Rattle.paged_objects.specs.Naming.{HasNames, HoldsNamed, WritesNames};
+ghost use Rattle.paged_objects.specs.Making.{OfHashed};
 
 use directories::hash_change;
 use name_index::NameIndex;
@@ -23,9 +24,7 @@ pub fn hash_names<P: Pages>(
 ) -> Result<(), AllocError>
     requires { AreSized change.now.pages.items (P.state pages.now).page_bytes }
     ensures kept { HoldsMore names.old names.new }
-    ensures hashes { (z : Sizes) (old new : Objects) → HoldsNamed names.old (P.state pages.now) z old → WritesNames z change.now old new
-        → HoldsObjects z (changed change.now (P.state pages.now).present) new → IsSizes z → fits z new ≡ true
-        → OnOk result (HasNames names.new z (changed change.now (P.state pages.now).present) new) }
+    ensures hashes { OfHashed names.old (P.state pages.now) change.now (λ z m new. OnOk result (HasNames names.new z m new)) }
 {
     hash_change(names, pages.page_bytes(), change)
 }

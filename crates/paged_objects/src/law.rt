@@ -6,10 +6,10 @@ ghost use Rattle.pages.specs.Stores.{HasNumbersLeft, bad_on};
 ghost use Rattle.posix_profile.specs.State.{Objects};
 ghost use Rattle.volume_terms.specs.Sizes.{Sizes};
 ghost use Rattle.paged_objects.specs.Standing.{Shown};
+ghost use Rattle.paged_objects.specs.PageLaws.{ShownTreesAreOnTheFlash};
 
 /// The tree that a mount would show is sound on the flash of an honest device, as long as numbers are left and no more
 /// blocks are bad than are to spare.
 pub fn a_shown_tree_is_on_the_flash()
-    ensures { (z : Sizes) (p : PagesState) (tree : Objects) → Shown z p tree → p.device.honest ≡ true → HasNumbersLeft p.device.flash → bad_on p.device ≤ p.spare
-        → IsSoundFlash p.device.geometry p.device.flash p.spare tree }
+    ensures { ShownTreesAreOnTheFlash }
 {}

@@ -16,6 +16,10 @@ ghost use Rattle.directories.specs.Directories.{IsNamed};
 ghost use Rattle.paged_objects.specs.Holding.{HoldsObjects};
 ghost use Rattle.paged_objects.specs.Naming.{HoldsNamed, WritesNames};
 ghost use Rattle.object_store.specs.Stores.{CanHave};
+ghost use Rattle.file_io.specs.Writes.{IsChangeIn};
+ghost use Rattle.paged_objects.specs.Making.{IfMovable, IfRenamable, IsNamedIn, MakesBy, MayMake, MayWrite, OfMoved, OfRenamed, WritesBy, renaming};
+ghost use Rattle.paged_objects.specs.Placed.{OfNamed};
+ghost use Rattle.object_store.specs.declared.change.ObjectChange.TheVariants as changes;
 
 use crate::naming::slot_for;
 use crate::removal::and_forget;
@@ -40,16 +44,14 @@ pub fn move_name<P: Pages>(
 ) -> Result<Change, PageFault>
     ensures finds { OnlyFinds (P.state pages.old) (P.state pages.new) }
     ensures power { OnOk result (KeepsPower (P.state pages.old) (P.state pages.new)) }
-    ensures change { IfOk result (λ change. IsChange change (P.state pages.old).page_bytes 4) }
-    ensures moves { (z : Sizes) (objects : Objects) → HoldsNamed names.now (P.state pages.old) z objects → LeadsTo objects from.entry number → IsDirectory objects to.entry.directory
-        → IfOk result (λ change. HoldsObjects z (changed change (P.state pages.old).present)
-        (without dropped (with_name (without_name objects moment from.entry.directory from.entry.name.now) moment to.entry.directory to.entry.name.now number))) }
-    ensures slots { (z : Sizes) (objects : Objects) → HoldsNamed names.now (P.state pages.old) z objects → LeadsTo objects from.entry number → IsDirectory objects to.entry.directory
-        → IfOk result (λ change. WritesNames z change objects
-        (without dropped (with_name (without_name objects moment from.entry.directory from.entry.name.now) moment to.entry.directory to.entry.name.now number))) }
+    ensures change { IfOk result (IsChangeIn (P.state pages.old) 4) }
+    ensures moves { OfMoved names.now (P.state pages.old) (changes.Move from.entry to.entry number dropped moment) (λ a move.
+        IfOk result (MakesBy a move)) }
+    ensures slots { OfMoved names.now (P.state pages.old) (changes.Move from.entry to.entry number dropped moment) (λ a move.
+        IfOk result (WritesBy a move)) }
     ensures why { IfErr result (SaysWhyChanging (P.state pages.new)) }
-    ensures fault { (z : Sizes) (objects : Objects) → HoldsNamed names.now (P.state pages.old) z objects → CanHave z objects → LeadsTo objects from.entry number
-        → IsDirectory objects to.entry.directory → IsName to.entry.name.now → IfErr result (MayLackMemory (P.state pages.new)) }
+    ensures fault { OfNamed names.now (P.state pages.old) (λ a.
+        IfMovable a from.entry to.entry number (IfErr result (MayLackMemory (P.state pages.new)))) }
 {
     let slot = slot_for(to.name, number)?;
     let Some(change) = rename(names, pages, alloc, from, to.directory, &slot, moment)? else {
@@ -72,18 +74,13 @@ fn rename<P: Pages>(
     requires { IsTreeSlot (entry_of slot.now) }
     ensures finds { OnlyFinds (P.state pages.old) (P.state pages.new) }
     ensures power { OnOk result (KeepsPower (P.state pages.old) (P.state pages.new)) }
-    ensures change { IfOk result (λ made. IfSome made (λ change. IsChange change (P.state pages.old).page_bytes 4)) }
-    ensures named { (z : Sizes) (objects : Objects) → HoldsNamed names.now (P.state pages.old) z objects → IsDirectory objects from.entry.directory
-        → IfOk result (λ made. IsNamed (entries_of (map.get objects from.entry.directory)) from.entry.name.now made) }
-    ensures moves { (z : Sizes) (objects : Objects) → HoldsNamed names.now (P.state pages.old) z objects → IsDirectory objects from.entry.directory → IsDirectory objects directory
-        → IfOk result (λ made. IfSome made (λ change. HoldsObjects z (changed change (P.state pages.old).present)
-        (with_name (without_name objects moment from.entry.directory from.entry.name.now) moment directory slot.now.name.now slot.now.object))) }
-    ensures slots { (z : Sizes) (objects : Objects) → HoldsNamed names.now (P.state pages.old) z objects → IsDirectory objects from.entry.directory → IsDirectory objects directory
-        → IfOk result (λ made. IfSome made (λ change. WritesNames z change objects
-        (with_name (without_name objects moment from.entry.directory from.entry.name.now) moment directory slot.now.name.now slot.now.object))) }
+    ensures change { IfOk result (λ made. IfSome made (IsChangeIn (P.state pages.old) 4)) }
+    ensures named { OfNamed names.now (P.state pages.old) (λ a. IsDirectory a.objects from.entry.directory → IfOk result (IsNamedIn a from.entry)) }
+    ensures moves { OfRenamed names.now (P.state pages.old) (renaming from.entry directory slot.now moment) (λ a move. IfOk result (MayMake a move)) }
+    ensures slots { OfRenamed names.now (P.state pages.old) (renaming from.entry directory slot.now moment) (λ a move. IfOk result (MayWrite a move)) }
     ensures why { IfErr result (SaysWhyChanging (P.state pages.new)) }
-    ensures fault { (z : Sizes) (objects : Objects) → HoldsNamed names.now (P.state pages.old) z objects → CanHave z objects → IsDirectory objects from.entry.directory
-        → IsDirectory objects directory → IfErr result (MayLackMemory (P.state pages.new)) }
+    ensures fault { OfNamed names.now (P.state pages.old) (λ a.
+        IfRenamable a from.entry directory (IfErr result (MayLackMemory (P.state pages.new)))) }
 {
     if from.directory == directory {
         return rename_within(alloc, names, pages, directory, from.name, slot, moment);

@@ -15,6 +15,10 @@ ghost use Rattle.pages.specs.declared.fault.PageFault.TheVariants as faults;
 ghost use Rattle.paged_objects.specs.Holding.{HoldsIn, HoldsObjects};
 ghost use Rattle.paged_objects.specs.Naming.{WritesNames};
 ghost use Rattle.object_store.specs.Stores.{CanHave};
+ghost use Rattle.file_io.specs.Writes.{IsChangeIn};
+ghost use Rattle.paged_objects.specs.Making.{IfNameable, IfNew, MakesBy, WritesBy};
+ghost use Rattle.paged_objects.specs.Placed.{AreAllowed, OfHeld};
+ghost use Rattle.object_store.specs.declared.change.ObjectChange.TheVariants as changes;
 
 use crate::creation::new_object;
 use directories::add;
@@ -51,15 +55,13 @@ pub fn create<P: Pages>(
 ) -> Result<Change, PageFault>
     ensures finds { OnlyFinds (P.state pages.old) (P.state pages.new) }
     ensures power { OnOk result (KeepsPower (P.state pages.old) (P.state pages.new)) }
-    ensures change { IfOk result (λ change. IsChange change (P.state pages.old).page_bytes 3) }
-    ensures creates { (z : Sizes) (objects : Objects) → HoldsIn (P.state pages.old) z objects → number ≡ new_number objects → IsAbsent objects at.entry
-        → IfOk result (λ change. HoldsObjects z (changed change (P.state pages.old).present)
-        (with_object objects moment at.entry.directory at.entry.name.now (empty_object kind moment))) }
-    ensures slots { (z : Sizes) (objects : Objects) → HoldsIn (P.state pages.old) z objects → IsAbsent objects at.entry
-        → IfOk result (λ change. WritesNames z change objects (with_object objects moment at.entry.directory at.entry.name.now (empty_object kind moment))) }
+    ensures change { IfOk result (IsChangeIn (P.state pages.old) 3) }
+    ensures creates { OfHeld (P.state pages.old) (λ a. IfNew a number at.entry (IfOk result (MakesBy a (changes.Create at.entry kind moment)))) }
+    ensures slots { OfHeld (P.state pages.old) (λ a. IsAbsent a.objects at.entry
+        → IfOk result (WritesBy a (changes.Create at.entry kind moment))) }
     ensures why { IfErr result (SaysWhyChanging (P.state pages.new)) }
-    ensures fault { (z : Sizes) (objects : Objects) → HoldsIn (P.state pages.old) z objects → CanHave z objects → number ≡ new_number objects → IsAbsent objects at.entry
-        → IfErr result (MayLackMemory (P.state pages.new)) }
+    ensures fault { OfHeld (P.state pages.old) (λ a.
+        AreAllowed a → IfNew a number at.entry (IfErr result (MayLackMemory (P.state pages.new)))) }
 {
     let slot = slot_for(at.name, number)?;
     let object = new_object(pages, alloc, number, kind, moment)?;
@@ -78,15 +80,15 @@ pub fn name<P: Pages>(
 ) -> Result<Change, PageFault>
     ensures finds { OnlyFinds (P.state pages.old) (P.state pages.new) }
     ensures power { OnOk result (KeepsPower (P.state pages.old) (P.state pages.new)) }
-    ensures change { IfOk result (λ change. IsChange change (P.state pages.old).page_bytes 2) }
+    ensures change { IfOk result (IsChangeIn (P.state pages.old) 2) }
     ensures only { IfOk result (λ change. IsOnlyOf change at.entry.directory) }
-    ensures names { (z : Sizes) (objects : Objects) → HoldsIn (P.state pages.old) z objects → IsAbsent objects at.entry
-        → IfOk result (λ change. HoldsObjects z (changed change (P.state pages.old).present) (with_name objects moment at.entry.directory at.entry.name.now number)) }
-    ensures slots { (z : Sizes) (objects : Objects) → HoldsIn (P.state pages.old) z objects → IsAbsent objects at.entry
-        → IfOk result (λ change. WritesNames z change objects (with_name objects moment at.entry.directory at.entry.name.now number)) }
+    ensures names { OfHeld (P.state pages.old) (λ a. IsAbsent a.objects at.entry
+        → IfOk result (MakesBy a (changes.Name at.entry number moment))) }
+    ensures slots { OfHeld (P.state pages.old) (λ a. IsAbsent a.objects at.entry
+        → IfOk result (WritesBy a (changes.Name at.entry number moment))) }
     ensures why { IfErr result (SaysWhyChanging (P.state pages.new)) }
-    ensures fault { (z : Sizes) (objects : Objects) → HoldsIn (P.state pages.old) z objects → CanHave z objects → IsAbsent objects at.entry → IsSlotNumber number
-        → IfErr result (MayLackMemory (P.state pages.new)) }
+    ensures fault { OfHeld (P.state pages.old) (λ a.
+        IfNameable a at.entry number (IfErr result (MayLackMemory (P.state pages.new)))) }
 {
     let slot = slot_for(at.name, number)?;
     add(alloc, pages, at.directory, &slot, moment)

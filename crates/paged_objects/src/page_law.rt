@@ -13,6 +13,7 @@ ghost use Rattle.object_store.specs.Stores.{settled};
 ghost use Rattle.pages.specs.Maps.{PageMap, has, without_cuts};
 ghost use Rattle.paged_objects.specs.Counting.{IsOnce, HavePages};
 ghost use Rattle.paged_objects.specs.Holding.{HoldsObjects};
+ghost use Rattle.paged_objects.specs.PageLaws.{CutObjectsAreHeldNoMore, HeldObjectsAreAVolume, PagesAreCharged};
 
 /// Pages that hold objects show those of them that names keep.
 #[tactic(auto, using(crate::specs::laws::Settled::shows_settled))]
@@ -23,19 +24,16 @@ pub fn held_objects_are_shown()
 /// Pages that hold the objects of a volume are those of a volume with as many spare blocks.
 #[tactic(auto, using(crate::specs::laws::Settled::holds_volume))]
 pub fn held_objects_are_a_volume()
-    ensures { (g : Geometry) (spare : ℕ) (m : PageMap) (objects : Objects) → HoldsObjects (sizes_of g spare) m objects → IsForest (sizes_of g spare) objects
-        → spare + 4 ≤ g.blocks → IsVolume g (has m) spare }
+    ensures { HeldObjectsAreAVolume }
 {}
 
 /// Pages that hold objects hold them without the one that is cut whole.
 #[tactic(auto, using(crate::specs::laws::Holding::cut_object))]
 pub fn a_cut_object_is_held_no_more()
-    ensures { (z : Sizes) (m : PageMap) (objects : Objects) → HoldsObjects z m objects → (o : ℕ)
-        → HoldsObjects z (without_cuts (record { object = o; from = 0 } ∷ []) m) (map.remove objects o) }
+    ensures { CutObjectsAreHeldNoMore }
 {}
 
 /// Where pages are those of objects, there are no more of them than units that the objects cost.
 pub fn each_page_is_charged()
-    ensures { (z : Sizes) (m : PageMap) (objects : Objects) → IsSizes z → HoldsObjects z m objects → (keys : List Key) → IsOnce keys → HavePages m keys
-        → length keys ≤ charge z objects }
+    ensures { PagesAreCharged }
 {}

@@ -13,6 +13,9 @@ ghost use Rattle.paged_objects.specs.Holding.{HoldsObjects};
 ghost use Rattle.paged_objects.specs.Naming.{HoldsNamed, WritesNames};
 ghost use Rattle.object_store.specs.Stores.{CanHave};
 ghost use Rattle.paged_objects.specs.Plans.{most_pages};
+ghost use Rattle.file_io.specs.Writes.{IsChangeIn};
+ghost use Rattle.paged_objects.specs.Making.{IfPlanned, MakesBy, WritesBy};
+ghost use Rattle.paged_objects.specs.Placed.{AreAllowed, OfNamed};
 
 use crate::content::{resize, write};
 use crate::moving::move_name;
@@ -57,15 +60,14 @@ pub fn plan<P: Pages>(
 ) -> Result<Change, PageFault>
     ensures finds { OnlyFinds (P.state pages.old) (P.state pages.new) }
     ensures power { OnOk result (KeepsPower (P.state pages.old) (P.state pages.new)) }
-    ensures change { IfOk result (λ it. IsChange it (P.state pages.old).page_bytes (most_pages (P.state pages.old).page_bytes change.now)) }
+    ensures change { IfOk result (IsChangeIn (P.state pages.old) (most_pages (P.state pages.old).page_bytes change.now)) }
     ensures trees { IfOk result (λ it. AreOfTrees it.pages.items) }
-    ensures makes { (z : Sizes) (objects : Objects) → HoldsNamed names.now (P.state pages.old) z objects → CanMake z objects change.now → new ≡ new_number objects
-        → IfOk result (λ it. HoldsObjects z (changed it (P.state pages.old).present) (made objects change.now)) }
-    ensures slots { (z : Sizes) (objects : Objects) → HoldsNamed names.now (P.state pages.old) z objects → CanMake z objects change.now
-        → IfOk result (λ it. WritesNames z it objects (made objects change.now)) }
+    ensures makes { OfNamed names.now (P.state pages.old) (λ a. IfPlanned a change.now new (IfOk result (MakesBy a change.now))) }
+    ensures slots { OfNamed names.now (P.state pages.old) (λ a.
+        CanMake a.sizes a.objects change.now → IfOk result (WritesBy a change.now)) }
     ensures why { IfErr result (SaysWhyChanging (P.state pages.new)) }
-    ensures fault { (z : Sizes) (objects : Objects) → HoldsNamed names.now (P.state pages.old) z objects → CanHave z objects → CanMake z objects change.now → new ≡ new_number objects
-        → IfErr result (MayLackMemory (P.state pages.new)) }
+    ensures fault { OfNamed names.now (P.state pages.old) (λ a.
+        AreAllowed a → IfPlanned a change.now new (IfErr result (MayLackMemory (P.state pages.new)))) }
 {
     let planned = plan_each(names, pages, alloc, change, new)?;
     if are_of_trees(&planned.pages) {
@@ -85,14 +87,13 @@ fn plan_each<P: Pages>(
 ) -> Result<Change, PageFault>
     ensures finds { OnlyFinds (P.state pages.old) (P.state pages.new) }
     ensures power { OnOk result (KeepsPower (P.state pages.old) (P.state pages.new)) }
-    ensures change { IfOk result (λ it. IsChange it (P.state pages.old).page_bytes (most_pages (P.state pages.old).page_bytes change.now)) }
-    ensures makes { (z : Sizes) (objects : Objects) → HoldsNamed names.now (P.state pages.old) z objects → CanMake z objects change.now → new ≡ new_number objects
-        → IfOk result (λ it. HoldsObjects z (changed it (P.state pages.old).present) (made objects change.now)) }
-    ensures slots { (z : Sizes) (objects : Objects) → HoldsNamed names.now (P.state pages.old) z objects → CanMake z objects change.now
-        → IfOk result (λ it. WritesNames z it objects (made objects change.now)) }
+    ensures change { IfOk result (IsChangeIn (P.state pages.old) (most_pages (P.state pages.old).page_bytes change.now)) }
+    ensures makes { OfNamed names.now (P.state pages.old) (λ a. IfPlanned a change.now new (IfOk result (MakesBy a change.now))) }
+    ensures slots { OfNamed names.now (P.state pages.old) (λ a.
+        CanMake a.sizes a.objects change.now → IfOk result (WritesBy a change.now)) }
     ensures why { IfErr result (SaysWhyChanging (P.state pages.new)) }
-    ensures fault { (z : Sizes) (objects : Objects) → HoldsNamed names.now (P.state pages.old) z objects → CanHave z objects → CanMake z objects change.now → new ≡ new_number objects
-        → IfErr result (MayLackMemory (P.state pages.new)) }
+    ensures fault { OfNamed names.now (P.state pages.old) (λ a.
+        AreAllowed a → IfPlanned a change.now new (IfErr result (MayLackMemory (P.state pages.new)))) }
 {
     match change {
         ObjectChange::Create {

@@ -9,6 +9,9 @@ ghost use Rattle.pages.specs.State.{OnlyFinds, KeepsPower};
 ghost use Rattle.directories.specs.Named.{AsksHeld};
 ghost use Rattle.paged_objects.specs.Holding.{HoldsIn};
 ghost use Rattle.paged_objects.specs.Naming.{HoldsNamed};
+ghost use Rattle.file_io.specs.Reads.{HasRead};
+ghost use Rattle.paged_objects.specs.Making.{AreNamesIn, IsFoundIn};
+ghost use Rattle.paged_objects.specs.Placed.{IfCounted, IfLong, OfHeld, OfNamed, bytes_in};
 
 use name_index::NameIndex;
 use pages::{PageFault, Pages};
@@ -26,11 +29,10 @@ pub fn find<P: Pages>(
     ensures finds { OnlyFinds (P.state pages.old) (P.state pages.new) }
     ensures asked { AsksHeld names.now directory name.now (P.state pages.old).asked (P.state pages.new).asked }
     ensures power { OnOk result (KeepsPower (P.state pages.old) (P.state pages.new)) }
-    ensures found { (z : Sizes) (objects : Objects) → HoldsNamed names.now (P.state pages.old) z objects → (dir : IsDirectory objects directory)
-        → count ≡ map.len dir.1 → IfOk result (λ found. found ≡ map.get (entries_of (map.get objects directory)) name.now) }
+    ensures found { OfNamed names.now (P.state pages.old) (λ a. IfCounted a directory count (IfOk result (IsFoundIn a directory name.now))) }
     ensures why { IfErr result (SaysWhy (P.state pages.old) (P.state pages.new)) }
-    ensures fault { (z : Sizes) (objects : Objects) → HoldsIn (P.state pages.old) z objects → (dir : IsDirectory objects directory)
-        → count ≡ map.len dir.1 → IfErr result (MayLack (P.state pages.old) (P.state pages.new)) }
+    ensures fault { OfHeld (P.state pages.old) (λ a.
+        IfCounted a directory count (IfErr result (MayLack (P.state pages.old) (P.state pages.new)))) }
 {
     directories::find(names, pages, directory, count, name)
 }
@@ -39,11 +41,9 @@ pub fn find<P: Pages>(
 pub fn names<P: Pages>(pages: &mut P, alloc: Global, directory: u64) -> Result<NameList, PageFault>
     ensures finds { OnlyFinds (P.state pages.old) (P.state pages.new) }
     ensures power { OnOk result (KeepsPower (P.state pages.old) (P.state pages.new)) }
-    ensures found { (z : Sizes) (objects : Objects) → HoldsIn (P.state pages.old) z objects → IsDirectory objects directory
-        → IfOk result (λ names. names ≡ map.keys (entries_of (map.get objects directory))) }
+    ensures found { OfHeld (P.state pages.old) (λ a. IsDirectory a.objects directory → IfOk result (AreNamesIn a directory)) }
     ensures why { IfErr result (SaysWhyMaking (P.state pages.new)) }
-    ensures fault { (z : Sizes) (objects : Objects) → HoldsIn (P.state pages.old) z objects → IsDirectory objects directory
-        → IfErr result (MayLackMemory (P.state pages.new)) }
+    ensures fault { OfHeld (P.state pages.old) (λ a. IsDirectory a.objects directory → IfErr result (MayLackMemory (P.state pages.new))) }
 {
     directories::names(alloc, pages, directory)
 }
@@ -62,8 +62,8 @@ pub fn read_into<P: Pages>(
     ensures size { length buffer.new ≡ length buffer.old }
     ensures count { IfOk result (λ count. count ≤ length buffer.old) }
     ensures rest { IfOk result (λ count. drop count buffer.new ≡ drop count buffer.old) }
-    ensures found { (z : Sizes) (objects : Objects) → HoldsIn (P.state pages.old) z objects → IsFile objects file → len ≡ length (bytes_of (map.get objects file))
-        → IfOk result (λ count. take count buffer.new ≡ bytes_from objects file offset (length buffer.old)) }
+    ensures found { OfHeld (P.state pages.old) (λ a.
+        IfLong a file len (IfOk result (HasRead (bytes_in a file) offset buffer.old buffer.new))) }
     ensures fault { IfErr result (MayLack (P.state pages.old) (P.state pages.new)) }
 {
     file_io::read_at(pages, file, len, offset, buffer)

@@ -11,6 +11,10 @@ ghost use Rattle.pages.specs.Maps.{PageMap, changed};
 ghost use Rattle.pages.specs.State.{OnlyFinds, KeepsPower};
 ghost use Rattle.paged_objects.specs.Holding.{HoldsObjects};
 ghost use Rattle.paged_objects.specs.Naming.{HoldsNamed, WritesNames};
+ghost use Rattle.file_io.specs.Writes.{IsChangeIn};
+ghost use Rattle.paged_objects.specs.Making.{HoldsAfter, MakesBy};
+ghost use Rattle.paged_objects.specs.Placed.{OfLed};
+ghost use Rattle.object_store.specs.declared.change.ObjectChange.TheVariants as changes;
 
 use name_index::NameIndex;
 use object_store::DirectoryEntry;
@@ -22,7 +26,7 @@ pub fn forget(alloc: Global, number: u64) -> Result<Change, AllocError>
     ensures pages { IfOk result (λ change. change.pages.items ≡ []) }
     ensures only { IfOk result (λ change. IsOnlyOf change number) }
     ensures forgets { (z : Sizes) (m : PageMap) (objects : Objects) → HoldsObjects z m objects
-        → IfOk result (λ change. HoldsObjects z (changed change m) (map.remove objects number)) }
+        → IfOk result (HoldsAfter z m (map.remove objects number)) }
 {
     let mut cuts = Vec::new(alloc);
     cuts.push(Cut {
@@ -42,8 +46,8 @@ pub(crate) fn and_forget(
     dropped: Option<u64>,
 ) -> Result<Change, AllocError>
     ensures change { (bytes most : ℕ) → IsChange change bytes most → IfOk result (λ both. IsChange both bytes most) }
-    ensures forgets { (z : Sizes) (m : PageMap) (objects : Objects) → HoldsObjects z (changed change m) objects
-        → IfOk result (λ both. HoldsObjects z (changed both m) (without dropped objects)) }
+    ensures forgets { (z : Sizes) (m : PageMap) (objects : Objects) → HoldsAfter z m objects change
+        → IfOk result (HoldsAfter z m (without dropped objects)) }
     ensures slots { (z : Sizes) (old new : Objects) → WritesNames z change old new → IfOk result (λ both. WritesNames z both old (without dropped new)) }
 {
     let Some(number) = dropped else {
@@ -64,13 +68,10 @@ pub fn remove<P: Pages>(
 ) -> Result<Change, PageFault>
     ensures finds { OnlyFinds (P.state pages.old) (P.state pages.new) }
     ensures power { OnOk result (KeepsPower (P.state pages.old) (P.state pages.new)) }
-    ensures change { IfOk result (λ change. IsChange change (P.state pages.old).page_bytes 2) }
-    ensures removes { (z : Sizes) (objects : Objects) (o : ℕ) → HoldsNamed names.now (P.state pages.old) z objects → LeadsTo objects at.entry o
-        → IfOk result (λ change. HoldsObjects z (changed change (P.state pages.old).present)
-        (without dropped (without_name objects moment at.entry.directory at.entry.name.now))) }
+    ensures change { IfOk result (IsChangeIn (P.state pages.old) 2) }
+    ensures removes { OfLed names.now (P.state pages.old) at.entry (λ a. IfOk result (MakesBy a (changes.Remove at.entry dropped moment))) }
     ensures why { IfErr result (SaysWhyChanging (P.state pages.new)) }
-    ensures fault { (z : Sizes) (objects : Objects) (o : ℕ) → HoldsNamed names.now (P.state pages.old) z objects → LeadsTo objects at.entry o
-        → IfErr result (MayLackMemory (P.state pages.new)) }
+    ensures fault { OfLed names.now (P.state pages.old) at.entry (λ a. IfErr result (MayLackMemory (P.state pages.new))) }
 {
     let made = directories::remove(alloc, names, pages, at.directory, at.name, moment)?;
     let Some(change) = made else {

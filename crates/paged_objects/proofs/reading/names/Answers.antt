@@ -1,11 +1,14 @@
-use Rattle.std.proofs.Common.{ap}
+use Rattle.std.proofs.Common.{◌≡◌, ap, subst, sym}
+use Rattle.std.specs.FinMap as map
+use Rattle.std.specs.Prelude.{IfOk}
 use Rattle.posix_profile.specs.State.{entries_of}
 use Rattle.paged_objects.specs.laws.Holding.{directory_in}
 use Rattle.paged_objects.proofs.reading.names.Goals as goal
 
 pub returns-clause-found : goal.returns-clause-found
 returns-clause-found g c = λ z objects h dir.
-    rw (ap entries_of dir.2) (c.names.ensures.found z dir.0 dir.1 (directory_in (g.P.Pages.state c.args.pages.now) z objects h c.args.directory dir))
+    subst (λ m. IfOk c.names.result (λ names. names ≡ map.keys m)) (sym (ap entries_of dir.2))
+    (c.names.ensures.found z dir.0 dir.1 (directory_in (g.P.Pages.state c.args.pages.now) z objects h c.args.directory dir))
 
 pub returns-clause-fault : goal.returns-clause-fault
 returns-clause-fault g c = λ z objects h dir.

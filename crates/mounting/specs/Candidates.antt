@@ -21,6 +21,10 @@ data_or_zeros bytes Uncorrectable = replicate bytes 0
 abbrev pub read_at : ℕ → Flash → KeptPage → List ℕ
 read_at bytes flash at = data_or_zeros bytes (flash.page at.block at.page)
 
+-- the same on a device
+abbrev pub read_on : Device → KeptPage → List ℕ
+read_on device at = read_at device.geometry.bytes device.flash at
+
 -- what is read of the page of each key that is kept
 abbrev pub candidate_data : ℕ → Index → Flash → PageMap
 candidate_data bytes x flash o c = option_map (read_at bytes flash) (kept_pages x o c)

@@ -3,19 +3,35 @@
 use Rattle.std.specs.Prelude.{◌≡◌, ◌≤◌, ◌<◌, ◌⊎◌, ℕ, true, false, Option, Some, None}
 use Rattle.nand_model.specs.Calls.{Device}
 use Rattle.flash_tree.specs.Checkpoints.{IsTrueFlash, StandsOnly}
-use Rattle.flash_tree.specs.Mount.{Answers, IsTreeOf, sizes_of}
+use Rattle.flash_tree.specs.Mount.{Answers, IsDamaged, IsTreeOf, IsWrong, sizes_of}
 use Rattle.flash_tree.specs.Places.{numbers_of}
 use Rattle.block_state.specs.Table.{Table}
 use Rattle.block_state.specs.TableOf.{table}
 use Rattle.posix_profile.specs.State.{Objects}
 use Rattle.posix_profile.specs.Charge.{charge}
-use Rattle.volume_terms.specs.Sizes.{capacity}
+use Rattle.volume_terms.specs.Sizes.{Sizes, capacity}
 use Rattle.volume_terms.specs.VolumeSizes.{sizes_of as volume_sizes}
 use Rattle.mounting.specs.Marked.{AreFitting}
 use Rattle.mounting.specs.Mounted.{IsTreeShown, HasRoomOn}
 use Rattle.mounting.specs.Named.{IsNamedTree}
 use Rattle.mounting.specs.Tables.{HoldsWhole, KnowsBlocks}
 use Rattle.mounting.specs.declared.tree_on.Going.{Going}
+use Rattle.mounting.specs.declared.tree_on.TreeOn.{TreeOn}
+
+-- what the objects cost fits into the volume
+abbrev pub HasRoomFor : Sizes → Objects → Type 0
+HasRoomFor z objects = charge z objects ≤ capacity z
+
+-- what a mount of the device answers are these objects, whose pages are kept, and there is room for them
+abbrev pub GoesOnBy : {N : Type 0} → Device → TreeOn N → Sizes → Type 0
+GoesOnBy device on z = (objects : Objects)
+    × Answers device.geometry device.flash (IsTreeOf on.spare objects)
+    × IsTreeShown device on.index on.spare on.tree objects
+    × (charge z objects ≤ capacity z)
+
+-- a mount of the device answers that something is amiss
+abbrev pub IsAmiss : Device → Type 0
+IsAmiss device = Answers device.geometry device.flash (IsWrong IsDamaged)
 
 -- The tree was read, has room, and fits into the volume of these sizes; of an honest device it is what a mount answers, and the table
 -- knows the first page of each block, and in which a whole checkpoint lies.
@@ -25,10 +41,7 @@ pub record IsGoing {N : Type 0} (device : Device) (going : Going N) : Type 0 whe
   pub fitting : AreFitting (table going.named.on.blocks)
   pub room : HasRoomOn device (table going.named.on.blocks) going.named.on.spare
   pub blocks : KnowsBlocks device (table going.named.on.blocks) (numbers_of going.named.on.numbers)
-  pub tree : device.honest ≡ true → (objects : Objects)
-      × Answers device.geometry device.flash (IsTreeOf going.named.on.spare objects)
-      × IsTreeShown device going.named.on.index going.named.on.spare going.named.on.tree objects
-      × (charge (volume_sizes going.sizes) objects ≤ capacity (volume_sizes going.sizes))
+  pub tree : device.honest ≡ true → GoesOnBy device going.named.on (volume_sizes going.sizes)
 
 -- the block is a good one of the device
 abbrev pub IsGoodOn : Device → ℕ → Type 0

@@ -1,6 +1,6 @@
 -- Kept pages that are read over an index, which is trusted or not.
 -- From: this project.
-use Rattle.std.specs.Prelude.{◌≡◌, ◌<◌, ◌&&◌, ℕ, Bool, true, List, Some}
+use Rattle.std.specs.Prelude.{◌≡◌, ◌⊎◌, ◌<◌, ◌&&◌, ℕ, Bool, true, List, Some}
 use Rattle.nand_model.specs.Calls.{Device}
 use Rattle.page_tags.specs.declared.tag.Tag.{Tag}
 use Rattle.page_tags.specs.Tags.{tag_bytes, IsTag}
@@ -8,9 +8,11 @@ use Rattle.flash_tree.specs.declared.place.Key.{Key}
 use Rattle.chunk_index.specs.declared.form.KeptPage.{KeptPage}
 use Rattle.chunk_index.specs.declared.index.Index.{Index}
 use Rattle.chunk_index.specs.Maps.{kept_pages}
-use Rattle.flash_log.specs.Standing.{AreKept}
+use Rattle.flash_log.specs.Standing.{AreKept, IsKeptAt}
 use Rattle.pages.specs.State.{PagesState}
 use Rattle.nand_model.specs.Trusting.{trusted_as}
+use Rattle.volume_terms.specs.declared.fault.StoreFault.{StoreFault}
+use Rattle.volume_terms.specs.declared.fault.StoreFault.TheVariants as faults
 use Rattle.page_store.specs.Newest.{seen}
 
 -- each kept page lies on the device
@@ -28,3 +30,7 @@ IsTagOf bytes key at = (t : Tag) × IsTag t × (bytes ≡ tag_bytes t) × (t.obj
 -- Kept pages as they are read: known where the device is honest and trusted. The device is as it is.
 abbrev pub lent : Bool → Device → Index → List ℕ → PagesState
 lent told device x page = record (seen (trusted_as told device) x page) { device = device }
+
+-- no page was read: the device is gone, or it is honest and has no such page there
+abbrev pub IsNotReadAt : Device → Device → Key → KeptPage → StoreFault → Type 0
+IsNotReadAt old new key at fault = (fault ≡ faults.Device) × ((new.gone ≡ true) ⊎ (old.honest ≡ true → IsKeptAt old.flash key.object key.chunk at → ⊥))

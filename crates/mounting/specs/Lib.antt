@@ -7,6 +7,8 @@ pub mod Reads
 pub mod Faults
 pub mod Mounted
 pub mod Named
+pub mod OnDevice
+pub mod FoundTrees
 pub mod Going
 pub mod Made
 pub mod Places
@@ -16,3 +18,4 @@ pub mod NewestMaps
 pub mod Footprints
 pub mod KeptTrees
 pub mod TreeAnswers
+pub mod TreeLaws

@@ -23,6 +23,10 @@ use Rattle.mounting.specs.TreeAnswers.{WhyNoTree}
 abbrev pub ReadsThrough : Device → Device → (spare : ℕ) → Tree → Type 0
 ReadsThrough old new spare tree = new.reads ≤ old.reads + tree_pages (sizes_of old.geometry spare) tree
 
+-- what is said of a device with a sound flash
+abbrev pub OfSoundFlash : Device → Type 0 → Type 0
+OfSoundFlash device A = (spare : ℕ) (tree : Objects) → IsSoundFlash device.geometry device.flash spare tree → A
+
 -- of a sound flash: at most the pages that are looked up to see its tree were read
 abbrev pub ReadsTree : Device → Device → Type 0
 ReadsTree old new = (spare : ℕ) (tree : Objects) → IsSoundFlash old.geometry old.flash spare tree → new.reads ≤ old.reads + looked_pages (sizes_of old.geometry spare) tree

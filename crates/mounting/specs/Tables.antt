@@ -2,13 +2,17 @@
 -- From: this project.
 use Rattle.std.specs.Prelude.{◌≡◌, ◌<◌, ◌≤◌, ◌^◌, ℕ, Bool, true, false, Option, Some, None}
 use Rattle.nand_model.specs.Calls.{Device}
+use Rattle.nand_model.specs.Changes.{OnlyReads}
 use Rattle.flash_tree.specs.Newest.{Spot, IsNewest, Numbers}
 use Rattle.flash_tree.specs.Checkpoints.{Checkpoint, IsWhole}
+use Rattle.flash_tree.specs.Places.{numbers_of}
 use Rattle.block_state.specs.Table.{Table}
+use Rattle.block_state.specs.TableOf.{table}
 use Rattle.chunk_index.specs.declared.index.Index.{Index}
 use Rattle.chunk_index.specs.Maps.{kept_pages}
 use Rattle.page_store.specs.KnownFirsts.{KnowsFirsts}
-use Rattle.page_store.specs.Opened.{AreLeft, IsOpenedBy, kept_at}
+use Rattle.page_store.specs.Opened.{AreLeft, IsOpened, IsOpenedBy, kept_at}
+use Rattle.page_store.specs.declared.opening.Opened.{Opened}
 
 -- Of the keys that a test keeps an index has what the other had, and of no other key a page.
 pub record KeepsOnly (keeps : ℕ → ℕ → Bool) (old new : Index) : Type 0 where
@@ -38,3 +42,15 @@ KnowsFirstsOf device t n = device.honest ≡ true → AreLeft n → KnowsFirsts 
 pub record KnowsBlocks (device : Device) (t : Table) (n : Numbers) : Type 0 where
   pub firsts : KnowsFirstsOf device t n
   pub whole : HoldsWhole device t.checkpoint
+
+-- the tables of a scan are those of the device
+abbrev pub IsOpenedIn : Device → Opened → Type 0
+IsOpenedIn device opened = IsOpened device (table opened.blocks) opened.index (numbers_of opened.numbers)
+
+-- they know the first page of each block, if it is an honest one
+abbrev pub KnowsScannedIn : Device → Opened → Type 0
+KnowsScannedIn device opened = KnowsScanned device (table opened.blocks) (numbers_of opened.numbers)
+
+-- tables of a device that was opened are so still, also where it was read since
+abbrev pub StaysOpened : Table → Index → Table → Index → Type 0
+StaysOpened t x t' x' = (noted : Option ℕ) (a b : Device) (n : Numbers) → OnlyReads a b → IsOpenedBy noted a t x n → IsOpenedBy noted b t' x' n

@@ -3,7 +3,7 @@ ghost use Rattle.std.specs.Prelude.{◌≡◌, ◌<◌, ℕ, length, true, Some,
 ghost use Rattle.nand_model.specs.Changes.{OnlyReads};
 ghost use Rattle.chunk_index.specs.Maps.{kept_pages};
 ghost use Rattle.chunk_index.specs.declared.form.KeptPage.{KeptPage};
-ghost use Rattle.mounting.specs.Candidates.{candidates, read_at};
+ghost use Rattle.mounting.specs.Candidates.{candidates, read_at, read_on};
 ghost use Rattle.mounting.specs.Lending.{LieWithin};
 
 use chunk_index::{Index, KeptPage};
@@ -22,7 +22,7 @@ fn read_or_zeros<N: Nand>(device: &mut N, at: KeptPage, page: &mut [u8]) -> Resu
     ensures asked { (N.state device.new).reads ≤ (N.state device.old).reads + 1 }
     ensures power { OnOk result ((N.state device.new).gone ≡ (N.state device.old).gone) }
     ensures size { length page.new ≡ length page.old }
-    ensures bytes { (N.state device.old).honest ≡ true → OnOk result (page.new ≡ read_at (N.state device.old).geometry.bytes (N.state device.old).flash at) }
+    ensures bytes { (N.state device.old).honest ≡ true → OnOk result (page.new ≡ read_on (N.state device.old) at) }
     ensures fault { IfErr result (λ fault. (fault ≡ StoreFault.Device) × ((N.state device.new).gone ≡ true)) }
 {
     let mut tag = [0; 48];
@@ -90,7 +90,7 @@ impl<'a, N: Nand> CandidatePages<'a, N> {
         ensures power { OnOk result ((N.state self.new.device).gone ≡ (N.state self.old.device).gone) }
         ensures there { IfOk result (λ presence. presence ≡ Presence.Present) }
         ensures page { (N.state self.old.device).honest ≡ true
-            → OnOk result (self.new.page.items ≡ read_at (N.state self.old.device).geometry.bytes (N.state self.old.device).flash at) }
+            → OnOk result (self.new.page.items ≡ read_on (N.state self.old.device) at) }
         ensures fault { IfErr result (λ fault. (fault ≡ StoreFault.Device) × ((N.state self.new.device).gone ≡ true)) }
     {
         read_or_zeros(&mut self.device, at, &mut self.page)?;

@@ -13,6 +13,7 @@ ghost use Rattle.nand_model.specs.Trusting.{trusted_as};
 ghost use Rattle.mounting.specs.Named.{IsNamedTree, IsReadAs, IsTrustedSince};
 ghost use Rattle.mounting.specs.Reads.{EndsMount, ReadsThrough, WhyNotThrough};
 ghost use Rattle.mounting.specs.Tables.{KnowsBlocks, KnowsFirstsOf};
+ghost use Rattle.mounting.specs.OnDevice.{IsCheckedOn, IsOnAs, IsOnSince, KnowsBlocksOn, KnowsFirstsIn, KnowsFirstsOn, OfTrusted, ReadsOn, seen_on};
 
 use crate::bounded::Bounded;
 use crate::prune::prune;
@@ -34,16 +35,13 @@ fn go_by<N: Nand>(
 ) -> Result<NamedTree<TrustedNand<N>>, (N, RootFault)>
     ghost told: { Bool }
     requires { IsOpenedBy (Some found.now.block) (trusted_as told (N.state bounded.device)) (table opened.blocks) opened.index (numbers_of opened.numbers) }
-    ensures read { IfOk result (λ named. IsReadAs told (N.state bounded.device) (N.state (inner_of named.on.device)) (⟦<TrustedNand<N> as Nand>⟧.state named.on.device)) }
-    ensures named { IfOk result (λ named. IsNamedTree (⟦<TrustedNand<N> as Nand>⟧.state named.on.device) named) }
+    ensures read { IfOk result (λ named. IsOnAs N.state told (N.state bounded.device) named.on) }
+    ensures named { IfOk result (λ named. IsNamedTree (seen_on N.state named.on) named) }
     ensures noted { IfOk result (λ named. (table named.on.blocks).checkpoint ≡ Some found.now.block) }
-    ensures firsts { KnowsFirstsOf (trusted_as told (N.state bounded.device)) (table opened.blocks) (numbers_of opened.numbers)
-        → IfOk result (λ named. KnowsFirstsOf (⟦<TrustedNand<N> as Nand>⟧.state named.on.device) (table named.on.blocks) (numbers_of named.on.numbers)) }
-    ensures few { ((N.state bounded.device).honest && told) ≡ true
-        → IfOk result (λ named. ReadsThrough (N.state bounded.device) (N.state (inner_of named.on.device)) named.on.spare named.on.tree) }
+    ensures firsts { KnowsFirstsIn (trusted_as told (N.state bounded.device)) opened → IfOk result (λ named. KnowsFirstsOn (seen_on N.state named.on) named.on) }
+    ensures few { OfTrusted (N.state bounded.device) told (IfOk result (λ named. ReadsOn N.state (N.state bounded.device) named.on)) }
     ensures back { IfErr result (λ failed. OnlyReads (N.state bounded.device) (N.state failed.0)) }
-    ensures fault { ((N.state bounded.device).honest && told) ≡ true
-        → IfErr result (λ failed. WhyNotThrough opened.index (N.state bounded.device) (N.state failed.0) failed.1) }
+    ensures fault { OfTrusted (N.state bounded.device) told (IfErr result (λ failed. WhyNotThrough opened.index (N.state bounded.device) (N.state failed.0) failed.1)) }
 {
     the_headers_tell_the_keys();
     let Bounded { device } = bounded;
@@ -82,14 +80,14 @@ pub(crate) fn open_entries<N: Nand>(
     requires form { HasForm (N.state device) (checkpoint_of found.now) }
     requires whole { IsWholeOn (N.state device) (checkpoint_of found.now) }
     requires firsts { AreFirstsOf (N.state device) firsts.now }
-    ensures read { IfOk result (λ named. IsTrustedSince (N.state device) (N.state (inner_of named.on.device)) (⟦<TrustedNand<N> as Nand>⟧.state named.on.device)) }
-    ensures named { IfOk result (λ named. IsNamedTree (⟦<TrustedNand<N> as Nand>⟧.state named.on.device) named) }
+    ensures read { IfOk result (λ named. IsOnSince N.state (N.state device) named.on) }
+    ensures named { IfOk result (λ named. IsNamedTree (seen_on N.state named.on) named) }
     ensures blocks { IfOk result (λ named.
-        KnowsBlocks (⟦<TrustedNand<N> as Nand>⟧.state named.on.device) (table named.on.blocks) (numbers_of named.on.numbers)) }
+        KnowsBlocksOn (seen_on N.state named.on) named.on) }
     ensures checked { HasTrueFlash (N.state device)
-        → IfOk result (λ named. IsChecked (N.state device).geometry (N.state device).flash (table named.on.blocks).checkpoint) }
+        → IfOk result (λ named. IsCheckedOn (N.state device) named.on) }
     ensures few { HasTrueFlash (N.state device)
-        → IfOk result (λ named. ReadsThrough (N.state device) (N.state (inner_of named.on.device)) named.on.spare named.on.tree) }
+        → IfOk result (λ named. ReadsOn N.state (N.state device) named.on) }
     ensures back { IfErr result (λ failed. OnlyReads (N.state device) (N.state failed.0)) }
     ensures fault { HasTrueFlash (N.state device) → IfErr result (λ failed. EndsMount (N.state failed.0) failed.1) }
 {

@@ -12,7 +12,8 @@ ghost use Rattle.nand_model.specs.TrustedParts.{inner_of};
 ghost use Rattle.mounting.specs.Faults.{WhyNotMounted};
 ghost use Rattle.mounting.specs.Going.{IsGoing, MayBeNoted, NotesFree};
 ghost use Rattle.mounting.specs.Named.{IsReadAs, IsTrustedSince};
-ghost use Rattle.mounting.specs.Reads.{EndsMount, ReadsAll, ReadsAllTags, ReadsByCheckpoint, ReadsBySummaries, ReadsTree, ReadsWithoutCheckpoint};
+ghost use Rattle.mounting.specs.Reads.{EndsMount, ReadsAll, ReadsAllTags, ReadsByCheckpoint, ReadsBySummaries, ReadsTree, ReadsWithoutCheckpoint, OfSoundFlash};
+ghost use Rattle.mounting.specs.OnDevice.{IsCheckedOn, IsOnAs, IsOnSince, OfTrueFlash, own_on, seen_on};
 
 use crate::entries::open_entries;
 use crate::fault::MountFault;
@@ -57,14 +58,13 @@ fn by_entries<N: Nand>(
     requires form { HasForm (N.state device) (checkpoint_of found.now) }
     requires whole { IsWholeOn (N.state device) (checkpoint_of found.now) }
     requires firsts { AreFirstsOf (N.state device) firsts.now }
-    ensures read { IfOk result (λ going. IsTrustedSince (N.state device) (N.state (inner_of going.named.on.device)) (⟦<TrustedNand<N> as Nand>⟧.state going.named.on.device)) }
-    ensures going { IfOk result (λ going. IsGoing (⟦<TrustedNand<N> as Nand>⟧.state going.named.on.device) going) }
+    ensures read { IfOk result (λ going. IsOnSince N.state (N.state device) going.named.on) }
+    ensures going { IfOk result (λ going. IsGoing (seen_on N.state going.named.on) going) }
     ensures checked { HasTrueFlash (N.state device)
-        → IfOk result (λ going. IsChecked (N.state device).geometry (N.state device).flash (table going.named.on.blocks).checkpoint) }
-    ensures few { HasTrueFlash (N.state device) → IfOk result (λ going. ReadsTree (N.state device) (N.state (inner_of going.named.on.device))) }
+        → IfOk result (λ going. IsCheckedOn (N.state device) going.named.on) }
+    ensures few { HasTrueFlash (N.state device) → IfOk result (λ going. ReadsTree (N.state device) (own_on N.state going.named.on)) }
     ensures back { IfErr result (λ failed. OnlyReads (N.state device) (N.state failed.0)) }
-    ensures fault { HasTrueFlash (N.state device) → (spare : ℕ) (tree : Objects) → IsSoundFlash (N.state device).geometry (N.state device).flash spare tree
-        → IfErr result (λ failed. EndsMount (N.state failed.0) failed.1) }
+    ensures fault { HasTrueFlash (N.state device) → OfSoundFlash (N.state device) (IfErr result (λ failed. EndsMount (N.state failed.0) failed.1)) }
 {
     a_flash_has_one_answer_at_most();
     a_volume_has_sizes();
@@ -84,14 +84,13 @@ fn by_summaries<N: Nand>(
 ) -> Result<Going<TrustedNand<N>>, (N, RootFault)>
     requires firsts { AreFirstsOf (N.state device) firsts.now }
     requires none { HasTrueFlash (N.state device) → StandsOnly (N.state device).geometry (N.state device).flash None }
-    ensures read { IfOk result (λ going. IsTrustedSince (N.state device) (N.state (inner_of going.named.on.device)) (⟦<TrustedNand<N> as Nand>⟧.state going.named.on.device)) }
-    ensures going { IfOk result (λ going. IsGoing (⟦<TrustedNand<N> as Nand>⟧.state going.named.on.device) going) }
+    ensures read { IfOk result (λ going. IsOnSince N.state (N.state device) going.named.on) }
+    ensures going { IfOk result (λ going. IsGoing (seen_on N.state going.named.on) going) }
     ensures checked { HasTrueFlash (N.state device)
-        → IfOk result (λ going. IsChecked (N.state device).geometry (N.state device).flash (table going.named.on.blocks).checkpoint) }
-    ensures few { HasTrueFlash (N.state device) → IfOk result (λ going. ReadsBySummaries (N.state device) (N.state (inner_of going.named.on.device))) }
+        → IfOk result (λ going. IsCheckedOn (N.state device) going.named.on) }
+    ensures few { HasTrueFlash (N.state device) → IfOk result (λ going. ReadsBySummaries (N.state device) (own_on N.state going.named.on)) }
     ensures back { IfErr result (λ failed. OnlyReads (N.state device) (N.state failed.0)) }
-    ensures fault { HasTrueFlash (N.state device) → (spare : ℕ) (tree : Objects) → IsSoundFlash (N.state device).geometry (N.state device).flash spare tree
-        → IfErr result (λ failed. EndsMount (N.state failed.0) failed.1) }
+    ensures fault { HasTrueFlash (N.state device) → OfSoundFlash (N.state device) (IfErr result (λ failed. EndsMount (N.state failed.0) failed.1)) }
 {
     a_flash_has_one_answer_at_most();
     a_volume_has_sizes();
@@ -112,11 +111,10 @@ fn by_scan<N: Nand>(
 ) -> Result<Going<TrustedNand<N>>, (N, MountFault)>
     requires noted { MayBeNoted (N.state device) noted }
     requires firsts { AreFirstsOf (N.state device) firsts.now }
-    ensures read { IfOk result (λ going. IsReadAs true (N.state device) (N.state (inner_of going.named.on.device)) (⟦<TrustedNand<N> as Nand>⟧.state going.named.on.device)) }
-    ensures going { IfOk result (λ going. IsGoing (⟦<TrustedNand<N> as Nand>⟧.state going.named.on.device) going) }
-    ensures checked { (N.state device).honest ≡ true → IsTrueFlash (N.state device).geometry (N.state device).flash
-        → IfOk result (λ going. IsChecked (N.state device).geometry (N.state device).flash (table going.named.on.blocks).checkpoint) }
-    ensures scans { (N.state device).honest ≡ true → IfOk result (λ going. ReadsAll (N.state device) (N.state (inner_of going.named.on.device))) }
+    ensures read { IfOk result (λ going. IsOnAs N.state true (N.state device) going.named.on) }
+    ensures going { IfOk result (λ going. IsGoing (seen_on N.state going.named.on) going) }
+    ensures checked { OfTrueFlash (N.state device) (IfOk result (λ going. IsCheckedOn (N.state device) going.named.on)) }
+    ensures scans { (N.state device).honest ≡ true → IfOk result (λ going. ReadsAll (N.state device) (own_on N.state going.named.on)) }
     ensures back { IfErr result (λ failed. OnlyReads (N.state device) (N.state failed.0)) }
     ensures fault { IfErr result (λ failed. WhyNotMounted (N.state failed.0) failed.1) }
 {
@@ -162,11 +160,11 @@ fn scan_after<N: Nand>(
 ) -> Result<Going<TrustedNand<N>>, (N, MountFault)>
     requires noted { MayBeNoted (N.state device) noted }
     requires firsts { AreFirstsOf (N.state device) firsts.now }
-    ensures read { IfOk result (λ going. IsTrustedSince (N.state device) (N.state (inner_of going.named.on.device)) (⟦<TrustedNand<N> as Nand>⟧.state going.named.on.device)) }
-    ensures power { IfOk result (λ going. (N.state (inner_of going.named.on.device)).gone ≡ false) }
-    ensures going { IfOk result (λ going. IsGoing (⟦<TrustedNand<N> as Nand>⟧.state going.named.on.device) going) }
+    ensures read { IfOk result (λ going. IsOnSince N.state (N.state device) going.named.on) }
+    ensures power { IfOk result (λ going. (own_on N.state going.named.on).gone ≡ false) }
+    ensures going { IfOk result (λ going. IsGoing (seen_on N.state going.named.on) going) }
     ensures checked { HasTrueFlash (N.state device)
-        → IfOk result (λ going. IsChecked (N.state device).geometry (N.state device).flash (table going.named.on.blocks).checkpoint) }
+        → IfOk result (λ going. IsCheckedOn (N.state device) going.named.on) }
     ensures back { IfErr result (λ failed. OnlyReads (N.state device) (N.state failed.0)) }
     ensures fault { IfErr result (λ failed. WhyNotMounted (N.state failed.0) failed.1) }
     ensures ends { EndsMount (N.state device) fault → IfOk result (λ going. ⊥) }
@@ -189,11 +187,11 @@ fn without_checkpoint<N: Nand>(
 ) -> Result<Going<TrustedNand<N>>, (N, MountFault)>
     requires noted { MayBeNoted (N.state device) None }
     requires firsts { AreFirstsOf (N.state device) firsts.now }
-    ensures read { IfOk result (λ going. IsTrustedSince (N.state device) (N.state (inner_of going.named.on.device)) (⟦<TrustedNand<N> as Nand>⟧.state going.named.on.device)) }
-    ensures going { IfOk result (λ going. IsGoing (⟦<TrustedNand<N> as Nand>⟧.state going.named.on.device) going) }
+    ensures read { IfOk result (λ going. IsOnSince N.state (N.state device) going.named.on) }
+    ensures going { IfOk result (λ going. IsGoing (seen_on N.state going.named.on) going) }
     ensures checked { HasTrueFlash (N.state device)
-        → IfOk result (λ going. IsChecked (N.state device).geometry (N.state device).flash (table going.named.on.blocks).checkpoint) }
-    ensures few { HasTrueFlash (N.state device) → IfOk result (λ going. ReadsBySummaries (N.state device) (N.state (inner_of going.named.on.device))) }
+        → IfOk result (λ going. IsCheckedOn (N.state device) going.named.on) }
+    ensures few { HasTrueFlash (N.state device) → IfOk result (λ going. ReadsBySummaries (N.state device) (own_on N.state going.named.on)) }
     ensures back { IfErr result (λ failed. OnlyReads (N.state device) (N.state failed.0)) }
     ensures fault { IfErr result (λ failed. WhyNotMounted (N.state failed.0) failed.1) }
 {
@@ -209,12 +207,12 @@ pub(crate) fn open_volume<N: Nand>(
     alloc: Global,
     device: N,
 ) -> Result<Going<TrustedNand<N>>, (N, MountFault)>
-    ensures read { IfOk result (λ going. IsTrustedSince (N.state device) (N.state (inner_of going.named.on.device)) (⟦<TrustedNand<N> as Nand>⟧.state going.named.on.device)) }
-    ensures going { IfOk result (λ going. IsGoing (⟦<TrustedNand<N> as Nand>⟧.state going.named.on.device) going) }
+    ensures read { IfOk result (λ going. IsOnSince N.state (N.state device) going.named.on) }
+    ensures going { IfOk result (λ going. IsGoing (seen_on N.state going.named.on) going) }
     ensures checked { HasTrueFlash (N.state device)
-        → IfOk result (λ going. IsChecked (N.state device).geometry (N.state device).flash (table going.named.on.blocks).checkpoint) }
-    ensures few { IfOk result (λ going. ReadsByCheckpoint (N.state device) (N.state (inner_of going.named.on.device))) }
-    ensures without { IfOk result (λ going. ReadsWithoutCheckpoint (N.state device) (N.state (inner_of going.named.on.device))) }
+        → IfOk result (λ going. IsCheckedOn (N.state device) going.named.on) }
+    ensures few { IfOk result (λ going. ReadsByCheckpoint (N.state device) (own_on N.state going.named.on)) }
+    ensures without { IfOk result (λ going. ReadsWithoutCheckpoint (N.state device) (own_on N.state going.named.on)) }
     ensures back { IfErr result (λ failed. OnlyReads (N.state device) (N.state failed.0)) }
     ensures fault { IfErr result (λ failed. WhyNotMounted (N.state failed.0) failed.1) }
 {
@@ -240,11 +238,10 @@ pub(crate) fn open_scanned<N: Nand>(
     alloc: Global,
     device: N,
 ) -> Result<Going<TrustedNand<N>>, (N, MountFault)>
-    ensures read { IfOk result (λ going. IsReadAs true (N.state device) (N.state (inner_of going.named.on.device)) (⟦<TrustedNand<N> as Nand>⟧.state going.named.on.device)) }
-    ensures going { IfOk result (λ going. IsGoing (⟦<TrustedNand<N> as Nand>⟧.state going.named.on.device) going) }
-    ensures checked { (N.state device).honest ≡ true → IsTrueFlash (N.state device).geometry (N.state device).flash
-        → IfOk result (λ going. IsChecked (N.state device).geometry (N.state device).flash (table going.named.on.blocks).checkpoint) }
-    ensures few { IfOk result (λ going. ReadsAllTags (N.state device) (N.state (inner_of going.named.on.device))) }
+    ensures read { IfOk result (λ going. IsOnAs N.state true (N.state device) going.named.on) }
+    ensures going { IfOk result (λ going. IsGoing (seen_on N.state going.named.on) going) }
+    ensures checked { OfTrueFlash (N.state device) (IfOk result (λ going. IsCheckedOn (N.state device) going.named.on)) }
+    ensures few { IfOk result (λ going. ReadsAllTags (N.state device) (own_on N.state going.named.on)) }
     ensures back { IfErr result (λ failed. OnlyReads (N.state device) (N.state failed.0)) }
     ensures fault { IfErr result (λ failed. WhyNotMounted (N.state failed.0) failed.1) }
 {

@@ -12,6 +12,7 @@ ghost use Rattle.volume_terms.specs.Sizes.{capacity};
 ghost use Rattle.volume_terms.specs.VolumeSizes as volume;
 ghost use Rattle.mounting.specs.Marked.{AreFitting};
 ghost use Rattle.mounting.specs.Mounted.{IsTreeRead, IsTreeShown, HasRoomOn};
+ghost use Rattle.mounting.specs.Going.{GoesOnBy, HasRoomFor, IsAmiss};
 
 use crate::prune::{are_fitting, has_room};
 use crate::tree_on::TreeOn;
@@ -43,7 +44,7 @@ fn volume_sizes(geometry: Geometry, spare: u16) -> Option<VolumeSizes>
 /// Whether the tree fits into the volume.
 fn fits<N: Nand>(on: &TreeOn<N>, sizes: VolumeSizes) -> bool
     ensures { (m : PageMap) (objects : Objects) → IsTreeThrough (volume.sizes_of sizes) (has m) on.now.tree → Shows (volume.sizes_of sizes) (has m) objects
-        → IsTrue result ↔ (costs.charge (volume.sizes_of sizes) objects ≤ capacity (volume.sizes_of sizes)) }
+        → IsTrue result ↔ HasRoomFor (volume.sizes_of sizes) objects }
 {
     charge(&on.tree, sizes) <= sizes.capacity()
 }
@@ -54,12 +55,8 @@ pub(crate) fn go_on<N: Nand>(on: &TreeOn<N>) -> Option<VolumeSizes>
     ensures sizes { IfSome result (λ sizes. volume.sizes_of sizes ≡ sizes_of (N.state on.now.device).geometry on.now.spare) }
     ensures fitting { IfSome result (λ sizes. AreFitting (table on.now.blocks)) }
     ensures room { IfSome result (λ sizes. HasRoomOn (N.state on.now.device) (table on.now.blocks) on.now.spare) }
-    ensures tree { (N.state on.now.device).honest ≡ true → IfSome result (λ sizes. (objects : Objects)
-        × Answers (N.state on.now.device).geometry (N.state on.now.device).flash (IsTreeOf on.now.spare objects)
-        × IsTreeShown (N.state on.now.device) on.now.index on.now.spare on.now.tree objects
-        × (costs.charge (volume.sizes_of sizes) objects ≤ capacity (volume.sizes_of sizes))) }
-    ensures none { (N.state on.now.device).honest ≡ true
-        → IfNone result (Answers (N.state on.now.device).geometry (N.state on.now.device).flash (IsWrong IsDamaged)) }
+    ensures tree { (N.state on.now.device).honest ≡ true → IfSome result (λ sizes. GoesOnBy (N.state on.now.device) on.now (volume.sizes_of sizes)) }
+    ensures none { (N.state on.now.device).honest ≡ true → IfNone result (IsAmiss (N.state on.now.device)) }
 {
     blocks_without_kept_pages_are_free();
     the_list_of_a_block_is_whole();

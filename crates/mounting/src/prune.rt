@@ -11,7 +11,8 @@ ghost use Rattle.page_store.specs.Opened.{IsOpenedBy};
 ghost use Rattle.tree_walk.specs.Trees.{keeps_key};
 ghost use Rattle.pages.specs.Stores.{bad_on};
 ghost use Rattle.mounting.specs.Marked.{marked};
-ghost use Rattle.mounting.specs.Tables.{KeepsOnly};
+ghost use Rattle.mounting.specs.Tables.{KeepsOnly, StaysOpened};
+ghost use Rattle.mounting.specs.Mounted.{HasRoomOn};
 
 use crate::keys::TreeKeys;
 use crate::marks::count_unkept;
@@ -24,8 +25,7 @@ use tree_walk::Tree;
 /// Forgets all pages but those that a tree looks up.
 pub(crate) fn prune(tree: &Tree, index: &mut Index, blocks: &mut Blocks)
     requires { CountsAgree (table blocks.old) index.old }
-    ensures opened { (noted : Option ℕ) (a b : Device) (n : Numbers) → OnlyReads a b → IsOpenedBy noted a (table blocks.old) index.old n
-        → IsOpenedBy noted b (table blocks.new) index.new n }
+    ensures opened { StaysOpened (table blocks.old) index.old (table blocks.new) index.new }
     ensures only { KeepsOnly (keeps_key tree.now) index.old index.new }
     ensures counts { Recounts (kept_in index.old) (kept_in index.new) (table blocks.old) (table blocks.new) }
 {
@@ -49,7 +49,7 @@ pub(crate) fn are_fitting(blocks: &Blocks) -> bool
 /// for retirements, and one for a collection, are bad or without a kept page.
 pub(crate) fn has_room<N: Nand>(device: &N, blocks: &Blocks, spare: u16) -> bool
     requires { (table blocks.now).geometry ≡ (N.state device.now).geometry }
-    ensures { IsTrue result ↔ (bad_on (N.state device.now) ≤ spare → 1 + spare ≤ unkept_count (marked (N.state device.now).flash (table blocks.now)) + bad_on (N.state device.now)) }
+    ensures { IsTrue result ↔ (HasRoomOn (N.state device.now) (table blocks.now) spare) }
 {
     let bad = count_bad(device);
     let spare = u32::from(spare);

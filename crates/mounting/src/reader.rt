@@ -5,7 +5,7 @@ ghost use Rattle.chunk_index.specs.Maps.{kept_pages};
 ghost use Rattle.chunk_index.specs.declared.form.KeptPage.{KeptPage};
 ghost use Rattle.page_store.specs.Shown.{data_at};
 ghost use Rattle.flash_log.specs.Standing.{IsKeptAt};
-ghost use Rattle.mounting.specs.Lending.{LieWithin, TrustsKept, lent};
+ghost use Rattle.mounting.specs.Lending.{LieWithin, TrustsKept, lent, IsNotReadAt};
 ghost use Rattle.mounting.specs.laws.OneProof.{trusts_prop};
 
 use crate::tagged::read_tagged;
@@ -73,8 +73,7 @@ impl<'a, N: Nand> LentPages<'a, N> {
         ensures power { OnOk result ((N.state self.new.device).gone ≡ (N.state self.old.device).gone) }
         ensures there { IfOk result (λ presence. presence ≡ Presence.Present) }
         ensures page { (N.state self.old.device).honest ≡ true → OnOk result (data_at (N.state self.old.device).flash at ≡ Some self.new.page.items) }
-        ensures fault { IfErr result (λ fault. (fault ≡ StoreFault.Device)
-            × (((N.state self.new.device).gone ≡ true) ⊎ ((N.state self.old.device).honest ≡ true → IsKeptAt (N.state self.old.device).flash key.object key.chunk at → ⊥))) }
+        ensures fault { IfErr result (IsNotReadAt (N.state self.old.device) (N.state self.new.device) key at) }
     {
         read_tagged(&mut self.device, key, at, &mut self.page)?;
         Ok(Presence::Present)

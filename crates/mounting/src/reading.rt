@@ -15,6 +15,8 @@ ghost use Rattle.mounting.specs.Lending.{LieWithin, TrustsKept};
 ghost use Rattle.mounting.specs.Reads.{ReadsThrough};
 ghost use Rattle.mounting.specs.TreeAnswers.{WhyNoTree};
 ghost use Rattle.mounting.specs.Trees.{IsGoneThrough};
+ghost use Rattle.mounting.specs.OnDevice.{OfTrusted};
+ghost use Rattle.mounting.specs.FoundTrees.{HasNamesIn, IsFoundIn, WhyNoneIn, kept_on};
 
 use crate::a_map_of_the_newest_pages_answers;
 use crate::candidates::CandidatePages;
@@ -39,15 +41,12 @@ pub(crate) fn go_through<N: Nand>(
     requires lie { LieWithin (N.state device) index.now }
     requires kept { TrustsKept (N.state device) told index.now }
     ensures reads { IfOk result (λ read. OnlyReads (N.state device) (N.state read.0)) }
-    ensures few { ((N.state device).honest && told) ≡ true → IfOk result (λ read. ReadsThrough (N.state device) (N.state read.0) read.1.spare read.1.tree) }
+    ensures few { OfTrusted (N.state device) told (IfOk result (λ read. ReadsThrough (N.state device) (N.state read.0) read.1.spare read.1.tree)) }
     ensures power { (N.state device).gone ≡ false → IfOk result (λ read. (N.state read.0).gone ≡ false) }
-    ensures tree { ((N.state device).honest && told) ≡ true
-        → IfOk result (λ read. IsGoneThrough (N.state device).geometry (has (kept_data index.now (N.state device).flash)) read.1.spare read.1.tree) }
-    ensures names { ((N.state device).honest && told) ≡ true
-        → IfOk result (λ read. CoversTree read.1.names (sizes_of (N.state device).geometry read.1.spare) (kept_data index.now (N.state device).flash) read.1.tree) }
+    ensures tree { OfTrusted (N.state device) told (IfOk result (λ read. IsFoundIn (N.state device).geometry (kept_on (N.state device) index.now) read.1)) }
+    ensures names { OfTrusted (N.state device) told (IfOk result (λ read. HasNamesIn (N.state device).geometry (kept_on (N.state device) index.now) read.1)) }
     ensures back { IfErr result (λ failed. OnlyReads (N.state device) (N.state failed.0)) }
-    ensures fault { ((N.state device).honest && told) ≡ true
-        → IfErr result (λ failed. WhyNoTree (N.state device).geometry (has (kept_data index.now (N.state device).flash)) failed.1) }
+    ensures fault { OfTrusted (N.state device) told (IfErr result (λ failed. WhyNoneIn (N.state device).geometry (kept_on (N.state device) index.now) failed.1)) }
     ensures why { IfErr result (λ failed. failed.1 ≡ roots.Device → ((N.state failed.0).gone ≡ true) ⊎ (((N.state device).honest && told) ≡ false)) }
 {
     let geometry = device.geometry();
@@ -74,12 +73,12 @@ pub(crate) fn go_through_candidates<N: Nand>(
     ensures few { (N.state device).honest ≡ true → IfOk result (λ read. ReadsThrough (N.state device) (N.state read.0) read.1.spare read.1.tree) }
     ensures power { (N.state device).gone ≡ false → IfOk result (λ read. (N.state read.0).gone ≡ false) }
     ensures tree { (N.state device).honest ≡ true
-        → IfOk result (λ read. IsGoneThrough (N.state device).geometry (has (candidate_pages index.now (N.state device))) read.1.spare read.1.tree) }
+        → IfOk result (λ read. IsFoundIn (N.state device).geometry (candidate_pages index.now (N.state device)) read.1) }
     ensures names { (N.state device).honest ≡ true
-        → IfOk result (λ read. CoversTree read.1.names (sizes_of (N.state device).geometry read.1.spare) (candidate_pages index.now (N.state device)) read.1.tree) }
+        → IfOk result (λ read. HasNamesIn (N.state device).geometry (candidate_pages index.now (N.state device)) read.1) }
     ensures back { IfErr result (λ failed. OnlyReads (N.state device) (N.state failed.0)) }
     ensures fault { (N.state device).honest ≡ true
-        → IfErr result (λ failed. WhyNoTree (N.state device).geometry (has (candidate_pages index.now (N.state device))) failed.1) }
+        → IfErr result (λ failed. WhyNoneIn (N.state device).geometry (candidate_pages index.now (N.state device)) failed.1) }
     ensures why { IfErr result (λ failed. failed.1 ≡ roots.Device → ((N.state failed.0).gone ≡ true) ⊎ ((N.state device).honest ≡ false)) }
 {
     let geometry = device.geometry();
@@ -107,9 +106,9 @@ pub(crate) fn read_tree<N: Nand>(
     ensures few { (N.state device).honest ≡ true → IfOk result (λ read. ReadsThrough (N.state device) (N.state read.0) read.1.spare read.1.tree) }
     ensures power { (N.state device).gone ≡ false → IfOk result (λ read. (N.state read.0).gone ≡ false) }
     ensures tree { (N.state device).honest ≡ true
-        → IfOk result (λ read. IsGoneThrough (N.state device).geometry (has (kept_data index.now (N.state device).flash)) read.1.spare read.1.tree) }
+        → IfOk result (λ read. IsFoundIn (N.state device).geometry (kept_on (N.state device) index.now) read.1) }
     ensures names { (N.state device).honest ≡ true
-        → IfOk result (λ read. CoversTree read.1.names (sizes_of (N.state device).geometry read.1.spare) (kept_data index.now (N.state device).flash) read.1.tree) }
+        → IfOk result (λ read. HasNamesIn (N.state device).geometry (kept_on (N.state device) index.now) read.1) }
     ensures back { IfErr result (λ failed. OnlyReads (N.state device) (N.state failed.0)) }
     ensures fault { IfErr result (λ failed. WhyNotMounted (N.state failed.0) failed.1) }
 {

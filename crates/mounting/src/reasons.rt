@@ -4,6 +4,7 @@ ghost use Rattle.flash_tree.specs.Mount.{IsVolume};
 ghost use Rattle.pages.specs.Maps.{has};
 ghost use Rattle.pages.specs.State.{OnlyFinds};
 ghost use Rattle.mounting.specs.TreeAnswers.{WhyNoTree, FailsTree, of_walk};
+ghost use Rattle.mounting.specs.FoundTrees.{IsWhyBelow, OfSized, WhyNoneIn};
 
 use nand_model::Geometry;
 use pages::Pages;
@@ -27,9 +28,8 @@ fn root_fault(fault: WalkFault) -> RootFault
 /// the walk found below it.
 pub fn first_fault<P: Pages>(pages: &mut P, geometry: Geometry, below: WalkFault) -> RootFault
     ensures finds { OnlyFinds (P.state pages.old) (P.state pages.new) }
-    ensures reason { (P.state pages.old).sound ≡ true → geometry.bytes ≡ (P.state pages.old).page_bytes
-        → ((spare : ℕ) → IsVolume geometry (has (P.state pages.old).present) spare → WhyNoTree geometry (has (P.state pages.old).present) (of_walk below))
-        → WhyNoTree geometry (has (P.state pages.old).present) result }
+    ensures reason { let m = (P.state pages.old).present in
+        OfSized geometry (P.state pages.old) (IsWhyBelow geometry m (of_walk below) → WhyNoneIn geometry m result) }
     ensures device { FailsTree (P.state pages.old) (of_walk below) → FailsTree (P.state pages.new) result }
 {
     match root(pages, geometry) {

@@ -9,6 +9,7 @@ ghost use Rattle.mounting.specs.Going.{IsGoing};
 ghost use Rattle.mounting.specs.Mounted.{IsTreeRead, CoversNewest};
 ghost use Rattle.mounting.specs.Reads.{ReadsScanned};
 ghost use Rattle.mounting.specs.Tables.{KnowsScanned};
+ghost use Rattle.mounting.specs.OnDevice.{IsReadOn, ReadsScannedOn};
 
 use crate::fault::MountFault;
 use crate::going_on::go_on;
@@ -30,10 +31,9 @@ fn open_tree<N: Nand>(
 ) -> Result<NamedTree<N>, (N, MountFault)>
     requires { AreFirstsOf (N.state device) firsts.now }
     ensures reads { IfOk result (λ named. OnlyReads (N.state device) (N.state named.on.device)) }
-    ensures few { (N.state device).honest ≡ true → IfOk result (λ named. ReadsScanned (N.state device) (N.state named.on.device) named.on.spare named.on.tree) }
+    ensures few { (N.state device).honest ≡ true → IfOk result (λ named. ReadsScannedOn N.state (N.state device) named.on) }
     ensures power { (N.state device).gone ≡ false → IfOk result (λ named. (N.state named.on.device).gone ≡ false) }
-    ensures read { IfOk result (λ named. IsTreeRead (N.state named.on.device) (table named.on.blocks) named.on.index (numbers_of named.on.numbers)
-        named.on.spare named.on.tree) }
+    ensures read { IfOk result (λ named. IsReadOn (N.state named.on.device) named.on) }
     ensures firsts { IfOk result (λ named. KnowsScanned (N.state named.on.device) (table named.on.blocks) (numbers_of named.on.numbers)) }
     ensures none { IfOk result (λ named. (table named.on.blocks).checkpoint ≡ None) }
     ensures names { (N.state device).honest ≡ true → IfOk result (λ named. CoversNewest named.names (N.state named.on.device) named.on.spare named.on.tree) }
@@ -74,7 +74,7 @@ pub(crate) fn scan_going<N: Nand>(
     requires { AreFirstsOf (N.state device) firsts.now }
     ensures reads { IfOk result (λ going. OnlyReads (N.state device) (N.state going.named.on.device)) }
     ensures few { (N.state device).honest ≡ true
-        → IfOk result (λ going. ReadsScanned (N.state device) (N.state going.named.on.device) going.named.on.spare going.named.on.tree) }
+        → IfOk result (λ going. ReadsScannedOn N.state (N.state device) going.named.on) }
     ensures power { (N.state device).gone ≡ false → IfOk result (λ going. (N.state going.named.on.device).gone ≡ false) }
     ensures going { IfOk result (λ going. IsGoing (N.state going.named.on.device) going) }
     ensures back { IfErr result (λ failed. OnlyReads (N.state device) (N.state failed.0)) }

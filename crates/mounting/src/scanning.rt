@@ -9,7 +9,7 @@ ghost use Rattle.page_store.specs.KnownFirsts.{AreUnwritten};
 ghost use Rattle.page_store.specs.Opened.{IsOpened};
 ghost use Rattle.mounting.specs.Faults.{WhyNotMounted};
 ghost use Rattle.mounting.specs.Reads.{all_pages};
-ghost use Rattle.mounting.specs.Tables.{KnowsScanned};
+ghost use Rattle.mounting.specs.Tables.{KnowsScanned, IsOpenedIn, KnowsScannedIn};
 
 use crate::fault::MountFault;
 use crate::naming::{scan_fault, unmounted};
@@ -21,10 +21,10 @@ use std::alloc::Global;
 /// Notes the first pages of blocks in the table that a scan found.
 fn with_firsts(opened: Opened, firsts: &FirstPages) -> Opened
     requires { length firsts.now.pages.items ≡ (table opened.blocks).geometry.blocks }
-    ensures opened { (d : Device) → IsOpened d (table opened.blocks) opened.index (numbers_of opened.numbers)
-        → IsOpened d (table result.blocks) result.index (numbers_of result.numbers) }
+    ensures opened { (d : Device) → IsOpenedIn d opened
+        → IsOpenedIn d result }
     ensures knows { (d : Device) → AreFirstsOf d firsts.now → AreUnwritten (table opened.blocks)
-        → IsOpened d (table opened.blocks) opened.index (numbers_of opened.numbers) → KnowsScanned d (table result.blocks) (numbers_of result.numbers) }
+        → IsOpenedIn d opened → KnowsScannedIn d result }
 {
     let Opened {
         blocks,
@@ -51,8 +51,8 @@ pub(crate) fn scan<N: Nand>(
     ensures reads { IfOk result (λ scanned. OnlyReads (N.state device) (N.state scanned.0)) }
     ensures asked { IfOk result (λ scanned. (N.state scanned.0).reads ≤ (N.state device).reads + all_pages (N.state device)) }
     ensures power { (N.state device).gone ≡ false → IfOk result (λ scanned. (N.state scanned.0).gone ≡ false) }
-    ensures opened { IfOk result (λ scanned. IsOpened (N.state scanned.0) (table scanned.1.blocks) scanned.1.index (numbers_of scanned.1.numbers)) }
-    ensures firsts { IfOk result (λ scanned. KnowsScanned (N.state scanned.0) (table scanned.1.blocks) (numbers_of scanned.1.numbers)) }
+    ensures opened { IfOk result (λ scanned. IsOpenedIn (N.state scanned.0) scanned.1) }
+    ensures firsts { IfOk result (λ scanned. KnowsScannedIn (N.state scanned.0) scanned.1) }
     ensures back { IfErr result (λ failed. OnlyReads (N.state device) (N.state failed.0)) }
     ensures fault { IfErr result (λ failed. WhyNotMounted (N.state failed.0) failed.1) }
 {

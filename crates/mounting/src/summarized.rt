@@ -13,6 +13,7 @@ ghost use Rattle.mounting.specs.Mounted.{CoversNewest, IsTreeRead};
 ghost use Rattle.mounting.specs.Named.{IsNamedTree, IsTrustedSince};
 ghost use Rattle.mounting.specs.Reads.{EndsMount, ReadsNeeded, ReadsThrough};
 ghost use Rattle.mounting.specs.Tables.{KnowsBlocks};
+ghost use Rattle.mounting.specs.OnDevice.{IsOnSince, KnowsBlocksOn, ReadsNeededOn, ReadsOn, seen_on};
 
 use crate::bounded::Bounded;
 use crate::naming::found_fault;
@@ -77,13 +78,13 @@ fn go_by_summaries<N: Nand>(
     requires opened { IsOpenedBy None (trusted_as false (N.state device)) (table opened.blocks) opened.index (numbers_of opened.numbers) }
     requires tree { HasTrueFlash (N.state device) → FindsItsTree (N.state device) opened }
     requires knows { (N.state device).honest ≡ true → KnowsItsFirsts (N.state device) opened }
-    ensures read { IfOk result (λ named. IsTrustedSince (N.state device) (N.state (inner_of named.on.device)) (⟦<TrustedNand<N> as Nand>⟧.state named.on.device)) }
-    ensures named { IfOk result (λ named. IsNamedTree (⟦<TrustedNand<N> as Nand>⟧.state named.on.device) named) }
+    ensures read { IfOk result (λ named. IsOnSince N.state (N.state device) named.on) }
+    ensures named { IfOk result (λ named. IsNamedTree (seen_on N.state named.on) named) }
     ensures blocks { IfOk result (λ named.
-        KnowsBlocks (⟦<TrustedNand<N> as Nand>⟧.state named.on.device) (table named.on.blocks) (numbers_of named.on.numbers)) }
+        KnowsBlocksOn (seen_on N.state named.on) named.on) }
     ensures none { IfOk result (λ named. (table named.on.blocks).checkpoint ≡ None) }
     ensures few { (N.state device).honest ≡ true
-        → IfOk result (λ named. ReadsThrough (N.state device) (N.state (inner_of named.on.device)) named.on.spare named.on.tree) }
+        → IfOk result (λ named. ReadsOn N.state (N.state device) named.on) }
     ensures back { IfErr result (λ failed. OnlyReads (N.state device) (N.state failed.0)) }
     ensures fault { HasTrueFlash (N.state device) → IfErr result (λ failed. EndsMount (N.state failed.0) failed.1) }
 {
@@ -116,13 +117,13 @@ pub(crate) fn open_by_summaries<N: Nand>(
     firsts: &FirstPages,
 ) -> Result<NamedTree<TrustedNand<N>>, (N, RootFault)>
     requires { AreFirstsOf (N.state device) firsts.now }
-    ensures read { IfOk result (λ named. IsTrustedSince (N.state device) (N.state (inner_of named.on.device)) (⟦<TrustedNand<N> as Nand>⟧.state named.on.device)) }
-    ensures named { IfOk result (λ named. IsNamedTree (⟦<TrustedNand<N> as Nand>⟧.state named.on.device) named) }
+    ensures read { IfOk result (λ named. IsOnSince N.state (N.state device) named.on) }
+    ensures named { IfOk result (λ named. IsNamedTree (seen_on N.state named.on) named) }
     ensures blocks { IfOk result (λ named.
-        KnowsBlocks (⟦<TrustedNand<N> as Nand>⟧.state named.on.device) (table named.on.blocks) (numbers_of named.on.numbers)) }
+        KnowsBlocksOn (seen_on N.state named.on) named.on) }
     ensures none { IfOk result (λ named. (table named.on.blocks).checkpoint ≡ None) }
     ensures few { HasTrueFlash (N.state device)
-        → IfOk result (λ named. ReadsNeeded (N.state device) (N.state (inner_of named.on.device)) named.on.spare named.on.tree) }
+        → IfOk result (λ named. ReadsNeededOn N.state (N.state device) named.on) }
     ensures back { IfErr result (λ failed. OnlyReads (N.state device) (N.state failed.0)) }
     ensures fault { HasTrueFlash (N.state device) → IfErr result (λ failed. EndsMount (N.state failed.0) failed.1) }
 {

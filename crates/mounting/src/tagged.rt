@@ -3,7 +3,7 @@ ghost use Rattle.std.specs.Prelude.{◌≡◌, ◌↔◌, ◌<◌, ◌≤◌, �
 ghost use Rattle.nand_model.specs.Changes.{OnlyReads};
 ghost use Rattle.flash_log.specs.Standing.{IsKeptAt};
 ghost use Rattle.page_store.specs.Shown.{data_at};
-ghost use Rattle.mounting.specs.Lending.{IsTagOf};
+ghost use Rattle.mounting.specs.Lending.{IsTagOf, IsNotReadAt};
 
 use chunk_index::KeptPage;
 use flash_tree::Key;
@@ -39,8 +39,7 @@ pub(crate) fn read_tagged<N: Nand>(
     ensures power { OnOk result ((N.state device.new).gone ≡ (N.state device.old).gone) }
     ensures size { length page.new ≡ length page.old }
     ensures bytes { (N.state device.old).honest ≡ true → OnOk result (data_at (N.state device.old).flash at ≡ Some page.new) }
-    ensures fault { IfErr result (λ fault. (fault ≡ StoreFault.Device)
-        × (((N.state device.new).gone ≡ true) ⊎ ((N.state device.old).honest ≡ true → IsKeptAt (N.state device.old).flash key.object key.chunk at → ⊥))) }
+    ensures fault { IfErr result (IsNotReadAt (N.state device.old) (N.state device.new) key at) }
 {
     let mut tag = [0; 48];
     match device.read_page(at.block, at.page, page, &mut tag) {

@@ -7,6 +7,7 @@ ghost use Rattle.tree_walk.specs.Hashes.{CoversTree};
 ghost use Rattle.tree_walk.specs.Trees.{tree_pages};
 ghost use Rattle.mounting.specs.TreeAnswers.{WhyNoTree, FailsTree};
 ghost use Rattle.mounting.specs.Trees.{IsGoneThrough};
+ghost use Rattle.mounting.specs.FoundTrees.{AsksForTree, HasNamesIn, IsFoundIn, OfSized, WhyNoneIn};
 
 use crate::first_fault;
 use name_index::NameIndex;
@@ -32,14 +33,10 @@ pub(crate) fn find_tree<P: KnownPages>(
 ) -> Result<FoundTree, RootFault>
     ensures finds { OnlyFinds (P.state pages.old) (P.state pages.new) }
     ensures power { OnOk result (KeepsPower (P.state pages.old) (P.state pages.new)) }
-    ensures asked { (P.state pages.old).sound ≡ true → geometry.bytes ≡ (P.state pages.old).page_bytes
-        → IfOk result (λ found. (P.state pages.new).asked ≤ (P.state pages.old).asked + tree_pages (sizes_of geometry found.spare) found.tree) }
-    ensures tree { (P.state pages.old).sound ≡ true → geometry.bytes ≡ (P.state pages.old).page_bytes
-        → IfOk result (λ found. IsGoneThrough geometry (has (P.state pages.old).present) found.spare found.tree) }
-    ensures names { (P.state pages.old).sound ≡ true → geometry.bytes ≡ (P.state pages.old).page_bytes
-        → IfOk result (λ found. CoversTree found.names (sizes_of geometry found.spare) (P.state pages.old).present found.tree) }
-    ensures fault { (P.state pages.old).sound ≡ true → geometry.bytes ≡ (P.state pages.old).page_bytes
-        → IfErr result (WhyNoTree geometry (has (P.state pages.old).present)) }
+    ensures asked { OfSized geometry (P.state pages.old) (IfOk result (AsksForTree geometry (P.state pages.old) (P.state pages.new))) }
+    ensures tree { OfSized geometry (P.state pages.old) (IfOk result (λ found. IsFoundIn geometry (P.state pages.old).present found)) }
+    ensures names { OfSized geometry (P.state pages.old) (IfOk result (λ found. HasNamesIn geometry (P.state pages.old).present found)) }
+    ensures fault { OfSized geometry (P.state pages.old) (IfErr result (WhyNoneIn geometry (P.state pages.old).present)) }
     ensures why { IfErr result (FailsTree (P.state pages.new)) }
 {
     let mut names = NameIndex::new(alloc);

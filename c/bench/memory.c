@@ -311,7 +311,7 @@ int main(void)
     measure(512, 32, 16, 2);
     measure(2048, 64, 64, 2);
     measure(2048, 64, 1024, 20);
-    printf("\n| Volume | percent full | bytes of a file | pages in use | at rest | mount by a scan, peak | a page, at rest | at the peak "
+    printf("\n| Volume | percent full | bytes of a file | pages in use | at rest | mount without a checkpoint, peak | a page, at rest | at the peak "
            "|\n|---|---|---|---|---|---|---|---|\n");
     static const uint32_t volumes[] = {64, 1024, 4096};
     static const unsigned fullness[] = {10, 50, 80};
@@ -320,7 +320,7 @@ int main(void)
             measure_pages(volumes[v], fullness[f], 65536);
     measure_pages(64, 80, 5 << 20);
     measure_pages(1024, 80, 30 << 20);
-    printf("\n| Volume | empty files in a directory | made, at rest | mount by a scan, peak | at rest | a file when made | a file after the "
+    printf("\n| Volume | empty files in a directory | made, at rest | mount without a checkpoint, peak | at rest | a file when made | a file after the "
            "mount |\n|---|---|---|---|---|---|---|\n");
     measure_files(64, 1000);
     measure_files(1024, 10000);

@@ -12,6 +12,3 @@ pub use fault::SummaryFault;
 pub use found_summary::FoundSummary;
 pub use pages::SUMMARY_CHUNK;
 pub use reading::read_summary;
-
-#[cfg(test)]
-mod tests;

@@ -94,7 +94,7 @@ fn fault_with(begins: &[u8; 33], edits: &[(usize, u8)]) -> Option<HeaderFault> {
     decode_header(&page).err()
 }
 
-/// Of several faults the first is told.
+/// Of several faults the first is returned.
 #[test]
 fn faults_of_a_page(rt: HostRuntime) {
     assert_eq!(rt; fault_with(&FILE, &[]), None);

@@ -1,5 +1,5 @@
-//! Tests of the device in memory and of the bytes of pages: what calls that are cut or fail leave, and tags, headers, slots and
-//! checkpoints by hand.
+//! Tests of the devices in memory and in a file, and of the bytes of pages: what calls that are cut or fail leave, and tags, headers, slots,
+//! checkpoints and block summaries by hand.
 #![tactic(auto)]
 
 #[cfg(test)]
@@ -9,11 +9,15 @@ mod fates;
 #[cfg(test)]
 mod headers;
 #[cfg(test)]
+mod image_files;
+#[cfg(test)]
 mod presence;
 #[cfg(test)]
 mod sizes;
 #[cfg(test)]
 mod slots;
+#[cfg(test)]
+mod summary_pages;
 #[cfg(test)]
 mod tags;
 #[cfg(test)]

@@ -6,8 +6,6 @@ mod device;
 mod fault;
 mod layout;
 mod reading;
-#[cfg(test)]
-mod tests;
 mod writing;
 
 pub use creation::create_image;

@@ -4,7 +4,7 @@ use port_nand::{Answer, Calls, OpenFault, Port, PortDevice, Request, into_port, 
 use std::alloc::Global;
 use std::process::Abort;
 
-/// A driver that answers by a script, whatever it is asked, and keeps the requests. Past the script power is gone. It has 512
+/// A driver that answers by a script, whatever the request, and stores the requests. Past the script power is gone. It has 512
 /// bytes of a page, 32 pages of a block, and as many blocks and bytes of a tag as it is made with; all other bytes that it gives
 /// are 7.
 #[derive(Drop)]
@@ -17,7 +17,7 @@ struct Script {
 struct Lines {
     sizes: (u8, u8),
     answers: Vec<Answer>,
-    asked: Vec<Request>,
+    requests: Vec<Request>,
 }
 
 impl Script {
@@ -25,7 +25,7 @@ impl Script {
         let lines = Lines {
             sizes,
             answers: Vec::from_slice(alloc, answers).expect(rt, "memory"),
-            asked: Vec::new(alloc),
+            requests: Vec::new(alloc),
         };
         Script {
             lines,
@@ -36,8 +36,8 @@ impl Script {
 
 impl Lines {
     fn answer(&mut self, request: Request) -> Answer {
-        let place = self.asked.len();
-        if self.asked.push(request).is_err() {
+        let place = self.requests.len();
+        if self.requests.push(request).is_err() {
             return Answer::Lost;
         }
         self.answers.get(place).copied().unwrap_or(Answer::Lost)
@@ -94,10 +94,13 @@ fn the_sizes_and_marks_are_asked_first(rt: HostRuntime) {
     assert_eq!(rt; nand.geometry().pages(), 32);
     assert_eq!(rt; nand.geometry().blocks(), 5);
     assert!(rt; !nand.is_bad(0) && nand.is_bad(1) && !nand.is_bad(4));
-    let asked = into_port(nand).lines.asked;
-    assert_eq!(rt; asked.len(), 6);
-    assert_eq!(rt; asked.first().copied(), Some(Request::Sizes));
-    assert_eq!(rt; asked.last().copied(), Some(Request::IsMarked { block: 4 }));
+    let requests = into_port(nand).lines.requests;
+    assert_eq!(rt; requests.len(), 6);
+    assert_eq!(rt; requests.first().copied(), Some(Request::Sizes));
+    assert_eq!(rt;
+        requests.last().copied(),
+        Some(Request::IsMarked { block: 4 })
+    );
     assert_eq!(rt;
         open_fault(&rt, alloc, (5, 48), &[]),
         Some(OpenFault::BadGeometry)

@@ -87,7 +87,7 @@ impl Memory {
         }
     }
 
-    fn told(&mut self, request: Request, buffer: &mut [u8]) -> Answer {
+    fn answered(&mut self, request: Request, buffer: &mut [u8]) -> Answer {
         match request {
             Request::Sizes => {
                 let tag = self.tag_bytes;
@@ -128,7 +128,7 @@ impl Port for Chip {
     fn read(&mut self, request: Request, buffer: &mut [u8]) -> Answer {
         let mut answer = Answer::Lost;
         if self.memory.has_power() {
-            answer = self.memory.told(request, buffer);
+            answer = self.memory.answered(request, buffer);
         }
         self.calls = self.calls.with(request, buffer, answer);
         answer

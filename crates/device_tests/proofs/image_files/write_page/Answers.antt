@@ -1,5 +1,5 @@
 use Rattle.std.proofs.Common.{◌≡◌, ℕ, Bool, false, ap, sym, ◌∙◌, rules}
-use Rattle.nand_image.proofs.tests.write_page.Goals as goal
+use Rattle.device_tests.proofs.image_files.write_page.Goals as goal
 
 pub program-requires-clause-good : goal.program-requires-clause-good
 program-requires-clause-good g c =

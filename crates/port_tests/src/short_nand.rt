@@ -1,7 +1,7 @@
 // A device in memory with 24 bytes of a tag: those of a tag of 48 whose others are zero.
 
-use crate::SmallSpareNand;
 use nand_model::{EraseFault, Geometry, Gone, Nand, PageKind, ProgramFault};
+use port_nand::SmallSpareNand;
 
 /// A device whose tags end in zeros. Nothing is promised of its pages.
 #[derive(Drop)]

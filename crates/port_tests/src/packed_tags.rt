@@ -1,6 +1,6 @@
 // Packed tags, in bytes that were worked out by hand.
 
-use crate::{pack, unpack};
+use port_nand::{pack, unpack};
 
 /// Index 0, count 4, object 2, chunk 1, version 7, group 7, seq 3.
 const TAG: [u8; 48] = [

@@ -1,5 +1,5 @@
 // Images in memory: their bytes, their faults, and files that fail.
-use super::*;
+use nand_image::{ImageFault, ImageNand, create_image, open_image};
 use nand_model::{EraseFault, Geometry, Gone, Nand, PageKind, ProgramFault};
 use std::alloc::Global;
 use std::io::{Cursor, Error, ErrorKind, Read, Result as IoResult, Seek, SeekFrom, Write};
@@ -17,7 +17,13 @@ const PAGE_PLACE: usize = 17_992;
 /// A page's kind, tag and data.
 const SLOT_BYTES: usize = 561;
 
-/// Bytes in memory. The read, write or seek of a number fails so, counted from 1; at 0 none does.
+/// The writes of an image of eight blocks: its head, the marks, and each page.
+const CREATION_CALLS: u64 = 258;
+
+/// The calls of the file for an erase, two a page, and a program.
+const WRITE_CALLS: u64 = 70;
+
+/// Bytes in memory. The read, write or seek of a number fails so, numbered from 1; at 0 none does.
 #[derive(Drop)]
 struct TestFile {
     cursor: Cursor<Vec<u8>>,
@@ -89,6 +95,12 @@ fn created(rt: &impl Abort, alloc: Global) -> ImageNand<TestFile> {
     create(alloc, 8, 0, ErrorKind::Other).expect(rt, "an image")
 }
 
+/// The same, whose file fails at its call of this number, from 1 on, after the creation.
+fn created_failing(rt: &impl Abort, alloc: Global, call: u64) -> ImageNand<TestFile> {
+    let fails_at = CREATION_CALLS.saturating_add(call);
+    create(alloc, 8, fails_at, ErrorKind::Other).expect(rt, "an image")
+}
+
 fn open(
     alloc: Global,
     bytes: &[u8],
@@ -103,30 +115,24 @@ fn opened(alloc: Global, bytes: &[u8]) -> Result<ImageNand<TestFile>, ImageFault
     open(alloc, bytes, 0, ErrorKind::Other)
 }
 
-fn bytes_of(nand: ImageNand<TestFile>) -> Vec<u8> {
+/// The file's bytes, and how many times it was called.
+fn file_of(nand: ImageNand<TestFile>) -> (Vec<u8>, u64) {
     let TestFile {
         cursor,
-        calls: _,
+        calls,
         fails_at: _,
         kind: _,
     } = nand.into_file();
-    cursor.into_inner()
+    (cursor.into_inner(), calls)
 }
 
-/// From here on the file fails at its call of this number.
-fn fail_at(nand: &mut ImageNand<TestFile>, call: u64) {
-    nand.file.calls = 0;
-    nand.file.fails_at = call;
+fn bytes_of(nand: ImageNand<TestFile>) -> Vec<u8> {
+    let (bytes, _) = file_of(nand);
+    bytes
 }
 
-/// Erases block 1, with two calls of the file for each page, and programs its first page. The file fails at its call
-/// of this number.
-fn write_page(
-    rt: &impl Abort,
-    nand: &mut ImageNand<TestFile>,
-    call: u64,
-) -> Result<(), ProgramFault> {
-    fail_at(nand, call);
+/// Erases block 1 and programs its first page.
+fn write_page(rt: &impl Abort, nand: &mut ImageNand<TestFile>) -> Result<(), ProgramFault> {
     let geometry = nand.geometry();
     assert!(rt; geometry.bytes() == 512);
     if nand.is_bad(1) {
@@ -171,7 +177,7 @@ fn a_new_image_has_its_size_and_opens(rt: HostRuntime) {
 #[test]
 fn what_is_written_is_read_from_the_file(rt: HostRuntime) {
     let mut nand = created(&rt, rt.alloc());
-    assert_eq!(rt; write_page(&rt, &mut nand, 0), Ok(()));
+    assert_eq!(rt; write_page(&rt, &mut nand), Ok(()));
     assert!(rt; nand.geometry().blocks() > 3);
     assert_eq!(rt; nand.mark_bad(3), Ok(()));
     let mut bytes = bytes_of(nand);
@@ -256,32 +262,34 @@ fn a_file_that_fails_is_no_image(rt: HostRuntime) {
     }
 }
 
-/// Nothing is answered any more, the file is not called, and the page is still this in memory.
-fn expect_gone(rt: &impl Abort, nand: &mut ImageNand<TestFile>, page: PageKind) {
+/// Nothing is answered any more, the file is not called after that call, and the page is still this in memory; returns the
+/// file's bytes.
+fn gone_at(rt: &impl Abort, mut nand: ImageNand<TestFile>, call: u64, page: PageKind) -> Vec<u8> {
     let geometry = nand.geometry();
     assert!(rt; geometry.blocks() > 1 && geometry.pages() > 0);
-    fail_at(nand, 0);
     assert_eq!(rt; nand.read_tag(1, 0, &mut [0; 48]), Err(Gone));
     assert_eq!(rt; nand.erase(1), Err(EraseFault::Gone));
     assert_eq!(rt; nand.mark_bad(1), Err(Gone));
-    assert_eq!(rt; nand.file.calls, 0);
     assert!(rt; !nand.is_bad(1));
     let mut memory = nand.to_memory().expect(rt, "memory");
-    expect_page(rt, &mut memory, 1, 0, page)
+    expect_page(rt, &mut memory, 1, 0, page);
+    let (bytes, calls) = file_of(nand);
+    assert_eq!(rt; calls, CREATION_CALLS.saturating_add(call));
+    assert_eq!(rt; bytes.len(), IMAGE_BYTES);
+    bytes
 }
 
 #[test]
 fn a_program_sets_the_kind_last(rt: HostRuntime) {
     for call in 65..71u64 {
-        let mut nand = created(&rt, rt.alloc());
+        let mut nand = created_failing(&rt, rt.alloc(), call);
         assert_eq!(rt;
-            write_page(&rt, &mut nand, call),
+            write_page(&rt, &mut nand),
             Err(ProgramFault::Gone),
             "{call}"
         );
-        expect_gone(&rt, &mut nand, PageKind::Erased);
-        let bytes = bytes_of(nand);
-        assert_eq!(rt; bytes.len(), IMAGE_BYTES);
+        let bytes = gone_at(&rt, nand, call, PageKind::Erased);
+        assert!(rt; bytes.len() == IMAGE_BYTES);
         assert_eq!(rt; bytes[PAGE_PLACE], 0);
         assert_eq!(rt; bytes[PAGE_PLACE + 1] == 9, call > 68);
         assert_eq!(rt; bytes[PAGE_PLACE + 49] == 7, call > 66);
@@ -291,24 +299,21 @@ fn a_program_sets_the_kind_last(rt: HostRuntime) {
 #[test]
 fn an_erase_and_a_mark_that_fail(rt: HostRuntime) {
     for call in 1..65u64 {
-        let mut nand = created(&rt, rt.alloc());
-        assert_eq!(rt; write_page(&rt, &mut nand, 0), Ok(()));
-        fail_at(&mut nand, call);
+        let fails_at = WRITE_CALLS.saturating_add(call);
+        let mut nand = created_failing(&rt, rt.alloc(), fails_at);
+        assert_eq!(rt; write_page(&rt, &mut nand), Ok(()));
         assert!(rt; nand.geometry().blocks() > 1);
         assert_eq!(rt; nand.erase(1), Err(EraseFault::Gone), "{call}");
-        expect_gone(&rt, &mut nand, PageKind::Written);
-        let bytes = bytes_of(nand);
-        assert_eq!(rt; bytes.len(), IMAGE_BYTES);
+        let bytes = gone_at(&rt, nand, fails_at, PageKind::Written);
+        assert!(rt; bytes.len() == IMAGE_BYTES);
         assert_eq!(rt; bytes[PAGE_PLACE] == 0, call > 2);
     }
     for call in 1..3u64 {
-        let mut nand = created(&rt, rt.alloc());
-        fail_at(&mut nand, call);
+        let mut nand = created_failing(&rt, rt.alloc(), call);
         assert!(rt; nand.geometry().blocks() > 1);
         assert_eq!(rt; nand.mark_bad(1), Err(Gone), "{call}");
-        expect_gone(&rt, &mut nand, PageKind::Erased);
-        let bytes = bytes_of(nand);
-        assert_eq!(rt; bytes.len(), IMAGE_BYTES);
+        let bytes = gone_at(&rt, nand, call, PageKind::Erased);
+        assert!(rt; bytes.len() == IMAGE_BYTES);
         assert_eq!(rt; bytes[33], 0);
     }
 }

@@ -1,6 +1,6 @@
 use Rattle.std.proofs.Common.{◌≡◌, ℕ, Bool, Option, Some, false, ap, ◌∙◌}
 use Rattle.nand_model.specs.Calls.{Device}
-use Rattle.port_nand.proofs.tests.device.tags_are_unpacked.Goals as goal
+use Rattle.port_tests.proofs.packed_device.tags_are_unpacked.Goals as goal
 
 pub program-requires-clause-good : goal.program-requires-clause-good
 program-requires-clause-good g c =

@@ -1,8 +1,8 @@
 // A device with packed tags in memory.
 
-use super::short_nand::ShortNand;
-use crate::PackedNand;
+use crate::short_nand::ShortNand;
 use nand_model::{Geometry, MemNand, Nand, PageKind, ProgramFault};
+use port_nand::PackedNand;
 use std::test::Fail;
 
 const DATA: [u8; 512] = [7; 512];

@@ -1,5 +1,5 @@
 use Rattle.std.proofs.Common.{ℕ, Bool, ap, ◌∙◌}
-use Rattle.block_summaries.proofs.tests.with_page.Goals as goal
+use Rattle.device_tests.proofs.summary_pages.with_page.Goals as goal
 
 pub program-requires-clause-good : goal.program-requires-clause-good
 program-requires-clause-good c = ap (λ (bad : ℕ → Bool). bad 1) c.in_ok-erase.ensures.erases.bad ∙ c.in_ok-nand.ensures.blank.good 1

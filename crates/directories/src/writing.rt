@@ -16,7 +16,7 @@ use crate::head::{DirectoryHead, head_page};
 use crate::page::{copy_slots, write_slot};
 use flash_tree::{FreshPage, Key};
 use page_tags::Slot;
-use pages::{Change, PageFault, Pages, load_after, page_after};
+use pages::{Change, PageFault, Pages, blank_page, load_after, page_after};
 use std::alloc::Global;
 use volume_terms::SLOT_BYTES;
 
@@ -46,7 +46,7 @@ fn page_with<P: Pages>(
     ensures why { IfErr result (SaysWhyMaking (P.state pages.new)) }
     ensures fault { OfSource (later earlier.entry (P.state pages.old)) key count (IfErr result (MayLackMemory (P.state pages.new))) }
 {
-    let mut page = vec![in alloc; 0u8; pages.page_bytes() as usize]?;
+    let mut page = blank_page(alloc, pages)?;
     if count == 0 {
         return Ok(page);
     }

@@ -1,18 +1,16 @@
 // The chunks of a file, counted from 0, as they are before a change.
-ghost use Rattle.std.specs.Prelude.{◌≡◌, ◌<◌, ◌≤◌, ◌+◌, ◌-◌, ◌*◌, ◌/◌, ◌^◌, ℕ, List, true, Some, IfOk, OnOk, IfErr, length, slice_index};
+ghost use Rattle.std.specs.Prelude.{◌≡◌, ◌<◌, ◌≤◌, ◌+◌, ◌-◌, ◌*◌, ◌/◌, ◌^◌, ℕ, true, IfOk, OnOk, IfErr, length, slice_index};
 ghost use Rattle.page_tags.specs.Headers.{is_present};
-ghost use Rattle.volume_terms.specs.Sizes.{Sizes};
 ghost use Rattle.pages.specs.Changes.{AreSized};
 ghost use Rattle.pages.specs.State.{OnlyFinds, KeepsPower};
-ghost use Rattle.file_io.specs.Files.{FileIn, HasPages};
-ghost use Rattle.file_io.specs.Heads.{IsHeadOf, bits_in, HasChunkPage, HasTailPage, OfHead};
-ghost use Rattle.file_io.specs.Chunks.{AreOf, HoldChunks, HoldsChunk, IsPartLast, IsTail, HoldChunksIn, HoldsChunkIn};
+ghost use Rattle.file_io.specs.Heads.{bits_in, HasChunkPage, HasTailPage, OfHead};
+ghost use Rattle.file_io.specs.Chunks.{AreOf, IsTail, HoldChunksIn, HoldsChunkIn};
 ghost use Rattle.pages.specs.Faults.{MayLackMemory, SaysWhyMaking};
 
 use crate::file_head::FileHead;
 use flash_tree::{FreshPage, Key};
 use page_tags::is_present;
-use pages::{PageFault, Pages, load};
+use pages::{PageFault, Pages, blank_page, copied_page, load};
 use std::alloc::Global;
 
 /// Writes zeros over the bytes from a place on.
@@ -45,7 +43,7 @@ pub(crate) fn chunk_bytes<P: Pages>(
 {
     let page_bytes = u64::from(pages.page_bytes());
     if !is_present(head.bits(), 1 + index) {
-        return Ok(vec![in alloc; 0u8; page_bytes as usize]?);
+        return Ok(blank_page(alloc, pages)?);
     }
     load(
         pages,
@@ -54,7 +52,7 @@ pub(crate) fn chunk_bytes<P: Pages>(
             chunk: 1 + index,
         },
     )?;
-    let mut bytes = Vec::from_slice(alloc, pages.page())?;
+    let mut bytes = copied_page(alloc, pages)?;
     let used = head.length.saturating_sub(index * page_bytes);
     clear_from(&mut bytes, used as usize);
     Ok(bytes)

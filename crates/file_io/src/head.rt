@@ -1,21 +1,20 @@
 // The header of a file.
-ghost use Rattle.std.specs.Prelude.{◌≡◌, ◌≤◌, ◌+◌, ◌-◌, ℕ, List, [], true, Some, IfOk, IfErr, IsOkAnd, OnOk, length, drop, replicate};
+ghost use Rattle.std.specs.Prelude.{◌≡◌, ◌≤◌, ◌+◌, ◌-◌, [], true, IfOk, IfErr, IsOkAnd, OnOk, length, drop};
 ghost use Rattle.page_tags.specs.HeaderFields.{fields_of, file_fields};
 ghost use Rattle.page_tags.specs.Headers.{Fields, IsBytes, IsHeader, IsHeaderOf, header_bytes};
 ghost use Rattle.page_tags.specs.declared.header.ObjectKind.TheVariants as kinds;
-ghost use Rattle.flash_tree.specs.Tree.{ReadsFile};
 ghost use Rattle.volume_terms.specs.Sizes.{Sizes};
 ghost use Rattle.pages.specs.Maps.{PageMap, has};
 ghost use Rattle.pages.specs.State.{OnlyFinds, KeepsPower};
-ghost use Rattle.file_io.specs.Files.{FileIn, HasFileHeader, IsEmptyFile, OfFile};
-ghost use Rattle.file_io.specs.Heads.{IsHeadOf, SaysHead, bits_in, head_fields};
+ghost use Rattle.file_io.specs.Files.{HasFileHeader, IsEmptyFile, OfFile};
+ghost use Rattle.file_io.specs.Heads.{IsHeadOf, SaysHead, head_fields};
 ghost use Rattle.pages.specs.Faults.{MayLack, MayLackMemory, SaysWhy, SaysWhyMaking};
 ghost use Rattle.pages.specs.declared.fault.PageFault.TheVariants as faults;
 
 use crate::file_head::FileHead;
 use flash_tree::{FreshPage, Key};
 use page_tags::{Header, ObjectKind, decode_header, write_file_header};
-use pages::{PageFault, Pages, load};
+use pages::{PageFault, Pages, copied_page, load};
 use std::alloc::Global;
 
 /// The length of a file in bytes, and the moment of its last change.
@@ -79,12 +78,12 @@ pub(crate) fn read_head<P: Pages>(
     ensures fault { OfFile (P.state pages.old) object (λ z moment all f. IfErr result (MayLackMemory (P.state pages.new))) }
 {
     load(pages, Key { object, chunk: 0 })?;
-    let page = pages.page();
-    let header = decode_file(page)?;
+    let header = decode_file(pages.page())?;
+    let (length, moment) = (header.length, header.moment);
     Ok(FileHead {
-        length: header.length,
-        moment: header.moment,
-        page: Vec::from_slice(alloc, page)?,
+        length,
+        moment,
+        page: copied_page(alloc, pages)?,
     })
 }
 

@@ -1,10 +1,8 @@
 // The reading of a file.
-ghost use Rattle.std.specs.Prelude.{◌≡◌, ◌<◌, ◌≤◌, ◌+◌, ◌-◌, ◌*◌, ◌/◌, ℕ, true, List, IfOk, IfErr, OnOk, length, min, take, drop};
-ghost use Rattle.volume_terms.specs.Sizes.{Sizes};
+ghost use Rattle.std.specs.Prelude.{◌≡◌, ◌<◌, ◌≤◌, ◌+◌, ◌-◌, ◌*◌, ◌/◌, true, IfOk, IfErr, OnOk, length, min, drop};
 ghost use Rattle.pages.specs.State.{OnlyFinds, KeepsPower};
-ghost use Rattle.file_io.specs.Files.{FileIn, HasOnly, OfFileOnly};
-ghost use Rattle.file_io.specs.Chunks.{chunks_over, one_page, count_pages, overwritten};
-ghost use Rattle.file_io.specs.Parts.{part_from, part_of};
+ghost use Rattle.file_io.specs.Files.{OfFileOnly};
+ghost use Rattle.file_io.specs.Chunks.{chunks_over};
 ghost use Rattle.pages.specs.Faults.{MayLack};
 ghost use Rattle.file_io.specs.Reads.{AsksForPage, AsksForPages, HasRead, filled, read_count};
 

@@ -1,15 +1,11 @@
 // The length of a file.
-ghost use Rattle.std.specs.Prelude.{◌≡◌, ◌<◌, ◌≤◌, ◌⊎◌, ◌+◌, ◌-◌, ◌*◌, ◌/◌, ◌^◌, ℕ, List, true, false, IfOk, IfErr, OnOk, length, min, drop};
+ghost use Rattle.std.specs.Prelude.{◌≡◌, ◌<◌, ◌≤◌, ◌⊎◌, ◌+◌, ◌-◌, ◌*◌, ◌/◌, ◌^◌, ℕ, true, false, IfOk, IfErr, OnOk, length, min, drop};
 ghost use Rattle.page_tags.specs.Headers.{greatest_told, is_present};
 ghost use Rattle.page_tags.specs.declared.header.ObjectKind.TheVariants as kinds;
-ghost use Rattle.posix_profile.specs.Changes.{resized};
-ghost use Rattle.volume_terms.specs.Sizes.{Sizes};
-ghost use Rattle.pages.specs.Maps.{changed};
-ghost use Rattle.pages.specs.Changes.{IsChange, IsNothing, IsOnlyOf};
+ghost use Rattle.pages.specs.Changes.{IsNothing, IsOnlyOf};
 ghost use Rattle.pages.specs.State.{OnlyFinds, KeepsPower};
 ghost use Rattle.pages.specs.Faults.{MayLackMemory, SaysWhyMaking};
-ghost use Rattle.file_io.specs.Files.{Becomes, FileIn, HasFileHeader, HasPages, HasForLength, OfFile};
-ghost use Rattle.file_io.specs.Chunks.{IsPartLast};
+ghost use Rattle.file_io.specs.Files.{HasForLength, OfFile};
 ghost use Rattle.file_io.specs.Cuts.{CutsFrom};
 ghost use Rattle.file_io.specs.Writes.{IsChangeIn, MakesLength};
 

@@ -1,15 +1,13 @@
 // The writing of a file.
-ghost use Rattle.std.specs.Prelude.{◌≡◌, ◌≢◌, ◌<◌, ◌≤◌, ◌+◌, ◌-◌, ◌*◌, ◌/◌, ◌%◌, ◌^◌, ◌⊎◌, ℕ, List, [], true, Some, IfOk, IfErr, OnOk, length, min};
-ghost use Rattle.page_tags.specs.Headers.{greatest_told, is_present};
+ghost use Rattle.std.specs.Prelude.{◌≡◌, ◌≢◌, ◌<◌, ◌≤◌, ◌+◌, ◌-◌, ◌*◌, ◌/◌, ◌%◌, ◌^◌, ◌⊎◌, ℕ, [], true, IfOk, IfErr, OnOk, length, min};
+ghost use Rattle.page_tags.specs.Headers.{greatest_told};
 ghost use Rattle.page_tags.specs.declared.header.ObjectKind.TheVariants as kinds;
 ghost use Rattle.posix_profile.specs.Changes.{written};
-ghost use Rattle.volume_terms.specs.Sizes.{Sizes};
-ghost use Rattle.pages.specs.Maps.{changed, IsPageOf};
-ghost use Rattle.pages.specs.Changes.{AreSized, IsChange, IsNothing, IsOnlyOf};
+ghost use Rattle.pages.specs.Changes.{AreSized, IsNothing, IsOnlyOf};
 ghost use Rattle.pages.specs.State.{OnlyFinds, KeepsPower};
-ghost use Rattle.file_io.specs.Files.{Becomes, FileIn, HasFileHeader, HasPages, HasForWrite, HasKeptPages, OfFile};
-ghost use Rattle.file_io.specs.Heads.{IsHeadOf, bits_in, HasChunkPage, OfHead, head_fields};
-ghost use Rattle.file_io.specs.Chunks.{AreOf, HoldChunks, HoldsChunk, IsAmong, IsPartKept, IsWritten, HoldChunksIn, HoldsChunkIn, IfNoneStays, IfPartStays};
+ghost use Rattle.file_io.specs.Files.{HasForWrite, HasKeptPages, OfFile};
+ghost use Rattle.file_io.specs.Heads.{HasChunkPage, OfHead, head_fields};
+ghost use Rattle.file_io.specs.Chunks.{AreOf, HoldChunksIn, HoldsChunkIn, IfNoneStays, IfPartStays};
 ghost use Rattle.pages.specs.Faults.{MayLackMemory, SaysWhyMaking};
 ghost use Rattle.file_io.specs.Writes.{AreFewOver, AsksForWrite, HasNoHeader, IfHeaderStays, IsChangeIn, IsWrittenBy, MakesWritten, with_parts};
 
@@ -19,7 +17,7 @@ use crate::file_head::FileHead;
 use crate::head::{head_page, read_head};
 use crate::overwriting::overwrite;
 use flash_tree::{FreshPage, Key};
-use pages::{Change, PageFault, Pages};
+use pages::{Change, PageFault, Pages, filled_page};
 use std::alloc::Global;
 
 /// The bytes of a chunk when `bytes` were written into the file from `offset` on. A chunk that is written whole is not
@@ -55,7 +53,7 @@ fn written_bytes<P: Pages>(
     let to = end.min(begin + page_bytes);
     let part = &bytes[(from - offset) as usize..(to - offset) as usize];
     if to - from == page_bytes {
-        return Ok(Vec::from_slice(alloc, part)?);
+        return Ok(filled_page(alloc, pages, part)?);
     }
     let mut page = chunk_bytes(alloc, pages, object, head, index)?;
     overwrite(&mut page, (from - begin) as usize, part);

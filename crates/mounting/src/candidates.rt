@@ -3,7 +3,7 @@ ghost use Rattle.std.specs.Prelude.{◌≡◌, ◌<◌, ℕ, length, true, Some,
 ghost use Rattle.nand_model.specs.Changes.{OnlyReads};
 ghost use Rattle.chunk_index.specs.Maps.{kept_pages};
 ghost use Rattle.chunk_index.specs.declared.form.KeptPage.{KeptPage};
-ghost use Rattle.mounting.specs.Candidates.{candidates, read_at, read_on};
+ghost use Rattle.mounting.specs.Candidates.{candidates, read_on};
 ghost use Rattle.mounting.specs.Lending.{LieWithin};
 
 use chunk_index::{Index, KeptPage};
@@ -120,6 +120,10 @@ impl<N: Nand> Pages for CandidatePages<'_, N> {
 
     fn page(&self) -> &[u8] {
         &self.page
+    }
+
+    fn take_frame(&mut self) -> Option<Vec<u8>> {
+        None
     }
 }
 

@@ -1,18 +1,15 @@
 // The tree of a device, by the entries of a checkpoint.
 ghost use Rattle.std.specs.Prelude.{◌≡◌, ◌&&◌, Bool, true, Some, IfOk, IfErr};
 ghost use Rattle.nand_model.specs.Changes.{OnlyReads};
-ghost use Rattle.flash_tree.specs.Checkpoints.{IsChecked};
 ghost use Rattle.flash_tree.specs.Places.{numbers_of};
 ghost use Rattle.block_state.specs.TableOf.{table};
 ghost use Rattle.mount_scan.specs.FoundCheckpoint.{HasForm, IsWholeOn, checkpoint_of};
 ghost use Rattle.mount_scan.specs.FirstPages.{AreFirstsOf};
 ghost use Rattle.page_store.specs.Checked.{HasTrueFlash};
 ghost use Rattle.page_store.specs.Opened.{IsOpenedBy};
-ghost use Rattle.nand_model.specs.TrustedParts.{inner_of};
 ghost use Rattle.nand_model.specs.Trusting.{trusted_as};
-ghost use Rattle.mounting.specs.Named.{IsNamedTree, IsReadAs, IsTrustedSince};
-ghost use Rattle.mounting.specs.Reads.{EndsMount, ReadsThrough, WhyNotThrough};
-ghost use Rattle.mounting.specs.Tables.{KnowsBlocks, KnowsFirstsOf};
+ghost use Rattle.mounting.specs.Named.{IsNamedTree};
+ghost use Rattle.mounting.specs.Reads.{EndsMount, WhyNotThrough};
 ghost use Rattle.mounting.specs.OnDevice.{IsCheckedOn, IsOnAs, IsOnSince, KnowsBlocksOn, KnowsFirstsIn, KnowsFirstsOn, OfTrusted, ReadsOn, seen_on};
 
 use crate::bounded::Bounded;

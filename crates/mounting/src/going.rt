@@ -1,17 +1,13 @@
 // The tree with which a volume goes on: by a checkpoint, by the summaries of blocks, or by a scan.
 ghost use Rattle.std.specs.Prelude.{◌≡◌, ◌<◌, ℕ, true, false, Some, None, IfOk, IfErr};
-ghost use Rattle.posix_profile.specs.State.{Objects};
 ghost use Rattle.nand_model.specs.Changes.{OnlyReads};
-ghost use Rattle.flash_tree.specs.Checkpoints.{IsChecked, IsTrueFlash, StandsOnly};
-ghost use Rattle.flash_tree.specs.Sound.{IsSoundFlash};
+ghost use Rattle.flash_tree.specs.Checkpoints.{StandsOnly};
 ghost use Rattle.block_state.specs.TableOf.{table};
 ghost use Rattle.mount_scan.specs.FoundCheckpoint.{HasForm, IsWholeOn, checkpoint_of};
 ghost use Rattle.mount_scan.specs.FirstPages.{AreFirstsOf};
 ghost use Rattle.page_store.specs.Checked.{HasTrueFlash};
-ghost use Rattle.nand_model.specs.TrustedParts.{inner_of};
 ghost use Rattle.mounting.specs.Faults.{WhyNotMounted};
 ghost use Rattle.mounting.specs.Going.{IsGoing, MayBeNoted, NotesFree};
-ghost use Rattle.mounting.specs.Named.{IsReadAs, IsTrustedSince};
 ghost use Rattle.mounting.specs.Reads.{EndsMount, ReadsAll, ReadsAllTags, ReadsByCheckpoint, ReadsBySummaries, ReadsTree, ReadsWithoutCheckpoint, OfSoundFlash};
 ghost use Rattle.mounting.specs.OnDevice.{IsCheckedOn, IsOnAs, IsOnSince, OfTrueFlash, own_on, seen_on};
 

@@ -1,6 +1,6 @@
 // Whether a volume can go on with the tree of a device.
 ghost use Rattle.std.specs.Prelude.{◌≡◌, ◌↔◌, ◌≤◌, ◌+◌, true, IsTrue, IfSome, IfNone};
-ghost use Rattle.flash_tree.specs.Mount.{Answers, IsTreeOf, IsWrong, IsDamaged, sizes_of};
+ghost use Rattle.flash_tree.specs.Mount.{sizes_of};
 ghost use Rattle.flash_tree.specs.Places.{numbers_of};
 ghost use Rattle.flash_tree.specs.Tree.{Shows};
 ghost use Rattle.block_state.specs.TableOf.{table};
@@ -11,7 +11,7 @@ ghost use Rattle.tree_walk.specs.Trees.{IsTreeThrough};
 ghost use Rattle.volume_terms.specs.Sizes.{capacity};
 ghost use Rattle.volume_terms.specs.VolumeSizes as volume;
 ghost use Rattle.mounting.specs.Marked.{AreFitting};
-ghost use Rattle.mounting.specs.Mounted.{IsTreeRead, IsTreeShown, HasRoomOn};
+ghost use Rattle.mounting.specs.Mounted.{IsTreeRead, HasRoomOn};
 ghost use Rattle.mounting.specs.Going.{GoesOnBy, HasRoomFor, IsAmiss};
 
 use crate::prune::{are_fitting, has_room};

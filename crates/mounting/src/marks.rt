@@ -1,8 +1,8 @@
 // The blocks of a device, by their marks.
-ghost use Rattle.std.specs.Prelude.{◌≡◌, ◌↔◌, IsTrue};
+ghost use Rattle.std.specs.Prelude.{◌≡◌, ◌↔◌};
 ghost use Rattle.block_state.specs.Kept.{unkept_count};
 ghost use Rattle.block_state.specs.TableOf.{table};
-ghost use Rattle.mounting.specs.Marked.{marked, AreFitting};
+ghost use Rattle.mounting.specs.Marked.{marked};
 ghost use Rattle.block_state.specs.laws.Counting.{counts_one, counts_none, counts_most};
 
 use block_state::Blocks;

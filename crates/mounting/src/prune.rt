@@ -1,16 +1,9 @@
 // The tables of a tree, without the pages of anything else.
-ghost use Rattle.std.specs.Prelude.{◌≡◌, ◌↔◌, ◌<◌, ◌≤◌, ◌+◌, ℕ, Option, IsTrue};
-ghost use Rattle.nand_model.specs.Calls.{Device};
-ghost use Rattle.nand_model.specs.Changes.{OnlyReads};
-ghost use Rattle.flash_tree.specs.Newest.{Numbers};
-ghost use Rattle.block_state.specs.Kept.{unkept_count};
+ghost use Rattle.std.specs.Prelude.{◌≡◌, ◌↔◌, ◌<◌, ◌≤◌, ◌+◌, ℕ, IsTrue};
 ghost use Rattle.block_state.specs.TableOf.{table};
 ghost use Rattle.chunk_index.specs.Counts.{Recounts};
 ghost use Rattle.chunk_index.specs.Maps.{CountsAgree, kept_in};
-ghost use Rattle.page_store.specs.Opened.{IsOpenedBy};
 ghost use Rattle.tree_walk.specs.Trees.{keeps_key};
-ghost use Rattle.pages.specs.Stores.{bad_on};
-ghost use Rattle.mounting.specs.Marked.{marked};
 ghost use Rattle.mounting.specs.Tables.{KeepsOnly, StaysOpened};
 ghost use Rattle.mounting.specs.Mounted.{HasRoomOn};
 

@@ -1,10 +1,9 @@
 // The newest pages of a device, over an index that stays.
-ghost use Rattle.std.specs.Prelude.{◌≡◌, ◌<◌, ◌&&◌, ℕ, Bool, length, true, Some, IfOk, IfErr, OnOk, ◌≤◌, ◌+◌, ◌⊎◌};
+ghost use Rattle.std.specs.Prelude.{◌≡◌, ◌<◌, ◌&&◌, Bool, length, true, Some, IfOk, IfErr, OnOk, ◌≤◌, ◌+◌, ◌⊎◌};
 ghost use Rattle.nand_model.specs.Changes.{OnlyReads};
 ghost use Rattle.chunk_index.specs.Maps.{kept_pages};
 ghost use Rattle.chunk_index.specs.declared.form.KeptPage.{KeptPage};
 ghost use Rattle.page_store.specs.Shown.{data_at};
-ghost use Rattle.flash_log.specs.Standing.{IsKeptAt};
 ghost use Rattle.mounting.specs.Lending.{LieWithin, TrustsKept, lent, IsNotReadAt};
 ghost use Rattle.mounting.specs.laws.OneProof.{trusts_prop};
 
@@ -102,6 +101,10 @@ impl<N: Nand> Pages for LentPages<'_, N> {
 
     fn page(&self) -> &[u8] {
         &self.page
+    }
+
+    fn take_frame(&mut self) -> Option<Vec<u8>> {
+        None
     }
 }
 

@@ -1,20 +1,14 @@
 // The tree of a device whose newest pages an index keeps.
 ghost use Rattle.std.specs.Prelude.{◌≡◌, ◌⊎◌, ◌&&◌, Bool, true, false, IfOk, IfErr};
 ghost use Rattle.nand_model.specs.Changes.{OnlyReads};
-ghost use Rattle.flash_tree.specs.Mount.{sizes_of};
 ghost use Rattle.flash_tree.specs.Newest.{Numbers};
 ghost use Rattle.block_state.specs.Table.{Table};
-ghost use Rattle.page_store.specs.Shown.{kept_data};
-ghost use Rattle.pages.specs.Maps.{has};
 ghost use Rattle.page_store.specs.Opened.{IsOpened};
-ghost use Rattle.tree_walk.specs.Hashes.{CoversTree};
 ghost use Rattle.tree_walk.specs.declared.fault.RootFault.TheVariants as roots;
 ghost use Rattle.mounting.specs.Candidates.{candidate_pages};
 ghost use Rattle.mounting.specs.Faults.{WhyNotMounted};
 ghost use Rattle.mounting.specs.Lending.{LieWithin, TrustsKept};
 ghost use Rattle.mounting.specs.Reads.{ReadsThrough};
-ghost use Rattle.mounting.specs.TreeAnswers.{WhyNoTree};
-ghost use Rattle.mounting.specs.Trees.{IsGoneThrough};
 ghost use Rattle.mounting.specs.OnDevice.{OfTrusted};
 ghost use Rattle.mounting.specs.FoundTrees.{HasNamesIn, IsFoundIn, WhyNoneIn, kept_on};
 

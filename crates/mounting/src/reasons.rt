@@ -1,9 +1,7 @@
 // Why a tree was not gone through.
-ghost use Rattle.std.specs.Prelude.{◌≡◌, ℕ, true};
-ghost use Rattle.flash_tree.specs.Mount.{IsVolume};
-ghost use Rattle.pages.specs.Maps.{has};
+ghost use Rattle.std.specs.Prelude.{◌≡◌};
 ghost use Rattle.pages.specs.State.{OnlyFinds};
-ghost use Rattle.mounting.specs.TreeAnswers.{WhyNoTree, FailsTree, of_walk};
+ghost use Rattle.mounting.specs.TreeAnswers.{FailsTree, of_walk};
 ghost use Rattle.mounting.specs.FoundTrees.{IsWhyBelow, OfSized, WhyNoneIn};
 
 use nand_model::Geometry;

@@ -6,8 +6,7 @@ ghost use Rattle.block_state.specs.TableOf.{table};
 ghost use Rattle.mount_scan.specs.FirstPages.{AreFirstsOf};
 ghost use Rattle.mounting.specs.Faults.{WhyNotMounted};
 ghost use Rattle.mounting.specs.Going.{IsGoing};
-ghost use Rattle.mounting.specs.Mounted.{IsTreeRead, CoversNewest};
-ghost use Rattle.mounting.specs.Reads.{ReadsScanned};
+ghost use Rattle.mounting.specs.Mounted.{CoversNewest};
 ghost use Rattle.mounting.specs.Tables.{KnowsScanned};
 ghost use Rattle.mounting.specs.OnDevice.{IsReadOn, ReadsScannedOn};
 

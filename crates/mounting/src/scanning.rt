@@ -2,14 +2,12 @@
 ghost use Rattle.std.specs.Prelude.{◌≡◌, ◌≤◌, ◌+◌, false, IfOk, IfErr, length};
 ghost use Rattle.nand_model.specs.Calls.{Device};
 ghost use Rattle.nand_model.specs.Changes.{OnlyReads};
-ghost use Rattle.flash_tree.specs.Places.{numbers_of};
 ghost use Rattle.block_state.specs.TableOf.{table};
 ghost use Rattle.mount_scan.specs.FirstPages.{AreFirstsOf};
 ghost use Rattle.page_store.specs.KnownFirsts.{AreUnwritten};
-ghost use Rattle.page_store.specs.Opened.{IsOpened};
 ghost use Rattle.mounting.specs.Faults.{WhyNotMounted};
 ghost use Rattle.mounting.specs.Reads.{all_pages};
-ghost use Rattle.mounting.specs.Tables.{KnowsScanned, IsOpenedIn, KnowsScannedIn};
+ghost use Rattle.mounting.specs.Tables.{IsOpenedIn, KnowsScannedIn};
 
 use crate::fault::MountFault;
 use crate::naming::{scan_fault, unmounted};

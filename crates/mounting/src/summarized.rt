@@ -10,8 +10,8 @@ ghost use Rattle.page_store.specs.Opened.{IsOpenedBy};
 ghost use Rattle.nand_model.specs.TrustedParts.{inner_of};
 ghost use Rattle.nand_model.specs.Trusting.{trusted_as};
 ghost use Rattle.mounting.specs.Mounted.{CoversNewest, IsTreeRead};
-ghost use Rattle.mounting.specs.Named.{IsNamedTree, IsTrustedSince};
-ghost use Rattle.mounting.specs.Reads.{EndsMount, ReadsNeeded, ReadsThrough};
+ghost use Rattle.mounting.specs.Named.{IsNamedTree};
+ghost use Rattle.mounting.specs.Reads.{EndsMount};
 ghost use Rattle.mounting.specs.Tables.{KnowsBlocks};
 ghost use Rattle.mounting.specs.OnDevice.{IsOnSince, KnowsBlocksOn, ReadsNeededOn, ReadsOn, seen_on};
 

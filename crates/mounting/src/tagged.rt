@@ -1,7 +1,6 @@
 // A kept page, read with its tag.
 ghost use Rattle.std.specs.Prelude.{◌≡◌, ◌↔◌, ◌<◌, ◌≤◌, ◌+◌, ◌⊎◌, true, IsTrue, Some, length, OnOk, IfErr};
 ghost use Rattle.nand_model.specs.Changes.{OnlyReads};
-ghost use Rattle.flash_log.specs.Standing.{IsKeptAt};
 ghost use Rattle.page_store.specs.Shown.{data_at};
 ghost use Rattle.mounting.specs.Lending.{IsTagOf, IsNotReadAt};
 

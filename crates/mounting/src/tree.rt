@@ -1,12 +1,7 @@
 // The tree of a volume, read from pages.
-ghost use Rattle.std.specs.Prelude.{◌≡◌, ◌≤◌, ◌+◌, true, OnOk, IfOk, IfErr};
-ghost use Rattle.flash_tree.specs.Mount.{sizes_of};
-ghost use Rattle.pages.specs.Maps.{has};
+ghost use Rattle.std.specs.Prelude.{◌≡◌, ◌≤◌, ◌+◌, OnOk, IfOk, IfErr};
 ghost use Rattle.pages.specs.State.{OnlyFinds, KeepsPower};
-ghost use Rattle.tree_walk.specs.Hashes.{CoversTree};
-ghost use Rattle.tree_walk.specs.Trees.{tree_pages};
-ghost use Rattle.mounting.specs.TreeAnswers.{WhyNoTree, FailsTree};
-ghost use Rattle.mounting.specs.Trees.{IsGoneThrough};
+ghost use Rattle.mounting.specs.TreeAnswers.{FailsTree};
 ghost use Rattle.mounting.specs.FoundTrees.{AsksForTree, HasNamesIn, IsFoundIn, OfSized, WhyNoneIn};
 
 use crate::first_fault;

@@ -1,5 +1,5 @@
 -- What becomes of the keys of a cache.
-use Rattle.std.proofs.Common.{◌≡◌, ◌≤◌, ◌<◌, ℕ, zero, suc, ◌+◌, ◌-◌, ◌==◌, Bool, true, false, ◌&&◌, ◌⊎◌, List, [], ◌∷◌, length, cond, Contains, Option, Some, None, IsSome, refl, sym, ◌∙◌, ap, subst, inl, inr, arith, is_some, option_map, slice_get, IfSome, Bor}
+use Rattle.std.proofs.Common.{◌≡◌, ◌≤◌, ◌<◌, ℕ, zero, suc, ◌+◌, ◌-◌, ◌==◌, Bool, true, false, ◌&&◌, ◌⊎◌, List, [], ◌∷◌, length, cond, Contains, Option, Some, None, IsSome, refl, sym, ◌∙◌, ap, subst, inl, inr, arith, is_some, option_map, slice_get, IfSome, Bor, Result, Ok, Err, OnOk, OnErr}
 use Rattle.std.proofs.lemmas.Bool.{cases_Bool, true≢false, cond-true, cond-false, and_parts, eqb-true, eq-eqb}
 use Rattle.std.proofs.lemmas.Cmp.{nat_eq_equiv, and_equiv, on_equiv}
 use Rattle.std.specs.Cmp.{IsEquivalence}
@@ -12,9 +12,9 @@ use Rattle.lru.specs.LruCache.{LruCache, lru_cache, promoted, put_entries, displ
 use Rattle.lru.proofs.Splits.{Contains-cons, Contains-head, Contains-tail}
 use Rattle.lru.proofs.CallerLemmas.{Contains-put_entries, Contains-promoted, Contains-remove_entry, Contains-lookup, lookup-put_entries}
 use Rattle.std.specs.Option.{option_copied, option_map_or}
-use Rattle.page_store.specs.Slots.{Held, held_in, page_in, is_key, frame_of, AreSized}
+use Rattle.page_store.specs.Slots.{Held, held_in, page_in, is_key, HasSize, AreSized}
 use Rattle.page_store.specs.Cached.{held, held_count, capacity_of}
-use Rattle.page_store.specs.Changes.{KeepsSizes, HasTheSame, IsOther, Changes, Puts}
+use Rattle.page_store.specs.Changes.{KeepsSizes, KeepsSlots, HasTheSame, IsOther, Changes, Puts}
 use Rattle.page_store.specs.declared.slot.Slot.{Slot}
 use Rattle.page_store.specs.declared.slot.Slot.TheVariants as slots
 use Rattle.page_store.specs.declared.cache.PageCache.{PageCache}
@@ -177,12 +177,22 @@ same_slots old new size is = record {
   each = λ p q. ap (λ (s : LruCache (ℕ × ℕ) Slot). option_map held_in (lookup (is_key p q) s.entries)) is;
 }
 
+pub kept_same : (old new : PageCache) → KeepsSlots old new → HasTheSame old new
+kept_same old new keeps = same_slots old new keeps.page_bytes keeps.slots
+
+-- a page in a frame of so many bytes, and a place
+pub page_has : (bytes : ℕ) (frame : Vec ℕ Global) → length frame.items ≡ bytes → HasSize bytes (slots.Page frame)
+page_has bytes frame size f is = let same : frame ≡ f = cc in subst (λ (v : Vec ℕ Global). length v.items ≡ bytes) same size
+
+pub place_sized : (bytes : ℕ) → HasSize bytes slots.Reserved
+place_sized bytes f is = absurd cc
+
 -- the frames after a slot was put, a key was used and one was taken away
 module _ (bytes : ℕ) (old : LruCache (ℕ × ℕ) Slot) (new : LruCache (ℕ × ℕ) Slot) (sized : AreSized bytes old.entries) where
-  pub put_sized : (k : ℕ × ℕ) (slot : Slot) → length (frame_of slot).items ≡ bytes → new ≡ lru_cache (put_entries key_eq old k slot) old.cap → AreSized bytes new.entries
+  pub put_sized : (k : ℕ × ℕ) (slot : Slot) → HasSize bytes slot → new ≡ lru_cache (put_entries key_eq old k slot) old.cap → AreSized bytes new.entries
   put_sized k slot size is key it in' = elim (Contains-put_entries key_eq old k slot (key, it) (subst (λ (s : LruCache (ℕ × ℕ) Slot). Contains s.entries (key, it)) is in')) [
     | inl was ↦ sized key it was
-    | inr put ↦ ap (λ s. length (frame_of s).items) put.0 ∙ size
+    | inr put ↦ subst (HasSize bytes) (sym put.0) size
   ]
 
   pub promoted_sized : (k : ℕ × ℕ) → new ≡ lru_cache (promoted (key_eq k) old.entries) old.cap → AreSized bytes new.entries
@@ -194,29 +204,35 @@ module _ (bytes : ℕ) (old : LruCache (ℕ × ℕ) Slot) (new : LruCache (ℕ �
   pub same_sized : new ≡ old → AreSized bytes new.entries
   same_sized is key it in' = sized key it (subst (λ (s : LruCache (ℕ × ℕ) Slot). Contains s.entries (key, it)) is in')
 
-  pub found_sized : (k : ℕ × ℕ) (f : Option Slot) (it : Slot) → lookup (key_eq k) old.entries ≡ f → f ≡ Some it → length (frame_of it).items ≡ bytes
+  -- after a push that was done, or was refused memory
+  pub pushed_sized : {A E : Type 0} (k : ℕ × ℕ) (slot : Slot) (r : Result A E) → HasSize bytes slot → OnOk r (new ≡ lru_cache (put_entries key_eq old k slot) old.cap) → OnErr r (new ≡ old)
+      → AreSized bytes new.entries
+  pushed_sized k slot (Ok x) size done refused = put_sized k slot size done
+  pushed_sized k slot (Err e) size done refused = same_sized refused
+
+  pub found_sized : (k : ℕ × ℕ) (f : Option Slot) (it : Slot) → lookup (key_eq k) old.entries ≡ f → f ≡ Some it → HasSize bytes it
   found_sized k f it is found = let c = Contains-lookup (key_eq k) old.entries it (is ∙ found) in sized c.0 it c.1
 
-  -- and where the slot of a key has another with its frame
-  pub vacated_sized : (k : ℕ × ℕ) (was slot : Slot) → lookup (key_eq k) old.entries ≡ Some was → frame_of slot ≡ frame_of was → new ≡ lru_cache (set_value (key_eq k) old.entries slot) old.cap → AreSized bytes new.entries
-  vacated_sized k was slot found same is key it in' = elim (Contains-set (key_eq k) old.entries slot (key, it) (subst (λ (s : LruCache (ℕ × ℕ) Slot). Contains s.entries (key, it)) is in')) [
+  -- and where the key of a slot has a place
+  pub vacated_sized : (k : ℕ × ℕ) (slot : Slot) → slot ≡ slots.Reserved → new ≡ lru_cache (set_value (key_eq k) old.entries slot) old.cap → AreSized bytes new.entries
+  vacated_sized k slot place is key it in' = elim (Contains-set (key_eq k) old.entries slot (key, it) (subst (λ (s : LruCache (ℕ × ℕ) Slot). Contains s.entries (key, it)) is in')) [
     | inl there ↦ sized key it there
-    | inr put ↦ ap (λ s. length (frame_of s).items) put ∙ ap (λ (f : Vec ℕ Global). length f.items) same ∙ found_sized k (Some was) was found refl
+    | inr put ↦ subst (HasSize bytes) (sym (put ∙ place)) (place_sized bytes)
   ]
 
   -- and where a key that is used has another slot
-  pub written_sized : (k : ℕ × ℕ) (slot : Slot) → length (frame_of slot).items ≡ bytes → new ≡ lru_cache (set_value (key_eq k) (promoted (key_eq k) old.entries) slot) old.cap → AreSized bytes new.entries
+  pub written_sized : (k : ℕ × ℕ) (slot : Slot) → HasSize bytes slot → new ≡ lru_cache (set_value (key_eq k) (promoted (key_eq k) old.entries) slot) old.cap → AreSized bytes new.entries
   written_sized k slot size is key it in' = elim (Contains-set (key_eq k) (promoted (key_eq k) old.entries) slot (key, it) (subst (λ (s : LruCache (ℕ × ℕ) Slot). Contains s.entries (key, it)) is in')) [
     | inl there ↦ sized key it (Contains-promoted (key_eq k) old.entries (key, it) there)
-    | inr put ↦ ap (λ s. length (frame_of s).items) put ∙ size
+    | inr put ↦ subst (HasSize bytes) (sym put) size
   ]
 
   -- and the frame of the slot that was over
-  pub displaced_sized : (k key : ℕ × ℕ) (slot it : Slot) → displaced key_eq old k slot ≡ Some (key, it) → length (frame_of it).items ≡ bytes
+  pub displaced_sized : (k key : ℕ × ℕ) (slot it : Slot) → displaced key_eq old k slot ≡ Some (key, it) → HasSize bytes it
   displaced_sized k key slot it = go (lookup (key_eq k) old.entries) refl
     where
       go : (f : Option Slot) → lookup (key_eq k) old.entries ≡ f
-          → option_map_or (λ (was : Slot). Some (k, was)) f (slice_get old.entries (old.cap - 1)) ≡ Some (key, it) → length (frame_of it).items ≡ bytes
+          → option_map_or (λ (was : Slot). Some (k, was)) f (slice_get old.entries (old.cap - 1)) ≡ Some (key, it) → HasSize bytes it
       go None is e = sized key it (got_contains old.entries (old.cap - 1) (key, it) e)
       go (Some was) is e =
           let two : Some (k, was) ≡ Some (key, it) = e in
@@ -228,9 +244,9 @@ module _ (bytes : ℕ) (old : LruCache (ℕ × ℕ) Slot) (new : LruCache (ℕ �
   pub page_sized : (k : ℕ × ℕ) (it : Slot) (page : Option (Bor (List ℕ))) → lookup (key_eq k) old.entries ≡ Some it → option_copied page ≡ page_in (held_in it)
       → IfSome page (λ p. length p.now ≡ bytes)
   page_sized k it None is e = tt
-  page_sized k (slots.Reserved frame) (Some p) is e = absurd cc
+  page_sized k slots.Reserved (Some p) is e = absurd cc
   page_sized k (slots.Page frame) (Some p) is e =
-      let same : p.now ≡ frame.items = cc in ap length same ∙ found_sized k (Some (slots.Page frame)) (slots.Page frame) is refl
+      let same : p.now ≡ frame.items = cc in ap length same ∙ found_sized k (Some (slots.Page frame)) (slots.Page frame) is refl frame refl
 
 -- a key that is passed over is none of those that are looked for
 pub passed_over : (o c q : ℕ) (k : ℕ × ℕ) → (k.0 ≡ o → k.1 < c) → c ≤ q → is_key o q k ≡ false

@@ -19,6 +19,7 @@ pub mod Costing
 pub mod Staying
 pub mod Lookups
 pub mod CachedPages
+pub mod Spares
 pub mod Counted
 pub mod Slots
 pub mod Preparing

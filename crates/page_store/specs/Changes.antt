@@ -9,6 +9,11 @@ pub record KeepsSizes (old new : PageCache) : Type 0 where
   pub page_bytes : page_bytes_of new ≡ page_bytes_of old
   pub capacity : capacity_of new ≡ capacity_of old
 
+-- the cache has what it had of each key, in the same order of use
+pub record KeepsSlots (old new : PageCache) : Type 0 where
+  pub page_bytes : page_bytes_of new ≡ page_bytes_of old
+  pub slots : new.slots ≡ old.slots
+
 -- the cache has of each key what it had, and nothing of others
 pub record HasTheSame (old new : PageCache) : Type 0 where
   pub sizes : KeepsSizes old new

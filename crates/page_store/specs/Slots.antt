@@ -1,5 +1,5 @@
 -- What a cache has of a key.
-use Rattle.std.specs.Prelude.{◌≡◌, ℕ, ◌==◌, Bool, ◌&&◌, List, length, Option, Some, None, Contains}
+use Rattle.std.specs.Prelude.{◌≡◌, ℕ, ◌==◌, Bool, ◌&&◌, List, length, Option, Some, None, Contains, slice_get}
 use Rattle.std.specs.declared.vec.Vec.{Vec}
 use Rattle.std.specs.declared.alloc.Global.{Global}
 use Rattle.page_store.specs.declared.slot.Slot.{Slot}
@@ -10,15 +10,10 @@ pub data Held : Type 0 where
   Reserved : Held
   Page : (bytes : List ℕ) → Held
 
--- the frame of a slot
-abbrev pub frame_of : Slot → Vec ℕ Global
-frame_of (slots.Page frame) = frame
-frame_of (slots.Reserved frame) = frame
-
 -- what a slot says of its key
 abbrev pub held_in : Slot → Held
 held_in (slots.Page frame) = Page frame.items
-held_in (slots.Reserved frame) = Reserved
+held_in slots.Reserved = Reserved
 
 -- the bytes of the page, if there is one
 abbrev pub page_in : Held → Option (List ℕ)
@@ -29,6 +24,14 @@ page_in (Page bytes) = Some bytes
 abbrev pub is_key : ℕ → ℕ → ℕ × ℕ → Bool
 is_key o c key = (o == key.0) && (c == key.1)
 
--- each frame has so many bytes
+-- the page of the slot, if it has one, is in a frame of so many bytes
+abbrev pub HasSize : ℕ → Slot → Type 0
+HasSize bytes slot = (frame : Vec ℕ Global) → slot ≡ slots.Page frame → length frame.items ≡ bytes
+
+-- each frame of a key has so many bytes
 abbrev pub AreSized : ℕ → List ((ℕ × ℕ) × Slot) → Type 0
-AreSized bytes entries = (key : ℕ × ℕ) (slot : Slot) → Contains entries (key, slot) → length (frame_of slot).items ≡ bytes
+AreSized bytes entries = (key : ℕ × ℕ) (slot : Slot) → Contains entries (key, slot) → HasSize bytes slot
+
+-- each of these frames has so many bytes
+abbrev pub AreFrames : ℕ → List (Vec ℕ Global) → Type 0
+AreFrames bytes frames = (i : ℕ) (frame : Vec ℕ Global) → slice_get frames i ≡ Some frame → length frame.items ≡ bytes

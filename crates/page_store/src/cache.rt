@@ -1,8 +1,8 @@
 // A bounded cache of pages.
 ghost use Rattle.std.specs.Prelude.{◌≡◌, ◌≤◌, ◌+◌, ◌↔◌, ℕ, length, None, Some, IsNone, IsSome, IfSome, IfOk, OnOk, OnErr, IsTrue};
-ghost use Rattle.std.specs.Option.{option_copied, ForSome};
+ghost use Rattle.std.specs.Option.{option_copied};
 ghost use Rattle.std.specs.NonZero.{non_zero_usize_get};
-ghost use Rattle.page_store.specs.Slots.{AreSized, Page, Reserved, held_in, frame_of};
+ghost use Rattle.page_store.specs.Slots.{AreFrames, AreSized, HasSize, Page, Reserved, held_in};
 
 use crate::slot::Slot;
 use flash_tree::Key;
@@ -14,23 +14,29 @@ use std::num::NonZeroUsize;
 /// Pages of one size under their keys, and places for pages. The number of keys is bounded; the least recently used goes
 /// first.
 ///
-/// Frames of memory are made as pages are put, until there are as many as keys may be, and from then on are used again. A
-/// key that is to be written gets a place before, which may want memory. The page that was written then changes hands for
-/// the frame of the place, which takes none.
+/// A frame is a page's room in memory. Those of pages that go are spare, as many as `SPARE_FRAMES`: for pages that are put, and for
+/// those of the next changes. A key that is to be written gets a place before, which may want memory, and no frame. The page that was
+/// written comes there with its own, which takes none.
 #[derive(Drop)]
 pub struct PageCache {
     alloc: Global,
     page_bytes: usize,
     slots: LruCache<(u64, u64), Slot>,
-    // A frame that no key has.
-    spare: Option<Vec<u8>>,
+    // Frames that no key has.
+    spare: Vec<Vec<u8>>,
     ghost sized: { AreSized page_bytes slots.entries },
-    ghost spare_size: { ForSome spare (λ frame. length frame.items ≡ page_bytes) },
+    ghost spare_sized: { AreFrames page_bytes spare.items },
 }
+
+/// How many spare frames there are at most: as many as the largest change of a volume with blocks of 64 pages has pages.
+pub(crate) const SPARE_FRAMES: usize = 16;
+
+/// How many of them stay after a commit that was asked for: as many as an append has pages.
+pub(crate) const SPARE_AT_REST: usize = 2;
 
 impl PageCache {
     ghost use Rattle.page_store.specs.Cached.{held, cached, held_count, capacity_of, page_bytes_of};
-    ghost use Rattle.page_store.specs.Changes.{HasTheSame, Changes, Puts, DropsFrom};
+    ghost use Rattle.page_store.specs.Changes.{HasTheSame, Changes, KeepsSlots, Puts, DropsFrom};
 
     /// An empty cache for pages of so many bytes, which has something of at most `capacity` keys.
     pub fn new(
@@ -47,7 +53,7 @@ impl PageCache {
             alloc,
             page_bytes,
             slots: LruCache::sparse(alloc, capacity)?,
-            spare: None,
+            spare: Vec::with_capacity(alloc, SPARE_FRAMES)?,
         })
     }
 
@@ -99,32 +105,48 @@ impl PageCache {
         ensures ok { OnOk result (Puts key.object key.chunk Reserved self.old self.new) }
         ensures err { OnErr result (HasTheSame self.old self.new) }
     {
-        let frame = self.take_frame()?;
-        self.insert(key, Slot::Reserved(frame))
+        self.insert(key, Slot::Reserved)
     }
 
-    /// Makes the frame's bytes the page of a key that has a page or a place, and gives that frame back. Where the key has
-    /// none, it gives the same frame back.
-    pub fn exchange(&mut self, key: Key, frame: Vec<u8>) -> Vec<u8>
+    /// Makes the frame's bytes the page of a key that has a page or a place. It takes no memory. The frame that is over is spare.
+    pub fn fill(&mut self, key: Key, frame: Vec<u8>)
         requires { length frame.items ≡ page_bytes_of self.old }
-        ensures size { length result.items ≡ page_bytes_of self.old }
-        ensures taken { IsSome (held self.old key.object key.chunk) → Changes key.object key.chunk (Some (Page frame.items)) self.old self.new }
-        ensures given_back { held self.old key.object key.chunk ≡ None → (result ≡ frame) × HasTheSame self.old self.new }
+        ensures filled { IsSome (held self.old key.object key.chunk) → Changes key.object key.chunk (Some (Page frame.items)) self.old self.new }
+        ensures nothing { held self.old key.object key.chunk ≡ None → HasTheSame self.old self.new }
     {
         match self.slots.get_mut(&(key.object, key.chunk)) {
-            Some(slot) => mem::replace(slot, Slot::Page(frame)).into_frame(),
-            None => frame,
+            Some(slot) => {
+                let over = mem::replace(slot, Slot::Page(frame));
+                self.keep_frame(over);
+            }
+            None => self.keep_frame(Slot::Page(frame)),
         }
     }
 
-    /// The page of the key goes, and its frame is a place for the one that the key is to get. It takes no memory.
+    /// The page of the key goes, and leaves a place for the one that the key is to get. It takes no memory.
     pub fn vacate(&mut self, key: Key)
         ensures vacated { IsSome (held self.old key.object key.chunk) → Changes key.object key.chunk (Some Reserved) self.old self.new }
         ensures nothing { held self.old key.object key.chunk ≡ None → HasTheSame self.old self.new }
     {
         if let Some(slot) = self.slots.peek_mut(&(key.object, key.chunk)) {
-            slot.vacate(self.alloc);
+            let over = mem::replace(slot, Slot::Reserved);
+            self.keep_frame(over);
         }
+    }
+
+    /// Hands out a frame that no key has, if there is one.
+    pub fn take_spare(&mut self) -> Option<Vec<u8>>
+        ensures size { IfSome result (λ frame. length frame.items ≡ page_bytes_of self.old) }
+        ensures same { KeepsSlots self.old self.new }
+    {
+        self.spare.pop()
+    }
+
+    /// Frees the spare frames but so many.
+    pub fn keep_spares(&mut self, count: usize)
+        ensures { KeepsSlots self.old self.new }
+    {
+        self.spare.truncate(count);
     }
 
     /// What there is of the key goes.
@@ -163,11 +185,10 @@ impl PageCache {
 
     /// A frame that no key has.
     fn take_frame(&mut self) -> Result<Vec<u8>, AllocError>
-        ensures size { IfOk result (λ frame. length frame.items ≡ self.old.page_bytes) }
-        ensures slots { self.new.slots ≡ self.old.slots }
-        ensures page_bytes { self.new.page_bytes ≡ self.old.page_bytes }
+        ensures size { IfOk result (λ frame. length frame.items ≡ page_bytes_of self.old) }
+        ensures same { KeepsSlots self.old self.new }
     {
-        match self.spare.take() {
+        match self.take_spare() {
             Some(frame) => Ok(frame),
             None => vec![in self.alloc; 0u8; self.page_bytes],
         }
@@ -175,7 +196,7 @@ impl PageCache {
 
     /// Puts a slot under a key. The frame that is over is spare.
     fn insert(&mut self, key: Key, slot: Slot) -> Result<(), AllocError>
-        requires { length (frame_of slot).items ≡ page_bytes_of self.old }
+        requires { HasSize (page_bytes_of self.old) slot }
         ensures ok { OnOk result (Puts key.object key.chunk (held_in slot) self.old self.new) }
         ensures err { OnErr result (HasTheSame self.old self.new) }
     {
@@ -183,13 +204,25 @@ impl PageCache {
         match self.slots.push((key.object, key.chunk), slot) {
             Ok(None) => Ok(()),
             Ok(Some((_, old))) => {
-                self.spare = Some(old.into_frame());
+                self.keep_frame(old);
                 Ok(())
             }
             Err(refused) => {
                 let (_, unused) = refused.value;
-                self.spare = Some(unused.into_frame());
+                self.keep_frame(unused);
                 Err(AllocError)
+            }
+        }
+    }
+
+    /// Keeps the frame of a slot that no key has any more, where there is room for it.
+    fn keep_frame(&mut self, slot: Slot)
+        requires { HasSize (page_bytes_of self.old) slot }
+        ensures { KeepsSlots self.old self.new }
+    {
+        if let Slot::Page(frame) = slot {
+            if self.spare.len() < self.spare.capacity() {
+                self.spare.push_reserved(frame);
             }
         }
     }

@@ -65,8 +65,9 @@ pub(crate) fn drop_committed(cache: &mut PageCache, pages: &[FreshPage], is_comm
     }
 }
 
-/// Moves the pages that were written last into the cache, where there is a place for them. It takes no memory.
-pub(crate) fn keep_written(buffer: &mut Buffer, cache: &mut PageCache)
+/// Moves the pages that were written last into the cache, where there is a place for them. It takes no memory, and leaves at most so
+/// many spare frames.
+pub(crate) fn keep_written(buffer: &mut Buffer, cache: &mut PageCache, spares: usize)
     requires size { bytes_of_page buffer.old ≡ page_bytes_of cache.old }
     ensures pages { buffered buffer.new ≡ buffered buffer.old }
     ensures buffer_sizes { (most_pages buffer.new ≡ most_pages buffer.old) × (bytes_of_page buffer.new ≡ bytes_of_page buffer.old) }
@@ -76,6 +77,7 @@ pub(crate) fn keep_written(buffer: &mut Buffer, cache: &mut PageCache)
     ensures places { KeepsKeys cache.old cache.new }
 {
     while let Some(page) = buffer.take_written() {
-        let _frame = cache.exchange(page.key, page.bytes);
+        cache.fill(page.key, page.bytes);
     }
+    cache.keep_spares(spares);
 }

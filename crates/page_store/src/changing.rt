@@ -16,6 +16,7 @@ ghost use Rattle.page_store.specs.Counts.{IsRefused};
 ghost use Rattle.page_store.specs.StoreState.{committed_in, current_in, waiting};
 ghost use Rattle.page_store.specs.StateOf.{state_of};
 
+use crate::cache::SPARE_FRAMES;
 use crate::caching::{drop_committed, drop_cuts, make_places};
 use crate::store::{Found, Store};
 use crate::{PageCache, prepare};
@@ -87,7 +88,7 @@ impl<N: Nand> Store<N> {
         if self.buffer.has_room(&self.log.index, pages) {
             return Ok(false);
         }
-        match self.write_out() {
+        match self.write_out(SPARE_FRAMES) {
             Ok(()) => Ok(true),
             Err(fault) => Err(fault),
         }

@@ -32,7 +32,7 @@ impl<N: Nand> Store<N> {
     ///
     /// After a fault nothing is known of the pages of the store any more. The device has those that were kept, or those that
     /// were present.
-    pub fn write_out(&mut self) -> Result<(), StoreFault>
+    pub fn write_out(&mut self, spares: usize) -> Result<(), StoreFault>
         ensures keeps { CommitKeeps (state_of self.old) (state_of self.new) }
         // What is buffered is written without a read.
         ensures pays { PaysCommit (waiting (state_of self.old)) self.old.log.spare (state_of self.old).log (state_of self.new).log result }
@@ -50,7 +50,7 @@ impl<N: Nand> Store<N> {
         self.counts.begin(self.buffer.pages().len());
         match commit(&mut self.log, &mut self.buffer) {
             Ok(()) => {
-                keep_written(&mut self.buffer, &mut self.cache);
+                keep_written(&mut self.buffer, &mut self.cache, spares);
                 Ok(())
             }
             Err(fault) => {

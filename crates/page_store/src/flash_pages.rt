@@ -85,6 +85,13 @@ impl<N: Nand> Pages for FlashPages<N> {
             FlashPages::ReadOnly(pages) => pages.page(),
         }
     }
+
+    fn take_frame(&mut self) -> Option<Vec<u8>> {
+        match self {
+            FlashPages::Store(store) => store.take_frame(),
+            FlashPages::ReadOnly(pages) => pages.take_frame(),
+        }
+    }
 }
 
 impl<N: Nand> PageStore for FlashPages<N> {

@@ -96,6 +96,10 @@ impl<N: Nand> Pages for NewestPages<N> {
     fn page(&self) -> &[u8] {
         &self.page
     }
+
+    fn take_frame(&mut self) -> Option<Vec<u8>> {
+        None
+    }
 }
 
 impl<N: Nand> KnownPages for NewestPages<N> {

@@ -99,6 +99,10 @@ impl<N: Nand> Pages for ReadOnlyPages<N> {
     fn page(&self) -> &[u8] {
         self.pages.page()
     }
+
+    fn take_frame(&mut self) -> Option<Vec<u8>> {
+        self.pages.take_frame()
+    }
 }
 
 impl<N: Nand> PageStore for ReadOnlyPages<N> {

@@ -206,4 +206,8 @@ impl<N: Nand> Pages for Store<N> {
             },
         }
     }
+
+    fn take_frame(&mut self) -> Option<Vec<u8>> {
+        self.cache.take_spare()
+    }
 }

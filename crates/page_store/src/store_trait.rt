@@ -1,4 +1,5 @@
 // The store as a store of pages that are changed and kept.
+use crate::cache::SPARE_AT_REST;
 use crate::store::Store;
 use chunk_index::{the_counts_add_up_to_the_kept_keys, the_counts_are_of_the_keys};
 use nand_model::Nand;
@@ -31,7 +32,7 @@ impl<N: Nand> PageStore for Store<N> {
     fn commit(&mut self) -> Result<(), StoreFault> {
         the_counts_are_of_the_keys();
         the_counts_add_up_to_the_kept_keys();
-        self.write_out()
+        self.write_out(SPARE_AT_REST)
     }
 
     fn refresh(&mut self, block: u32) -> Result<(), StoreFault> {

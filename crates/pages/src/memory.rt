@@ -183,4 +183,8 @@ impl Pages for MemPages {
             None => &self.blank,
         }
     }
+
+    fn take_frame(&mut self) -> Option<Vec<u8>> {
+        None
+    }
 }

@@ -1,5 +1,5 @@
 // The trait of pages.
-ghost use Rattle.std.specs.Prelude.{◌≡◌, ◌≤◌, ◌+◌, true, not, None, length, OnOk, IfOk, IfErr};
+ghost use Rattle.std.specs.Prelude.{◌≡◌, ◌≤◌, ◌+◌, true, not, None, length, OnOk, IfOk, IfErr, IfSome};
 ghost use Rattle.pages.specs.State.{PagesState, OnlyFinds, KeepsPower, FindsPage, FailsBy};
 
 use flash_tree::Key;
@@ -47,6 +47,11 @@ pub trait Pages {
         ensures size { length result.now ≡ (state self.now).page_bytes }
         ensures least { 512 ≤ length result.now }
         ensures most { length result.now ≤ 4096 };
+
+    /// Hands out a frame, a page's room in memory, that nothing needs, if there is one. What was found is lent still.
+    fn take_frame(&mut self) -> Option<Vec<u8>>
+        ensures same { state self.new ≡ state self.old }
+        ensures size { IfSome result (λ frame. length frame.items ≡ (state self.old).page_bytes) };
 
     /// How large a page is.
     ghost sized: { (pages : Self) → (512 ≤ (state pages).page_bytes) × ((state pages).page_bytes ≤ 4096) };

@@ -31,7 +31,7 @@ impl<P> RefusingPages<P> {
         (self.inner, self.left.is_none())
     }
 
-    /// Counts a call that may take memory, and tells whether it is the one that is refused.
+    /// Counts a call that may take memory, and returns whether it is the one that is refused.
     fn refuses(&mut self) -> bool
         ensures inner { self.new.inner ≡ self.old.inner }
         ensures refuses { result ≡ true → self.old.refused.total < self.new.refused.total }
@@ -76,6 +76,10 @@ impl<P: Pages> Pages for RefusingPages<P> {
 
     fn page(&self) -> &[u8] {
         self.inner.page()
+    }
+
+    fn take_frame(&mut self) -> Option<Vec<u8>> {
+        self.inner.take_frame()
     }
 }
 

@@ -1,30 +1,33 @@
-use Rattle.std.proofs.Common.{◌≡◌, ◌-◌, ◌*◌, ◌≤◌, ◌++◌, ◌∙◌, ℕ, List, [], Some, take, drop, replicate, length, sym, ap, arith, rules}
+use Rattle.std.proofs.Common.{◌≡◌, ◌-◌, ◌*◌, ◌≤◌, ◌++◌, ◌∙◌, ℕ, List, [], true, Some, take, drop, replicate, length, refl, sym, ap, subst, arith, rules}
 use Rattle.std.proofs.lemmas.List.{drop-replicate, with_items_is, places}
 use Rattle.std.specs.Vec.{with_items}
 use Rattle.pages.specs.laws.Afterwards.{sized_on}
 use Rattle.pages.specs.State.{PagesState}
+use Rattle.directories.specs.Stores.{later}
 use Rattle.directories.proofs.Written.{blank}
 use Rattle.directories.proofs.writing.page_with.Goals as goal
 
 pub returns-then-count-eq0-clause-page : goal.returns-then-count-eq0-clause-page
 returns-then-count-eq0-clause-page g c = λ sound.
-    let zeros = c.in_ok-page.ensures.items_if_clones_equal (λ y is. search rules) in
     let none : c.args.count ≡ 0 = omega (arith, c.if-count-eq0.true) in
-    ([], λ ne. absurd (ne none), omega (arith, none), zeros ∙ blank _ _ c.args.count none c.page_bytes.ensures.bytes)
+    ([], λ ne. absurd (ne none), omega (arith, none), c.in_ok-page.ensures.zeros ∙ blank _ _ c.args.count none refl)
 
 pub returns-clause-page : goal.returns-clause-page
 returns-clause-page g c = λ sound.
     let old : PagesState = g.P.Pages.state c.args.pages.now in
-    let zeros : c.in_ok-page.page.items ≡ replicate c.page_bytes.result 0 = c.in_ok-page.ensures.items_if_clones_equal (λ y is. search rules) in
+    let now : PagesState = g.P.Pages.state c.blank_page.new.pages in
+    let same_bytes : now.page_bytes ≡ old.page_bytes = ap (λ (p : PagesState). p.page_bytes) c.blank_page.ensures.same in
+    let zeros : c.in_ok-page.page.items ≡ replicate old.page_bytes 0 = c.in_ok-page.ensures.zeros in
+    let same_all = c.load_after.ensures.finds.page_bytes ∙ same_bytes in
     let xs : List ℕ = c.page_after.result.now in
     let items : (with_items c.in_ok-page.page c.copy_slots.new.page).items ≡ c.copy_slots.new.page = with_items_is c.in_ok-page.page c.copy_slots.new.page (search (rules, places)) in
-    let size : length xs ≡ _ = c.page_after.ensures.size (sized_on _ _ _ c.load_after.ensures.finds.page_bytes c.requires.sized) in
-    let same = c.load_after.ensures.finds.page_bytes in
+    let size : length xs ≡ _ = c.page_after.ensures.size (sized_on _ _ _ same_all c.requires.sized) in
     let room : 272 * c.args.count ≤ old.page_bytes = c.requires.room in
     let rest : drop (272 * c.args.count) c.deref_mut.result.now ≡ replicate (old.page_bytes - 272 * c.args.count) 0 =
-    ap (drop (272 * c.args.count)) (c.deref_mut.ensures.value ∙ zeros) ∙ drop-replicate (272 * c.args.count) c.page_bytes.result 0 ∙ ap (λ k. replicate (k - 272 * c.args.count) 0) c.page_bytes.ensures.bytes in (
+    ap (drop (272 * c.args.count)) (c.deref_mut.ensures.value ∙ zeros) ∙ drop-replicate (272 * c.args.count) old.page_bytes 0 in (
       xs,
-      λ ne. c.in_ok-source.ensures.page sound ∙ ap Some (sym c.page_after.ensures.bytes),
-      omega (arith, size, same, room),
+      λ ne. subst (λ (p : PagesState). (later c.args.earlier p).present c.args.key.object c.args.key.chunk ≡ Some xs) c.blank_page.ensures.same
+          (c.in_ok-source.ensures.page (subst (λ (p : PagesState). (later c.args.earlier p).sound ≡ true) (sym c.blank_page.ensures.same) sound) ∙ ap Some (sym c.page_after.ensures.bytes)),
+      omega (arith, size, same_all, room),
       items ∙ c.copy_slots.ensures ∙ ap (λ (ys : List ℕ). take (272 * c.args.count) xs ++ ys) rest,
     )

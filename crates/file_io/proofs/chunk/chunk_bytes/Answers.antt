@@ -17,8 +17,8 @@ returns-then-not-is_present-clause-holds g c = λ z moment all f head.
     let some : 1 ≤ d = omega (arith, c.from-page_bytes.ensures, c.page_bytes.ensures.least) in
     let off : c.is_present.result ≡ false = search rules in
     let unset : is_present f.reads.fields.bits (1 + c.args.index) ≡ false = ap (λ (xs : List ℕ). is_present xs (1 + c.args.index)) (sym (c.bits.ensures ∙ head.bits)) ∙ sym c.is_present.ensures ∙ off in
-    let zeros : c.in_ok-vec.field-0.items ≡ replicate d 0 = search rules in
-    subst (λ n. HoldsChunk n all c.args.index c.in_ok-vec.field-0.items) size_old
+    let zeros : c.in_ok-blank_page.field-0.items ≡ replicate d 0 = search rules in
+    subst (λ n. HoldsChunk n all c.args.index c.in_ok-blank_page.field-0.items) size_old
     (subst (λ (xs : List ℕ). HoldsChunk d all c.args.index xs) (sym zeros) (absent_holds old z c.args.object moment all f d (size_old ∙ sym f.size) some c.args.index unset))
 
 pub returns-in_err-load-clause-fault : goal.returns-in_err-load-clause-fault
@@ -41,8 +41,8 @@ returns-clause-holds g c = λ z moment all f head.
     let some : 1 ≤ d = omega (arith, c.from-page_bytes.ensures, c.page_bytes.ensures.least) in
     let on : c.is_present.result ≡ true = search rules in
     let set : is_present f.reads.fields.bits (1 + c.args.index) ≡ true = ap (λ (xs : List ℕ). is_present xs (1 + c.args.index)) (sym (c.bits.ensures ∙ head.bits)) ∙ sym c.is_present.ensures ∙ on in
-    let page : List ℕ = c.page.result.now in
-    let there : old.present c.args.object (1 + c.args.index) ≡ Some page = c.in_ok-load.ensures.page f.sound ∙ ap Some (sym c.page.ensures.bytes) in
+    let page : List ℕ = (g.P.Pages.state c.load.new.pages).lent in
+    let there : old.present c.args.object (1 + c.args.index) ≡ Some page = c.in_ok-load.ensures.page f.sound in
     let copied : c.in_ok-bytes.bytes.items ≡ page = search rules in
     let was : c.deref_mut.result.now ≡ page = c.deref_mut.ensures.value ∙ copied in
     let len : length c.clear_from.new.bytes ≡ d = search rules in

@@ -20,10 +20,10 @@ returns-then-to-from-clause-holds g c = λ z moment all f head.
     let from : c.max-from.result ≡ max c.args.offset (k * d) = c.max-from.ensures in
     let to : c.min-to.result ≡ min (c.args.offset + n) (k * d + d) = c.min-to.ensures in
     let count : c.min-to.result - c.args.offset - (c.max-from.result - c.args.offset) ≡ c.min-to.result - c.max-from.result = omega (arith, from, to) in
-    let copied : c.in_ok-from_slice.field-0.items ≡ take (c.min-to.result - c.args.offset - (c.max-from.result - c.args.offset)) (drop (c.max-from.result - c.args.offset) c.args.bytes.now) = search rules in
-    let part : c.in_ok-from_slice.field-0.items ≡ take (c.min-to.result - c.max-from.result) (drop (c.max-from.result - c.args.offset) c.args.bytes.now) = copied ∙ ap (λ n. take n (drop (c.max-from.result - c.args.offset) c.args.bytes.now)) count in
-    subst (λ n. HoldsChunk n (written all c.args.offset c.args.bytes.now) k c.in_ok-from_slice.field-0.items) size_old
-    (whole_holds d k c.args.offset c.args.bytes.now all c.max-from.result c.min-to.result from to begins ends c.requires.some c.in_ok-from_slice.field-0.items part c.if-to-from.true)
+    let copied : c.in_ok-filled_page.field-0.items ≡ take (c.min-to.result - c.args.offset - (c.max-from.result - c.args.offset)) (drop (c.max-from.result - c.args.offset) c.args.bytes.now) = search rules in
+    let part : c.in_ok-filled_page.field-0.items ≡ take (c.min-to.result - c.max-from.result) (drop (c.max-from.result - c.args.offset) c.args.bytes.now) = copied ∙ ap (λ n. take n (drop (c.max-from.result - c.args.offset) c.args.bytes.now)) count in
+    subst (λ n. HoldsChunk n (written all c.args.offset c.args.bytes.now) k c.in_ok-filled_page.field-0.items) size_old
+    (whole_holds d k c.args.offset c.args.bytes.now all c.max-from.result c.min-to.result from to begins ends c.requires.some c.in_ok-filled_page.field-0.items part c.if-to-from.true)
 
 pub returns-in_err-page-clause-fault : goal.returns-in_err-page-clause-fault
 returns-in_err-page-clause-fault g c = λ z moment all f head.

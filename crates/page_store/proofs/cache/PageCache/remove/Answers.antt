@@ -5,7 +5,7 @@ use Rattle.page_store.proofs.cache.PageCache.remove.Goals as goal
 pub invariant_of-self : goal.invariant_of-self
 invariant_of-self c = record {
   sized = removed_sized _ c.args.self.now.slots _ c.args.self.now.sized (c.args.key.object, c.args.key.chunk) c.pop-slot.ensures.entries;
-  spare_size = c.args.self.now.spare_size;
+  spare_sized = c.args.self.now.spare_sized;
 }
 
 pub returns-clause-gone : goal.returns-clause-gone

@@ -15,7 +15,7 @@ use std::io::Write;
 use volume_terms::NUMBER_END;
 
 /// How a check is reported.
-#[derive(Clone, Copy, Debug, PartialEq, Eq)]
+#[derive(Clone, Copy)]
 pub enum CheckForm {
     /// A number a line.
     Short,
@@ -25,7 +25,7 @@ pub enum CheckForm {
 }
 
 /// The greatest numbers of all valid tags.
-#[derive(Clone, Copy, Debug, PartialEq, Eq, Serialize)]
+#[derive(Clone, Copy, Serialize)]
 struct Greatest {
     version: u64,
     group: u64,
@@ -34,7 +34,7 @@ struct Greatest {
 
 /// How many groups and blocks can still be numbered, and how often a good block was erased on average since the format, as far as the
 /// numbers of blocks say: each block that is allocated is erased, and takes the next number.
-#[derive(Clone, Copy, Debug, PartialEq, Eq, Serialize)]
+#[derive(Clone, Copy, Serialize)]
 struct Wear {
     groups_left: u64,
     seqs_left: u64,

@@ -1,4 +1,4 @@
-// The chip of an image: what its pages are, drawn, counted and dumped.
+// The chip of an image: what its pages are, shown, in numbers and dumped.
 ghost use Rattle.nand_model.specs.Changes.{OnlyReads};
 
 use crate::fault::ToolFault;
@@ -11,8 +11,8 @@ use serde::Serialize;
 use std::alloc::Global;
 use std::io::Write;
 
-/// How a chip is drawn.
-#[derive(Clone, Copy, Debug, PartialEq, Eq)]
+/// How a chip is shown.
+#[derive(Clone, Copy)]
 pub enum Drawing {
     /// A line of characters for each block.
     Text,
@@ -24,7 +24,7 @@ pub enum Drawing {
 }
 
 /// How many pages are of each state.
-#[derive(Clone, Copy, Debug, PartialEq, Eq, Serialize)]
+#[derive(Clone, Copy, Serialize)]
 pub(crate) struct StateCounts {
     pub(crate) current: u32,
     pub(crate) stale: u32,
@@ -35,7 +35,7 @@ pub(crate) struct StateCounts {
 }
 
 /// How many blocks there are: all, those with erased pages alone, and those that are marked bad.
-#[derive(Clone, Copy, Debug, PartialEq, Eq, Serialize)]
+#[derive(Clone, Copy, Serialize)]
 pub struct BlockCounts {
     pub(crate) blocks: u32,
     pub(crate) pages_in_block: u32,
@@ -44,7 +44,7 @@ pub struct BlockCounts {
 }
 
 /// What a chip has, in numbers.
-#[derive(Clone, Copy, Debug, PartialEq, Eq, Serialize)]
+#[derive(Clone, Copy, Serialize)]
 struct ChipReport {
     page_bytes: u32,
     #[serde(flatten)]

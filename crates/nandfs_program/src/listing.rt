@@ -10,7 +10,7 @@ use std::alloc::Global;
 use std::io::Write;
 
 /// How names are listed: with kind, links, bytes and seconds of each, and with all directories below.
-#[derive(Clone, Copy, Debug, PartialEq, Eq)]
+#[derive(Clone, Copy)]
 pub struct Listing {
     pub long: bool,
     pub all_below: bool,

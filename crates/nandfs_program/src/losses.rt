@@ -8,14 +8,14 @@ use std::alloc::{AllocError, Global};
 use std::io::Write;
 
 /// Bytes of a file, from this one on, as many.
-#[derive(Clone, Copy, Debug, PartialEq, Eq)]
+#[derive(Clone, Copy, PartialEq)]
 pub struct ByteRange {
     pub from: u64,
     pub count: u64,
 }
 
 /// What is lost at a path.
-#[derive(Clone, Copy, Debug, PartialEq, Eq)]
+#[derive(Clone, Copy, PartialEq)]
 pub enum Loss {
     /// The header of the object, so that nothing is known of it.
     Header,

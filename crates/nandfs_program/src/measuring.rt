@@ -11,7 +11,7 @@ use std::time::CpuClock;
 use volume_bench::{Bench, Cost, FlashTimes, run, write_svg, write_text};
 
 /// How a run is reported.
-#[derive(Clone, Copy, Debug, PartialEq, Eq)]
+#[derive(Clone, Copy)]
 pub enum BenchForm {
     /// A line for each part, and a histogram.
     Text,
@@ -24,7 +24,7 @@ pub enum BenchForm {
 }
 
 /// What a stretch of a run costs.
-#[derive(Clone, Copy, Debug, PartialEq, Eq, Serialize)]
+#[derive(Clone, Copy, Serialize)]
 struct CostReport {
     tags_read: u64,
     pages_read: u64,

@@ -7,7 +7,7 @@ use posix_profile::Answers;
 const MEBIBYTE: u64 = 1 << 20;
 
 /// How many bytes were read and written so far. Where it is shown, that is a line on standard error, which changes with each mebibyte.
-#[derive(Clone, Copy, Debug, PartialEq, Eq)]
+#[derive(Clone, Copy)]
 pub struct Meter {
     shown: bool,
     read: u64,

@@ -9,7 +9,7 @@ use std::fs::OpenFile;
 use std::io::{Read, Seek, Write};
 
 /// The data bytes of a page, the pages of a block, the blocks, and of these the spare ones.
-#[derive(Clone, Copy, Debug, PartialEq, Eq)]
+#[derive(Clone, Copy)]
 pub struct ImageSizes {
     pub data: u32,
     pub pages: u32,

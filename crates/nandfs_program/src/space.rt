@@ -14,7 +14,7 @@ use std::io::Write;
 
 /// The room of a volume for files and directories, without the pages that it needs for itself: in bytes, in pages, and how many
 /// percent are in use, where a part of one counts as one.
-#[derive(Clone, Copy, Debug, PartialEq, Eq, Serialize)]
+#[derive(Clone, Copy, Serialize)]
 pub(crate) struct Room {
     bytes: u64,
     used: u64,
@@ -27,7 +27,7 @@ pub(crate) struct Room {
 }
 
 /// The room of a volume, and the blocks that it is on.
-#[derive(Clone, Copy, Debug, PartialEq, Eq, Serialize)]
+#[derive(Clone, Copy, Serialize)]
 struct SpaceReport {
     #[serde(flatten)]
     room: Room,

@@ -1,5 +1,5 @@
 // Mount, format and end of a volume, over any device: what they return, and the device after them.
-ghost use Rattle.std.specs.Prelude.{◌≡◌, ◌<ℤ◌, ◌≤ℤ◌, pos, IfOk, IfErr};
+ghost use Rattle.std.specs.Prelude.{◌≡◌, ◌<ℤ◌, ◌≤ℤ◌, IfOk, IfErr};
 ghost use Rattle.flash_c.specs.Volumes.{IsEnded, IsFormatted, IsMountedBy, NotMounted};
 ghost use Rattle.mounting.specs.Faults.{WhyNotMounted};
 ghost use Rattle.nand_model.specs.Changes.{OnlyReads};

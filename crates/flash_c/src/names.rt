@@ -1,7 +1,6 @@
 // The names of a directory in the caller's buffer.
 ghost use Rattle.std.specs.Prelude.{◌≡◌, ◌≤◌, ◌<◌, ◌+◌, ◌++◌, ◌∷◌, MatchOption, length, take, drop};
-ghost use Rattle.flash_c.specs.Filling.{filled, filled_number, names_bytes, names_number, names_filled};
-ghost use Rattle.flash_c.specs.Numbers.{no_room};
+ghost use Rattle.flash_c.specs.Filling.{names_bytes, names_number, names_filled};
 
 use crate::numbers::{NO_ROOM, error_number, signed};
 use posix_calls::{Bytes, Errno, Reply};

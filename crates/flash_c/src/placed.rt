@@ -1,5 +1,5 @@
 // Reads and writes at an offset of their own, over anything that serves commands: the descriptor's offset is set, and set back.
-ghost use Rattle.std.specs.Prelude.{◌≡◌, pos};
+ghost use Rattle.std.specs.Prelude.{◌≡◌};
 ghost use Rattle.flash_c.specs.Placed.{Seeks, GoesTo, GoesBack, IsReadAt, IsWrittenAt, ReadsAtIn, WritesAtIn, placed_read, placed_write};
 
 use crate::numbers::error_number;

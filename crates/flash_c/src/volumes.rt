@@ -1,5 +1,5 @@
 // Format, mount and unmount of a volume whose device is at the other end of a port.
-ghost use Rattle.std.specs.Prelude.{◌≡◌, ◌≤ℤ◌, ◌<ℤ◌, false, true, pos, IfErr};
+ghost use Rattle.std.specs.Prelude.{◌≡◌, ◌≤ℤ◌, ◌<ℤ◌, false, true, pos};
 ghost use Rattle.posix_calls.specs.PageVolumes.{is_read_only, is_stopped};
 ghost use Rattle.posix_calls.specs.Volumes.{over_pages};
 ghost use Rattle.posix_profile.specs.declared.reply.Errno.TheVariants as errors;

@@ -22,7 +22,7 @@ pub enum Chosen {
     Check {
         image: String,
     },
-    /// Sessions on a copy of an image, each cut at a place that is drawn from the seed.
+    /// Sessions on a copy of an image, each cut at a random place by the seed.
     Cut {
         image: String,
         seed: u64,

@@ -75,7 +75,7 @@ fn cut_command<'a>(alloc: Global) -> Result<Command<'a>, AllocError>
     let command = over_image(
         alloc,
         "cut",
-        "Runs the lines of standard input on a copy of the volume, cuts power at a drawn place, and checks what is left",
+        "Runs the lines of standard input on a copy of the volume, cuts power at a random place, and checks what is left",
         "Example: flashsh cut flash.img --seed 7 --sessions 100 < lines.txt",
     )?;
     command.arg(seed(alloc))?.arg(sessions(alloc))

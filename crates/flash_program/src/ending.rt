@@ -1,6 +1,6 @@
 // What the program tells of its end.
 ghost use Rattle.std.specs.Prelude.{◌≡◌, ◌++◌, ◌∷◌, [], codes};
-ghost use Rattle.flash_program.specs.Statuses.{error_line, status_of, IsReported};
+ghost use Rattle.flash_program.specs.Statuses.{status_of, IsReported};
 ghost use Rattle.line_shell.specs.Replies.{newline};
 ghost use Rattle.line_shell.specs.Written.{Writes};
 

@@ -2,7 +2,6 @@
 ghost use Rattle.std.specs.Prelude.{◌≡◌};
 ghost use Rattle.flash_program.specs.Images.{of_script};
 ghost use Rattle.flash_program.specs.Statuses.{fault_name, fault_status, format_name, image_name, shell_name};
-ghost use Rattle.exerciser.specs.Lines.{mount_name};
 
 use exerciser::mount_fault_name;
 use line_shell::{ScriptFault, ShellFault};

@@ -1,7 +1,5 @@
 // The program: a flash in memory is formatted, mounted, asked by the lines of a shell and unmounted.
-ghost use Rattle.std.specs.Prelude.{◌≡◌, ◌⊎◌, true, false, IfOk, IfErr};
-ghost use Rattle.flash_tree.specs.Sound.{IsSoundFlash};
-ghost use Rattle.nand_model.specs.Calls.{Device};
+ghost use Rattle.std.specs.Prelude.{◌≡◌, ◌⊎◌, IfOk, IfErr};
 ghost use Rattle.nand_model.specs.MemoryState.{device};
 ghost use Rattle.posix_calls.specs.Volumes.{over_pages};
 ghost use Rattle.posix_profile.specs.laws.Fresh.{fresh};

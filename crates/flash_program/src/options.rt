@@ -34,7 +34,7 @@ pub(crate) fn seed<'a>(alloc: Global) -> Arg<'a>
         .value_name("N")
         .value_parser(value_parser!(u64))
         .default_value("1")
-        .help("What the cuts are drawn from: the same seed draws the same cuts")
+        .help("The seed of the random cuts: the same seed gives the same cuts")
 }
 
 /// The option with the number of sessions.

@@ -1,6 +1,6 @@
 // The writing of the root.
 ghost use Rattle.std.specs.Prelude.{◌≡◌, ◌<◌, ◌+◌, ℕ, true, false, length, Some, IfOk, OnOk, OnErr};
-ghost use Rattle.formatting.specs.Formatting.{Keeps, EachFailureMarks, AreClear, OthersStay, single_tag, HasFirstPage, Takes, StandsFirst};
+ghost use Rattle.formatting.specs.Formatting.{Keeps, EachFailureMarks, AreClear, OthersStay, single_tag, Takes, StandsFirst};
 
 use flash_tree::FreshPage;
 use nand_model::{Gone, Nand, ProgramFault};

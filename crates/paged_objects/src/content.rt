@@ -1,15 +1,11 @@
 // Changes of the bytes of a file.
 ghost use Rattle.std.specs.Prelude.{◌≡◌, ◌≤◌, ◌+◌, ◌*◌, ℕ, [], OnOk, IfOk, IfErr, length};
 ghost use Rattle.std.specs.FinMap as map;
-ghost use Rattle.volume_terms.specs.Sizes.{Sizes, most_file_bytes, greatest_length};
-ghost use Rattle.posix_profile.specs.State.{Objects, IsFile};
-ghost use Rattle.posix_profile.specs.Changes.{with_bytes, written, resized};
-ghost use Rattle.object_store.specs.Facts.{bytes_of};
-ghost use Rattle.pages.specs.Changes.{IsChange, IsOnlyOf};
+ghost use Rattle.volume_terms.specs.Sizes.{most_file_bytes};
+ghost use Rattle.posix_profile.specs.State.{IsFile};
+ghost use Rattle.pages.specs.Changes.{IsOnlyOf};
 ghost use Rattle.pages.specs.Faults.{MayLackMemory, SaysWhyChanging};
-ghost use Rattle.pages.specs.Maps.{changed};
 ghost use Rattle.pages.specs.State.{OnlyFinds, KeepsPower};
-ghost use Rattle.paged_objects.specs.Holding.{HoldsIn, HoldsObjects};
 ghost use Rattle.file_io.specs.Writes.{IsChangeIn};
 ghost use Rattle.paged_objects.specs.Making.{IfWithin, MakesAll, MakesBy, after_write};
 ghost use Rattle.paged_objects.specs.Placed.{OfHeld};

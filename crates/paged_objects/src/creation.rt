@@ -1,11 +1,8 @@
 // The pages of a new object.
-ghost use Rattle.std.specs.Prelude.{◌≡◌, ◌≢◌, ◌≤◌, ℕ, Some, None, IfOk, IfErr, length};
-ghost use Rattle.volume_terms.specs.Sizes.{Sizes, root_number};
-ghost use Rattle.object_store.specs.Changes.{empty_object};
-ghost use Rattle.pages.specs.Changes.{IsChange, IsOnlyOf};
-ghost use Rattle.pages.specs.Maps.{PageMap, changed};
+ghost use Rattle.std.specs.Prelude.{◌≡◌, ◌≢◌, ◌≤◌, Some, IfOk, IfErr, length};
+ghost use Rattle.pages.specs.Changes.{IsOnlyOf};
+ghost use Rattle.pages.specs.Maps.{changed};
 ghost use Rattle.pages.specs.declared.fault.PageFault.TheVariants as faults;
-ghost use Rattle.paged_objects.specs.Holding.{HoldsObject};
 ghost use Rattle.file_io.specs.Writes.{IsChangeIn};
 ghost use Rattle.paged_objects.specs.Making.{HoldsEmpty, OfBare, OfUnused};
 

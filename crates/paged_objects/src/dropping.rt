@@ -1,13 +1,11 @@
 // Names that left their slots, in the index of names.
-ghost use Rattle.std.specs.Prelude.{◌≡◌, ◌-◌, ◌≤◌, ◌<◌, ℕ, ◌^◌};
-ghost use Rattle.name_index.specs.Hashes.{fnv1a};
+ghost use Rattle.std.specs.Prelude.{◌≡◌, ◌-◌, ◌≤◌, ◌<◌, ◌^◌};
 ghost use Rattle.volume_terms.specs.Sizes.{Sizes};
 ghost use Rattle.posix_profile.specs.State.{Objects};
-ghost use Rattle.object_store.specs.Changes.{made, without};
-ghost use Rattle.object_store.specs.Told.{Tells};
+ghost use Rattle.object_store.specs.Changes.{without};
 ghost use Rattle.pages.specs.Maps.{PageMap};
 ghost use Rattle.paged_objects.specs.Naming.{HasNames};
-ghost use Rattle.paged_objects.specs.Changing.{HasLeft, HasLeftBy};
+ghost use Rattle.paged_objects.specs.Changing.{HasLeftBy};
 ghost use Rattle.paged_objects.specs.Making.{HasLeftName, OfNames, OfNamesMade};
 
 use directories::LeftSlot;

@@ -1,13 +1,8 @@
 // The names of objects after a change, in an index.
-ghost use Rattle.std.specs.Prelude.{◌≡◌, true, OnOk};
-ghost use Rattle.volume_terms.specs.Sizes.{Sizes, IsSizes};
-ghost use Rattle.posix_profile.specs.Charge.{fits};
-ghost use Rattle.posix_profile.specs.State.{Objects};
+ghost use Rattle.std.specs.Prelude.{◌≡◌, OnOk};
 ghost use Rattle.pages.specs.Changes.{AreSized};
-ghost use Rattle.pages.specs.Maps.{changed};
 ghost use Rattle.directories.specs.Hashing.{HoldsMore};
-ghost use Rattle.paged_objects.specs.Holding.{HoldsObjects};
-ghost use Rattle.paged_objects.specs.Naming.{HasNames, HoldsNamed, WritesNames};
+ghost use Rattle.paged_objects.specs.Naming.{HasNames};
 ghost use Rattle.paged_objects.specs.Making.{OfHashed};
 
 use directories::hash_change;

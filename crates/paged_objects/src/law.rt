@@ -1,11 +1,5 @@
 // What a mount finds of the objects. A function here does nothing: its clause is the law.
-ghost use Rattle.std.specs.Prelude.{◌≡◌, ◌≤◌, true};
-ghost use Rattle.flash_tree.specs.Sound.{IsSoundFlash};
-ghost use Rattle.pages.specs.State.{PagesState};
-ghost use Rattle.pages.specs.Stores.{HasNumbersLeft, bad_on};
-ghost use Rattle.posix_profile.specs.State.{Objects};
-ghost use Rattle.volume_terms.specs.Sizes.{Sizes};
-ghost use Rattle.paged_objects.specs.Standing.{Shown};
+ghost use Rattle.std.specs.Prelude.{◌≡◌, ◌≤◌};
 ghost use Rattle.paged_objects.specs.PageLaws.{ShownTreesAreOnTheFlash};
 
 /// The tree that a mount would show is sound on the flash of an honest device, as long as numbers are left and no more

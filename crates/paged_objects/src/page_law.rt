@@ -1,17 +1,12 @@
 // Laws of pages that hold objects.
-ghost use Rattle.std.specs.Prelude.{◌≤◌, ◌+◌, ℕ, List, ◌∷◌, [], length};
+ghost use Rattle.std.specs.Prelude.{◌≤◌, ◌+◌, ◌∷◌, []};
 ghost use Rattle.std.specs.FinMap as map;
-ghost use Rattle.nand_model.specs.declared.geometry.Geometry.{Geometry};
-ghost use Rattle.flash_tree.specs.Mount.{sizes_of, IsVolume};
 ghost use Rattle.flash_tree.specs.Tree.{Shows};
-ghost use Rattle.flash_tree.specs.declared.place.Key.{Key};
-ghost use Rattle.volume_terms.specs.Sizes.{Sizes, IsSizes};
-ghost use Rattle.posix_profile.specs.Charge.{charge};
+ghost use Rattle.volume_terms.specs.Sizes.{Sizes};
 ghost use Rattle.posix_profile.specs.State.{Objects};
 ghost use Rattle.posix_profile.specs.WellFormed.{IsForest};
 ghost use Rattle.object_store.specs.Stores.{settled};
-ghost use Rattle.pages.specs.Maps.{PageMap, has, without_cuts};
-ghost use Rattle.paged_objects.specs.Counting.{IsOnce, HavePages};
+ghost use Rattle.pages.specs.Maps.{PageMap, has};
 ghost use Rattle.paged_objects.specs.Holding.{HoldsObjects};
 ghost use Rattle.paged_objects.specs.PageLaws.{CutObjectsAreHeldNoMore, HeldObjectsAreAVolume, PagesAreCharged};
 

@@ -1,17 +1,10 @@
 // A change of objects as one of pages.
 ghost use Rattle.std.specs.Prelude.{◌≡◌, ◌↔◌, ℕ, true, false, IsTrue, OnOk, IfOk, IfErr, Some, slice_get};
-ghost use Rattle.volume_terms.specs.Sizes.{Sizes};
-ghost use Rattle.posix_profile.specs.State.{Objects};
-ghost use Rattle.posix_profile.specs.Changes.{new_number};
 ghost use Rattle.flash_tree.specs.declared.place.FreshPage.{FreshPage};
-ghost use Rattle.object_store.specs.Changes.{made, CanMake};
-ghost use Rattle.pages.specs.Changes.{IsChange, IsTreeKey, AreOfTrees};
+ghost use Rattle.object_store.specs.Changes.{CanMake};
+ghost use Rattle.pages.specs.Changes.{IsTreeKey, AreOfTrees};
 ghost use Rattle.pages.specs.Faults.{MayLackMemory, SaysWhyChanging};
-ghost use Rattle.pages.specs.Maps.{changed};
 ghost use Rattle.pages.specs.State.{OnlyFinds, KeepsPower};
-ghost use Rattle.paged_objects.specs.Holding.{HoldsObjects};
-ghost use Rattle.paged_objects.specs.Naming.{HoldsNamed, WritesNames};
-ghost use Rattle.object_store.specs.Stores.{CanHave};
 ghost use Rattle.paged_objects.specs.Plans.{most_pages};
 ghost use Rattle.file_io.specs.Writes.{IsChangeIn};
 ghost use Rattle.paged_objects.specs.Making.{IfPlanned, MakesBy, WritesBy};

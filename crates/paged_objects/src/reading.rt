@@ -1,14 +1,10 @@
 // What is read of the objects that the pages hold.
-ghost use Rattle.std.specs.Prelude.{◌≡◌, OnOk, IfOk, IfErr, ◌≤◌, length, take, drop};
+ghost use Rattle.std.specs.Prelude.{◌≡◌, OnOk, IfOk, IfErr, ◌≤◌, length, drop};
 ghost use Rattle.std.specs.FinMap as map;
-ghost use Rattle.volume_terms.specs.Sizes.{Sizes};
-ghost use Rattle.posix_profile.specs.State.{Objects, IsFile, IsDirectory, entries_of};
-ghost use Rattle.object_store.specs.Facts.{bytes_from, bytes_of};
+ghost use Rattle.posix_profile.specs.State.{IsDirectory};
 ghost use Rattle.pages.specs.Faults.{MayLack, MayLackMemory, SaysWhy, SaysWhyMaking};
 ghost use Rattle.pages.specs.State.{OnlyFinds, KeepsPower};
 ghost use Rattle.directories.specs.Named.{AsksHeld};
-ghost use Rattle.paged_objects.specs.Holding.{HoldsIn};
-ghost use Rattle.paged_objects.specs.Naming.{HoldsNamed};
 ghost use Rattle.file_io.specs.Reads.{HasRead};
 ghost use Rattle.paged_objects.specs.Making.{AreNamesIn, IsFoundIn};
 ghost use Rattle.paged_objects.specs.Placed.{IfCounted, IfLong, OfHeld, OfNamed, bytes_in};

@@ -1,22 +1,16 @@
 // A volume over pages.
-ghost use Rattle.std.specs.Prelude.{◌≡◌, ◌⊎◌, ◌≤◌, ℕ, true, false, length, Err, IfOk, IfErr, OnOk};
+ghost use Rattle.std.specs.Prelude.{◌≡◌, ◌⊎◌, ◌≤◌, ℕ, true, false, length, Err, OnOk};
 ghost use Rattle.std.specs.FinMap as map;
-ghost use Rattle.volume_terms.specs.Sizes.{Sizes, IsSizes, most_written};
-ghost use Rattle.posix_profile.specs.Losses.{is_synced};
-ghost use Rattle.nand_model.specs.Changes.{OnlyReads};
-ghost use Rattle.posix_profile.specs.Requests.{command_of, stamped_of};
-ghost use Rattle.posix_profile.specs.Runs.{Replies, after_one, is_stop};
+ghost use Rattle.volume_terms.specs.Sizes.{Sizes, most_written};
+ghost use Rattle.posix_profile.specs.Requests.{stamped_of};
 ghost use Rattle.posix_profile.specs.State.{Objects, State};
-ghost use Rattle.posix_profile.specs.laws.Sound.{IsSound};
 ghost use Rattle.posix_profile.specs.declared.reply.Errno.TheVariants as errors;
 ghost use Rattle.posix_profile.specs.declared.reply.Reply.TheVariants as replies;
-ghost use Rattle.paged_objects.specs.Naming.{HasNames};
 ghost use Rattle.object_store.specs.Stores.{settled};
-ghost use Rattle.object_store.specs.Told.{table_sizes, Tells};
-ghost use Rattle.command_plans.specs.Classes.{makes_no_call};
-ghost use Rattle.pages.specs.Stores.{GoesOn, HasFailed};
-ghost use Rattle.paged_objects.specs.Ending.{StaysAs, HasEnded};
-ghost use Rattle.paged_objects.specs.Standing.{StandsFor, Shown};
+ghost use Rattle.object_store.specs.Told.{table_sizes};
+ghost use Rattle.pages.specs.Stores.{GoesOn};
+ghost use Rattle.paged_objects.specs.Ending.{HasEnded};
+ghost use Rattle.paged_objects.specs.Standing.{Shown};
 
 use command_plans::table::DescriptorTable;
 use object_commands::Volume;

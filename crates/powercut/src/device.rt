@@ -1,5 +1,5 @@
 // A device in memory that is known to keep its plan.
-ghost use Rattle.std.specs.Prelude.{◌≡◌, ◌<◌, ◌^◌, ℕ, true, false};
+ghost use Rattle.std.specs.Prelude.{◌≡◌, ◌<◌, ◌^◌, ℕ, false};
 ghost use Rattle.nand_model.specs.Calls.{Device, Lasts};
 ghost use Rattle.nand_model.specs.Plans.{Plan};
 ghost use Rattle.nand_model.specs.MemoryState.{device, plan};

@@ -1,5 +1,5 @@
 // What is done between a power-up and the end of a session, on any device.
-ghost use Rattle.std.specs.Prelude.{◌≡◌, true, false, [], ◌∷◌, length, is_some, Ok, IfOk};
+ghost use Rattle.std.specs.Prelude.{◌≡◌, true, false, [], ◌∷◌, is_some, Ok, IfOk};
 ghost use Rattle.nand_model.specs.Calls.{Lasts};
 ghost use Rattle.page_store.specs.Checked.{HasTrueFlash};
 ghost use Rattle.posix_calls.specs.PageVolumes.{pages_of, is_read_only, is_stopped, IsVolumeOf};

@@ -1,5 +1,5 @@
 // The bytes of a file, a chunk at a time.
-ghost use Rattle.std.specs.Prelude.{◌≡◌, ◌≤◌, ◌+◌, ℕ, ◌++◌, length, min, take, drop, replicate, IfOk, IfErr, OnErr, IfSome, IfNone, ◌≢◌};
+ghost use Rattle.std.specs.Prelude.{◌≡◌, ◌≤◌, ◌+◌, ◌++◌, length, min, take, drop, replicate, IfOk, IfErr, OnErr, IfSome, IfNone, ◌≢◌};
 ghost use Rattle.page_tags.specs.Headers.{Fields, IsHeaderOf};
 ghost use Rattle.page_tags.specs.declared.header.ObjectKind.TheVariants as kinds;
 ghost use Rattle.pages.specs.Maps.{has};

@@ -1,12 +1,11 @@
 // The slots of a directory.
-ghost use Rattle.std.specs.Prelude.{◌≡◌, ◌<◌, ◌≤◌, ◌+◌, ◌*◌, ◌^◌, ℕ, [], true, IfOk, IfErr, OnOk, Some, length, take, drop};
+ghost use Rattle.std.specs.Prelude.{◌≡◌, ◌<◌, ◌≤◌, ◌+◌, ◌*◌, ◌^◌, [], IfOk, IfErr, OnOk, Some, length, take, drop};
 ghost use Rattle.std.specs.FinMap as map;
 ghost use Rattle.std.specs.Int.{div_ceil};
 ghost use Rattle.page_tags.specs.Slots.{Entry, slot_bytes};
 ghost use Rattle.flash_tree.specs.Slots.{IsTreeSlot};
-ghost use Rattle.pages.specs.Maps.{PageMap};
 ghost use Rattle.pages.specs.State.{PagesState, OnlyFinds, KeepsPower};
-ghost use Rattle.volume_terms.specs.Sizes.{Sizes, page_slots};
+ghost use Rattle.volume_terms.specs.Sizes.{page_slots};
 ghost use Rattle.name_index.specs.Covering.{HasHashes};
 ghost use Rattle.tree_walk.specs.Faults.{IfFault, TellsWhy};
 ghost use Rattle.tree_walk.specs.Hashes.{Keeps};

@@ -2,7 +2,6 @@
 ghost use Rattle.std.specs.Prelude.{◌≡◌, ◌≤◌, ◌+◌, OnOk, IfOk, IfErr};
 ghost use Rattle.pages.specs.Maps.{has};
 ghost use Rattle.pages.specs.State.{OnlyFinds, KeepsPower};
-ghost use Rattle.volume_terms.specs.Sizes.{Sizes};
 ghost use Rattle.tree_walk.specs.Broken.{StopsAt};
 ghost use Rattle.tree_walk.specs.Faults.{IfFault, TellsWhy};
 ghost use Rattle.tree_walk.specs.Hashes.{Keeps, CoversHead};

@@ -1,11 +1,6 @@
 // The table of the objects of a tree.
-ghost use Rattle.std.specs.Prelude.{◌≡◌, true, IfOk};
-ghost use Rattle.volume_terms.specs.Sizes.{IsSizes};
+ghost use Rattle.std.specs.Prelude.{◌≡◌, IfOk};
 ghost use Rattle.volume_terms.specs.VolumeSizes as volume;
-ghost use Rattle.posix_profile.specs.State.{Objects};
-ghost use Rattle.posix_profile.specs.Charge.{fits};
-ghost use Rattle.flash_tree.specs.Tree.{Shows};
-ghost use Rattle.pages.specs.Maps.{PageMap, has};
 ghost use Rattle.object_store.specs.Told.{table_sizes, Tells};
 ghost use Rattle.tree_walk.specs.Building.{OfFitting};
 

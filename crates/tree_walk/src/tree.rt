@@ -1,7 +1,6 @@
 // What is known of a tree that was gone through.
 ghost use Rattle.std.specs.Prelude.{◌≡◌, ◌≤◌, ◌↔◌, IsTrue, option_copied};
-ghost use Rattle.pages.specs.Maps.{PageMap, has};
-ghost use Rattle.volume_terms.specs.Sizes.{Sizes};
+ghost use Rattle.pages.specs.Maps.{has};
 
 use crate::head::Head;
 use flash_tree::Key;
@@ -27,7 +26,7 @@ pub struct Tree {
 }
 
 impl Tree {
-    ghost use Rattle.tree_walk.specs.Trees.{OfHeads, IsLookedUp, head_at, keeps_key, names_of, objects_listed, page_size};
+    ghost use Rattle.tree_walk.specs.Trees.{OfHeads, IsLookedUp, head_at, keeps_key, names_of, objects_listed};
 
     /// The numbers of the objects.
     pub fn objects(&self) -> &[u64]

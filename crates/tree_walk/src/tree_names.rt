@@ -1,12 +1,6 @@
 // The names of a tree, one after the other.
-ghost use Rattle.std.specs.Prelude.{◌≡◌, ℕ, List, Some};
-ghost use Rattle.pages.specs.Maps.{PageMap};
-ghost use Rattle.posix_profile.specs.State.{Objects};
-ghost use Rattle.posix_profile.specs.Changes.{with_name};
+ghost use Rattle.std.specs.Prelude.{◌≡◌, Some};
 ghost use Rattle.object_store.specs.Built.{sizes_built, Builds};
-ghost use Rattle.object_store.specs.Counted.{GetsName};
-ghost use Rattle.tree_walk.specs.Trees.{head_at};
-ghost use Rattle.tree_walk.specs.declared.head.Head.{Head};
 ghost use Rattle.tree_walk.specs.Building.{BuildsNameless, InsertsName, OfShown};
 
 use crate::tree::{NamedObject, Tree};

@@ -1,11 +1,8 @@
 // The objects of a tree, one after the other, without their names.
-ghost use Rattle.std.specs.Prelude.{◌≡◌, ℕ, Some, OnOk};
+ghost use Rattle.std.specs.Prelude.{◌≡◌, Some, OnOk};
 ghost use Rattle.std.specs.FinMap as map;
-ghost use Rattle.pages.specs.Maps.{PageMap};
-ghost use Rattle.posix_profile.specs.State.{Object, Objects};
-ghost use Rattle.object_store.specs.Built.{sizes_built, Builds, IsBare, CanCome};
-ghost use Rattle.tree_walk.specs.Trees.{head_at};
-ghost use Rattle.tree_walk.specs.declared.head.Head.{Head};
+ghost use Rattle.posix_profile.specs.State.{Objects};
+ghost use Rattle.object_store.specs.Built.{sizes_built, Builds};
 ghost use Rattle.tree_walk.specs.Building.{kind_as, BuildsNameless, InsertsObject, OfShown};
 
 use crate::tree::Tree;

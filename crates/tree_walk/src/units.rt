@@ -2,10 +2,7 @@
 ghost use Rattle.std.specs.Prelude.{◌≡◌, ◌<◌, ◌+◌, ◌-◌, ◌^◌, min};
 ghost use Rattle.volume_terms.specs.Rounding.{ceiling};
 ghost use Rattle.volume_terms.specs.VolumeSizes.{sizes_of};
-ghost use Rattle.posix_profile.specs.State.{Objects};
 ghost use Rattle.posix_profile.specs.Charge as costs;
-ghost use Rattle.flash_tree.specs.Tree.{Shows};
-ghost use Rattle.pages.specs.Maps.{PageMap, has};
 ghost use Rattle.tree_walk.specs.Building.{OfThrough};
 ghost use Rattle.tree_walk.specs.Units.{head_cost, told_cost};
 

@@ -1,5 +1,5 @@
 // The root's header, which makes pages a volume.
-ghost use Rattle.std.specs.Prelude.{◌≡◌, ◌⊎◌, ◌<◌, ◌≤◌, ◌+◌, true, OnOk, IfOk, IfErr, IfSome, IfNone, length};
+ghost use Rattle.std.specs.Prelude.{◌≡◌, ◌⊎◌, ◌<◌, ◌≤◌, ◌+◌, OnOk, IfOk, IfErr, IfSome, IfNone, length};
 ghost use Rattle.page_tags.specs.declared.header.ObjectKind.TheVariants as kinds;
 ghost use Rattle.flash_tree.specs.Mount.{IsVolume, IsDamaged, HasWrongRoot, sizes_of};
 ghost use Rattle.pages.specs.Maps.{PageMap, has};

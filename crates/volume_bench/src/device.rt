@@ -1,6 +1,5 @@
 // A device whose calls are counted by their kind.
-ghost use Rattle.std.specs.Prelude.{◌≡◌, ◌<◌, IfOk, true, false, length, Some};
-ghost use Rattle.nand_model.specs.Calls.{Device, Reads, ReadTells, Fills, bytes_of, tag_of, Programs, Erases, Marks};
+ghost use Rattle.std.specs.Prelude.{◌≡◌, ◌<◌, IfOk, Some};
 
 use crate::counts::Counts;
 use nand_model::{EraseFault, Geometry, Gone, Nand, PageKind, ProgramFault};

@@ -19,7 +19,7 @@ const HEIGHT: u64 = 200;
 /// The place below the bars.
 const FOOT: u64 = TOP + HEIGHT;
 
-/// How the bars are drawn.
+/// How the bars are placed.
 #[derive(Clone, Copy)]
 struct Scale {
     /// The width of a bar.

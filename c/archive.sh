@@ -10,7 +10,7 @@
 # PROVE=yes first proves by `rt lib` what changed of those libraries, and builds nothing where the archive was made of the same
 # texts. KEEP=FILE keeps there the LLVM module that the archive is compiled from. JOBS: how many proofs at a time (2).
 set -eu
-kept=${KEEP:+$(realpath -m "$KEEP")}
+module=${KEEP:+$(realpath -m "$KEEP")}
 cd "$(dirname "$0")/.."
 kit=$(dirname "$(dirname "$(readlink -f "$(command -v rt)")")")
 target=${1:-x86_64-unknown-linux-gnu}
@@ -61,7 +61,7 @@ make_keeping_toolchain() {
     done
     cat > "$1/bin/clang" << WRAPPER
 #!/usr/bin/env bash
-for word in "\$@"; do case \$word in *.bc) cat "\$word" > "$kept";; esac; done
+for word in "\$@"; do case \$word in *.bc) cat "\$word" > "$module";; esac; done
 exec -a clang "$kit/toolchain/bin/clang" "\$@"
 WRAPPER
     chmod +x "$1/bin/clang"
@@ -70,7 +70,7 @@ WRAPPER
 visit flash_c
 if [ -n "${PROVE:-}" ]; then
     prove_libraries
-    if [ -z "$kept" ] && [ -e "$archive.made_of" ] && [ "$(made_of)" = "$(cat "$archive.made_of")" ]; then exit; fi
+    if [ -z "$module" ] && [ -e "$archive.made_of" ] && [ "$(made_of)" = "$(cat "$archive.made_of")" ]; then exit; fi
 fi
 sum=$(made_of)
 for name in std $(libraries_of flash_c); do
@@ -81,7 +81,7 @@ for name in std $(libraries_of flash_c); do
     fi
 done
 toolchain=$kit/toolchain
-if [ -n "$kept" ]; then
+if [ -n "$module" ]; then
     toolchain=$(mktemp -d)
     trap 'rm -rf "$toolchain"' EXIT
     make_keeping_toolchain "$toolchain"

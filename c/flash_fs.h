@@ -15,7 +15,7 @@
  * Of a volume that is stopped or not mounted, FLASH_EINVAL of flags or a whence that are none comes first, then these errors.
  *
  * A path is bytes up to a zero, as "/logs/today": at most 4,095, in each component at most 255. Every path starts at the root.
- * A moment is any number of 64 bits, as the seconds since 1970: the library has no clock. It is kept with what a call changes,
+ * A moment is any number of 64 bits, as the seconds since 1970: the library has no clock. It is stored with what a call changes,
  * as the time of its last change: with a new object, with a file that is written, cut or lengthened, and with each directory
  * in which a name is added, removed or replaced.
  *
@@ -42,7 +42,7 @@ extern "C" {
 
 /* Errors: the numbers of Linux, negative. */
 enum {
-    FLASH_EPERM = -1,         /* a directory where a file is asked for by link or unlink */
+    FLASH_EPERM = -1,         /* a directory is given to link or unlink */
     FLASH_ENOENT = -2,        /* nothing has this name */
     FLASH_EIO = -5,           /* the device lost power or failed: the volume is stopped */
     FLASH_EBADF = -9,         /* no such descriptor, or not opened for this */
@@ -84,7 +84,7 @@ enum { FLASH_DONE = 0, FLASH_FAILED = 1 };
 /* A driver of a NAND flash. The struct and its context stay as they are while a volume over it is mounted or salvaged, and only
  * one is: two drivers are of the same flash if they are one struct, or have the same context and the same program function.
  *
- * A function that returns a number other than those it may return, as -1, reports a loss of power: nothing is asked of the
+ * A function that returns a number other than those it may return, as -1, reports a loss of power: no function is called of the
  * driver after that until the next format, mount or salvage.
  *
  * The library keeps to this, whatever the driver returns. It is proved of each request that the library makes, which names the
@@ -94,7 +94,7 @@ enum { FLASH_DONE = 0, FLASH_FAILED = 1 };
  *   - a page is programmed only if its block is not marked bad and was erased since the format or mount began, with
  *     FLASH_DONE, and only the first page after that or the one after the last that was programmed, with FLASH_DONE;
  *   - `data` points to page_bytes bytes, `tag` to tag_bytes, at any address: of no alignment;
- *   - after a loss of power nothing is asked.
+ *   - after a loss of power no function is called.
  *
  * The driver promises this, and no proof reaches it:
  *   - a page whose program returned FLASH_DONE reads as FLASH_WRITTEN with that data and that tag until its block is erased:
@@ -358,7 +358,7 @@ struct flash_place {
 /* Opens what is left on a device. It goes by each page that reads and whose group was completed: of each part of an object by
  * the newest. Where the groups of which no page is lost show a tree it goes by that one, as a mount that reads all tags does.
  * It reads the tag of each page of a good block once or twice, and what a look through the tree takes; it takes memory by the
- * number of pages that are kept, which a close gives back. Errors: EBUSY it is open, or a volume of the driver is mounted, or
+ * number of pages that are cached, which a close gives back. Errors: EBUSY it is open, or a volume of the driver is mounted, or
  * salvaged by another; EINVAL sizes out of range, or an address of `left`; EIO; ENOMEM; EMFILE. After an error it is not open,
  * unless it was before.
  */

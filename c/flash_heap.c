@@ -108,7 +108,7 @@ void flash_memory_dealloc(uint8_t *at)
     join(block);
 }
 
-struct flash_memory flash_memory_realloc(uint8_t *at, size_t kept, size_t bytes, size_t align)
+struct flash_memory flash_memory_realloc(uint8_t *at, size_t preserved, size_t bytes, size_t align)
 {
     struct block *block = (struct block *)(void *)at - 1;
     size_t before = block->size, size = size_for(bytes);
@@ -124,7 +124,7 @@ struct flash_memory flash_memory_realloc(uint8_t *at, size_t kept, size_t bytes,
     cut(block, before); /* the neighbours are free again */
     struct flash_memory moved = flash_memory_alloc(bytes, align);
     if (moved.given) {
-        memcpy(moved.at, at, kept < bytes ? kept : bytes);
+        memcpy(moved.at, at, preserved < bytes ? preserved : bytes);
         flash_memory_dealloc(at);
     }
     return moved;

@@ -17,9 +17,9 @@ struct flash_memory flash_memory_alloc(size_t bytes, size_t align)
     return given(malloc(bytes > 0 ? bytes : 1));
 }
 
-struct flash_memory flash_memory_realloc(uint8_t *at, size_t kept, size_t bytes, size_t align)
+struct flash_memory flash_memory_realloc(uint8_t *at, size_t preserved, size_t bytes, size_t align)
 {
-    (void)kept;
+    (void)preserved;
     (void)align;
     return given(realloc(at, bytes > 0 ? bytes : 1));
 }

@@ -23,10 +23,10 @@ struct flash_memory {
  */
 struct flash_memory flash_memory_alloc(size_t bytes, size_t align);
 
-/* Makes a block larger or smaller; its first `kept` bytes, or `bytes` if that is fewer, stay. If this is refused, the block
+/* Makes a block larger or smaller; its first `preserved` bytes, or `bytes` if that is fewer, stay. If this is refused, the block
  * stays as it is.
  */
-struct flash_memory flash_memory_realloc(uint8_t *at, size_t kept, size_t bytes, size_t align);
+struct flash_memory flash_memory_realloc(uint8_t *at, size_t preserved, size_t bytes, size_t align);
 
 /* Gives a block back. */
 void flash_memory_dealloc(uint8_t *at);

@@ -85,12 +85,12 @@ names() {
     sed -n 's/^[a-z].*[ *]\(flash_[a-z_]*\)(.*;$/\1/p; s/^int flash_\(link\|rename\)(.*,$/flash_\1/p' flash_port.c |
         grep -v -e '^flash_port_write' -e '^flash_port_read' -e '^flash_port_close' | sort > "$work/known"
     diff "$work/exported" "$work/known" || return 1
-    $NM -u "$OUT/flash_fs.o" | awk '{ print $2 }' | sort > "$work/asked"
+    $NM -u "$OUT/flash_fs.o" | awk '{ print $2 }' | sort > "$work/wanted"
     printf '%s\n' __stack_chk_fail __memcpy_chk bcmp memcmp memcpy memmove memset strlen _GLOBAL_OFFSET_TABLE_ |
         sort - "$work/memory" > "$work/allowed"
-    if [ -n "$(comm -23 "$work/asked" "$work/allowed")" ]; then
+    if [ -n "$(comm -23 "$work/wanted" "$work/allowed")" ]; then
         echo "the library asks for more than it may:"
-        comm -23 "$work/asked" "$work/allowed"
+        comm -23 "$work/wanted" "$work/allowed"
         return 1
     fi
 }
@@ -116,7 +116,7 @@ images() {
     [ "$(awk '{ print $NF }' "$work/tree" | tr '\n' ' ')" = "/a/ /a/b /c " ] && [ "$("$OUT/list" "$work/program.img" /c)" = hello ]
 }
 
-# An image that the program of the repository made, which is kept with its tests, is shown by C.
+# An image that the program of the repository made, which is among its tests, is shown by C.
 image_of_program() {
     cp "$1" "$work/made.img" && "$OUT/list" "$work/made.img" > "$work/tree" && cat "$work/tree" && cmp "$1" "$work/made.img" &&
         [ "$(awk '{ print $NF }' "$work/tree")" = /a/ ]
@@ -277,8 +277,8 @@ else
     skip "the driver of Linux's devices" "no mtd/mtd-user.h with MEMREAD"
 fi
 run "the skeleton of an SPI driver compiles" $CC $FLAGS -c -o "$OUT/spi_nand.o" drivers/spi_nand.c
-run "drawn calls beside the model" "$OUT/test_model" 2500
-run "drawn calls beside the model, in a region of memory" "$OUT/test_model_in_region" 500 7
+run "random calls beside the model" "$OUT/test_model" 2500
+run "random calls beside the model, in a region of memory" "$OUT/test_model_in_region" 500 7
 run "power that goes, and calls that fail" "$OUT/test_cuts" $cuts
 run "pages and blocks that cuts leave torn" "$OUT/test_torn" $torn
 run "drivers that lie" "$OUT/test_lies" 500
@@ -290,7 +290,7 @@ run "the example hello" "$OUT/hello"
 run "the example power_loss" "$OUT/power_loss"
 run "an image that C made, shown by C" image_of_c
 run "what is left of an image, shown by the example salvage" left_of_image
-run "an image that the program made, shown by C" image_of_program ../crates/program_stories/data/made.img
+run "an image that the program made, shown by C" image_of_program ../crates/program_scenarios/data/made.img
 run "raw pages of an image, and back" raw_pages
 run "raw pages on a chip with a bad block" moved
 if [ -x ../crates/flashsh/out/flashsh ]; then
@@ -335,7 +335,7 @@ elif [ "${1:-}" != quick ]; then
             sanitized test_salvage test/refused_memory.c && sanitized test_salvage_files flash_malloc.c &&
             sanitized test_weak flash_malloc.c && sanitized test_drivers flash_malloc.c &&
             sanitized test_page_code flash_malloc.c'
-        run "sanitizer: drawn calls" "$OUT/test_model_sanitized" 1000 3
+        run "sanitizer: random calls" "$OUT/test_model_sanitized" 1000 3
         run "sanitizer: drivers that lie" "$OUT/test_lies_sanitized" 100 3
         run "sanitizer: power that goes" "$OUT/test_cuts_sanitized" 50 3
         run "sanitizer: memory that is refused" "$OUT/test_memory_sanitized" 20 3
@@ -349,7 +349,7 @@ elif [ "${1:-}" != quick ]; then
     fi
     if has valgrind; then
         checked() { valgrind -q --error-exitcode=9 --leak-check=full --show-leak-kinds=definite "$@"; }
-        run "valgrind: drawn calls" checked "$OUT/test_model" 300 5
+        run "valgrind: random calls" checked "$OUT/test_model" 300 5
         run "valgrind: drivers that lie" checked "$OUT/test_lies" 60 5
         run "valgrind: memory that is refused" checked "$OUT/test_memory" 4 5
         run "valgrind: what is left of damaged volumes" checked "$OUT/test_salvage"

@@ -14,7 +14,7 @@ echo '| Workload | Reads | Programs | Erases | Instructions, millions |'
 echo '|---|---|---|---|---|'
 for name in ${*:-small_files in_order overwrites appends renames churn reads random_reads seeks unmount}; do
     row=$("$OUT/workloads" $name)
-    instructions='not counted'
+    instructions='not measured'
     if command -v valgrind > /dev/null && [ -f /usr/include/valgrind/callgrind.h ]; then
         valgrind -q --tool=callgrind --collect-atstart=no --callgrind-out-file="$work/$name" "$OUT/workloads" $name > /dev/null 2>&1
         instructions=$(awk '$1 == "summary:" || $1 == "totals:" { n = $2 } END { printf "%.2f", n / 1000000 }' "$work/$name")

@@ -12,7 +12,7 @@
 #include <string.h>
 #include <ucontext.h>
 
-/* ---- The memory of the library, counted. */
+/* ---- The memory of the library, measured. */
 
 static struct {
     size_t now, peak, blocks;
@@ -55,11 +55,11 @@ void flash_memory_dealloc(uint8_t *at)
 }
 
 /* As one that moves: for a moment both blocks are there. */
-struct flash_memory flash_memory_realloc(uint8_t *at, size_t kept, size_t bytes, size_t align)
+struct flash_memory flash_memory_realloc(uint8_t *at, size_t preserved, size_t bytes, size_t align)
 {
     struct flash_memory moved = flash_memory_alloc(bytes, align);
     if (moved.given) {
-        memcpy(moved.at, at, kept < bytes ? kept : bytes);
+        memcpy(moved.at, at, preserved < bytes ? preserved : bytes);
         flash_memory_dealloc(at);
     }
     return moved;

@@ -40,7 +40,7 @@ static void expect(bool holds, const char *what)
     exit(1);
 }
 
-/* ---- The driver in memory, whose instructions are not counted. */
+/* ---- The driver in memory, whose instructions are left out. */
 
 static int is_bad(void *context, uint32_t block)
 {
@@ -120,10 +120,10 @@ static void before_overwrites(void)
 
 static void overwrites(void)
 {
-    uint64_t drawn = 1;
+    uint64_t random_state = 1;
     for (int i = 0; i < 2000; i++) {
-        drawn = drawn * UINT64_C(6364136223846793005) + UINT64_C(1442695040888963407);
-        int64_t place = (int64_t)((drawn >> 33) % 2048) * 512;
+        random_state = random_state * UINT64_C(6364136223846793005) + UINT64_C(1442695040888963407);
+        int64_t place = (int64_t)((random_state >> 33) % 2048) * 512;
         expect(flash_fs_seek(&fs, overwritten, place, FLASH_SEEK_SET) == place, "seek");
         expect(flash_fs_write(&fs, overwritten, bytes, 512, 0) == 512 && flash_fs_fsync(&fs, overwritten) == 0, "an overwrite");
     }
@@ -159,10 +159,10 @@ static void reads(void)
 static void random_reads(void)
 {
     static uint8_t piece[512];
-    uint64_t drawn = 1;
+    uint64_t random_state = 1;
     for (int i = 0; i < 4096; i++) {
-        drawn = drawn * UINT64_C(6364136223846793005) + UINT64_C(1442695040888963407);
-        int64_t place = (int64_t)((drawn >> 33) % 8192) * 512;
+        random_state = random_state * UINT64_C(6364136223846793005) + UINT64_C(1442695040888963407);
+        int64_t place = (int64_t)((random_state >> 33) % 8192) * 512;
         expect(flash_fs_seek(&fs, read_from, place, FLASH_SEEK_SET) == place, "seek");
         expect(flash_fs_read(&fs, read_from, piece, sizeof piece) == sizeof piece, "a read of 512 bytes");
     }
@@ -203,10 +203,10 @@ static void before_churn(void)
 static void churn(void)
 {
     char path[32];
-    uint64_t drawn = 1;
+    uint64_t random_state = 1;
     for (int i = 0; i < 1000; i++) {
-        drawn = drawn * UINT64_C(6364136223846793005) + UINT64_C(1442695040888963407);
-        int number = (int)((drawn >> 33) % 64);
+        random_state = random_state * UINT64_C(6364136223846793005) + UINT64_C(1442695040888963407);
+        int number = (int)((random_state >> 33) % 64);
         snprintf(path, sizeof path, "/f%02d", number);
         expect(flash_fs_unlink(&fs, path, 0) == 0, path);
         write_file(number);

@@ -19,10 +19,10 @@ const char *cut_nand_way(unsigned way)
     return ways[way % CUT_NAND_WAYS];
 }
 
-static uint32_t drawn(struct cut_nand *cut, uint32_t below)
+static uint32_t random_below(struct cut_nand *cut, uint32_t below)
 {
-    cut->drawn = cut->drawn * UINT64_C(6364136223846793005) + UINT64_C(1442695040888963407);
-    return (uint32_t)(cut->drawn >> 33) % below;
+    cut->random_state = cut->random_state * UINT64_C(6364136223846793005) + UINT64_C(1442695040888963407);
+    return (uint32_t)(cut->random_state >> 33) % below;
 }
 
 static size_t raw_bytes(const struct cut_nand *cut)
@@ -82,7 +82,7 @@ static size_t tag_place(const struct cut_nand *cut, uint32_t at)
 static void leave_bit(struct cut_nand *cut, uint8_t *raw, size_t from, size_t size)
 {
     for (int tries = 0; tries < 10000; tries++) {
-        uint32_t bit = drawn(cut, (uint32_t)size * 8);
+        uint32_t bit = random_below(cut, (uint32_t)size * 8);
         uint8_t mask = (uint8_t)(1u << bit % 8);
         if ((raw[from + bit / 8] & mask) == 0) {
             raw[from + bit / 8] |= mask;
@@ -94,7 +94,7 @@ static void leave_bit(struct cut_nand *cut, uint8_t *raw, size_t from, size_t si
 static void leave_bit_of_tag(struct cut_nand *cut, uint8_t *raw)
 {
     for (int tries = 0; tries < 10000; tries++) {
-        size_t place = tag_place(cut, drawn(cut, cut->raw->tag_bytes));
+        size_t place = tag_place(cut, random_below(cut, cut->raw->tag_bytes));
         if (raw[place] != 0xff) {
             leave_bit(cut, raw, place, 1);
             return;
@@ -135,7 +135,7 @@ static void cut_page(struct cut_nand *cut, uint8_t *raw)
         break;
     case 4:
         for (size_t i = 0; i < all; i++)
-            raw[i] |= (uint8_t)drawn(cut, 256);
+            raw[i] |= (uint8_t)random_below(cut, 256);
         break;
     case 5:
         for (size_t i = 0; i < all * 8 / 100; i++)
@@ -191,7 +191,7 @@ static bool write_block(struct cut_nand *cut, uint32_t block)
     return true;
 }
 
-/* Of the bits of a block none are erased, all, those of the first half of its pages, all that are drawn, or few. */
+/* Of the bits of a block none are erased, all, those of the first half of its pages, random ones, or few. */
 static void erase_in_part(struct cut_nand *cut, uint32_t block)
 {
     uint32_t pages = cut->below->block_pages, way = cut->way % CUT_NAND_WAYS;
@@ -204,8 +204,8 @@ static void erase_in_part(struct cut_nand *cut, uint32_t block)
         memset(cut->block_raw, 0xff, bytes / 2);
     else
         for (size_t i = 0; i < bytes; i++)
-            if (way < 6 || drawn(cut, way < 9 ? 100 : 2000) == 0)
-                cut->block_raw[i] |= (uint8_t)drawn(cut, 256);
+            if (way < 6 || random_below(cut, way < 9 ? 100 : 2000) == 0)
+                cut->block_raw[i] |= (uint8_t)random_below(cut, 256);
     write_block(cut, block);
 }
 
@@ -216,11 +216,11 @@ bool cut_nand_flip(void *context, uint32_t block, uint32_t page, unsigned bits, 
     uint32_t data_bits = cut->below->page_bytes * 8, mark_bits = MARK_BYTES * 8;
     if (!read_block(cut, block))
         return false;
-    cut->drawn = seed;
+    cut->random_state = seed;
     uint8_t *raw = cut->block_raw + raw_bytes(cut) * page;
     memset(cut->page_raw, 0, raw_bytes(cut)); /* the bits that were flipped */
     for (unsigned flipped = 0; flipped < bits && flipped < data_bits;) {
-        uint32_t bit = drawn(cut, (uint32_t)raw_bytes(cut) * 8);
+        uint32_t bit = random_below(cut, (uint32_t)raw_bytes(cut) * 8);
         uint8_t mask = (uint8_t)(1u << bit % 8);
         if ((bit >= data_bits && bit < data_bits + mark_bits) || (cut->page_raw[bit / 8] & mask) != 0)
             continue;
@@ -302,7 +302,7 @@ static int mark_bad(void *context, uint32_t block)
 
 int cut_nand_make(struct cut_nand *cut, const struct flash_driver *below, const struct raw_flash *raw)
 {
-    *cut = (struct cut_nand){.driver = *below, .below = below, .raw = raw, .scratch = below->blocks - 1, .drawn = 1};
+    *cut = (struct cut_nand){.driver = *below, .below = below, .raw = raw, .scratch = below->blocks - 1, .random_state = 1};
     cut->driver.context = cut;
     cut->driver.blocks = below->blocks - 1;
     cut->driver.is_bad = is_bad;

@@ -31,7 +31,7 @@ struct cut_nand {
     struct flash_driver driver; /* its address goes to the functions of flash_fs.h, or to driver_check */
 
     /* What is to happen. */
-    uint64_t cut_at; /* the program or erase, counted from 1 since the power came, in which power goes; 0: none */
+    uint64_t cut_at; /* the program or erase, numbered from 1 since the power came, in which power goes; 0: none */
     unsigned way;    /* and how it is cut */
 
     /* What happened. */
@@ -44,7 +44,7 @@ struct cut_nand {
     const struct flash_driver *below;
     const struct raw_flash *raw;
     uint32_t scratch, scratch_page;
-    uint64_t drawn;
+    uint64_t random_state;
     uint8_t *block_raw, *page_raw;
 };
 

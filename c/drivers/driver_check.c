@@ -19,7 +19,7 @@ static const char *const said[PROMISES] = {
     [AFTER_CUT] = "a block whose call was cut cannot be erased and programmed again",
     [FLIPS] = "a page with so few flipped bits that they are corrected reads otherwise",
     [MANY_FLIPS] = "a page with many flipped bits reads as neither before nor uncorrectable",
-    [MARKS] = "a mark was not kept, or another block has it",
+    [MARKS] = "a mark was lost, or another block has it",
     [CALLS] = "a call returned a number that is not its own",
 };
 
@@ -63,10 +63,10 @@ static void falls_short(struct state *state, enum promise promise, const char *f
 /* Bytes by a seed. Those of a tag are never all 0xff. */
 static void fill(uint8_t *bytes, size_t size, unsigned seed)
 {
-    uint32_t drawn = seed * 2654435761u + 12345;
+    uint32_t random_state = seed * 2654435761u + 12345;
     for (size_t i = 0; i < size; i++) {
-        drawn = drawn * 1664525u + 1013904223u;
-        bytes[i] = seed % 5 == 0 ? (uint8_t)(i == 0 ? seed : 0xff) : (uint8_t)(drawn >> 24);
+        random_state = random_state * 1664525u + 1013904223u;
+        bytes[i] = seed % 5 == 0 ? (uint8_t)(i == 0 ? seed : 0xff) : (uint8_t)(random_state >> 24);
     }
     bytes[0] &= 0x7f;
 }

@@ -34,7 +34,7 @@ struct driver_check {
     /* Brings power back: the driver is as after a start. It may be called without a cut before. Null: never called. */
     void (*power_up)(void *context);
 
-    /* Flips so many bits of a page as it lies on the flash, which are drawn by the seed, none of them of a bad-block mark. False:
+    /* Flips so many bits of a page as it lies on the flash, at random by the seed, none of them of a bad-block mark. False:
      * it could not. Null: not tried. A page in which at most `corrected_bits` are flipped must read as before, and one in which
      * more are as before or as uncorrectable.
      */
@@ -44,7 +44,7 @@ struct driver_check {
     /* For the functions above but way_name. */
     void *context;
 
-    /* Called with a line for each promise that falls short; null: they are counted alone. */
+    /* Called with a line for each promise that falls short; null: only their number is returned. */
     void (*report)(void *context, const char *line);
 };
 

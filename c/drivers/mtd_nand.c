@@ -36,7 +36,7 @@ static uint64_t page_place(const struct mtd_nand *nand, uint32_t block, uint32_t
     return block_place(nand, block) + (uint64_t)page * nand->driver.page_bytes;
 }
 
-/* A call of the kernel failed in a way that says nothing of the flash: nothing is asked of it after that. */
+/* A call of the kernel failed in a way that says nothing of the flash: nothing is read of it after that. */
 static int lost(struct mtd_nand *nand)
 {
     nand->error = errno;
@@ -118,7 +118,7 @@ static int erase(void *context, uint32_t block)
 }
 
 /* The kernel keeps a mark in its table also where the marker in the block's spare area cannot be written, and then reports EIO:
- * the page that is to hold it may be the one that failed. So the block is asked.
+ * the page that is to hold it may be the one that failed. So the block is read.
  */
 static int mark_bad(void *context, uint32_t block)
 {

@@ -113,7 +113,7 @@ static bool find_sums(const struct page_code *code, const uint8_t *word, uint8_t
  */
 static uint32_t find_locator(const struct page_code *code, const uint8_t *sums, uint8_t *locator)
 {
-    uint8_t before[PAGE_CODE_MOST_CHECKS + 1] = {1}, kept[PAGE_CODE_MOST_CHECKS + 1], scale = 1;
+    uint8_t before[PAGE_CODE_MOST_CHECKS + 1] = {1}, previous[PAGE_CODE_MOST_CHECKS + 1], scale = 1;
     uint32_t degree = 0, shift = 1;
     memset(locator, 0, PAGE_CODE_MOST_CHECKS + 1);
     locator[0] = 1;
@@ -123,12 +123,12 @@ static uint32_t find_locator(const struct page_code *code, const uint8_t *sums, 
             off ^= times(locator[j], sums[i - j]);
         if (off == 0)
             continue;
-        memcpy(kept, locator, sizeof kept);
+        memcpy(previous, locator, sizeof previous);
         for (uint32_t j = shift; j <= code->check_bytes; j++)
             locator[j] ^= times(times(off, inverse(scale)), before[j - shift]);
         if (2 * degree <= i) {
             degree = i + 1 - degree;
-            memcpy(before, kept, sizeof before);
+            memcpy(before, previous, sizeof before);
             scale = off;
             shift = 0;
         }

@@ -47,13 +47,13 @@ static bool fails(const struct ram_nand *nand)
     return false;
 }
 
-/* The fate of a page, where they are mixed drawn by the number of the call and that of the page. */
+/* The fate of a page, where they are mixed a random one by the number of the call and that of the page. */
 static enum ram_nand_fate fate_of(const struct ram_nand *nand, uint32_t page)
 {
     if (nand->fate != RAM_NAND_MIXED)
         return nand->fate;
-    uint64_t drawn = (nand->calls * 64 + page + 1) * UINT64_C(0x9e3779b97f4a7c15);
-    return (enum ram_nand_fate)((drawn >> 40) % RAM_NAND_MIXED);
+    uint64_t random_state = (nand->calls * 64 + page + 1) * UINT64_C(0x9e3779b97f4a7c15);
+    return (enum ram_nand_fate)((random_state >> 40) % RAM_NAND_MIXED);
 }
 
 static int is_bad(void *context, uint32_t block)

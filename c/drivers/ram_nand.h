@@ -1,6 +1,6 @@
-/* A NAND flash in memory, for tests: with bad blocks, power that goes at a chosen call, calls that fail, and counted calls.
+/* A NAND flash in memory, for tests: with bad blocks, power that is lost at a chosen call, calls that fail, and a count of calls.
  *
- * It checks what the library promises a driver. The first promise that is broken is kept in `misuse`, and the call returns -1.
+ * It checks what the library promises a driver. The first promise that is broken is held in `misuse`, and the call returns -1.
  */
 #ifndef RAM_NAND_H
 #define RAM_NAND_H
@@ -16,7 +16,7 @@ enum ram_nand_fate {
     RAM_NAND_BEFORE, /* as it was */
     RAM_NAND_AFTER,  /* as it was to be */
     RAM_NAND_LOST,   /* uncorrectable; of a mark: as it was */
-    RAM_NAND_MIXED,  /* each page one of these, drawn by the number of the call */
+    RAM_NAND_MIXED,  /* each page one of these, at random by the number of the call */
     RAM_NAND_FATES
 };
 
@@ -29,7 +29,7 @@ enum { RAM_NAND_FAILURES = 8 };
 struct ram_nand {
     struct flash_driver driver; /* its address goes to the functions of flash_fs.h */
 
-    /* What is to happen. Calls are counted from 1 since the power came. */
+    /* What is to happen. Calls are numbered from 1 since the power came. */
     uint64_t cut_at;                     /* the call in which power goes; 0: none */
     uint64_t fail_at[RAM_NAND_FAILURES]; /* calls that fail if they are a program or an erase; 0: none */
     enum ram_nand_fate fate;             /* of what is cut or fails */

@@ -14,7 +14,7 @@ const APPEND: u32 = 32;
 pub trait Nand {
     fn sizes(&self) -> (u32, u32, u32);
     fn is_bad(&mut self, block: u32) -> Option<bool>;
-    /// The kind of the page: 0 erased, 1 written (then data, where it is asked for, and tag are filled), 2 uncorrectable.
+    /// The kind of the page: 0 erased, 1 written (then data, where it is wanted, and tag are filled), 2 uncorrectable.
     fn read(&mut self, block: u32, page: u32, data: Option<&mut [u8]>, tag: &mut [u8; 48]) -> Option<c_int>;
     /// Whether it was done; false where the chip failed.
     fn program(&mut self, block: u32, page: u32, data: &[u8], tag: &[u8; 48]) -> Option<bool>;
@@ -152,9 +152,9 @@ impl<N: Nand> Volume<N> {
         let (fs, path, mut info) = (self.fs(), CString::new(path).map_err(|_| EINVAL)?, Info::default());
         let fd = checked(unsafe { flash_fs_open(fs, path.as_ptr(), WRITE | CREATE, moment) }.into())? as c_int;
         let wrote = checked(unsafe { flash_fs_pwrite(fs, fd, bytes.as_ptr().cast(), bytes.len(), offset, moment) });
-        let told = checked(unsafe { flash_fs_fstat(fs, fd, &mut info) }.into());
+        let filled = checked(unsafe { flash_fs_fstat(fs, fd, &mut info) }.into());
         unsafe { flash_fs_close(fs, fd) };
-        wrote.and(told).map(|_| info)
+        wrote.and(filled).map(|_| info)
     }
     /// Reads from an offset of a file on, and returns how many bytes came.
     pub fn read_at(self: Pin<&mut Self>, path: &str, buffer: &mut [u8], offset: i64) -> Result<usize, i64> {

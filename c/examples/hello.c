@@ -25,8 +25,8 @@ int main(void)
         boots++;
         flash_fs_seek(&fs, fd, 0, FLASH_SEEK_SET);
         flash_fs_write(&fs, fd, &boots, sizeof boots, boot);
-        code = flash_fs_fsync(&fs, fd); /* from here on it is kept, whenever power goes */
-        printf("boot %u%s\n", boots, code < 0 ? ", not kept" : "");
+        code = flash_fs_fsync(&fs, fd); /* from here on it is durable, whenever power goes */
+        printf("boot %u%s\n", boots, code < 0 ? ", not durable" : "");
         flash_fs_unmount(&fs);
     }
     ram_nand_free(&nand);

@@ -1,4 +1,4 @@
-/* What the kernel is told of an object. */
+/* What is reported to the kernel of an object. */
 #ifndef ATTRIBUTES_H
 #define ATTRIBUTES_H
 
@@ -6,7 +6,7 @@
 
 #include <sys/stat.h>
 
-/* So long the kernel may keep what it was told, in seconds: nobody else changes the volume. */
+/* So long the kernel may cache what was reported to it, in seconds: nobody else changes the volume. */
 #define KEPT_SECONDS 86400.0
 
 struct stat attributes_of(const struct flash_info *facts);

@@ -66,7 +66,7 @@ void write_file(fuse_req_t request, fuse_ino_t number, const char *bytes, size_t
         fuse_reply_write(request, (size_t)count);
 }
 
-/* A sync makes durable what was done before in all files and directories, whichever it is asked for. */
+/* A sync makes durable what was done before in all files and directories, whichever it is called for. */
 void sync_volume(fuse_req_t request, fuse_ino_t number, int data, struct fuse_file_info *file)
 {
     (void)number, (void)data, (void)file;

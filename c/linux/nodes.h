@@ -1,5 +1,5 @@
 /* What the kernel knows of the volume: a node for each object, with the names by which the kernel found it. So a file with two
- * names is one file to the kernel too, and a path is made whenever the volume is asked.
+ * names is one file to the kernel too, and a path is made whenever the volume is called.
  */
 #ifndef NODES_H
 #define NODES_H
@@ -35,7 +35,7 @@ struct node *node_root(void);
 /* The node of an object, or null where the kernel knows none. */
 struct node *node_find(uint64_t object);
 
-/* Gives the kernel the node of an object that was found by a name: made if there is none, and counted once more. Null: memory was
+/* Gives the kernel the node of an object that was found by a name: made if there is none, and its count is one more. Null: memory was
  * refused.
  */
 struct node *node_refer(const struct flash_info *facts, struct node *parent, const char *text);

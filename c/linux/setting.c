@@ -28,7 +28,7 @@ void get_attributes(fuse_req_t request, fuse_ino_t number, struct fuse_file_info
     volume_leave();
 }
 
-/* The moment that is asked for: that of now unless another is. A moment is a number from 0 on, of 64 bits. */
+/* The moment that is given: that of now unless another is. A moment is a number from 0 on, of 64 bits. */
 static bool moment_of(const struct timespec *time, int which, uint64_t *moment)
 {
     if (which & FUSE_SET_ATTR_MTIME_NOW || !(which & FUSE_SET_ATTR_MTIME)) {
@@ -59,7 +59,7 @@ static int set_time(struct node *node, const struct timespec *time, int which)
     return code < 0 ? code : set_length(node, (int64_t)facts.size, moment);
 }
 
-/* Modes and owners are taken as they come, and not kept. */
+/* Modes and owners are taken as they come, and not stored. */
 static int set(struct node *node, const struct stat *wanted, int which)
 {
     const int times = FUSE_SET_ATTR_ATIME | FUSE_SET_ATTR_ATIME_NOW | FUSE_SET_ATTR_MTIME | FUSE_SET_ATTR_MTIME_NOW;

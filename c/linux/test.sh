@@ -4,7 +4,7 @@
 #
 #   bash c/linux/test.sh [SEED]
 #
-# What is drawn follows from the seed, which is printed. FLASH_C_ARCHIVE names a libflash_c.a that is there, as for c/test.sh.
+# What is random follows from the seed, which is printed. FLASH_C_ARCHIVE names a libflash_c.a that is there, as for c/test.sh.
 set -u
 [ -z "${FLASH_C_ARCHIVE:-}" ] || export FLASH_C_ARCHIVE=$(realpath "$FLASH_C_ARCHIVE")
 cd "$(dirname "$0")/.." || exit 2
@@ -80,7 +80,7 @@ mount_in_trouble() {
 
 # ---- The same work in both places.
 
-# The files of a folder: path, length, names, and if it is asked for the time. What is git's own differs by design.
+# The files of a folder: path, length, names, and if it is wanted the time. What is git's own differs by design.
 files_of() { (cd "$1" && find . -path '*/.git' -prune -o -type f -printf "%p %s %n ${2:-}\n" | LC_ALL=C sort); }
 
 # Does work in a folder of its own of the host, then of the volume, and compares: FACTS NAME WORDS..
@@ -97,10 +97,10 @@ beside() {
     unmount_image
 }
 
-# Some of the drawn bytes: FROM COUNT
-bytes() { tail -c +$((1 + $1)) "$work/drawn" | head -c "$2"; }
+# Some of the random bytes: FROM COUNT
+bytes() { tail -c +$((1 + $1)) "$work/random" | head -c "$2"; }
 
-# All is drawn here: in a pipeline the shell draws anew.
+# All random numbers are made here: in a pipeline the shell makes them anew.
 change_a_file() {
     local file=file-$((RANDOM % 30)) other=file-$((RANDOM % 30)) from=$RANDOM count=$RANDOM at=$((RANDOM % 40))
     case $((RANDOM % 7)) in
@@ -234,7 +234,7 @@ opens() {
     unmount_image
 }
 
-# A full volume answers so, and goes on after a removal. A second program is kept away from its image.
+# A full volume answers so, and goes on after a removal. A second program is refused its image.
 fills() {
     local image=$work/small.img
     mount_image "$OUT/flash-fuse" --format
@@ -242,8 +242,8 @@ fills() {
     refused cp "$work/large" "$volume/full"
     [ "$(df --output=avail "$volume" | tail -n 1)" -eq 0 ]
     rm "$volume/full"
-    cp "$work/drawn" "$volume/kept"
-    cmp "$work/drawn" "$volume/kept"
+    cp "$work/random" "$volume/copy"
+    cmp "$work/random" "$volume/copy"
     unmount_image
 }
 
@@ -260,14 +260,14 @@ free_blocks() {
 wears() {
     local image=$work/worn.img block
     mount_image "$OUT/flash-fuse" --format --spare=2
-    cp "$work/drawn" "$volume/kept"
+    cp "$work/random" "$volume/copy"
     unmount_image
     for block in $(free_blocks "$image" | tail -n 3); do
         printf '\1' | dd of="$image" bs=1 seek=$((32 + block)) conv=notrunc status=none
     done
     mount_image "$OUT/flash-fuse"
-    cmp "$work/drawn" "$volume/kept"
-    refused rm "$volume/kept"
+    cmp "$work/random" "$volume/copy"
+    refused rm "$volume/copy"
     refused touch "$volume/new"
     unmount_image
 }
@@ -287,7 +287,7 @@ begin() {
     cp -r drivers examples test linux ./*.c ./*.h "$work/tree"
     # git has the modes of files in its trees, and a volume has none.
     find "$work/tree" -type f -exec chmod 644 {} +
-    seq "$seed" 7 1500000 > "$work/drawn"
+    seq "$seed" 7 1500000 > "$work/random"
     head -c 20M /dev/zero > "$work/large"
     mount_image "$OUT/flash-fuse" --format --blocks=1024 --spare=40
     unmount_image
@@ -320,7 +320,7 @@ if has git; then run "git" beside '' gits; else skip "git" "it is not here"; fi
 if has sqlite3; then run "SQLite's shell" beside '' sqlites; else skip "SQLite's shell" "no sqlite3"; fi
 run "1,000 open files" opens
 run "the image, by other programs" is_shown
-run "kills at drawn moments" kills
+run "kills at random moments" kills
 run "a full volume" fills
 run "a worn volume" wears
 [ ! -e "$work/report" ] || printf '      %s\n' "$(awk '{ changes += $1; remounts += $3; fails += $5 } END { print changes " changes, " remounts " remounts, " fails " programs and erases failed" }' "$work/report")"

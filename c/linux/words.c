@@ -80,7 +80,7 @@ static void show_help(void)
            "    --blocks=N             blocks, 5 to 4096 (64)\n"
            "    --spare=N              blocks that may go bad (one in 50, and one)\n"
            "    --commit=SECONDS       how often all is synced (5); 0: only by fsync and at the end\n"
-           "    --ignore-times         a time that cannot be kept is no error\n"
+           "    --ignore-times         a time that cannot be stored is no error\n"
            "    --synchronous          each change of the image is on the disk before it returns\n"
            "    -o uid=N,gid=N         the owner of everything (who mounts)\n"
            "    -o umask=M             the modes of everything are 0777 without these bits (022)\n"

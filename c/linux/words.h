@@ -12,7 +12,7 @@ struct words {
     unsigned data, pages, blocks; /* the sizes of an image that is made; 0: not said */
     unsigned spare;               /* the spare blocks of a format; UINT_MAX: not said */
     unsigned commit;              /* seconds from sync to sync; 0: none */
-    int ignores_times;            /* a time that cannot be kept is no error */
+    int ignores_times;            /* a time that cannot be stored is no error */
     int synchronous;              /* each change of an image is on the host's disk before it returns */
     int read_only;
     unsigned uid, gid, umask; /* of all files and directories */

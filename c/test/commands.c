@@ -8,7 +8,7 @@
 enum { MOST_BYTES = 1 << 20 };
 static uint8_t bytes_there[MOST_BYTES];
 
-uint32_t drawn(struct draw *draw, uint32_t below)
+uint32_t random_below(struct draw *draw, uint32_t below)
 {
     draw->state += UINT64_C(0x9e3779b97f4a7c15);
     uint64_t z = draw->state;
@@ -17,56 +17,56 @@ uint32_t drawn(struct draw *draw, uint32_t below)
     return (uint32_t)((z ^ (z >> 31)) >> 16) % below;
 }
 
-/* Most paths lead through directories that are likely to be there, and end in a name that is likely of the kind that is asked for. */
+/* Most paths lead through directories that are likely to be there, and end in a name that is likely of the kind that is wanted. */
 static void draw_path(struct draw *draw, char *path, bool of_directory)
 {
     static const char *const names[] = {"a", "b", "c", "e.txt", "\xc3\xa9", "with space", "dir", "old"};
-    uint32_t kind = drawn(draw, 20), depth = kind < 11 ? 1 : kind < 18 ? 2 : 3;
-    if (drawn(draw, 60) == 0) { /* a name of 254 to 257 bytes */
-        size_t length = 254 + drawn(draw, 4);
+    uint32_t kind = random_below(draw, 20), depth = kind < 11 ? 1 : kind < 18 ? 2 : 3;
+    if (random_below(draw, 60) == 0) { /* a name of 254 to 257 bytes */
+        size_t length = 254 + random_below(draw, 4);
         memset(path, 'n', length);
         path[length] = 0;
         return;
     }
     path[0] = 0;
-    if (drawn(draw, 80) == 0)
+    if (random_below(draw, 80) == 0)
         return;
-    if (drawn(draw, 20) != 0)
+    if (random_below(draw, 20) != 0)
         strcat(path, "/");
     for (uint32_t i = 0; i < depth; i++) {
-        uint32_t which = drawn(draw, 60);
-        bool directory = (i + 1 < depth || of_directory) != (drawn(draw, 12) == 0);
+        uint32_t which = random_below(draw, 60);
+        bool directory = (i + 1 < depth || of_directory) != (random_below(draw, 12) == 0);
         strcat(path, which == 0 ? "." : which == 1 ? ".." : directory ? names[6 + which % 2] : names[which % 6]);
-        if (i + 1 < depth || drawn(draw, 30) == 0)
-            strcat(path, drawn(draw, 25) == 0 ? "//" : "/");
+        if (i + 1 < depth || random_below(draw, 30) == 0)
+            strcat(path, random_below(draw, 25) == 0 ? "//" : "/");
     }
-    if (drawn(draw, 150) == 0)
+    if (random_below(draw, 150) == 0)
         strcpy(path, "/");
 }
 
 static uint32_t draw_flags(struct draw *draw)
 {
-    uint32_t flags = drawn(draw, 2) == 0 ? FLASH_RDWR : 1 + drawn(draw, 3);
-    flags |= drawn(draw, 4) != 0 ? FLASH_CREAT : 0;
-    flags |= drawn(draw, 12) == 0 ? FLASH_EXCL : 0;
-    flags |= drawn(draw, 8) == 0 ? FLASH_TRUNC : 0;
-    flags |= drawn(draw, 4) == 0 ? FLASH_APPEND : 0;
-    if (drawn(draw, 100) == 0)
-        flags = drawn(draw, 80);
+    uint32_t flags = random_below(draw, 2) == 0 ? FLASH_RDWR : 1 + random_below(draw, 3);
+    flags |= random_below(draw, 4) != 0 ? FLASH_CREAT : 0;
+    flags |= random_below(draw, 12) == 0 ? FLASH_EXCL : 0;
+    flags |= random_below(draw, 8) == 0 ? FLASH_TRUNC : 0;
+    flags |= random_below(draw, 4) == 0 ? FLASH_APPEND : 0;
+    if (random_below(draw, 100) == 0)
+        flags = random_below(draw, 80);
     return flags;
 }
 
 static size_t draw_size(struct draw *draw, size_t most)
 {
-    switch (drawn(draw, 5)) {
+    switch (random_below(draw, 5)) {
     case 0:
-        return drawn(draw, 8);
+        return random_below(draw, 8);
     case 1:
-        return 512 * (size_t)drawn(draw, 4);
+        return 512 * (size_t)random_below(draw, 4);
     case 2:
-        return 500 + drawn(draw, 30);
+        return 500 + random_below(draw, 30);
     default:
-        return drawn(draw, (uint32_t)most);
+        return random_below(draw, (uint32_t)most);
     }
 }
 
@@ -75,20 +75,20 @@ struct command draw_command(struct draw *draw, size_t most)
     static const enum what often[] = {OPEN,     OPEN,  OPEN,  OPEN,  CLOSE, READ, READ,  WRITE,  WRITE,  WRITE,  WRITE, WRITE,
                                       WRITE,    SEEK,  SEEK,  FSYNC, SYNC,  STAT, MKDIR, MKDIR,  UNLINK, UNLINK, LINK,  RENAME,
                                       TRUNCATE, RMDIR, RENAME, LIST, SPACE, CLOSE, PREAD, PWRITE, PWRITE, FSTAT};
-    struct command command = {.what = often[drawn(draw, sizeof often / sizeof *often)]};
+    struct command command = {.what = often[random_below(draw, sizeof often / sizeof *often)]};
     bool of_directory = command.what == MKDIR || command.what == RMDIR || command.what == LIST ||
-                        (command.what == RENAME && drawn(draw, 4) == 0);
+                        (command.what == RENAME && random_below(draw, 4) == 0);
     draw_path(draw, command.path, of_directory);
     draw_path(draw, command.other, of_directory);
-    command.fd = drawn(draw, 50) == 0 ? (int)drawn(draw, 70) - 3 : (int)drawn(draw, 5);
+    command.fd = random_below(draw, 50) == 0 ? (int)random_below(draw, 70) - 3 : (int)random_below(draw, 5);
     command.flags = draw_flags(draw);
-    command.whence = drawn(draw, 40) == 0 ? (int)drawn(draw, 6) - 2 : (int)drawn(draw, 3);
-    command.offset = (int64_t)drawn(draw, (uint32_t)most * 2) - (int64_t)drawn(draw, (uint32_t)most);
-    if (drawn(draw, 30) == 0)
-        command.offset = drawn(draw, 2) == 0 ? INT64_MAX - (int64_t)drawn(draw, 1000) : -(int64_t)drawn(draw, 2000);
+    command.whence = random_below(draw, 40) == 0 ? (int)random_below(draw, 6) - 2 : (int)random_below(draw, 3);
+    command.offset = (int64_t)random_below(draw, (uint32_t)most * 2) - (int64_t)random_below(draw, (uint32_t)most);
+    if (random_below(draw, 30) == 0)
+        command.offset = random_below(draw, 2) == 0 ? INT64_MAX - (int64_t)random_below(draw, 1000) : -(int64_t)random_below(draw, 2000);
     command.size = draw_size(draw, most);
-    command.seed = drawn(draw, 1000000);
-    command.moment = drawn(draw, 10) == 0 ? UINT64_MAX - drawn(draw, 9) : drawn(draw, 100000);
+    command.seed = random_below(draw, 1000000);
+    command.moment = random_below(draw, 10) == 0 ? UINT64_MAX - random_below(draw, 9) : random_below(draw, 100000);
     return command;
 }
 
@@ -97,7 +97,7 @@ static const uint8_t *bytes_of(const struct command *command)
     static uint8_t bytes[MOST_BYTES];
     struct draw draw = {command->seed};
     for (size_t i = 0; i < command->size; i += 4) {
-        uint32_t word = drawn(&draw, UINT32_MAX);
+        uint32_t word = random_below(&draw, UINT32_MAX);
         memcpy(bytes + i, &word, command->size - i < 4 ? command->size - i : 4);
     }
     return bytes;

@@ -1,4 +1,4 @@
-/* Drawn calls of flash_fs.h, and doing them on a volume and on the model. */
+/* Random calls of flash_fs.h, and doing them on a volume and on the model. */
 #ifndef COMMANDS_H
 #define COMMANDS_H
 
@@ -26,13 +26,13 @@ struct outcome {
     uint64_t filled;
 };
 
-/* A source of drawn numbers. */
+/* A source of random numbers. */
 struct draw {
     uint64_t state;
 };
-uint32_t drawn(struct draw *draw, uint32_t below);
+uint32_t random_below(struct draw *draw, uint32_t below);
 
-/* A call, drawn among few names and descriptors, so that calls meet. `most` is about the most bytes of a write. */
+/* A random call, among few names and descriptors, so that calls meet. `most` is about the most bytes of a write. */
 struct command draw_command(struct draw *draw, size_t most);
 
 struct outcome do_on_volume(struct flash_fs *fs, const struct command *command);

@@ -66,24 +66,24 @@ void model_free(struct model *model)
 }
 
 /* Finds which objects are named, or the root, or open. */
-static void find_kept(const struct model *model, bool *kept)
+static void find_used(const struct model *model, bool *used)
 {
-    memset(kept, 0, MODEL_OBJECTS * sizeof *kept);
-    kept[MODEL_ROOT] = true;
+    memset(used, 0, MODEL_OBJECTS * sizeof *used);
+    used[MODEL_ROOT] = true;
     for (uint32_t o = 0; o < MODEL_OBJECTS; o++)
         for (uint32_t i = 0; i < model->objects[o].count; i++)
-            kept[model->objects[o].entries[i].object] = true;
+            used[model->objects[o].entries[i].object] = true;
     for (int fd = 0; fd < MODEL_DESCRIPTORS; fd++)
         if (model->handles[fd].object != 0)
-            kept[model->handles[fd].object] = true;
+            used[model->handles[fd].object] = true;
 }
 
 static void prune(struct model *model)
 {
-    bool kept[MODEL_OBJECTS];
-    find_kept(model, kept);
+    bool used[MODEL_OBJECTS];
+    find_used(model, used);
     for (uint32_t o = 0; o < MODEL_OBJECTS; o++)
-        if (!kept[o])
+        if (!used[o])
             forget(&model->objects[o]);
 }
 
@@ -107,11 +107,11 @@ static uint64_t cost(const struct model *model, const struct model_object *objec
 
 static uint64_t charge(const struct model *model)
 {
-    bool kept[MODEL_OBJECTS];
+    bool used[MODEL_OBJECTS];
     uint64_t sum = 0;
-    find_kept(model, kept);
+    find_used(model, used);
     for (uint32_t o = 0; o < MODEL_OBJECTS; o++)
-        if (kept[o])
+        if (used[o])
             sum += cost(model, &model->objects[o]);
     return sum;
 }
@@ -639,17 +639,17 @@ int64_t model_write(struct model *model, int fd, const uint8_t *bytes, size_t si
     return (int64_t)done;
 }
 
-/* The offset of a read or a write of its own: the descriptor's is kept aside. */
+/* The offset of a read or a write of its own: the descriptor's is set aside. */
 int64_t model_pread(struct model *model, int fd, uint8_t *buffer, size_t size, int64_t offset)
 {
     int64_t code = model_read(model, fd, buffer, 0);
     if (code < 0 || offset < 0)
         return code < 0 ? code : FLASH_EINVAL;
     struct model_handle *handle = handle_of(model, fd);
-    uint64_t kept = handle->offset;
+    uint64_t before = handle->offset;
     handle->offset = (uint64_t)offset;
     code = model_read(model, fd, buffer, size);
-    handle->offset = kept;
+    handle->offset = before;
     return code;
 }
 
@@ -660,10 +660,10 @@ int64_t model_pwrite(struct model *model, int fd, const uint8_t *bytes, size_t s
     if (code < 0 || offset < 0)
         return code < 0 ? code : FLASH_EINVAL;
     struct model_handle *handle = handle_of(model, fd);
-    uint64_t kept = handle->offset;
+    uint64_t before = handle->offset;
     handle->offset = (uint64_t)offset;
     code = model_write(model, fd, bytes, size, moment, each, context);
-    handle->offset = kept;
+    handle->offset = before;
     return code;
 }
 

@@ -39,7 +39,7 @@ struct model *model_make(uint32_t page_bytes, uint32_t block_pages, uint32_t blo
 struct model *model_clone(const struct model *model);
 void model_free(struct model *model);
 
-/* What a mount shows: no descriptor is open, and what only they kept is gone. */
+/* What a mount shows: no descriptor is open, and what only they held is gone. */
 void model_settle(struct model *model);
 
 /* A number of the tree that a mount would show: of names, kinds, numbers, links, moments and bytes. */

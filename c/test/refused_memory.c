@@ -11,9 +11,9 @@ static uint8_t nothing;
 
 static bool is_refused(void)
 {
-    memory.asked++;
+    memory.calls++;
     bool refuses = memory.refuse_at != 0 &&
-                   (memory.asked == memory.refuse_at || (memory.refuse_on && memory.asked > memory.refuse_at));
+                   (memory.calls == memory.refuse_at || (memory.refuse_on && memory.calls > memory.refuse_at));
     memory.refused += refuses;
     return refuses;
 }
@@ -27,13 +27,13 @@ struct flash_memory flash_memory_alloc(size_t bytes, size_t align)
     return (struct flash_memory){true, malloc(bytes + 1)};
 }
 
-struct flash_memory flash_memory_realloc(uint8_t *at, size_t kept, size_t bytes, size_t align)
+struct flash_memory flash_memory_realloc(uint8_t *at, size_t preserved, size_t bytes, size_t align)
 {
     check(align <= 16, "an alignment of %zu", align);
-    if (bytes > kept && is_refused())
+    if (bytes > preserved && is_refused())
         return (struct flash_memory){false, &nothing};
     uint8_t *moved = malloc(bytes + 1); /* another place each time */
-    memcpy(moved, at, kept < bytes ? kept : bytes);
+    memcpy(moved, at, preserved < bytes ? preserved : bytes);
     free(at);
     return (struct flash_memory){true, moved};
 }
@@ -46,7 +46,7 @@ void flash_memory_dealloc(uint8_t *at)
 
 void refuse(uint64_t at, bool on)
 {
-    memory.asked = memory.refused = 0;
+    memory.calls = memory.refused = 0;
     memory.refuse_at = at;
     memory.refuse_on = on;
 }

@@ -1,4 +1,4 @@
-/* The memory of the library in a test: it counts each allocation and each growth, and refuses those that it is told to. */
+/* The memory of the library in a test: it counts each allocation and each growth, and refuses those that it is set to refuse. */
 #ifndef REFUSED_MEMORY_H
 #define REFUSED_MEMORY_H
 
@@ -6,7 +6,7 @@
 #include <stdint.h>
 
 struct memory_counts {
-    uint64_t asked;              /* allocations, and growths of blocks */
+    uint64_t calls;              /* allocations, and growths of blocks */
     uint64_t refuse_at, refused; /* the number of the one that is refused (0: none), and how many were */
     bool refuse_on;              /* and all after it */
     int64_t blocks;              /* that are not given back */

@@ -29,7 +29,7 @@ static void draw_session(struct model *model, struct draw *draw, int calls, size
     for (int i = 0; i < calls; i++) {
         struct command *command = &session.commands[i];
         *command = draw_command(draw, most);
-        if (drawn(draw, 12) == 0)
+        if (random_below(draw, 12) == 0)
             command->what = SYNC;
         session.outcomes[i] = do_on_model(model, command, count_step, NULL);
         bool synced = (command->what == SYNC || command->what == FSYNC) && session.outcomes[i].code == 0;
@@ -134,11 +134,11 @@ struct session_counts do_sessions(const struct sessions *sessions)
         draw_session(after, &draw, sessions->calls, sessions->most);
         model_free(after);
         if (sessions->way_count > 0) {
-            cut->cut_at = cut->calls + 1 + drawn(&draw, (uint32_t)sessions->calls / 2);
-            cut->way = sessions->ways[drawn(&draw, sessions->way_count)];
+            cut->cut_at = cut->calls + 1 + random_below(&draw, (uint32_t)sessions->calls / 2);
+            cut->way = sessions->ways[random_below(&draw, sessions->way_count)];
         }
         int ended = do_session();
-        bool ends = ended == session.count && (sessions->way_count == 0 || drawn(&draw, 2) == 0);
+        bool ends = ended == session.count && (sessions->way_count == 0 || random_below(&draw, 2) == 0);
         bool unmounted = ends && flash_fs_unmount(&fs) == 0;
         counts.calls += (uint64_t)ended;
         counts.cuts += cut->gone;

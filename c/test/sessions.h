@@ -1,4 +1,4 @@
-/* Sessions of drawn calls on a volume, each beside the model, and each ended by an unmount or by power that goes in a program or an
+/* Sessions of random calls on a volume, each beside the model, and each ended by an unmount or by power that goes in a program or an
  * erase. After each a mount shows the tree after some number of the calls, at least of those that a sync covers.
  */
 #ifndef SESSIONS_H

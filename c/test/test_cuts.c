@@ -1,4 +1,4 @@
-/* Power goes. Each call of the device in a session is cut with each fate, and drawn ones in long rows of sessions; each program and
+/* Power goes. Each call of the device in a session is cut with each fate, and random ones in long rows of sessions; each program and
  * erase fails with each fate. A mount then shows the tree after some number of the steps that were done, in their order,
  * at least of those that a completed sync covers.
  *
@@ -107,7 +107,7 @@ static uint32_t find_step(struct ram_nand *nand, int ended, uint32_t cache_pages
 struct sizes {
     uint32_t page_bytes, block_pages, blocks, spare, tag_bytes;
     size_t most;      /* about the most bytes of a write */
-    int before, then; /* drawn commands before the session, and in it */
+    int before, then; /* random commands before the session, and in it */
 };
 
 static void make_flash(struct ram_nand *nand, const struct sizes *sizes)
@@ -116,7 +116,7 @@ static void make_flash(struct ram_nand *nand, const struct sizes *sizes)
     nand->driver.tag_bytes = sizes->tag_bytes;
 }
 
-/* Makes a volume of drawn commands and a session of others. Returns the model before the session. */
+/* Makes a volume of random commands and a session of others. Returns the model before the session. */
 static struct model *prepare(struct ram_nand *nand, const struct sizes *sizes, struct draw *draw)
 {
     struct model *model = model_make(sizes->page_bytes, sizes->block_pages, sizes->blocks, sizes->spare);
@@ -247,7 +247,7 @@ static struct model *after_steps(const struct model *before, uint32_t steps)
     return until.model;
 }
 
-/* Many sessions, each from the tree that the last one left, cut at a drawn call. */
+/* Many sessions, each from the tree that the last one left, cut at a random call. */
 static void live(const struct sizes *sizes, uint64_t lives, uint64_t seed)
 {
     struct ram_nand nand;
@@ -256,24 +256,24 @@ static void live(const struct sizes *sizes, uint64_t lives, uint64_t seed)
     struct model *model = prepare(&nand, sizes, &draw);
     for (uint64_t life = 0; life < lives; life++) {
         ram_nand_power_up(&nand);
-        nand.fate = (enum ram_nand_fate)drawn(&draw, RAM_NAND_FATES);
+        nand.fate = (enum ram_nand_fate)random_below(&draw, RAM_NAND_FATES);
         check(flash_fs_mount(&fs, &nand.driver) == 0, "a mount");
-        nand.cut_at = nand.calls + 1 + drawn(&draw, 80);
+        nand.cut_at = nand.calls + 1 + random_below(&draw, 80);
         struct model *after = model_clone(model);
         begin_session(after);
         for (int i = 0; i < 40; i++) {
             struct command command = draw_command(&draw, sizes->most);
-            if (drawn(&draw, 20) == 0)
+            if (random_below(&draw, 20) == 0)
                 command.what = SYNC;
             add_command(after, &command);
         }
         model_free(after);
         int ended = do_session(&nand);
-        if (drawn(&draw, 2) == 0)
+        if (random_below(&draw, 2) == 0)
             (void)flash_fs_unmount(&fs);
         flash_fs_abandon(&fs);
         cuts += nand.gone;
-        uint32_t step = find_step(&nand, ended, drawn(&draw, 4));
+        uint32_t step = find_step(&nand, ended, random_below(&draw, 4));
         flash_fs_abandon(&fs);
         struct model *left = after_steps(model, step);
         model_free(model);

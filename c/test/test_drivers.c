@@ -186,9 +186,9 @@ static bool flip(void *context, uint32_t block, uint32_t page, unsigned bits, un
     coded.raw.read(&coded, block, page, raw);
     memcpy(before, raw, sizeof raw);
     for (unsigned flipped = 0; flipped < bits;) {
-        const struct page_run *run = &coded.raw.runs[drawn(&draw, coded.raw.run_count)];
-        uint32_t at = coded.driver.page_bytes + run->offset + drawn(&draw, run->bytes);
-        uint8_t mask = (uint8_t)(1u << drawn(&draw, 8));
+        const struct page_run *run = &coded.raw.runs[random_below(&draw, coded.raw.run_count)];
+        uint32_t at = coded.driver.page_bytes + run->offset + random_below(&draw, run->bytes);
+        uint8_t mask = (uint8_t)(1u << random_below(&draw, 8));
         flipped += (raw[at] ^ before[at]) == 0;
         raw[at] = (uint8_t)((raw[at] ^ before[at]) == 0 ? raw[at] ^ mask : raw[at]);
     }

@@ -42,9 +42,9 @@ int main(void)
     memset(region, 0xa5, sizeof region);
     flash_heap_give(region + BESIDE, REGION);
     for (int turn = 0; turn < 200000; turn++) {
-        int i = (int)drawn(&draw, BLOCKS);
-        size_t bytes = drawn(&draw, 4) == 0 ? drawn(&draw, 9000) : drawn(&draw, 200);
-        uint8_t with = (uint8_t)drawn(&draw, 256);
+        int i = (int)random_below(&draw, BLOCKS);
+        size_t bytes = random_below(&draw, 4) == 0 ? random_below(&draw, 9000) : random_below(&draw, 200);
+        uint8_t with = (uint8_t)random_below(&draw, 256);
         check(blocks[i].at == NULL || is_filled(blocks[i].at, blocks[i].bytes, blocks[i].filled), "turn %d: a block changed", turn);
         if (blocks[i].at == NULL) {
             struct flash_memory made = flash_memory_alloc(bytes, 16);
@@ -56,13 +56,13 @@ int main(void)
             check((uintptr_t)made.at % 16 == 0 && made.at >= region + BESIDE && made.at + bytes <= region + BESIDE + REGION,
                   "turn %d: a block outside", turn);
             fill(i, made.at, bytes, with);
-        } else if (drawn(&draw, 3) == 0) {
+        } else if (random_below(&draw, 3) == 0) {
             struct flash_memory made = flash_memory_realloc(blocks[i].at, blocks[i].bytes, bytes, 16);
             refused += !made.given;
             if (!made.given)
                 continue;
-            size_t kept = bytes < blocks[i].bytes ? bytes : blocks[i].bytes;
-            check(is_filled(made.at, kept, blocks[i].filled), "turn %d: bytes were not kept", turn);
+            size_t preserved = bytes < blocks[i].bytes ? bytes : blocks[i].bytes;
+            check(is_filled(made.at, preserved, blocks[i].filled), "turn %d: bytes were lost", turn);
             fill(i, made.at, bytes, with);
         } else {
             flash_memory_dealloc(blocks[i].at);

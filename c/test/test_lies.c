@@ -37,7 +37,7 @@ static void begins(uint32_t block, uint32_t page)
 
 static bool is_lie(void)
 {
-    bool lie = nand.lies != 0 && drawn(&nand.draw, nand.lies) == 0;
+    bool lie = nand.lies != 0 && random_below(&nand.draw, nand.lies) == 0;
     nand.told_lies += lie;
     return lie;
 }
@@ -53,28 +53,28 @@ static int returns(int number, int most)
 static int wild(void)
 {
     static const int numbers[] = {0, 0, 1, 1, 1, 1, 2, 2, 3, 4, 257, -1, INT32_MAX, INT32_MIN};
-    return numbers[drawn(&nand.draw, drawn(&nand.draw, 4) == 0 ? 14 : 8)];
+    return numbers[random_below(&nand.draw, random_below(&nand.draw, 4) == 0 ? 14 : 8)];
 }
 
 static void spoil(uint8_t *bytes, size_t size)
 {
     uint32_t words = size < FLASH_TAG_BYTES ? 3 : 6;
-    switch (drawn(&nand.draw, 5)) {
+    switch (random_below(&nand.draw, 5)) {
     case 0:
         for (size_t i = 0; i < size; i++)
-            bytes[i] = (uint8_t)drawn(&nand.draw, 256);
+            bytes[i] = (uint8_t)random_below(&nand.draw, 256);
         break;
     case 1: /* a field of a tag or a header: a great number, or another small one */
-        memset(bytes + 8 * drawn(&nand.draw, words), drawn(&nand.draw, 2) == 0 ? 0xff : 0, 8);
-        bytes[8 * drawn(&nand.draw, words)] = (uint8_t)drawn(&nand.draw, 5);
+        memset(bytes + 8 * random_below(&nand.draw, words), random_below(&nand.draw, 2) == 0 ? 0xff : 0, 8);
+        bytes[8 * random_below(&nand.draw, words)] = (uint8_t)random_below(&nand.draw, 5);
         break;
     case 2: /* of another page */
-        memcpy(bytes, size <= FLASH_TAG_BYTES ? nand.tags[drawn(&nand.draw, BLOCKS)][drawn(&nand.draw, PAGES)]
-                                              : nand.data[drawn(&nand.draw, BLOCKS)][drawn(&nand.draw, PAGES)],
+        memcpy(bytes, size <= FLASH_TAG_BYTES ? nand.tags[random_below(&nand.draw, BLOCKS)][random_below(&nand.draw, PAGES)]
+                                              : nand.data[random_below(&nand.draw, BLOCKS)][random_below(&nand.draw, PAGES)],
                size);
         break;
     default:
-        bytes[drawn(&nand.draw, (uint32_t)size)] ^= (uint8_t)(1 << drawn(&nand.draw, 8));
+        bytes[random_below(&nand.draw, (uint32_t)size)] ^= (uint8_t)(1 << random_below(&nand.draw, 8));
         break;
     }
 }
@@ -98,7 +98,7 @@ static int read_page(void *context, uint32_t block, uint32_t page, uint8_t *data
         memcpy(data, nand.data[block][page], PAGE);
     if (!lie || nand.kind_of_lie == 2)
         return nand.kinds[block][page];
-    if (nand.kind_of_lie == 0 || drawn(&nand.draw, 2) == 0)
+    if (nand.kind_of_lie == 0 || random_below(&nand.draw, 2) == 0)
         spoil(tag, driver.tag_bytes);
     if (data != NULL)
         spoil(data, PAGE);
@@ -128,10 +128,10 @@ static int program(void *context, uint32_t block, uint32_t page, const uint8_t *
     if (is_lie()) {
         if (nand.kind_of_lie != 1)
             returned = returns(wild(), FLASH_FAILED);
-        if (drawn(&nand.draw, 2) == 0)
-            nand.kinds[block][page] = (uint8_t)drawn(&nand.draw, 3);
+        if (random_below(&nand.draw, 2) == 0)
+            nand.kinds[block][page] = (uint8_t)random_below(&nand.draw, 3);
         else
-            spoil(drawn(&nand.draw, 2) == 0 ? nand.tags[block][page] : nand.data[block][page], driver.tag_bytes);
+            spoil(random_below(&nand.draw, 2) == 0 ? nand.tags[block][page] : nand.data[block][page], driver.tag_bytes);
     }
     nand.next[block] = returned == FLASH_DONE ? page + 1 : UINT32_MAX;
     return returned;
@@ -143,7 +143,7 @@ static int erase(void *context, uint32_t block)
     changes(block, 0);
     bool lie = is_lie();
     for (uint32_t page = 0; page < PAGES; page++)
-        if (!lie || drawn(&nand.draw, 2) == 0)
+        if (!lie || random_below(&nand.draw, 2) == 0)
             nand.kinds[block][page] = FLASH_ERASED;
     int returned = lie && nand.kind_of_lie != 1 ? returns(wild(), FLASH_FAILED) : FLASH_DONE;
     nand.next[block] = returned == FLASH_DONE ? 0 : UINT32_MAX;
@@ -155,7 +155,7 @@ static int mark_bad(void *context, uint32_t block)
     (void)context;
     changes(block, 0);
     int returned = is_lie() && nand.kind_of_lie != 1 ? returns(wild(), 0) : 0;
-    nand.bad[block] = drawn(&nand.draw, 2) == 0 || returned == 0;
+    nand.bad[block] = random_below(&nand.draw, 2) == 0 || returned == 0;
     if (returned == 0)
         nand.told_bad[block] = 1;
     return returned;
@@ -173,7 +173,7 @@ static void power_up(void)
         nand.next[block] = UINT32_MAX;
 }
 
-/* What is left by such a driver: headers and bytes, whatever they are. No list is asked for: a header may say billions of slots.
+/* What is left by such a driver: headers and bytes, whatever they are. No list is wanted: a header may say billions of slots.
  * Returns whether there was a salvage.
  */
 static bool salvage(void)
@@ -213,9 +213,9 @@ int main(int count, char **words)
         (void)flash_fs_format(&fs, &driver, (uint32_t)(i % 4));
         for (int mount = 0; mount < 6; mount++) {
             power_up();
-            nand.lies = mount == 0 && i % 3 != 0 ? 0 : often[drawn(&nand.draw, 7)];
-            nand.kind_of_lie = drawn(&nand.draw, 3);
-            if (flash_fs_mount_with(&fs, &driver, drawn(&nand.draw, 4)) < 0) {
+            nand.lies = mount == 0 && i % 3 != 0 ? 0 : often[random_below(&nand.draw, 7)];
+            nand.kind_of_lie = random_below(&nand.draw, 3);
+            if (flash_fs_mount_with(&fs, &driver, random_below(&nand.draw, 4)) < 0) {
                 refused++;
                 check(flash_fs_unmount(&fs) == FLASH_EINVAL, "an unmount after a mount that failed");
                 continue;
@@ -228,7 +228,7 @@ int main(int count, char **words)
                 calls++;
             }
             nand.calls = 0;
-            if (drawn(&nand.draw, 3) == 0)
+            if (random_below(&nand.draw, 3) == 0)
                 flash_fs_abandon(&fs);
             else
                 (void)flash_fs_unmount(&fs);

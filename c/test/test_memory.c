@@ -31,7 +31,7 @@ static void make_volume(struct draw *draw, struct model *model)
 }
 
 /* A session in which one allocation is refused (and, where `on`, each after it until that call has returned). Returns how many
- * were asked for in all. */
+ * there are in all. */
 static uint64_t run_refused(const struct command *commands, int count, const struct model *start, uint64_t at, bool on,
                             uint64_t *refusals, uint64_t *without)
 {
@@ -86,7 +86,7 @@ static uint64_t run_refused(const struct command *commands, int count, const str
     uint64_t tree = volume_tree(&fs, &code);
     model_settle(model);
     check(flash_fs_unmount(&fs) == 0 && nand.misuse == NULL, "the end");
-    uint64_t asked = memory.asked;
+    uint64_t calls = memory.calls;
     check(memory.blocks == 0, "%lld blocks were not given back", (long long)memory.blocks);
     memory.refuse_at = 0;
     ram_nand_power_up(&nand);
@@ -95,7 +95,7 @@ static uint64_t run_refused(const struct command *commands, int count, const str
     check(code == 0 && tree == model_tree(model), "the tree after a session that was refused memory");
     flash_fs_abandon(&fs);
     model_free(model);
-    return asked;
+    return calls;
 }
 
 static void test_refused(int count, uint64_t seed)
@@ -107,15 +107,15 @@ static void test_refused(int count, uint64_t seed)
     make_volume(&draw, model);
     for (int i = 0; i < count; i++)
         commands[i] = draw_command(&draw, 6000);
-    uint64_t asked = run_refused(commands, count, model, 0, false, &refusals, &without);
-    for (uint64_t at = 1; at <= asked; at++) {
+    uint64_t calls = run_refused(commands, count, model, 0, false, &refusals, &without);
+    for (uint64_t at = 1; at <= calls; at++) {
         run_refused(commands, count, model, at, false, &refusals, &without);
         if (at % 4 == 0)
             run_refused(commands, count, model, at, true, &refusals, &without);
     }
     refuse(0, false);
     printf("  %llu allocations of a mount and %d calls, each refused in turn: %llu times ENOMEM and nothing done, %llu times done without\n",
-           (unsigned long long)asked, count, (unsigned long long)refusals, (unsigned long long)without);
+           (unsigned long long)calls, count, (unsigned long long)refusals, (unsigned long long)without);
     free(commands);
     model_free(model);
 }
@@ -200,11 +200,11 @@ static void test_two_volumes(uint64_t seed)
         check(flash_fs_format(&others[v], &nands[v].driver, 1 + v) == 0 && flash_fs_mount(&others[v], &nands[v].driver) == 0, "a volume");
     }
     for (int i = 0; i < 4000; i++) {
-        uint32_t v = drawn(&draw, 2);
+        uint32_t v = random_below(&draw, 2);
         struct command command = draw_command(&draw, 3000);
         struct outcome there = do_on_volume(&others[v], &command), wanted = do_on_model(models[v], &command, NULL, NULL);
         check(there.code == wanted.code && there.filled == wanted.filled, "a call of volume %u", v);
-        if (drawn(&draw, 100) == 0) {
+        if (random_below(&draw, 100) == 0) {
             check(flash_fs_unmount(&others[v]) == 0, "an unmount");
             model_settle(models[v]);
             ram_nand_power_up(&nands[v]);
@@ -330,7 +330,7 @@ static void test_large_reads(void)
     check(flash_fs_pread(&fs, fd, bytes, sizeof wrote, 0) == sizeof wrote, "a read that fills the cache");
     memset(bytes, 'x', sizeof bytes);
     refuse(1, true);
-    check(flash_fs_pread(&fs, fd, bytes, sizeof bytes, 0) == sizeof wrote && memory.asked == 0, "a read without memory");
+    check(flash_fs_pread(&fs, fd, bytes, sizeof bytes, 0) == sizeof wrote && memory.calls == 0, "a read without memory");
     refuse(0, false);
     check(memcmp(bytes, wrote, sizeof wrote) == 0 && bytes[sizeof wrote] == 'x' && bytes[sizeof wrote + 1] == 'x', "its bytes");
     check(flash_fs_pread(&fs, fd, bytes, 9, sizeof wrote - 5) == 5 && memcmp(bytes, wrote + sizeof wrote - 5, 5) == 0 &&

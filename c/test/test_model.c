@@ -1,4 +1,4 @@
-/* Drawn calls on volumes of several sizes: each returns and fills what the model does. Now and then the volume is unmounted and
+/* Random calls on volumes of several sizes: each returns and fills what the model does. Now and then the volume is unmounted and
  * mounted again in both ways, and shows the model's tree. Some of the programs and erases fail.
  *
  *   test_model [CALLS] [SEED]
@@ -51,9 +51,9 @@ static void run(const struct sizes *sizes, uint64_t calls, uint64_t seed)
     check(flash_fs_mount_with(&fs, &nand.driver, sizes->cache_pages) == 0, "mount");
     for (uint64_t i = 0; i < calls; i++) {
         struct command command = draw_command(&draw, sizes->most);
-        if (sizes->failures && failures < sizes->spare && drawn(&draw, 700) == 0) {
-            nand.fail_at[0] = nand.calls + 1 + drawn(&draw, 30);
-            nand.fate = (enum ram_nand_fate)drawn(&draw, RAM_NAND_FATES);
+        if (sizes->failures && failures < sizes->spare && random_below(&draw, 700) == 0) {
+            nand.fail_at[0] = nand.calls + 1 + random_below(&draw, 30);
+            nand.fate = (enum ram_nand_fate)random_below(&draw, RAM_NAND_FATES);
         }
         struct outcome wanted = do_on_model(model, &command, NULL, NULL), there = do_on_volume(&fs, &command);
         if (there.code != wanted.code || there.filled != wanted.filled || nand.misuse != NULL) {
@@ -67,7 +67,7 @@ static void run(const struct sizes *sizes, uint64_t calls, uint64_t seed)
         failures = nand.counts.marks;
         counts[command.what]++;
         done[command.what] += there.code >= 0;
-        if (drawn(&draw, 200) == 0) {
+        if (random_below(&draw, 200) == 0) {
             mount_again(&nand, model, sizes, i);
             mounts++;
         }

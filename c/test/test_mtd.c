@@ -24,7 +24,7 @@
 
 enum { DEVICE = 77, SPARE = 256, KEPT_BLOCKS = 16 };
 
-/* A device. What is kept are KEPT_BLOCKS blocks from `first` on, each page with the free bytes of its spare area behind its
+/* A device. What is held are KEPT_BLOCKS blocks from `first` on, each page with the free bytes of its spare area behind its
  * data. */
 static struct {
     int type;
@@ -47,7 +47,7 @@ static uint32_t kept_bytes(void)
     return kernel.page_bytes + SPARE;
 }
 
-/* The page at a place of the device, which must be one of those that are kept. */
+/* The page at a place of the device, which must be one of those that are held. */
 static uint8_t *page_at(uint64_t place)
 {
     uint64_t page = place / kernel.page_bytes - (uint64_t)kernel.first * kernel.block_pages;

@@ -1,8 +1,8 @@
 /* The envelope of a page: what is programmed is what is read, or it is not read as written.
  *
- *   test_page_code [DRAWN] [SEED] [all]
+ *   test_page_code [RANDOM] [SEED] [all]
  *
- * DRAWN: so many pages with drawn errors, and a quarter as many of drawn bytes. all: each error of two bytes in the envelopes
+ * RANDOM: so many pages with random errors, and a quarter as many of random bytes. all: each error of two bytes in the envelopes
  * of tags of 24 bytes, some minutes.
  */
 #include "commands.h"
@@ -48,10 +48,10 @@ static void use(const struct layout *layout)
 static void draw_bytes(uint8_t *bytes, size_t size)
 {
     for (size_t i = 0; i < size; i++)
-        bytes[i] = (uint8_t)drawn(&draw, 256);
+        bytes[i] = (uint8_t)random_below(&draw, 256);
 }
 
-/* Programs a drawn page. */
+/* Programs a random page. */
 static void program(void)
 {
     draw_bytes(data, code.page_bytes);
@@ -153,7 +153,7 @@ static uint32_t errors_of_one_byte(void)
 }
 
 /* Each pair of places. A word of the code times an element is a word too, so of the changes all are tried up to a factor, where
- * the envelope is short and many pages are asked for, or `all` says so; else each seventeenth.
+ * the envelope is short and many pages are wanted, or `all` says so; else each seventeenth.
  */
 static uint32_t errors_of_two_bytes(uint64_t pages, bool all)
 {
@@ -173,7 +173,7 @@ static uint32_t errors_of_two_bytes(uint64_t pages, bool all)
     return tried;
 }
 
-/* Drawn bytes of the envelope are wrong, and in half of the pages some bits of the data. So many bytes as the code corrects are
+/* Random bytes of the envelope are wrong, and in half of the pages some bits of the data. So many bytes as the code corrects are
  * corrected; with more, and where the data is wrong, the page is not read as written, or with what was programmed.
  */
 static void drawn_errors(uint64_t pages)
@@ -182,24 +182,24 @@ static void drawn_errors(uint64_t pages)
     const struct layout *layout = &layouts[0];
     for (uint64_t i = 0; i < pages; i++) {
         if (i % 1000 == 0) {
-            layout = &layouts[drawn(&draw, LAYOUTS)];
+            layout = &layouts[random_below(&draw, LAYOUTS)];
             use(layout);
             code.page_bytes = 512;
             program();
         }
         uint8_t kept_spare[SPARE_BYTES], flipped[4] = {0};
         uint32_t bytes = page_code_bytes(&code),
-                 wrong = drawn(&draw, 4) == 0 ? drawn(&draw, bytes + 1) : drawn(&draw, code.check_bytes);
-        uint32_t places[4], data_flips = drawn(&draw, 2) == 0 ? 1 + drawn(&draw, 4) : 0, changed = 0;
-        uint32_t first = drawn(&draw, code.page_bytes);
+                 wrong = random_below(&draw, 4) == 0 ? random_below(&draw, bytes + 1) : random_below(&draw, code.check_bytes);
+        uint32_t places[4], data_flips = random_below(&draw, 2) == 0 ? 1 + random_below(&draw, 4) : 0, changed = 0;
+        uint32_t first = random_below(&draw, code.page_bytes);
         memcpy(kept_spare, spare, sizeof spare);
-        for (uint32_t j = 0; j < wrong; j++) /* a place that is drawn twice may be right again */
-            *place_of(drawn(&draw, bytes)) ^= (uint8_t)(1 + drawn(&draw, 255));
+        for (uint32_t j = 0; j < wrong; j++) /* the same random place twice may be right again */
+            *place_of(random_below(&draw, bytes)) ^= (uint8_t)(1 + random_below(&draw, 255));
         for (uint32_t j = 0; j < SPARE_BYTES; j++)
             changed += spare[j] != kept_spare[j];
         for (uint32_t j = 0; j < data_flips; j++) {
             places[j] = (first + 97 * j) % code.page_bytes;
-            flipped[j] = (uint8_t)(1u << drawn(&draw, 8));
+            flipped[j] = (uint8_t)(1u << random_below(&draw, 8));
             data[places[j]] ^= flipped[j];
         }
         int kind = page_code_read(&code, data, spare, there, NULL);
@@ -216,39 +216,39 @@ static void drawn_errors(uint64_t pages)
             data[places[j]] ^= flipped[j];
         memcpy(spare, kept_spare, sizeof spare);
     }
-    printf("  %llu pages with drawn errors: %llu read as programmed, %llu uncorrectable, none otherwise\n",
+    printf("  %llu pages with random errors: %llu read as programmed, %llu uncorrectable, none otherwise\n",
            (unsigned long long)pages, (unsigned long long)written, (unsigned long long)refused);
 }
 
-/* Spare areas of drawn bytes, also with a tag and its CRC, and of few bits that are 0: none is read as written. */
+/* Spare areas of random bytes, also with a tag and its CRC, and of few bits that are 0: none is read as written. */
 static void drawn_spare_areas(uint64_t pages)
 {
     uint64_t erased = 0;
     for (uint64_t i = 0; i < pages; i++) {
         if (i % 1000 == 0) {
-            use(&layouts[drawn(&draw, LAYOUTS)]);
+            use(&layouts[random_below(&draw, LAYOUTS)]);
             code.page_bytes = 512;
             program();
         }
-        uint32_t form = drawn(&draw, 3);
+        uint32_t form = random_below(&draw, 3);
         memset(spare, 0xff, sizeof spare);
         if (form == 0) {
             draw_bytes(spare, sizeof spare);
-        } else if (form == 1) { /* the right tag and CRC, and drawn bytes in the place of the check bytes */
+        } else if (form == 1) { /* the right tag and CRC, and random bytes in the place of the check bytes */
             page_code_write(&code, data, tag, spare);
             for (uint32_t at = code.tag_bytes + PAGE_CODE_CRC_BYTES; at < page_code_bytes(&code); at++)
-                *place_of(at) = (uint8_t)drawn(&draw, 256);
-            *place_of(drawn(&draw, code.tag_bytes)) ^= (uint8_t)(1 + drawn(&draw, 255));
+                *place_of(at) = (uint8_t)random_below(&draw, 256);
+            *place_of(random_below(&draw, code.tag_bytes)) ^= (uint8_t)(1 + random_below(&draw, 255));
         } else {
-            for (uint32_t bits = drawn(&draw, 12); bits > 0; bits--)
-                spare[drawn(&draw, SPARE_BYTES)] &= (uint8_t) ~(1u << drawn(&draw, 8));
+            for (uint32_t bits = random_below(&draw, 12); bits > 0; bits--)
+                spare[random_below(&draw, SPARE_BYTES)] &= (uint8_t) ~(1u << random_below(&draw, 8));
         }
         int kind = page_code_read(&code, data, spare, there, NULL);
         erased += kind == FLASH_ERASED;
         check(kind == FLASH_UNCORRECTABLE || (kind == FLASH_WRITTEN && memcmp(there, tag, code.tag_bytes) == 0),
-              "drawn bytes read as a page, page %llu", (unsigned long long)i);
+              "random bytes read as a page, page %llu", (unsigned long long)i);
     }
-    printf("  %llu spare areas of drawn bytes: none is read as a page that was not programmed\n", (unsigned long long)pages);
+    printf("  %llu spare areas of random bytes: none is read as a page that was not programmed\n", (unsigned long long)pages);
     check(erased == 0, "a page with data reads as erased");
 }
 
@@ -282,7 +282,7 @@ static void erased_pages(void)
     for (int tries = 0; tries < 200; tries++) {
         uint32_t bits = 0;
         while (bits <= code.erased_bits) {
-            uint32_t bit = drawn(&draw, 8 * (code.page_bytes + page_code_bytes(&code)));
+            uint32_t bit = random_below(&draw, 8 * (code.page_bytes + page_code_bytes(&code)));
             uint8_t *byte = bit / 8 < code.page_bytes ? &data[bit / 8] : place_of(bit / 8 - code.page_bytes);
             bits += *byte >> bit % 8 & 1;
             *byte &= (uint8_t) ~(1u << bit % 8);

@@ -416,7 +416,7 @@ static void test_refused(void)
         }
     refuse(1, true);
     check(flash_fs_salvage_stat(&left, object, &info) == 0 && flash_fs_salvage_read(&left, object, 0, bytes, PAGE) == PAGE &&
-              flash_fs_salvage_lost(&left, NULL, 0) == 1 && memory.asked == 0,
+              flash_fs_salvage_lost(&left, NULL, 0) == 1 && memory.calls == 0,
           "calls without memory");
     refuse(0, false);
     struct missing missing = look();

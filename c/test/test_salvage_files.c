@@ -1,4 +1,4 @@
-/* What is left of a volume of 200 files in ten directories: each page lost in turn, and drawn pairs. All that the lost page is not of
+/* What is left of a volume of 200 files in ten directories: each page lost in turn, and random pairs. All that the lost page is not of
  * is there, whole and by its name; of what it is of exactly that is missing, or an older page of it is shown.
  *
  *   test_salvage_files [EVERY] [PAIRS] [SEED]     each page whose number EVERY divides
@@ -222,7 +222,7 @@ int main(int count, char **words)
         lost++;
     }
     for (int i = 0; i < pairs; i++) {
-        uint32_t one = written[drawn(&draw, pages)], other = written[drawn(&draw, pages)];
+        uint32_t one = written[random_below(&draw, pages)], other = written[random_below(&draw, pages)];
         struct tag first = tag_of(one), second = tag_of(other);
         ram_nand_copy(&nand, &whole);
         lose(one);

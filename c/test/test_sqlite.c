@@ -1,4 +1,4 @@
-/* SQLite on a volume, with power that goes at drawn calls of the device: after each mount the database passes its integrity check
+/* SQLite on a volume, with power that goes at random calls of the device: after each mount the database passes its integrity check
  * and has each transaction whose commit returned, and at most one more.
  *
  * And a database on a flash whose pages weaken with each read of their block and are lost after some thousands: blocks that are
@@ -72,7 +72,7 @@ static int transact(sqlite3 *database, int64_t i, struct draw *draw)
              "delete from rows where id < %lld - 120;"
              "update counts set transactions = %lld;"
              "commit",
-             (long long)i, drawn(draw, 3000), drawn(draw, 6000), (long long)i, 1 + drawn(draw, 60), (long long)i, (long long)i);
+             (long long)i, random_below(draw, 3000), random_below(draw, 6000), (long long)i, 1 + random_below(draw, 60), (long long)i, (long long)i);
     return run(database, text);
 }
 
@@ -93,8 +93,8 @@ static void live(const char *mode, uint64_t lives, uint64_t seed)
     for (uint64_t life = 0; life < lives; life++) {
         ram_nand_power_up(&nand);
         check(flash_fs_mount(&fs, &nand.driver) == 0, "%s: a mount", mode);
-        nand.fate = (enum ram_nand_fate)drawn(&draw, RAM_NAND_FATES);
-        nand.cut_at = nand.calls + 1 + drawn(&draw, 600);
+        nand.fate = (enum ram_nand_fate)random_below(&draw, RAM_NAND_FATES);
+        nand.cut_at = nand.calls + 1 + random_below(&draw, 600);
         database = open_database(mode);
         while (database != NULL && !nand.gone) {
             int64_t i = committed + 1;
@@ -103,7 +103,7 @@ static void live(const char *mode, uint64_t lives, uint64_t seed)
                 committed = i;
             else
                 check(nand.gone, "%s: a transaction returned %d", mode, code);
-            if (code != SQLITE_OK || drawn(&draw, 200) == 0)
+            if (code != SQLITE_OK || random_below(&draw, 200) == 0)
                 break;
         }
         sqlite3_close(database);
@@ -169,7 +169,7 @@ static void weaken(uint64_t transactions, uint64_t seed)
         check(transact(database, (int64_t)i, &draw) == SQLITE_OK, "weak pages: transaction %llu", (unsigned long long)i);
         for (int turn = 0; turn < 5; turn++) {
             char text[80];
-            snprintf(text, sizeof text, "select text from read_only where id = %u", 1 + drawn(&draw, 1000));
+            snprintf(text, sizeof text, "select text from read_only where id = %u", 1 + random_below(&draw, 1000));
             check(number(database, text) > 0, "weak pages: %s, after transaction %llu", text, (unsigned long long)i);
         }
         uint64_t erases = nand.counts.erases;
@@ -191,7 +191,7 @@ static void weaken(uint64_t transactions, uint64_t seed)
 
 int main(int count, char **words)
 {
-    sort_beside_what_was_left(); /* first: the names are counted */
+    sort_beside_what_was_left(); /* first: its names have numbers */
     static const char *const modes[] = {"delete", "truncate", "persist", "wal"};
     uint64_t lives = count > 1 ? strtoull(words[1], NULL, 10) : 100, seed = count > 2 ? strtoull(words[2], NULL, 10) : 1;
     for (size_t i = 0; i < sizeof modes / sizeof *modes; i++)

@@ -53,7 +53,7 @@ static void worked_rows(struct draw *draw)
     }
     for (int i = 0; i < 100000; i++) {
         for (size_t at = 0; at < sizeof packed; at++)
-            packed[at] = drawn(draw, 3) == 0 ? 0xff : (uint8_t)drawn(draw, 256);
+            packed[at] = random_below(draw, 3) == 0 ? 0xff : (uint8_t)random_below(draw, 256);
         packed_tag_unpack(packed, tag);
         check(packed_tag_pack(tag, again) && memcmp(packed, again, sizeof packed) == 0, "24 bytes, unpacked and packed");
     }
@@ -86,8 +86,8 @@ static void same_calls(struct draw *draw, int calls)
     }
     for (int call = 0; call < calls; call++) {
         struct command command = draw_command(draw, 3000);
-        uint64_t cut = drawn(draw, 40) == 0 ? 1 + drawn(draw, 30) : 0;
-        enum ram_nand_fate fate = (enum ram_nand_fate)drawn(draw, RAM_NAND_FATES);
+        uint64_t cut = random_below(draw, 40) == 0 ? 1 + random_below(draw, 30) : 0;
+        enum ram_nand_fate fate = (enum ram_nand_fate)random_below(draw, RAM_NAND_FATES);
         struct outcome there[2];
         for (int i = 0; i < 2; i++) {
             nands[i].fate = fate;

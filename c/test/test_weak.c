@@ -172,8 +172,8 @@ static bool ages(bool refreshed, uint64_t seed)
     nand.lost_after = 2000;
     bool lost = false;
     for (int turn = 0; turn < 20000 && !lost; turn++) {
-        int file = (int)drawn(&draw, FILES);
-        if (drawn(&draw, 100) == 0) {
+        int file = (int)random_below(&draw, FILES);
+        if (random_below(&draw, 100) == 0) {
             write_file(file);
             check(flash_fs_sync(&fs) == 0 || !refreshed, "a sync");
         }

@@ -3,8 +3,8 @@
  *
  * What it writes to the serial line, for whoever pulls the plug (resets.sh):
  *   start          it runs
- *   found B L      B starts are counted, and the log of start B has L bytes; all bytes of the logs are right
- *   kept B L       the same, from here on, whenever power goes
+ *   found B L      B is the count of starts, and the log of start B has L bytes; all bytes of the logs are right
+ *   durable B L    the same, from here on, whenever power goes
  *   end            the log is full, and the volume unmounted
  */
 #include "console.h"
@@ -94,15 +94,15 @@ static uint32_t count_of_boots(void)
     return boots;
 }
 
-/* Removes the log whose name this start takes before it counts the start: one that is counted finds no older log. */
+/* Removes the log whose name this start takes before it counts the start: one that is in the count finds no older log. */
 static void count_boot(uint32_t boots)
 {
     int code = flash_fs_unlink(&fs, log_of(boots), boots);
     require(code == 0 || code == FLASH_ENOENT, "a log cannot be removed\n");
     int fd = flash_fs_open(&fs, "/boots", FLASH_WRONLY, boots);
     require(fd >= 0 && flash_fs_write(&fs, fd, &boots, sizeof boots, boots) == sizeof boots, "no count\n");
-    require(flash_fs_fsync(&fs, fd) == 0 && flash_fs_close(&fs, fd) == 0, "the count is not kept\n");
-    report("kept ", boots, 0);
+    require(flash_fs_fsync(&fs, fd) == 0 && flash_fs_close(&fs, fd) == 0, "the count is not durable\n");
+    report("durable ", boots, 0);
 }
 
 static void keep_log(uint32_t boots)
@@ -113,8 +113,8 @@ static void keep_log(uint32_t boots)
     for (uint32_t index = 0; index < RECORDS; index++) {
         fill(record, boots, index);
         require(flash_fs_write(&fs, fd, record, RECORD_BYTES, boots) == RECORD_BYTES, "no record\n");
-        require(flash_fs_fsync(&fs, fd) == 0, "a record is not kept\n");
-        report("kept ", boots, (uint64_t)(index + 1) * RECORD_BYTES);
+        require(flash_fs_fsync(&fs, fd) == 0, "a record is not durable\n");
+        report("durable ", boots, (uint64_t)(index + 1) * RECORD_BYTES);
     }
 }
 

@@ -141,7 +141,7 @@ static int erase(void *context, uint32_t block)
     return finish(sector);
 }
 
-/* A mark that could not be kept is a loss of power: there is no other way to report it. */
+/* A mark that could not be written is a loss of power: there is no other way to report it. */
 static int mark_bad(void *context, uint32_t block)
 {
     (void)context;

@@ -1,5 +1,5 @@
 #!/usr/bin/env bash
-# Kills the machine at drawn moments and starts it again over the same flash. What it finds must be what it said last that it kept,
+# Kills the machine at random moments and starts it again over the same flash. What it finds must be what it said last that it made durable,
 # or that and the one step that was under way.
 #
 #   resets.sh FIRMWARE [RESETS [SEED]]
@@ -21,7 +21,7 @@ read_lines() {
     while read -r word boots length <&3; do
         case $word in
         found) is_after "$boots" "$length" || wrong "found $boots $length after: $last" ;;
-        kept | end) ;;
+        durable | end) ;;
         *) wrong "$word $boots $length" ;;
         esac
         furthest=$word
@@ -35,7 +35,7 @@ is_after() {
     read -r word boots length <<< "$last"
     [ "$1 $2" = "$boots $length" ] || case $word in
     found) [ "$1 $2" = "$((boots + 1)) 0" ] ;;
-    kept) [ "$1 $2" = "$boots $((length + 64))" ] ;;
+    durable) [ "$1 $2" = "$boots $((length + 64))" ] ;;
     esac
 }
 
@@ -58,4 +58,4 @@ for ((reset = 1; reset <= resets; reset++)); do
     exec 3<&-
 done
 echo "ok    $resets resets of a firmware: ${reached[start]:-0} before it had mounted, ${reached[found]:-0} before its start was" \
-    "counted, ${reached[kept]:-0} in its log, ${reached[end]:-0} after that; last: $last"
+    "in its count, ${reached[durable]:-0} in its log, ${reached[end]:-0} after that; last: $last"

@@ -1,7 +1,7 @@
-/* Trouble for flash-fuse, put before some of its functions by the linker: programs and erases that fail at drawn calls, and
+/* Trouble for flash-fuse, put before some of its functions by the linker: programs and erases that fail at random calls, and
  * remounts amid what programs do. The environment says how much:
  *
- *   TROUBLE_SEED       what is drawn from
+ *   TROUBLE_SEED       the seed
  *   TROUBLE_FAILURES   how many programs and erases fail; each costs a spare block
  *   TROUBLE_EACH       about how many of them are done for one that fails
  *   TROUBLE_REMOUNT    after so many changes the mount ends, by turns with an unmount and with a sync alone, and another begins
@@ -32,7 +32,7 @@ static uint64_t number(const char *name, uint64_t otherwise)
     return text != NULL ? strtoull(text, NULL, 10) : otherwise;
 }
 
-static uint64_t drawn(uint64_t below)
+static uint64_t random_below(uint64_t below)
 {
     state = state * 6364136223846793005u + 1442695040888963407u;
     return (state >> 33) % below;
@@ -42,23 +42,23 @@ static bool is_to_fail(void)
 {
     if (failures == 0 || --until_failure > 0)
         return false;
-    until_failure = 1 + drawn(2 * each);
+    until_failure = 1 + random_below(2 * each);
     failures--;
     failed++;
     return true;
 }
 
-/* What fails is done or not, by turns that are drawn: both are what a flash may do. */
+/* What fails is done or not, at random: both are what a flash may do. */
 static int program(void *context, uint32_t block, uint32_t page, const uint8_t *data, const uint8_t *tag)
 {
-    bool fails = is_to_fail(), is_done = !fails || drawn(2) == 0;
+    bool fails = is_to_fail(), is_done = !fails || random_below(2) == 0;
     int code = is_done ? under->program(context, block, page, data, tag) : FLASH_DONE;
     return fails && code == FLASH_DONE ? FLASH_FAILED : code;
 }
 
 static int erase(void *context, uint32_t block)
 {
-    bool fails = is_to_fail(), is_done = !fails || drawn(2) == 0;
+    bool fails = is_to_fail(), is_done = !fails || random_below(2) == 0;
     int code = is_done ? under->erase(context, block) : FLASH_DONE;
     return fails && code == FLASH_DONE ? FLASH_FAILED : code;
 }
@@ -71,7 +71,7 @@ int __wrap_device_open(struct device *device)
     state = number("TROUBLE_SEED", 1);
     failures = number("TROUBLE_FAILURES", 0);
     each = number("TROUBLE_EACH", 500);
-    until_failure = 1 + drawn(2 * each);
+    until_failure = 1 + random_below(2 * each);
     until_remount = remount_each = number("TROUBLE_REMOUNT", UINT64_MAX);
     under = device->driver;
     failing = *under;

@@ -1,6 +1,6 @@
 #!/usr/bin/env bash
 # guest.sh GUEST FOLDER [SECONDS]: starts the guest that make_guest.sh made in GUEST, which does FOLDER/job.sh and ends. FOLDER is its
-# /share; its console is FOLDER/console. The processor is a program: KVM is not asked for. The library needs SSE4.1, which `max` has.
+# /share; its console is FOLDER/console. The processor is a program: KVM is not used. The library needs SSE4.1, which `max` has.
 set -u
 guest=$1 folder=$2 limit=${3:-600}
 LD_LIBRARY_PATH=$(find "$guest/root" -name '*.so*' -printf '%h\n' | sort -u | paste -sd ':')

@@ -3,7 +3,7 @@
  *   try_volume DEVICE SPARE SESSIONS CALLS MOST SEED [WAYS]
  *   try_volume tree DEVICE     a number of the tree of the volume on a device, or in an image file
  *
- * Sessions of drawn calls, each ended by an unmount, or, with WAYS as "0,2,4" or "all" (cut_nand.h), by power that goes at a drawn
+ * Sessions of random calls, each ended by an unmount, or, with WAYS as "0,2,4" or "all" (cut_nand.h), by power that goes at a random
  * program or erase. The last block is scratch.
  */
 #include "file_nand.h"

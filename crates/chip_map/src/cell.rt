@@ -1,4 +1,4 @@
-// How a page is drawn.
+// How a page is shown.
 
 use crate::page_state::{PageState, SurveyedPage};
 use crate::surveyed::Survey;
@@ -11,7 +11,7 @@ pub enum Marked {
     Object(u64),
 }
 
-/// How a page is drawn.
+/// How a page is shown.
 #[derive(Clone, Copy, PartialEq, Eq)]
 pub(crate) enum Cell {
     Erased,
@@ -38,7 +38,7 @@ pub(crate) const CELLS: [Cell; 8] = [
     Cell::Bad,
 ];
 
-/// How a current page of an object is drawn.
+/// How a current page of an object is shown.
 fn current_cell(object: u64, marked: Marked) -> Cell {
     match marked {
         Marked::Object(number) if number == object => Cell::Highlighted,
@@ -53,7 +53,7 @@ fn current_cell(object: u64, marked: Marked) -> Cell {
 }
 
 impl Cell {
-    /// How a page is drawn where an object is highlighted.
+    /// How a page is shown where an object is highlighted.
     pub(crate) fn of(page: &SurveyedPage, marked: Marked) -> Cell {
         match page.state {
             PageState::Bad => Cell::Bad,
@@ -125,7 +125,7 @@ impl Cell {
     }
 }
 
-/// How many pages are drawn so.
+/// How many pages are shown so.
 pub(crate) fn count_cells(survey: &Survey, marked: Marked, cell: Cell) -> usize {
     survey
         .pages()

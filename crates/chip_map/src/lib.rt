@@ -1,4 +1,4 @@
-//! A picture of a NAND chip: what each page is, counted, drawn as text and as SVG, and single pages dumped.
+//! A picture of a NAND chip: what each page is, in numbers, as text and as SVG, and single pages dumped.
 #![tactic(auto)]
 
 mod cell;

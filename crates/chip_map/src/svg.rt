@@ -33,7 +33,7 @@ fn row_place(block: u32) -> u64 {
     TOP + u64::from(block) * ROW_HEIGHT
 }
 
-/// Writes the head and the lines between cells, which are drawn over these.
+/// Writes the head and the lines between cells, which come over these.
 fn write_head<W: Write>(alloc: Global, out: &mut W, geometry: Geometry) -> Result<(), MapFault> {
     let blocks = geometry.blocks();
     let pages = geometry.pages();

@@ -5,10 +5,10 @@
 #[cfg(test)]
 mod damaged;
 #[cfg(test)]
-mod drawn;
-#[cfg(test)]
 mod dumped;
 #[cfg(test)]
 mod laid;
 #[cfg(test)]
 mod salvaged;
+#[cfg(test)]
+mod shown;

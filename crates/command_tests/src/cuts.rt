@@ -48,11 +48,11 @@ fn path_of(rt: &impl Abort, alloc: Global, path: &[u8]) -> FilePath {
     FilePath::new(path.to_vec(alloc).expect(rt, "memory"))
 }
 
-fn told(volume: &mut Volume<PlainObjects>, command: Command) -> Reply {
+fn answers(volume: &mut Volume<PlainObjects>, command: Command) -> Reply {
     volume.call(&Stamped { moment: 0, command })
 }
 
-/// What is told of the bytes of a file.
+/// What is answered of the bytes of a file.
 fn bytes_text(
     rt: &impl Abort,
     alloc: Global,
@@ -67,13 +67,13 @@ fn bytes_text(
         trunc: false,
         append: false,
     };
-    let _fd = told(volume, Command::Open { path, flags });
-    let bytes = told(volume, Command::Read { fd: 0, count: 4096 });
-    let _done = told(volume, Command::Close { fd: 0 });
+    let _fd = answers(volume, Command::Open { path, flags });
+    let bytes = answers(volume, Command::Read { fd: 0, count: 4096 });
+    let _done = answers(volume, Command::Close { fd: 0 });
     reply_text(rt, alloc, &bytes)
 }
 
-/// Adds what is told of an object to the text, and the paths of what a directory names.
+/// Adds what is answered of an object to the text, and the paths of what a directory names.
 fn add_object(
     rt: &impl Abort,
     alloc: Global,
@@ -82,7 +82,7 @@ fn add_object(
     paths: &mut Vec<Vec<u8>>,
     text: &mut String,
 ) {
-    let info = told(
+    let info = answers(
         volume,
         Command::Stat {
             path: path_of(rt, alloc, path),
@@ -90,7 +90,7 @@ fn add_object(
     );
     text.push_str(&reply_text(rt, alloc, &info))
         .expect(rt, "memory");
-    let list = told(
+    let list = answers(
         volume,
         Command::List {
             path: path_of(rt, alloc, path),
@@ -117,7 +117,7 @@ fn add_object(
     text.push_str("\n").expect(rt, "memory");
 }
 
-/// What a tree of at most 50 objects holds: what is told of each.
+/// What a tree of at most 50 objects holds: what is answered of each.
 fn tree_text(rt: &impl Abort, alloc: Global, objects: PlainObjects) -> String {
     let mut volume = match Volume::new(alloc, objects, true) {
         Ok(volume) => volume,
@@ -205,7 +205,7 @@ fn answered(replies: &[Reply]) -> usize {
     replies.iter().take_while(|reply| !is_stop(reply)).count()
 }
 
-/// Cuts the run off at a call, looks at what is left, and tells whether there was such a call.
+/// Cuts the run off at a call, looks at what is left, and returns whether there was such a call.
 fn cut_at(
     rt: &impl Abort,
     alloc: Global,

@@ -1,4 +1,4 @@
-//! Sessions of commands over maps: what is asked, and what is told, with each call refused memory in turn; and runs that are
+//! Sessions of commands over maps: requests and replies, with each call refused memory in turn; and runs that are
 //! cut off at each of their calls.
 #![tactic(auto)]
 

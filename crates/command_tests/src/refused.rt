@@ -12,10 +12,10 @@ use std::process::Abort;
 /// A volume over maps that may refuse memory.
 type RefusingVolume = Volume<RefusingStore<PlainObjects>>;
 
-/// More calls than a command makes that is told here.
+/// More calls than a command makes here.
 const MOST_CALLS: u64 = 20;
 
-/// More than the number of each object that is told of here.
+/// More than the number of each object here.
 const NUMBERS: u64 = 80;
 
 /// A volume over these maps, which refuse nothing, with no descriptor open.
@@ -131,8 +131,8 @@ fn expect_same_objects(
     }
 }
 
-/// What a volume tells of a command, which is asked again where memory was refused.
-fn told_again(
+/// What a volume answers to a command, which is sent again where memory was refused.
+fn answer_again(
     rt: &impl Abort,
     alloc: Global,
     volume: &mut RefusingVolume,
@@ -145,7 +145,7 @@ fn told_again(
     reply_text(rt, alloc, &reply)
 }
 
-/// What becomes of a volume whose command is refused this call, and is then asked again: it was as before, and is as after.
+/// What becomes of a volume whose command is refused this call, and then the command is sent again: it was as before, and is as after.
 /// `None` where the command makes no such call.
 fn refused_at(
     rt: &impl Abort,
@@ -153,7 +153,7 @@ fn refused_at(
     before: &RefusingVolume,
     after: &RefusingVolume,
     stamped: &Stamped,
-    told: &str,
+    answers: &str,
     calls: u64,
 ) -> Option<RefusingVolume> {
     let mut volume = refusing(rt, before, Some(calls));
@@ -164,7 +164,10 @@ fn refused_at(
     assert!(rt; is_no_memory(&reply));
     assert!(rt; takes_memory(&stamped.command));
     expect_same_objects(rt, alloc, &volume, before);
-    assert_eq!(rt; told_again(rt, alloc, &mut volume, stamped).as_str(), told);
+    assert_eq!(rt;
+        answer_again(rt, alloc, &mut volume, stamped).as_str(),
+        answers
+    );
     expect_same_objects(rt, alloc, &volume, after);
     Some(volume)
 }
@@ -176,12 +179,15 @@ fn refuse_each(
     alloc: Global,
     volume: &mut RefusingVolume,
     stamped: &Stamped,
-    told: &str,
+    answers: &str,
 ) -> u64 {
     let mut after = refusing(rt, volume, None);
-    assert_eq!(rt; told_again(rt, alloc, &mut after, stamped).as_str(), told);
+    assert_eq!(rt;
+        answer_again(rt, alloc, &mut after, stamped).as_str(),
+        answers
+    );
     for calls in 0..MOST_CALLS {
-        match refused_at(rt, alloc, volume, &after, stamped, told, calls) {
+        match refused_at(rt, alloc, volume, &after, stamped, answers, calls) {
             Some(again) => after = again,
             None => {
                 *volume = after;
@@ -193,7 +199,7 @@ fn refuse_each(
     MOST_CALLS
 }
 
-/// What is asked, what is told, and how many calls of the store may be refused.
+/// The request, the reply, and how many calls of the store may be refused.
 const COUNTED: [(&str, &str, u64); 18] = [
     ("mkdir /d", "ok", 2),
     ("open /d/f rwc", "fd 0", 3),
@@ -219,9 +225,9 @@ const COUNTED: [(&str, &str, u64); 18] = [
 fn each_call_may_be_refused(rt: HostRuntime) {
     let alloc = rt.alloc();
     let mut volume = volume_over(&rt, alloc, no_objects(&rt, alloc), false);
-    for (line, told, calls) in COUNTED {
+    for (line, answers, calls) in COUNTED {
         let stamped = command_of(&rt, alloc, line);
-        let refused = refuse_each(&rt, alloc, &mut volume, &stamped, told);
+        let refused = refuse_each(&rt, alloc, &mut volume, &stamped, answers);
         assert_eq!(&rt; refused, calls, "{line}");
     }
 }
@@ -263,8 +269,8 @@ fn what_may_only_be_read_stays(rt: HostRuntime) {
     }
     let objects = volume.store().inner.settled().expect(&rt, "memory");
     let mut volume = volume_over(&rt, alloc, objects, true);
-    for (line, told) in READ_ONLY {
+    for (line, answers) in READ_ONLY {
         let stamped = command_of(&rt, alloc, line);
-        let _calls = refuse_each(&rt, alloc, &mut volume, &stamped, told);
+        let _calls = refuse_each(&rt, alloc, &mut volume, &stamped, answers);
     }
 }

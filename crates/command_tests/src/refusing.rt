@@ -17,7 +17,7 @@ pub struct RefusingStore<S> {
 }
 
 impl<S: ObjectStore> RefusingStore<S> {
-    /// Counts a call that may take memory, and tells whether it is the one that is refused: none after it is.
+    /// Counts a call that may take memory, and returns whether it is the one that is refused: none after it is.
     fn refuses(&mut self) -> bool
         ensures inner { self.new.inner ≡ self.old.inner }
         ensures refuses { self.old.calls ≡ Some 0 → (result ≡ true) × (self.new.calls ≡ None) }

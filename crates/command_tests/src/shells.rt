@@ -1,4 +1,4 @@
-// Worked lines: what is asked, and what is told.
+// Worked lines: requests and replies.
 use line_shell::{Line, ScriptFault, Serve, ShellFault, parse, read_script, shell, write_reply};
 use posix_profile::{
     Access, Bytes, Command, Errno, FilePath, Info, Kind, NameList, OpenFlags, Reply, SpaceInfo,
@@ -18,9 +18,9 @@ fn text(alloc: Global, text: &[u8]) -> Result<Bytes, AllocError> {
 
 /// What the text of a reply is.
 fn reply_of(rt: &impl Abort, alloc: Global, reply: &Reply) -> Vec<u8> {
-    let mut told = Vec::new(alloc);
-    write_reply(&mut told, reply).expect(rt, "a reply");
-    told
+    let mut answers = Vec::new(alloc);
+    write_reply(&mut answers, reply).expect(rt, "a reply");
+    answers
 }
 
 /// Asserts that the line asks for the command.
@@ -290,7 +290,7 @@ fn each_reply_has_its_text(rt: HostRuntime) {
     reply_with_names(&rt, alloc)
 }
 
-/// It answers Done to each directory that it is asked to make, and to a list the two bytes of how many these were and
+/// It answers Done to each directory that it is to make, and to a list the two bytes of how many these were and
 /// of the moment of the last one.
 #[derive(Drop)]
 struct Counter {
@@ -338,8 +338,8 @@ impl Serve for Counter {
     }
 }
 
-/// What a shell tells over an input, and how it ends.
-fn told(alloc: Global, input: &[u8]) -> (Vec<u8>, Result<(), ShellFault>) {
+/// What a shell answers over an input, and how it ends.
+fn answers(alloc: Global, input: &[u8]) -> (Vec<u8>, Result<(), ShellFault>) {
     let mut reader = input;
     let mut writer = Vec::new(alloc);
     let ends = shell(alloc, &mut reader, &mut writer, &mut Counter::new(alloc));
@@ -349,14 +349,14 @@ fn told(alloc: Global, input: &[u8]) -> (Vec<u8>, Result<(), ShellFault>) {
 const INPUT: &[u8] =
     b"mkdir /a\n\nnope\r\nlist /\r\nnow 5\nmkdir \\x2fb\n  \nlist /\nread 0\nspace x\nsync";
 
-const TOLD: &[u8] =
+const ANSWERS: &[u8] =
     b"ok\nbad line\nnames 2 1 0\nok\nok\nnames 2 2 5\nbad line\nbad line\nerror EIO\n";
 
 #[test]
 fn a_shell_answers_its_lines(rt: HostRuntime) {
     let alloc = rt.alloc();
     for (input, wanted) in [
-        (INPUT, TOLD),
+        (INPUT, ANSWERS),
         (b"", b""),
         (b"\n", b""),
         (b"\r\n", b""),
@@ -364,7 +364,7 @@ fn a_shell_answers_its_lines(rt: HostRuntime) {
         (b"mkdir /\r\r\nmkdir\r\n", b"ok\nbad line\n"),
         (b"sync\r", b"bad line\n"),
     ] {
-        let (text, ends) = told(alloc, input);
+        let (text, ends) = answers(alloc, input);
         assert_eq!(rt; text.as_slice(), wanted);
         assert_eq!(rt; ends, Ok(()));
     }
@@ -387,7 +387,7 @@ fn a_line_has_a_greatest_size(rt: HostRuntime) {
         input
             .extend_from_slice(end.as_bytes())
             .expect(&rt, "memory");
-        let found = told(alloc, &input);
+        let found = answers(alloc, &input);
         assert_eq!(rt; found.0.as_slice(), wanted.as_bytes(), "{end:?}");
         assert_eq!(rt; found.1, ends, "{end:?}");
     }
@@ -420,7 +420,7 @@ impl Read for FailingReader<'_> {
 /// It takes up to two bytes a call, is interrupted at each second call, and fails at one of its calls.
 #[derive(Drop)]
 struct FailingWriter {
-    told: Vec<u8>,
+    answers: Vec<u8>,
     calls: u32,
     fails_at: u32,
 }
@@ -435,7 +435,7 @@ impl Write for FailingWriter {
             return Err(io::Error::from(ErrorKind::Interrupted));
         }
         let count = buf.len().min(2);
-        self.told.extend_from_slice(&buf[..count])?;
+        self.answers.extend_from_slice(&buf[..count])?;
         Ok(count)
     }
 
@@ -457,12 +457,12 @@ fn a_reader_fails_at_each_call(rt: HostRuntime) {
         let mut writer = Vec::new(alloc);
         let ends = shell(alloc, &mut reader, &mut writer, &mut Counter::new(alloc));
         if ends == Ok(()) {
-            assert_eq!(rt; writer.as_slice(), TOLD);
+            assert_eq!(rt; writer.as_slice(), ANSWERS);
             assert!(rt; fails_at > 40);
             return;
         }
         assert_eq!(rt; ends, Err(ShellFault::Read));
-        assert!(rt; TOLD.starts_with(&writer));
+        assert!(rt; ANSWERS.starts_with(&writer));
         assert!(rt; writer.is_empty() || writer.ends_with(b"\n"));
     }
     assert!(rt; false, "it still fails");
@@ -475,20 +475,20 @@ fn a_writer_fails_at_each_call(rt: HostRuntime) {
     for fails_at in 1..1000 {
         let mut reader = INPUT;
         let mut writer = FailingWriter {
-            told: Vec::new(alloc),
+            answers: Vec::new(alloc),
             calls: 0,
             fails_at,
         };
         let mut counter = Counter::new(alloc);
         let ends = shell(alloc, &mut reader, &mut writer, &mut counter);
-        assert!(rt; TOLD.starts_with(&writer.told));
-        // no command is done after the one whose answer could not be told
-        let whole = writer.told.iter().filter(|byte| **byte == b'\n').count();
+        assert!(rt; ANSWERS.starts_with(&writer.answers));
+        // no command is done after the one whose answer could not be written
+        let whole = writer.answers.iter().filter(|byte| **byte == b'\n').count();
         assert!(rt; counter.calls <= (whole as u64).saturating_add(1));
-        assert!(rt; writer.told.len() >= most);
-        most = writer.told.len();
+        assert!(rt; writer.answers.len() >= most);
+        most = writer.answers.len();
         if ends == Ok(()) {
-            assert_eq!(rt; writer.told.as_slice(), TOLD);
+            assert_eq!(rt; writer.answers.as_slice(), ANSWERS);
             assert!(rt; fails_at > 60);
             return;
         }
@@ -548,15 +548,15 @@ fn a_refused_allocation_ends_the_shell(rt: HostRuntime) {
     let ends = shell(rt.alloc(), &mut reader, &mut writer, &mut volume);
     let Held { bytes, count } = writer;
     let Turns { calls } = volume;
-    let told = bytes.as_slice().get(..count).expect(&rt, "too many");
-    assert!(rt; text.starts_with(told));
+    let answers = bytes.as_slice().get(..count).expect(&rt, "too many");
+    assert!(rt; text.starts_with(answers));
     if ends == Ok(()) {
-        assert_eq!(rt; told, text.as_slice());
+        assert_eq!(rt; answers, text.as_slice());
     } else {
         assert_eq!(rt; ends, Err(ShellFault::NoMemory));
-        assert!(rt; told.is_empty() || told.ends_with(b"\n"));
+        assert!(rt; answers.is_empty() || answers.ends_with(b"\n"));
         assert_eq!(rt;
-            told.iter().filter(|byte| **byte == b'w').count(),
+            answers.iter().filter(|byte| **byte == b'w').count(),
             calls as usize
         );
     }

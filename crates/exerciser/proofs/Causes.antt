@@ -34,7 +34,7 @@ pub uncounted : (first last : Device) (session : Session) (calls : ℕ) (end : S
 uncounted first last session calls end (Ok count) ended counts = tt
 uncounted first last session calls end (Err fault) ended counts = not_counted first last session calls end fault ended counts
 
--- so no call of it is drawn
+-- so no call of it is taken
 pub not_drawn : (first : Device) (session : Session) (fault : CutFault) → WhyUncounted first (uncut session) fault → WhyUndone first session fault
 not_drawn first session faults.NoMemory why = tt
 not_drawn first session (faults.Mount fault) why = why

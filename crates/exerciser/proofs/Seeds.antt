@@ -24,18 +24,18 @@ unfolding words_after
 first_words seed pages generator seeded = ap answers seeded
 
 -- a session more, with as many pages
-pub more_words : (seed pages drawn before : ℕ) (old new : Stream) → drawn ≡ pages → old ≡ words_after seed pages before → new ≡ words_after_session drawn old
+pub more_words : (seed pages random before : ℕ) (old new : Stream) → random ≡ pages → old ≡ words_after seed pages before → new ≡ words_after_session random old
     → new ≡ words_after seed pages (before + 1)
 unfolding words_after
-more_words seed pages drawn before old new same_pages same left =
+more_words seed pages random before old new same_pages same left =
     simp unary_clauses (left ∙ ap (λ n. words_after_session n old) same_pages ∙ ap (λ s. words_after_session pages s) same)
 
--- a session whose fuse was drawn from the words that are left, and that ended so
+-- a session whose fuse was taken from the words that are left, and that ended so
 module _ (x : Exercise) (before pages : ℕ) (old : Stream) (was now : Session) (first last : Device) (same_pages : pages ≡ x.first.geometry.pages) (same : old ≡ words_after x.seed x.first.geometry.pages before)
     (like : uncut now ≡ uncut was) (commands : was.commands.items ≡ x.commands) (failures : was.failures.items ≡ []) (unmounts : was.unmount ≡ true) where
   abbrev pub cut_session : (end : SessionEnd) (operation : ℕ) → fuse_of now.fuse ≡ Some (operation, drawn_fates pages old) → IsDrawnAmong first (uncut was) (next_u64 old).0 operation → IsEnded now end first last
       → (IsTrueOn first → IsTrueOn last) → IsCutSession x before first last
-  cut_session end operation fuse drawn ended truth = record {
+  cut_session end operation fuse random ended truth = record {
     session = now;
     end = end;
     operation = operation;
@@ -43,16 +43,16 @@ module _ (x : Exercise) (before pages : ℕ) (old : Stream) (was now : Session) 
     fuse_is = fuse ∙ ap (λ n. Some (operation, drawn_fates n old)) same_pages ∙ ap (λ words. Some (operation, drawn_fates x.first.geometry.pages words)) same;
     failures_are = ap (λ (s : Session). s.failures.items) like ∙ failures;
     unmounts = ap (λ (s : Session). s.unmount) like ∙ unmounts;
-    drawn = subst (λ s. IsDrawnAmong first s (session_word x.seed x.first.geometry.pages before) operation) (sym like) (subst (λ words. IsDrawnAmong first (uncut was) (next_u64 words).0 operation) same drawn);
+    random = subst (λ s. IsDrawnAmong first s (session_word x.seed x.first.geometry.pages before) operation) (sym like) (subst (λ words. IsDrawnAmong first (uncut was) (next_u64 words).0 operation) same random);
     ended = ended;
     truth = truth;
   }
 
--- a call is drawn among those that are counted
+-- a random call is among those that there are
 pub drawn_from : (first : Device) (session : Session) (count calls word : ℕ) (result : Result ℕ CutFault) → IsCountOf first session count → calls ≡ max count 1 → IfOk result (λ operation. operation ≡ operation_of calls word)
     → IfOk result (IsDrawnAmong first session word)
-drawn_from first session count calls word (Ok operation) counted is drawn = (count, counted, drawn ∙ ap (λ n. operation_of n word) is)
-drawn_from first session count calls word (Err fault) counted is drawn = tt
+drawn_from first session count calls word (Ok operation) counted is random = (count, counted, random ∙ ap (λ n. operation_of n word) is)
+drawn_from first session count calls word (Err fault) counted is random = tt
 
 -- what is counted of a session is its calls
 pub counts : (end : SessionEnd) (calls : ℕ) (last first : Device) (session : Session) (result : Result ℕ CutFault) → IsEnded session end first last → calls ≡ calls_since first last

@@ -1,4 +1,4 @@
--- What is drawn word by word.
+-- What is random, word by word.
 use Rattle.std.proofs.Common.{◌≡◌, ℕ, ◌+◌, List, [], ◌∷◌, ◌++◌, map, refl, sym, ap, ◌∙◌}
 use native.Mathlib.Numerals.{unary_clauses}
 use Rattle.std.proofs.lemmas.List.{map-append}
@@ -16,9 +16,9 @@ pub one_more : (n : ℕ) (s middle left : Stream) (fates : List Fate) (word : �
     → (fates ++ (fate_of word ∷ []) ≡ map fate_of (next_words (n + 1) s).0) × (left ≡ (next_words (n + 1) s).1)
 unfolding next_words
 one_more n s middle left fates word before there next =
-    let drawn : word ≡ (next_u64 (next_words n s).1).0 = ap (λ p. p.0) next ∙ ap (λ m. (next_u64 m).0) there in
+    let random : word ≡ (next_u64 (next_words n s).1).0 = ap (λ p. p.0) next ∙ ap (λ m. (next_u64 m).0) there in
     simp unary_clauses (
-      ap (λ fs. fs ++ (fate_of word ∷ [])) before ∙ ap (λ w. map fate_of (next_words n s).0 ++ (fate_of w ∷ [])) drawn
+      ap (λ fs. fs ++ (fate_of word ∷ [])) before ∙ ap (λ w. map fate_of (next_words n s).0 ++ (fate_of w ∷ [])) random
           ∙ sym (map-append fate_of (next_words n s).0 ((next_u64 (next_words n s).1).0 ∷ [])),
       ap (λ p. p.1) next ∙ ap (λ m. (next_u64 m).1) there,
     )

@@ -37,7 +37,7 @@ pub record IsCutSession (x : Exercise) (before : ℕ) (first last : Device) : Ty
   pub fuse_is : fuse_of session.fuse ≡ Some (operation, drawn_fates x.first.geometry.pages (words_after x.seed x.first.geometry.pages before))
   pub failures_are : session.failures.items ≡ []
   pub unmounts : session.unmount ≡ true
-  pub drawn : IsDrawnAmong first (uncut session) (session_word x.seed x.first.geometry.pages before) operation
+  pub random : IsDrawnAmong first (uncut session) (session_word x.seed x.first.geometry.pages before) operation
   pub ended : IsEnded session end first last
   pub truth : IsTrueOn first → IsTrueOn last
 

@@ -1,4 +1,4 @@
--- Which calls of the device are cut, drawn from a seed.
+-- Which calls of the device are cut, at random by a seed.
 use Rattle.std.specs.Prelude.{◌≡◌, ℕ, zero, suc, max, List, map, Ok}
 use Rattle.nand_model.specs.Calls.{Device}
 use Rattle.nand_model.specs.declared.fate.Fate.{Fate}

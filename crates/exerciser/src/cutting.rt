@@ -1,4 +1,4 @@
-// Sessions that are cut at drawn calls of the device.
+// Sessions that are cut at random calls of the device.
 ghost use Rattle.std.specs.Prelude.{◌≡◌, ◌≤◌, ℕ, Some, IfOk, IfErr, OnOk};
 ghost use Rattle.rand_core.specs.Stream.{next_u64};
 ghost use Rattle.nand_model.specs.MemoryState.{device};
@@ -27,7 +27,7 @@ use std::alloc::Global;
 use std::io::Write;
 
 /// Sets where a session is cut that makes so many calls where it is not, and tells the call. Where memory is refused nothing
-/// is drawn.
+/// is taken.
 fn set_fuse(
     alloc: Global,
     session: &mut Session,
@@ -38,7 +38,7 @@ fn set_fuse(
     requires { 1 ≤ calls }
     ensures same { uncut session.new ≡ uncut session.old }
     ensures fuse { IfOk result (λ operation. fuse_of session.new.fuse ≡ Some (operation, drawn_fates pages (answers generator.old))) }
-    ensures drawn { IfOk result (λ operation. operation ≡ operation_of calls (next_u64 (answers generator.old)).0) }
+    ensures random { IfOk result (λ operation. operation ≡ operation_of calls (next_u64 (answers generator.old)).0) }
     ensures left { OnOk result (answers generator.new ≡ words_after_session pages (answers generator.old)) }
     ensures fault { IfErr result (λ e. e ≡ faults.NoMemory) }
 {
@@ -57,7 +57,7 @@ fn draw_fuse(
 ) -> Result<u64, CutFault>
     ensures same { uncut session.new ≡ uncut session.old }
     ensures fuse { IfOk result (λ operation. fuse_of session.new.fuse ≡ Some (operation, drawn_fates pages (answers generator.old))) }
-    ensures drawn { IfOk result (IsDrawnAmong (device nand.now) (uncut session.old) (next_u64 (answers generator.old)).0) }
+    ensures random { IfOk result (IsDrawnAmong (device nand.now) (uncut session.old) (next_u64 (answers generator.old)).0) }
     ensures left { OnOk result (answers generator.new ≡ words_after_session pages (answers generator.old)) }
     ensures fault { IfErr result (WhyUndone (device nand.now) session.old) }
 {
@@ -66,7 +66,7 @@ fn draw_fuse(
     set_fuse(alloc, session, generator, calls, pages)
 }
 
-/// A session that was cut at a drawn call: the device that it left, how it ended, the call, and what a mount then shows.
+/// A session that was cut at a random call: the device that it left, how it ended, the call, and what a mount then shows.
 #[derive(Drop)]
 struct Exercised {
     device: MemNand,
@@ -75,7 +75,7 @@ struct Exercised {
     seen: Seen,
 }
 
-/// Does a session that is cut at a drawn call, and mounts the device after it.
+/// Does a session that is cut at a random call, and mounts the device after it.
 fn exercise(
     alloc: Global,
     standing: Standing,
@@ -85,7 +85,7 @@ fn exercise(
 ) -> Result<Exercised, CutFault>
     ensures same { uncut session.new ≡ uncut session.old }
     ensures fuse { IfOk result (λ done. fuse_of session.new.fuse ≡ Some (done.operation, drawn_fates pages (answers generator.old))) }
-    ensures drawn { IfOk result (λ done. IsDrawnAmong (device standing.device) (uncut session.old) (next_u64 (answers generator.old)).0 done.operation) }
+    ensures random { IfOk result (λ done. IsDrawnAmong (device standing.device) (uncut session.old) (next_u64 (answers generator.old)).0 done.operation) }
     ensures left { OnOk result (answers generator.new ≡ words_after_session pages (answers generator.old)) }
     ensures ended { IfOk result (λ done. IsEnded session.new done.end (device standing.device) (device done.device)) }
     ensures truth { IfOk result (λ done. IsTrueOn (device standing.device) → IsTrueOn (device done.device)) }
@@ -117,8 +117,8 @@ fn go_on(device: MemNand, seen: Seen) -> Result<Standing, CutFault>
     }
 }
 
-/// Does so many sessions of these commands in turn on the device, each cut at a call of the device that is drawn from the
-/// seed, with drawn fates, and tells of each on a line what the mount after it finds. The first session without a tree that
+/// Does so many sessions of these commands in turn on the device, each cut at a call of the device that is random by the
+/// seed, with random fates, and tells of each on a line what the mount after it finds. The first session without a tree that
 /// it may leave is the last. The same seed gives the same lines.
 pub fn cut<W: Write>(
     alloc: Global,

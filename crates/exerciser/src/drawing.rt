@@ -21,7 +21,7 @@ fn fate_of(word: u64) -> Fate
 }
 
 /// Draws the operation that is cut, from 1 to `operations`, by the generator's next word, and by each word after it the
-/// fate of a page. Where memory is refused no word is drawn.
+/// fate of a page. Where memory is refused no word is taken.
 pub fn draw(
     alloc: Global,
     generator: &mut Lcg128Xsl64,
@@ -29,8 +29,8 @@ pub fn draw(
     pages: u32,
 ) -> Result<(u64, Vec<Fate>), AllocError>
     requires { 1 ≤ operations }
-    ensures operation { IfOk result (λ drawn. drawn.0 ≡ operation_of operations (next_u64 (answers generator.old)).0) }
-    ensures fates { IfOk result (λ drawn. drawn.1.items ≡ map fate_of (next_words pages (next_u64 (answers generator.old)).1).0) }
+    ensures operation { IfOk result (λ random. random.0 ≡ operation_of operations (next_u64 (answers generator.old)).0) }
+    ensures fates { IfOk result (λ random. random.1.items ≡ map fate_of (next_words pages (next_u64 (answers generator.old)).1).0) }
     ensures left { OnOk result (answers generator.new ≡ (next_words pages (next_u64 (answers generator.old)).1).1) }
     ensures refused { OnErr result (generator.new ≡ generator.old) }
 {

@@ -1,4 +1,4 @@
-//! The exerciser: sessions on a volume in memory, each cut at a drawn call of the device, and what a mount finds after each.
+//! The exerciser: sessions on a volume in memory, each cut at a random call of the device, and what a mount finds after each.
 #![tactic(auto)]
 
 mod cutting;

@@ -1,5 +1,5 @@
 // The line of a session.
-ghost use Rattle.std.specs.Prelude.{◌≡◌, ◌++◌, codes};
+ghost use Rattle.std.specs.Prelude.{◌≡◌, ◌++◌};
 ghost use Rattle.exerciser.specs.Lines.{finding_text, session_line, IsTold};
 ghost use Rattle.line_shell.specs.Written.{Writes};
 

@@ -57,9 +57,9 @@ fn a_folder_that_was_packed_is_unpacked(rt: HostRuntime) {
         let mut volume = new_volume(&rt, alloc);
         pack(alloc, &folder, &mut volume).expect(&rt, "a packed folder");
         let found = unpack(alloc, &mut volume).expect(&rt, "a folder");
-        let told = format!(in alloc; "{found:?}").expect(&rt, "memory");
+        let answers = format!(in alloc; "{found:?}").expect(&rt, "memory");
         let wanted = format!(in alloc; "{folder:?}").expect(&rt, "memory");
-        assert_eq!(&rt; told, wanted);
+        assert_eq!(&rt; answers, wanted);
     }
 }
 
@@ -120,9 +120,9 @@ fn what_no_volume_can_have_is_listed(rt: HostRuntime) {
     }
     let refused = refusals(alloc, &folder, 100).expect(&rt, "memory");
     assert_eq!(&rt; refused.len(), 7);
-    let told = lines_of(&rt, alloc, &refused[..6]);
+    let answers = lines_of(&rt, alloc, &refused[..6]);
     assert_eq!(&rt;
-        told.as_str(),
+        answers.as_str(),
         "name /a\nname /b\nname /c\nname /d\nname /e\nfile /f\n"
     );
     assert_eq!(&rt; refused[6].cause, RefusalCause::LongPath);

@@ -30,8 +30,8 @@ fn three_draws_follow_the_words_of_a_seed(rt: HostRuntime) {
         (1, 6, 1, some.as_slice()),
         (u64::MAX, 0, 11_629_852_450_240_508_455, &[]),
     ] {
-        let drawn = draw(rt.alloc(), &mut generator, operations, pages).expect(&rt, "memory");
-        assert_eq!(rt; drawn.0, operation);
-        assert_eq!(rt; drawn.1.as_slice(), fates);
+        let chosen = draw(rt.alloc(), &mut generator, operations, pages).expect(&rt, "memory");
+        assert_eq!(rt; chosen.0, operation);
+        assert_eq!(rt; chosen.1.as_slice(), fates);
     }
 }

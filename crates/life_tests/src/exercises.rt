@@ -18,8 +18,8 @@ fn blank(rt: &impl Abort, alloc: Global) -> MemNand {
     MemNand::new(alloc, geometry).expect(rt, "memory")
 }
 
-/// What is told of the sessions, and how they end.
-fn told(
+/// What is reported of the sessions, and how they end.
+fn answers(
     rt: &impl Abort,
     alloc: Global,
     device: MemNand,
@@ -35,7 +35,7 @@ fn told(
 #[test]
 fn each_session_keeps_a_tree(rt: HostRuntime) {
     let alloc = rt.alloc();
-    let (text, ended) = told(&rt, alloc, formatted(&rt, alloc), 1, 20);
+    let (text, ended) = answers(&rt, alloc, formatted(&rt, alloc), 1, 20);
     assert_eq!(rt; ended, Ok(()));
     let mut number = 0_u32;
     for line in text.lines() {
@@ -48,9 +48,9 @@ fn each_session_keeps_a_tree(rt: HostRuntime) {
         );
     }
     assert_eq!(rt; number, 20);
-    let (again, _) = told(&rt, alloc, formatted(&rt, alloc), 1, 20);
+    let (again, _) = answers(&rt, alloc, formatted(&rt, alloc), 1, 20);
     assert_eq!(rt; again.as_str(), text.as_str());
-    let (other, _) = told(&rt, alloc, formatted(&rt, alloc), 2, 20);
+    let (other, _) = answers(&rt, alloc, formatted(&rt, alloc), 2, 20);
     assert!(rt; other.as_str() != text.as_str());
 }
 
@@ -73,7 +73,7 @@ fn a_call_is_drawn_among_those_of_the_session(rt: HostRuntime) {
 #[test]
 fn a_device_without_a_volume_is_not_cut(rt: HostRuntime) {
     let alloc = rt.alloc();
-    let (text, ended) = told(&rt, alloc, blank(&rt, alloc), 1, 1);
+    let (text, ended) = answers(&rt, alloc, blank(&rt, alloc), 1, 1);
     assert_eq!(rt; ended, Err(CutFault::Mount(MountFault::NotAVolume)));
     assert_eq!(rt; text.as_str(), "");
 }
@@ -135,7 +135,7 @@ impl Write for Short {
 #[test]
 fn a_writer_that_fails_ends_the_sessions(rt: HostRuntime) {
     let alloc = rt.alloc();
-    let (text, _) = told(&rt, alloc, formatted(&rt, alloc), 1, 1);
+    let (text, _) = answers(&rt, alloc, formatted(&rt, alloc), 1, 1);
     let mut writer = Short {
         bytes: [0; 20],
         count: 0,

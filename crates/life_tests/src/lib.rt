@@ -9,9 +9,9 @@ mod exercises;
 #[cfg(test)]
 mod lines;
 #[cfg(test)]
-mod sessions;
+mod scenarios;
 #[cfg(test)]
-mod stories;
+mod sessions;
 #[cfg(test)]
 mod torn;
 #[cfg(test)]

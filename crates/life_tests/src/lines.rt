@@ -1,4 +1,4 @@
-// Sessions of lines, and what they are told.
+// Sessions of lines, and their answers.
 use line_shell::{Line, parse, read_script, write_reply};
 use nand_model::{Fate, Geometry, MemNand};
 use posix_calls::{Stamped, format};
@@ -86,8 +86,8 @@ pub(crate) fn live_through(
     live(alloc, nand, sessions).expect(rt, "memory")
 }
 
-/// What a session was told, line by line.
-pub(crate) fn told(rt: &impl Abort, alloc: Global, end: &SessionEnd) -> Vec<u8> {
+/// What a session was answered, line by line.
+pub(crate) fn answers(rt: &impl Abort, alloc: Global, end: &SessionEnd) -> Vec<u8> {
     let mut text = Vec::new(alloc);
     for reply in &end.replies {
         write_reply(&mut text, reply).expect(rt, "a reply");

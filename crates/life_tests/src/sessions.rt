@@ -32,9 +32,9 @@ fn session(rt: &impl Abort, alloc: Global, command: Command, unmount: bool) -> S
     }
 }
 
-/// What a session tells.
+/// What a session reports.
 #[derive(Clone, Copy, Debug)]
-enum Told {
+enum Answered {
     /// That power was lost in its mount, before its command.
     Gone,
     /// That its one command is done.
@@ -45,15 +45,17 @@ enum Told {
     Name(&'static str),
 }
 
-impl Told {
+impl Answered {
     fn is_of(self, end: &SessionEnd) -> bool {
         match (self, end.replies.as_slice()) {
-            (Told::Gone, []) => end.mounted == Err(MountFault::Gone) && end.cut && end.begun == 0,
-            (Told::Done, [Reply::Done]) => is_undisturbed(end),
-            (Told::NoNames, [Reply::Names(list)]) => {
+            (Answered::Gone, []) => end.mounted == Err(MountFault::Gone)
+                && end.cut
+                && end.begun == 0,
+            (Answered::Done, [Reply::Done]) => is_undisturbed(end),
+            (Answered::NoNames, [Reply::Names(list)]) => {
                 is_undisturbed(end) && list.as_slice().is_empty()
             }
-            (Told::Name(name), [Reply::Names(list)]) => match list.as_slice() {
+            (Answered::Name(name), [Reply::Names(list)]) => match list.as_slice() {
                 [only] => is_undisturbed(end) && only.as_slice() == name.as_bytes(),
                 _ => false,
             },
@@ -67,21 +69,27 @@ fn is_undisturbed(end: &SessionEnd) -> bool {
     end.mounted == Ok(()) && end.begun == 1 && !end.cut
 }
 
-/// Whether an unmount is told as it was asked for: it is done, or not made.
-fn is_unmounted(end: &SessionEnd, asked: bool) -> bool {
+/// Whether an unmount is answered as it was wanted: it is done, or not made.
+fn is_unmounted(end: &SessionEnd, wanted: bool) -> bool {
     match &end.unmounted {
-        Some(Reply::Done) => asked,
+        Some(Reply::Done) => wanted,
         Some(_) => false,
-        None => !asked,
+        None => !wanted,
     }
 }
 
-/// Lives through the sessions and compares what each tells.
-fn expect(rt: &impl Abort, alloc: Global, nand: MemNand, sessions: &[Session], told: &[Told]) {
+/// Lives through the sessions and compares what each reports.
+fn expect(
+    rt: &impl Abort,
+    alloc: Global,
+    nand: MemNand,
+    sessions: &[Session],
+    answers: &[Answered],
+) {
     let (_nand, ends) = live_through(rt, alloc, nand, sessions);
-    assert_eq!(rt; ends.len(), told.len());
-    for ((end, session), told) in ends.iter().zip(sessions).zip(told) {
-        assert!(rt; told.is_of(end), "{told:?} {end:?}");
+    assert_eq!(rt; ends.len(), answers.len());
+    for ((end, session), answers) in ends.iter().zip(sessions).zip(answers) {
+        assert!(rt; answers.is_of(end), "{answers:?} {end:?}");
         assert!(rt; is_unmounted(end, session.unmount), "{end:?}");
     }
 }
@@ -100,13 +108,13 @@ fn what_was_unmounted_is_there_again(rt: HostRuntime) {
         session(&rt, alloc, list(&rt, alloc), false),
     ]
     .expect(&rt, "memory");
-    let told = [
-        Told::Done,
-        Told::NoNames,
-        Told::Done,
-        Told::Name("a"),
-        Told::Gone,
-        Told::Name("a"),
+    let answers = [
+        Answered::Done,
+        Answered::NoNames,
+        Answered::Done,
+        Answered::Name("a"),
+        Answered::Gone,
+        Answered::Name("a"),
     ];
-    expect(&rt, alloc, formatted(&rt, alloc), &sessions, &told)
+    expect(&rt, alloc, formatted(&rt, alloc), &sessions, &answers)
 }

@@ -1,5 +1,5 @@
 // Sessions of one file, worked by hand: three of them are cut before it, or one is cut where a block is collected.
-use crate::lines::{formatted, live_through, script, told};
+use crate::lines::{answers, formatted, live_through, script};
 use flash_tree::{Key, TagNumbers};
 use nand_model::{Fate, MemNand};
 use posix_calls::MountFault;
@@ -8,10 +8,10 @@ use std::alloc::Global;
 use std::process::Abort;
 use test_devices::{greatest, newest};
 
-/// A file of five bytes, and what is told.
+/// A file of five bytes, and what is answered.
 const HELLO: &str = "open /a rwc\nwrite 0 hello\nseek 0 0 set\nread 0 10\nspace\nfsync 0\n";
 
-const HELLO_TOLD: &str = "fd 0\nwrote 5\nat 0\ndata 5 hello\nspace 512 144 140\nok\n";
+const HELLO_ANSWERS: &str = "fd 0\nwrote 5\nat 0\ndata 5 hello\nspace 512 144 140\nok\n";
 
 /// A session of a text of lines, which is abandoned at its end. Its power may go at a call.
 fn session(rt: &impl Abort, alloc: Global, lines: &str, fuse: Option<(u64, &[Fate])>) -> Session {
@@ -39,9 +39,9 @@ fn live_once(
     (nand, ends.pop().expect(rt, "no end"))
 }
 
-/// The text of what a session was told.
+/// The text of what a session was answered.
 fn text(rt: &impl Abort, alloc: Global, end: &SessionEnd) -> String {
-    String::from_utf8(told(rt, alloc, end)).expect(rt, "a text")
+    String::from_utf8(answers(rt, alloc, end)).expect(rt, "a text")
 }
 
 const MADE: &str = "mkdir /z\nsync\n";
@@ -100,7 +100,7 @@ fn sessions_that_were_cut_leave_nothing_but_their_numbers(rt: HostRuntime) {
     nand.power_up();
     let before = greatest(&mut nand).expect(&rt, "a search");
     let (mut nand, end) = live_once(&rt, alloc, nand, session(&rt, alloc, HELLO, None));
-    assert_eq!(rt; text(&rt, alloc, &end).as_str(), HELLO_TOLD);
+    assert_eq!(rt; text(&rt, alloc, &end).as_str(), HELLO_ANSWERS);
     for (object, chunk) in [(1, 0), (1, 1), (2, 0), (2, 1)] {
         expect_above(&rt, &mut nand, object, chunk, before);
     }
@@ -127,14 +127,16 @@ fn filling(rt: &impl Abort, alloc: Global, rounds: u32) -> String {
 }
 
 /// Beside the root, its two slots and the first file there is room for 138 pages: 27 times five, and three.
-fn filling_told(rt: &impl Abort, alloc: Global) -> String {
-    let mut told = String::from_str(alloc, HELLO_TOLD).expect(rt, "memory");
-    told.push_str("fd 1\n").expect(rt, "memory");
-    told.push_str(&"wrote 2560\n".repeat(alloc, 27).expect(rt, "memory"))
+fn filling_answers(rt: &impl Abort, alloc: Global) -> String {
+    let mut answers = String::from_str(alloc, HELLO_ANSWERS).expect(rt, "memory");
+    answers.push_str("fd 1\n").expect(rt, "memory");
+    answers
+        .push_str(&"wrote 2560\n".repeat(alloc, 27).expect(rt, "memory"))
         .expect(rt, "memory");
-    told.push_str("wrote 1536\nerror ENOSPC\nok\n")
+    answers
+        .push_str("wrote 1536\nerror ENOSPC\nok\n")
         .expect(rt, "memory");
-    told
+    answers
 }
 
 /// The calls and the changes that a session of lines makes from its power-up on.
@@ -179,9 +181,9 @@ fn a_collection_that_is_cut_keeps_a_file(rt: HostRuntime) {
     }
     let cut = session(&rt, alloc, &lines, Some((erase, &fates)));
     let (nand, end) = live_once(&rt, alloc, nand, cut);
-    let told = text(&rt, alloc, &end);
-    assert!(rt; end.cut && told.ends_with("at 0\nwrote 512\nerror EIO\n"));
-    assert!(rt; told.starts_with(filling_told(&rt, alloc).as_str()));
+    let answers = text(&rt, alloc, &end);
+    assert!(rt; end.cut && answers.ends_with("at 0\nwrote 512\nerror EIO\n"));
+    assert!(rt; answers.starts_with(filling_answers(&rt, alloc).as_str()));
     let look = "open /a r\nread 0 10\nspace\n";
     let (_nand, end) = live_once(&rt, alloc, nand, session(&rt, alloc, look, None));
     assert_eq!(rt;

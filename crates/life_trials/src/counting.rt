@@ -2,7 +2,7 @@
 use crate::judging::Judged;
 use std::alloc::{AllocError, Global};
 
-/// How many sessions there were, how many of them were cut, and how many commands were kept.
+/// How many sessions there were, how many of them were cut, and how many commands survived.
 #[derive(Clone, Copy)]
 pub(crate) struct Count {
     sessions: u64,
@@ -28,7 +28,7 @@ impl Count {
         }
     }
 
-    /// Counts one more session that was cut, of which so many commands were kept.
+    /// Counts one more session that was cut, of which so many commands survived.
     pub(crate) fn add_cut(&mut self, kept: u64) {
         self.sessions = self.sessions.saturating_add(1);
         self.cut = self.cut.saturating_add(1);
@@ -40,7 +40,7 @@ impl Count {
         format!(in alloc; "{} sessions, each one of a life", self.sessions)
     }
 
-    /// How many were cut, and what was kept.
+    /// How many were cut, and what survived.
     pub(crate) fn details(self, alloc: Global) -> Result<String, AllocError> {
         format!(in alloc; "{} cut, {} commands kept", self.cut, self.kept)
     }

@@ -1,4 +1,4 @@
-// Sessions that are drawn.
+// Random sessions.
 use crate::commands::{below, draw_command};
 use crate::judging::{Stage, judge};
 use anyhow::Result;
@@ -9,7 +9,7 @@ use powercut::Session;
 use rand_pcg::Lcg128Xsl64;
 use std::alloc::Global;
 
-/// Pages of a block, whose fates are drawn.
+/// Pages of a block, whose fates are random.
 const PAGES: u32 = 32;
 
 fn draw_commands(alloc: Global, random: &mut Lcg128Xsl64) -> Result<Vec<Stamped>> {

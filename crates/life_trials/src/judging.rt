@@ -1,4 +1,4 @@
-// Whether what a session told and left is a life's.
+// Whether what a session answered and left is a life's.
 use crate::living::{device_of, has_tree, live_through, mounted, shown};
 use anyhow::{Result, anyhow};
 use line_shell::write_reply;
@@ -26,7 +26,7 @@ impl Stage {
 }
 
 /// What came of a session: the stage after it, how many calls of the device it made from its power-up on, how many of its
-/// commands were kept, and whether power went.
+/// commands survived, and whether power went.
 #[derive(Drop)]
 pub(crate) struct Judged {
     pub(crate) stage: Stage,
@@ -44,12 +44,12 @@ fn is_mount_end(end: &SessionEnd) -> bool {
     }
 }
 
-/// Whether it ends by an unmount where that was asked for and there was a mount, which is done unless there was a cut.
-fn is_unmount_end(asked: bool, end: &SessionEnd) -> bool {
+/// Whether it ends by an unmount where that was wanted and there was a mount, which is done unless there was a cut.
+fn is_unmount_end(wanted: bool, end: &SessionEnd) -> bool {
     match &end.unmounted {
-        None => !asked || end.mounted.is_err(),
-        Some(Reply::Done) => asked,
-        Some(_) => asked && end.cut,
+        None => !wanted || end.mounted.is_err(),
+        Some(Reply::Done) => wanted,
+        Some(_) => wanted && end.cut,
     }
 }
 
@@ -98,8 +98,8 @@ fn tree_after(
     count: u64,
 ) -> Result<PlainTree> {
     let mut tree = before.copy()?;
-    let told = session.commands.iter().zip(&end.replies);
-    for (stamped, reply) in told.take(count as usize) {
+    let answers = session.commands.iter().zip(&end.replies);
+    for (stamped, reply) in answers.take(count as usize) {
         follow(alloc, &mut tree, stamped, reply, end.cut)?;
     }
     Ok(tree)
@@ -126,7 +126,7 @@ fn count_kept(
     }
 }
 
-/// Lives through a session from a stage on, and tells what came of it. No more blocks than are spare may have failed, at the end
+/// Lives through a session from a stage on, and returns what came of it. No more blocks than are spare may have failed, at the end
 /// too.
 pub(crate) fn judge(alloc: Global, stage: Stage, session: &Session) -> Result<Judged> {
     let Stage { device, tree } = stage;

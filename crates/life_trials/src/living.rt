@@ -15,11 +15,11 @@ fn live_all(
 ) -> Result<(MemNand, Vec<SessionEnd>)> {
     match live(alloc, device, sessions) {
         Ok(lived) => Ok(lived),
-        Err(fault) => Err(anyhow!("a life was not told: {fault:?}")),
+        Err(fault) => Err(anyhow!("a life was not lived: {fault:?}")),
     }
 }
 
-/// Lives through one session, and tells its end.
+/// Lives through one session, and returns its end.
 pub(crate) fn live_through(
     alloc: Global,
     device: MemNand,

@@ -29,7 +29,7 @@ fn made(
         spare,
     );
     let made = (result, nand.calls(), blocks.open_block());
-    assert_stored(rt, &mut nand, &FULL, "room was asked for");
+    assert_stored(rt, &mut nand, &FULL, "room was wanted");
     let marked = marked(rt, alloc, &nand, &blocks);
     (made, blocks, marked)
 }

@@ -24,7 +24,7 @@ pub(crate) fn pages_of(rt: &impl Abort, alloc: Global, found: &FoundPages) -> Ve
 }
 
 /// The places of pages that count.
-fn counted_at(rt: &impl Abort, alloc: Global, list: &[Found]) -> Vec<(u32, u32)> {
+fn valid_at(rt: &impl Abort, alloc: Global, list: &[Found]) -> Vec<(u32, u32)> {
     let mut places = Vec::new(alloc);
     for found in list {
         places.push((found.block, found.page)).expect(rt, "memory");
@@ -89,8 +89,8 @@ fn finds_as_plainly(
 fn finds_as_worked(rt: &impl Abort, alloc: Global, flash: &WorkedFlash) {
     let mut nand = written(rt, alloc, flash);
     let found = scan(alloc, &mut nand).expect(rt, "a scan");
-    let counted = counted_at(rt, alloc, &found.counted);
-    assert_same!(rt; counted, flash.counted, flash.what);
+    let valid = valid_at(rt, alloc, &found.counted);
+    assert_same!(rt; valid, flash.valid, flash.what);
     assert_same!(rt; found.numbers, flash.numbers, flash.what);
     let listed = finds_newest(rt, alloc, &mut nand, &found.newest, flash.what);
     assert_same!(rt; places_of(rt, alloc, &listed), flash.newest, flash.what);
@@ -220,7 +220,7 @@ fn a_cut_scan_says_gone_and_changes_nothing(rt: HostRuntime) {
     }
 }
 
-/// Writes the pages of a group whose numbers are drawn, some of them left out.
+/// Writes the pages of a group whose numbers are random, some of them left out.
 fn write_group(random: &mut Pcg32, flash: &mut TestFlash) {
     let block = random.next_word() % 5;
     let count = 1 + random.next_word() % 4;
@@ -254,8 +254,8 @@ fn fates(rt: &impl Abort, alloc: Global, random: &mut Pcg32) -> Vec<Fate> {
     fates
 }
 
-/// A flash of pages that were written, lost and erased as drawn.
-fn drawn(rt: &impl Abort, alloc: Global, random: &mut Pcg32) -> MemNand {
+/// A flash of pages that were written, lost and erased at random.
+fn random_flash(rt: &impl Abort, alloc: Global, random: &mut Pcg32) -> MemNand {
     let mut failures = Vec::new(alloc);
     for _failure in 0..12u32 {
         let call = 1 + (random.next_word() % 200) as u64;
@@ -278,11 +278,11 @@ fn drawn(rt: &impl Abort, alloc: Global, random: &mut Pcg32) -> MemNand {
     powered_up(flash)
 }
 
-/// How many pages of a drawn flash count. The scans of it find what the plain search finds.
+/// How many pages of a random flash count. The scans of it find what the plain search finds.
 fn counted_of_drawn(rt: &impl Abort, alloc: Global, random: &mut Pcg32) -> u64 {
-    let mut nand = drawn(rt, alloc, random);
+    let mut nand = random_flash(rt, alloc, random);
     let found = scan(alloc, &mut nand).expect(rt, "a scan");
-    let _listed = finds_newest(rt, alloc, &mut nand, &found.newest, "a drawn flash");
+    let _listed = finds_newest(rt, alloc, &mut nand, &found.newest, "a random flash");
     found.counted.len() as u64
 }
 

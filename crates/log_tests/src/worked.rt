@@ -26,7 +26,7 @@ pub(crate) struct WorkedFlash {
     pub what: &'static str,
     pub blocks: Vec<(u32, Vec<Tag>)>,
     pub bad: Option<u32>,
-    pub counted: Vec<(u32, u32)>,
+    pub valid: Vec<(u32, u32)>,
     pub newest: Vec<(u32, u32)>,
     pub numbers: TagNumbers,
 }
@@ -57,7 +57,7 @@ fn empty(alloc: Global) -> WorkedFlash {
         what: "an empty flash",
         blocks: Vec::new(alloc),
         bad: None,
-        counted: Vec::new(alloc),
+        valid: Vec::new(alloc),
         newest: Vec::new(alloc),
         numbers: numbers(0, 0, 0),
     }
@@ -74,7 +74,7 @@ fn cut_group(rt: &impl Abort, alloc: Global) -> WorkedFlash {
         what: "a newer group lacks its last page, and has the greatest numbers",
         blocks: vec![in alloc; (2, tags)].expect(rt, "memory"),
         bad: None,
-        counted: vec![in alloc; (2, 0)].expect(rt, "memory"),
+        valid: vec![in alloc; (2, 0)].expect(rt, "memory"),
         newest: vec![in alloc; (2, 0)].expect(rt, "memory"),
         numbers: numbers(5, 5, 1),
     }
@@ -87,7 +87,7 @@ fn equal_versions(rt: &impl Abort, alloc: Global) -> WorkedFlash {
         what: "a copy of a page, in a block of greater seq",
         blocks: vec![in alloc; (4, first), (3, copy)].expect(rt, "memory"),
         bad: None,
-        counted: vec![in alloc; (3, 0), (4, 0)].expect(rt, "memory"),
+        valid: vec![in alloc; (3, 0), (4, 0)].expect(rt, "memory"),
         newest: vec![in alloc; (3, 0)].expect(rt, "memory"),
         numbers: numbers(3, 6, 5),
     }
@@ -108,7 +108,7 @@ fn equal_seqs(rt: &impl Abort, alloc: Global) -> WorkedFlash {
         what: "for equal version and seq the later page",
         blocks: vec![in alloc; (1, first), (3, other)].expect(rt, "memory"),
         bad: None,
-        counted: vec![in alloc; (1, 0), (1, 1), (3, 0), (3, 1)].expect(rt, "memory"),
+        valid: vec![in alloc; (1, 0), (1, 1), (3, 0), (3, 1)].expect(rt, "memory"),
         newest: vec![in alloc; (1, 0), (1, 1)].expect(rt, "memory"),
         numbers: numbers(2, 3, 4),
     }
@@ -121,7 +121,7 @@ fn equal_pages(rt: &impl Abort, alloc: Global) -> WorkedFlash {
         what: "for equal version, seq and page the later block",
         blocks: vec![in alloc; (1, first), (3, other)].expect(rt, "memory"),
         bad: None,
-        counted: vec![in alloc; (1, 0), (3, 0)].expect(rt, "memory"),
+        valid: vec![in alloc; (1, 0), (3, 0)].expect(rt, "memory"),
         newest: vec![in alloc; (3, 0)].expect(rt, "memory"),
         numbers: numbers(2, 5, 4),
     }
@@ -134,7 +134,7 @@ fn bad_block(rt: &impl Abort, alloc: Global) -> WorkedFlash {
         what: "the newer page stands in a bad block",
         blocks: vec![in alloc; (2, kept), (0, lost)].expect(rt, "memory"),
         bad: Some(0),
-        counted: vec![in alloc; (2, 0)].expect(rt, "memory"),
+        valid: vec![in alloc; (2, 0)].expect(rt, "memory"),
         newest: vec![in alloc; (2, 0)].expect(rt, "memory"),
         numbers: numbers(1, 1, 1),
     }
@@ -155,7 +155,7 @@ pub(crate) fn broken_off(rt: &impl Abort, alloc: Global) -> WorkedFlash {
         what: "a group amid another, one with no first page, and pages of different groups",
         blocks: vec![in alloc; (0, tags)].expect(rt, "memory"),
         bad: None,
-        counted: vec![in alloc; (0, 2), (0, 3)].expect(rt, "memory"),
+        valid: vec![in alloc; (0, 2), (0, 3)].expect(rt, "memory"),
         newest: vec![in alloc; (0, 3), (0, 2)].expect(rt, "memory"),
         numbers: numbers(5, 5, 1),
     }
@@ -172,7 +172,7 @@ fn one_key_twice(rt: &impl Abort, alloc: Global) -> WorkedFlash {
         what: "a group that names a key twice",
         blocks: vec![in alloc; (3, tags)].expect(rt, "memory"),
         bad: None,
-        counted: vec![in alloc; (3, 0), (3, 1), (3, 2)].expect(rt, "memory"),
+        valid: vec![in alloc; (3, 0), (3, 1), (3, 2)].expect(rt, "memory"),
         newest: vec![in alloc; (3, 2), (3, 1)].expect(rt, "memory"),
         numbers: numbers(2, 2, 1),
     }

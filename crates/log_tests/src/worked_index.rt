@@ -1,4 +1,4 @@
-// An index through all that it is asked for, each reply worked by hand.
+// An index through all of its calls, each reply worked by hand.
 ghost use Rattle.std.specs.Prelude.{◌≡◌, ◌<◌, ◌≤◌, ◌^◌, ℕ};
 ghost use Rattle.block_state.specs.TableOf.{table};
 ghost use Rattle.chunk_index.specs.Maps.{present, CountsAgree};

@@ -1,5 +1,5 @@
 //! Measures parts of the file system on flashes in memory. The first argument is the measure, and the others are its own; the
-//! head of each module says which. What is counted goes to standard output, times and memory to standard error.
+//! head of each module says which. Numbers go to standard output, times and memory to standard error.
 //!
 //! - `index`: the settling of changes in an index.
 //! - `collection`: garbage collections.

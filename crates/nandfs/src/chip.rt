@@ -40,7 +40,7 @@ fn marked_in(rt: &HostRuntime, matches: &ArgMatches<'_>) -> Result<Marked, ToolF
     Ok(Marked::Object(info.object))
 }
 
-/// How a map is drawn on standard output.
+/// How a map is shown on standard output.
 fn drawing_in(rt: &HostRuntime, matches: &ArgMatches<'_>) -> Drawing {
     if matches.get_flag("json") {
         Drawing::Json

@@ -177,15 +177,15 @@ fn name_of(rt: &impl Abort, alloc: Global, number: u32) -> Vec<u8> {
 
 /// The numbers below one, in a random order.
 fn shuffled(rt: &impl Abort, alloc: Global, random: &mut Pcg32, count: u32) -> Vec<u32> {
-    let mut drawn = Vec::new(alloc);
+    let mut keyed = Vec::new(alloc);
     for number in 0..count {
-        drawn
+        keyed
             .push((random.next_word(), number))
             .expect(rt, "memory");
     }
-    drawn.sort().expect(rt, "memory");
+    keyed.sort().expect(rt, "memory");
     let mut numbers = Vec::new(alloc);
-    for (_, number) in drawn {
+    for (_, number) in keyed {
         numbers.push(number).expect(rt, "memory");
     }
     numbers

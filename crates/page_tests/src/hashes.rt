@@ -111,7 +111,7 @@ fn left_by(
     left_slot(&store.names, page_bytes, &change, ROOT, name)
 }
 
-/// The slot that a name leaves is told where a name with another hash is in it then.
+/// The slot that a name leaves is returned where a name with another hash is in it then.
 #[test]
 fn the_slot_of_a_name_that_goes_is_told(rt: HostRuntime) {
     let alloc = rt.alloc();

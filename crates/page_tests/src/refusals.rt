@@ -33,7 +33,7 @@ enum Call {
     SetLength,
 }
 
-/// Each call, how many pages it asks for, and how much it tells: names, bytes, or the pages of its change.
+/// Each call, how many pages it looks up, and how much it returns: names, bytes, or the pages of its change.
 const CALLS: [(Call, u64, usize); 13] = [
     (Call::Head, 1, 3),
     (Call::Find, 1, 1),
@@ -58,7 +58,7 @@ fn count_of(change: Option<Change>) -> usize {
     }
 }
 
-/// What a call over a directory tells, as a number.
+/// What a call over a directory returns, as a number.
 fn ask_directory(
     alloc: Global,
     store: &mut Store,
@@ -96,7 +96,7 @@ fn ask_directory(
     })
 }
 
-/// What a call tells, as a number.
+/// What a call returns, as a number.
 fn ask(alloc: Global, store: &mut Store, call: Call, slot: &Slot) -> Result<usize, PageFault>
     requires { IsTreeSlot (entry_of slot.now) }
 {
@@ -127,17 +127,17 @@ fn three_names(rt: &impl Abort, alloc: Global) -> Store {
     taken(rt, alloc, store, change)
 }
 
-/// Refuses each page of a call in turn: the call says what lacked, and made again it tells what it should.
+/// Refuses each page of a call in turn: the call says what lacked, and made again it returns what it should.
 fn refuse_each(
     rt: &impl Abort,
     alloc: Global,
     store: &mut Store,
     call: Call,
-    asked: u64,
-    told: usize,
+    lookups: u64,
+    returned: usize,
 ) {
     let slot = slot_of(rt, b"new", 6);
-    for number in 1..=asked {
+    for number in 1..=lookups {
         for (lack, fault) in [
             (Lack::Memory, PageFault::NoMemory),
             (Lack::Device, PageFault::Device),
@@ -150,15 +150,15 @@ fn refuse_each(
                 "{call:?}"
             );
             let answer = ask(alloc, store, call, &slot).expect(rt, "an answer");
-            assert_eq!(rt; answer, told, "{call:?}");
+            assert_eq!(rt; answer, returned, "{call:?}");
         }
     }
     let before = store.pages.finds();
     let answer = ask(alloc, store, call, &slot).expect(rt, "an answer");
-    assert_eq!(rt; answer, told, "{call:?}");
+    assert_eq!(rt; answer, returned, "{call:?}");
     assert_eq!(rt;
         store.pages.finds().saturating_sub(before),
-        asked,
+        lookups,
         "{call:?}"
     );
 }
@@ -167,18 +167,18 @@ fn refuse_each(
 fn a_refused_page_changes_nothing(rt: HostRuntime) {
     let alloc = rt.alloc();
     let mut store = three_names(&rt, alloc);
-    for (call, asked, told) in CALLS {
-        refuse_each(&rt, alloc, &mut store, call, asked, told);
+    for (call, lookups, returned) in CALLS {
+        refuse_each(&rt, alloc, &mut store, call, lookups, returned);
     }
 }
 
-/// What a call tells, which is asked for once more where memory was refused.
+/// What a call returns, which is made once more where memory was refused.
 fn ask_again(alloc: Global, store: &mut Store, call: Call, slot: &Slot) -> Result<usize, PageFault>
     requires { IsTreeSlot (entry_of slot.now) }
 {
     match ask(alloc, store, call, slot) {
         Err(PageFault::NoMemory) => ask(alloc, store, call, slot),
-        told => told,
+        returned => returned,
     }
 }
 
@@ -188,8 +188,8 @@ fn a_refused_growth_changes_nothing(rt: HostRuntime) {
     let alloc = rt.alloc();
     let mut store = three_names(&rt, alloc);
     let slot = slot_of(&rt, b"new", 6);
-    for (call, _, told) in CALLS {
+    for (call, _, returned) in CALLS {
         let answer = ask_again(alloc, &mut store, call, &slot).expect(&rt, "an answer");
-        assert_eq!(rt; answer, told, "{call:?}");
+        assert_eq!(rt; answer, returned, "{call:?}");
     }
 }

@@ -83,14 +83,14 @@ impl Around {
         }
     }
 
-    /// Asserts how the program with these words ends, and what it tells.
+    /// Asserts how the program with these words ends, and what it writes.
     pub(crate) fn ends(
         self,
         rt: &impl Abort,
         alloc: Global,
         words: &[&str],
         status: u8,
-        told: (&str, &str),
+        answers: (&str, &str),
     ) {
         let Around {
             mut image,
@@ -110,8 +110,8 @@ impl Around {
             &mut out,
             &mut err,
         );
-        assert_eq!(rt; out.cursor.into_inner().as_slice(), told.0.as_bytes());
-        assert_eq!(rt; err.cursor.into_inner().as_slice(), told.1.as_bytes());
+        assert_eq!(rt; out.cursor.into_inner().as_slice(), answers.0.as_bytes());
+        assert_eq!(rt; err.cursor.into_inner().as_slice(), answers.1.as_bytes());
         assert_eq!(rt; ended, status);
     }
 }

@@ -38,8 +38,8 @@ fn an_image_that_cannot_be_written_stops_its_volume(rt: HostRuntime) {
     let image = small_image(&rt, alloc);
     let mut around = Around::new(&rt, alloc, &image, "mkdir /a\nsync\nlist /\n");
     around.image.writes = 0;
-    let told = ("ok\nerror EIO\nerror EIO\n", "fault EIO\n");
-    around.ends(&rt, alloc, &["run", "I"], 2, told);
+    let answers = ("ok\nerror EIO\nerror EIO\n", "fault EIO\n");
+    around.ends(&rt, alloc, &["run", "I"], 2, answers);
     let mut around = Around::new(&rt, alloc, &image, "");
     around.image.writes = 0;
     around.ends(&rt, alloc, &["check", "I"], 0, ("space 512 144 143\n", ""));

@@ -1,10 +1,10 @@
 // Images and outputs that fail at each of their calls.
 use crate::around::{Around, SMALL, small_image};
 
-/// What is told of the small volume when it is new.
+/// What is reported of the small volume when it is new.
 const SPACE: &str = "space 512 144 143\n";
 
-/// An image takes 258 writes, the erasing of its 256 pages one for each, and the page of the root three. Then the space is told, and
+/// An image takes 258 writes, the erasing of its 256 pages one for each, and the page of the root three. Then the space is written, and
 /// the unmount writes a checkpoint: 32 for the erasing of a block, and three for a page.
 #[test]
 fn a_new_image_fails_at_each_write(rt: HostRuntime) {

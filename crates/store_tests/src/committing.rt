@@ -46,7 +46,7 @@ fn a_commit_after_each_change_collects_and_loses_nothing(rt: HostRuntime) {
     assert_eq!(rt; read_all(&rt, &mut store), plain.present);
 }
 
-/// What the device counted as changes, and what a scan finds of the keys, after so many changes, each of a directory, of one of
+/// How many changes the device had, and what a scan finds of the keys, after so many changes, each of a directory, of one of
 /// its pages that is new, and of an object that is new, with no commit at the end.
 fn left_after(rt: &impl Abort, alloc: Global, count: usize) -> (u64, Stamps) {
     let mut store = open_store(rt, alloc, erased(rt, alloc, 8), 2, 4);

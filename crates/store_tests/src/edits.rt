@@ -22,7 +22,7 @@ pub(crate) fn key_of(number: usize) -> Key {
     }
 }
 
-/// A page of a key. The stamp tells it from all others.
+/// A page of a key. No other has its stamp.
 fn page_of(rt: &impl Abort, alloc: Global, key: Key, stamp: u32) -> FreshPage {
     let mut bytes = vec![in alloc; (stamp % 256) as u8; 512].expect(rt, "memory");
     for (place, byte) in bytes.iter_mut().zip(stamp.to_le_bytes()) {

@@ -36,7 +36,7 @@ pub(crate) fn troubled(rt: &impl Abort, alloc: Global, nand: MemNand, trouble: T
     }
 }
 
-/// How many calls a device has counted once a store on it is opened.
+/// How many calls a device has had once a store on it is opened.
 pub(crate) fn calls_when_opened(rt: &impl Abort, alloc: Global, nand: &MemNand) -> u64 {
     let mut copy = nand.copy().expect(rt, "memory");
     let _opened = open_noted(alloc, &mut copy).expect(rt, "an opening");

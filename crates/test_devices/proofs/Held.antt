@@ -34,9 +34,9 @@ held_says f o c b p t has s block page held =
 pub broken_held : (old mid : Device) → OnlyReads old mid → old.honest ≡ true → (o c b p : ℕ) (t : Tag) (whole : Bool) → HasTag old.flash b p t
     → (mid.honest ≡ true → IsTrue whole ↔ IsGroup mid.flash (group_of (record { block = b; page = p; tag = t }))) → whole ≡ false
     → (s : Spot) → s.block ≡ b → s.page ≡ p → Holds old.flash o c s → ⊥
-broken_held old mid reads honest o c b p t whole has told not s block page held =
+broken_held old mid reads honest o c b p t whole has answers not s block page held =
     let says = held_says old.flash o c b p t has s block page held in
     let there : IsGroup mid.flash (group_of (record { block = b; page = p; tag = t })) = subst (λ f. IsGroup f (group_of (record { block = b; page = p; tag = t }))) (sym (same_flash old mid reads honest)) says.whole in
-    let is : IsTrue whole = (told (reads.lasts.honest ∙ honest)).1 there in
+    let is : IsTrue whole = (answers (reads.lasts.honest ∙ honest)).1 there in
     let broken : IsTrue false = subst IsTrue not is in
     absurd (false≢true broken)

@@ -71,7 +71,7 @@ kept_listed fs x o c p indexes at = elim (one_of fs none_found o c (length fs)) 
       absurd cc
 ]
 
--- what was told before reads is told after them
+-- what was answers before reads is answers after them
 pub tells_read : (old new : Device) (fs : List PageCopy) → OnlyReads old new → old.honest ≡ true → TellsNewest old fs → TellsNewest new fs
 tells_read old new fs reads honest tells =
     let page = reads.page honest in

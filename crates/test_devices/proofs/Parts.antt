@@ -28,6 +28,6 @@ pub no_part : (f : Flash) (s : Spot) (i : ℕ) → ((t : Tag) → HasTag f s.blo
 no_part f s i none part = none part.tag part.has
 
 -- an answer that tells of a part as the tag does
-pub told_by_tag : (f : Flash) (s : Spot) (i : ℕ) (t : Tag) (told : Bool) → HasTag f s.block (s.page - s.tag.index + i) t
-    → (IsTrue told ↔ IsPartTag t s.tag i) → IsTrue told ↔ IsPart f (group_of s) i
-told_by_tag f s i t told has is = let by_tag = part_by_tag f s i t has in (λ told_so. by_tag.0 (is.0 told_so), λ part. is.1 (by_tag.1 part))
+pub told_by_tag : (f : Flash) (s : Spot) (i : ℕ) (t : Tag) (answers : Bool) → HasTag f s.block (s.page - s.tag.index + i) t
+    → (IsTrue answers ↔ IsPartTag t s.tag i) → IsTrue answers ↔ IsPart f (group_of s) i
+told_by_tag f s i t answers has is = let by_tag = part_by_tag f s i t has in (λ told_so. by_tag.0 (is.0 told_so), λ part. is.1 (by_tag.1 part))

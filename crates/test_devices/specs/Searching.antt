@@ -14,7 +14,7 @@ pub record IsPartTag (tag member : Tag) (i : ℕ) : Type 0 where
   pub group : tag.group ≡ member.group
   pub seq : tag.seq ≡ member.seq
 
--- what a page was told to hold of the key of object o and chunk c: with none it holds nothing of it
+-- what a page was answers to hold of the key of object o and chunk c: with none it holds nothing of it
 abbrev pub IsHeldAt : Flash → (o c b p : ℕ) → Option Found → Type 0
 IsHeldAt flash o c b p None = (s : Spot) → s.block ≡ b → s.page ≡ p → Holds flash o c s → ⊥
 IsHeldAt flash o c b p (Some f) = (f.block ≡ b) × (f.page ≡ p) × Holds flash o c (spot_of f)

@@ -47,7 +47,7 @@ impl TestFlash {
         Ok(TestFlash { nand, nexts, bytes })
     }
 
-    /// The programs and erases of these numbers, counted from the making of the flash, fail with these fates.
+    /// The programs and erases of these numbers, numbered from the making of the flash, fail with these fates.
     pub fn with_failures(self, failures: Vec<(u64, Vec<Fate>)>) -> TestFlash
         ensures device { device_of result ≡ device_of self }
         ensures plan { plan_of result ≡ record (plan_of self) { failures = listed failures.items } }

@@ -6,7 +6,7 @@ use std::alloc::AllocError;
 #[derive(Clone, Copy, Debug, PartialEq, Eq)]
 pub enum StandFault {
     NoMemory,
-    /// The device did not give back what it was told.
+    /// The device did not return what was written.
     Lost,
     Gone,
     /// No number is left, more blocks are bad than there are to spare, or too few are free.

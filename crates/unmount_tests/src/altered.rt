@@ -1,7 +1,7 @@
 // Checkpoints that were altered, and flashes under them: a mount shows what a scan shows, changes nothing, and the volume goes on.
 
 use crate::devices::formatted;
-use crate::lines::{abandon, asked, mount, mount_as_it_is, session, step_all, try_mount};
+use crate::lines::{abandon, answered_by, mount, mount_as_it_is, session, step_all, try_mount};
 use crate::search::{checkpoint_of, expect_entries, put, read};
 use flash_tree::Key;
 use nand_model::{MemNand, Nand};
@@ -282,7 +282,7 @@ fn without_newest(rt: &impl Abort, nand: &MemNand, object: u64, chunk: u64) -> M
 }
 
 /// A kept page of the tree is erased: the header of the root, of a directory and of a file, and entries of a directory. A page of a
-/// file is not read by the mount; its loss is told where it is read.
+/// file is not read by the mount; its loss is reported where it is read.
 #[test]
 fn a_kept_page_is_erased(rt: HostRuntime) {
     let alloc = rt.alloc();
@@ -295,5 +295,5 @@ fn a_kept_page_is_erased(rt: HostRuntime) {
     let nand = expect_way(&rt, alloc, nand, Way::Checkpoint);
     let lines = "open /a/f r\nread 0 3\nseek 0 1536 set\nread 0 3\nlist /";
     let replies = "fd 0\ndata 3 xxx\nat 1536\nerror EIO\nerror EIO\n";
-    let _volume = asked(&rt, alloc, nand, lines, replies);
+    let _volume = answered_by(&rt, alloc, nand, lines, replies);
 }

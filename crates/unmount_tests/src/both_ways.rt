@@ -2,7 +2,7 @@
 // by summaries shows is what one by all tags does.
 
 use crate::devices::{FATES, cut, formatted};
-use crate::lines::{abandon, mount, mount_scanned, told, try_mount};
+use crate::lines::{abandon, answers, mount, mount_scanned, try_mount};
 use nand_model::MemNand;
 use std::alloc::Global;
 use std::process::Abort;
@@ -19,8 +19,8 @@ fn expect_both(rt: &impl Abort, alloc: Global, nand: &MemNand) {
     let lines = "list /\nspace";
     let mut by_summaries = mount(rt, alloc, powered(rt, nand));
     let mut by_tags = mount_scanned(rt, alloc, powered(rt, nand));
-    let one = told(rt, alloc, &mut by_summaries, lines);
-    let other = told(rt, alloc, &mut by_tags, lines);
+    let one = answers(rt, alloc, &mut by_summaries, lines);
+    let other = answers(rt, alloc, &mut by_tags, lines);
     assert_eq!(rt;
         str::from_utf8(&one).expect(rt, "a text"),
         str::from_utf8(&other).expect(rt, "a text")
@@ -31,7 +31,7 @@ fn expect_both(rt: &impl Abort, alloc: Global, nand: &MemNand) {
 fn after(rt: &impl Abort, alloc: Global, nand: MemNand, lines: &str) -> MemNand {
     match try_mount(alloc, nand) {
         Ok(mut volume) => {
-            let _told = told(rt, alloc, &mut volume, lines);
+            let _answers = answers(rt, alloc, &mut volume, lines);
             abandon(volume)
         }
         Err((nand, _fault)) => nand,

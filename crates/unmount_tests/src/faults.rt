@@ -2,7 +2,7 @@
 // of the last sync.
 
 use crate::devices::{FATES, cut, failing, formatted};
-use crate::lines::{Mounted, abandon, mount, mount_as_it_is, stepped, told, unmount};
+use crate::lines::{Mounted, abandon, answers, mount, mount_as_it_is, stepped, unmount};
 use crate::search::checkpoint_of;
 use flash_tree::count_bad;
 use nand_model::{Fate, MemNand};
@@ -46,8 +46,8 @@ struct Left {
 /// The volume of a device as it is after the session.
 fn ask_all(rt: &impl Abort, alloc: Global, nand: MemNand) -> Mounted {
     let mut volume = mount_as_it_is(rt, alloc, nand);
-    let _told = told(rt, alloc, &mut volume, BEFORE);
-    let _told = told(rt, alloc, &mut volume, LAST);
+    let _answers = answers(rt, alloc, &mut volume, BEFORE);
+    let _answers = answers(rt, alloc, &mut volume, LAST);
     volume
 }
 
@@ -84,7 +84,7 @@ fn calls_after(rt: &impl Abort, alloc: Global, nand: &MemNand) -> u64 {
         .calls()
 }
 
-/// That what is told of a plan holds.
+/// That what is said of a plan holds.
 fn expect(rt: &impl Abort, holds: bool, plan: Plan<'_>) {
     assert!(rt; holds, "{plan:?}");
 }

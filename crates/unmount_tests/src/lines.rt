@@ -1,4 +1,4 @@
-// Volumes that are asked lines of a shell.
+// Volumes that answer lines of a shell.
 
 use line_shell::{read_script, write_reply};
 use nand_model::MemNand;
@@ -26,7 +26,7 @@ pub(crate) fn abandon(volume: Mounted) -> MemNand {
     volume.abandon()
 }
 
-/// Unmounts, and tells whether the reply is Done.
+/// Unmounts, and returns whether the reply is Done.
 pub(crate) fn unmount(volume: Mounted) -> (MemNand, bool) {
     let (nand, reply) = volume.unmount();
     (nand, matches!(reply, Reply::Done))
@@ -65,21 +65,26 @@ pub(crate) fn expect_counts(rt: &impl Abort, nand: &MemNand, calls: u64, changes
     assert_eq!(rt; (nand.calls(), nand.changes()), (calls, changes));
 }
 
-/// What a volume is told of these lines.
-pub(crate) fn told(rt: &impl Abort, alloc: Global, volume: &mut Mounted, lines: &str) -> Vec<u8> {
-    let mut told = Vec::new(alloc);
+/// What a volume answers to these lines.
+pub(crate) fn answers(
+    rt: &impl Abort,
+    alloc: Global,
+    volume: &mut Mounted,
+    lines: &str,
+) -> Vec<u8> {
+    let mut answers = Vec::new(alloc);
     for stamped in &script(rt, alloc, lines) {
-        write_reply(&mut told, &answer(volume, stamped)).expect(rt, "a reply");
+        write_reply(&mut answers, &answer(volume, stamped)).expect(rt, "a reply");
     }
-    told
+    answers
 }
 
-fn expect_told(rt: &impl Abort, told: &[u8], replies: &str) {
-    assert_eq!(rt; str::from_utf8(told).expect(rt, "a text"), replies);
+fn expect_answers(rt: &impl Abort, answers: &[u8], replies: &str) {
+    assert_eq!(rt; str::from_utf8(answers).expect(rt, "a text"), replies);
 }
 
-/// The volume of a device after these lines, which are to be told these replies.
-pub(crate) fn asked(
+/// The volume of a device after these lines, which are to be answered by these replies.
+pub(crate) fn answered_by(
     rt: &impl Abort,
     alloc: Global,
     nand: MemNand,
@@ -87,8 +92,8 @@ pub(crate) fn asked(
     replies: &str,
 ) -> Mounted {
     let mut volume = mount(rt, alloc, nand);
-    let told = told(rt, alloc, &mut volume, lines);
-    expect_told(rt, &told, replies);
+    let answers = answers(rt, alloc, &mut volume, lines);
+    expect_answers(rt, &answers, replies);
     volume
 }
 
@@ -100,7 +105,7 @@ pub(crate) fn session(
     lines: &str,
     replies: &str,
 ) -> MemNand {
-    let (nand, is_done) = unmount(asked(rt, alloc, nand, lines, replies));
+    let (nand, is_done) = unmount(answered_by(rt, alloc, nand, lines, replies));
     assert!(rt; is_done, "{lines}");
     nand
 }
@@ -113,7 +118,7 @@ pub(crate) fn lost_session(
     lines: &str,
     replies: &str,
 ) -> MemNand {
-    abandon(asked(rt, alloc, nand, lines, replies))
+    abandon(answered_by(rt, alloc, nand, lines, replies))
 }
 
 /// The commands of a text of lines.

@@ -2,7 +2,7 @@
 
 use crate::devices::{FATES, cut, formatted};
 use crate::lines::{
-    Mounted, expect_counts, lost_session, mounted, session, told, try_mount, unmount,
+    Mounted, answers, expect_counts, lost_session, mounted, session, try_mount, unmount,
 };
 use crate::search::{checkpoint_bytes, checkpoint_of, expect_entries};
 use flash_tree::{Found, Key};
@@ -116,7 +116,7 @@ fn cut_session(
     fate: Fate,
 ) -> MemNand {
     let mut volume = mounted_to_be_cut(rt, alloc, nand, call, fate);
-    let _told = told(rt, alloc, &mut volume, line);
+    let _answers = answers(rt, alloc, &mut volume, line);
     let (nand, is_done) = unmount(volume);
     assert!(rt; nand.gone() && !is_done, "{call} {fate:?}");
     nand

@@ -71,7 +71,7 @@ pub(crate) fn checkpoint_bytes(rt: &impl Abort, alloc: Global, nand: &mut MemNan
     bytes
 }
 
-/// That an entry is of a key after the one before, and tells its newest page.
+/// That an entry is of a key after the one before, and gives its newest page.
 fn expect_newest(
     rt: &impl Abort,
     nand: &mut MemNand,

@@ -1,7 +1,9 @@
 // Unmounts that write no checkpoint, beside those that just write one.
 
 use crate::devices::formatted;
-use crate::lines::{abandon, expect_counts, lost_session, mount, mounted, session, told, unmount};
+use crate::lines::{
+    abandon, answers, expect_counts, lost_session, mount, mounted, session, unmount,
+};
 use crate::search::{checkpoint_of, put};
 use flash_tree::Key;
 use nand_model::{MemNand, Nand};
@@ -30,8 +32,8 @@ fn filling(rt: &impl Abort, alloc: Global, pages: usize) -> String {
 /// A device of so many blocks with a file of so many pages, as if power were lost after a sync.
 fn filled(rt: &impl Abort, alloc: Global, blocks: u32, pages: usize) -> MemNand {
     let mut volume = mount(rt, alloc, formatted(rt, alloc, blocks, 1));
-    let told = told(rt, alloc, &mut volume, &filling(rt, alloc, pages));
-    if !told.ends_with(b"\nok\n") {
+    let answers = answers(rt, alloc, &mut volume, &filling(rt, alloc, pages));
+    if !answers.ends_with(b"\nok\n") {
         panic!(rt; "the file was not written");
     }
     abandon(volume)

@@ -1,7 +1,7 @@
 // Mounts without a checkpoint: by a block summary that is put together by hand, and by all tags.
 
 use crate::devices::formatted;
-use crate::lines::{abandon, expect_counts, lost_session, mount_scanned, mounted, told};
+use crate::lines::{abandon, answers, expect_counts, lost_session, mount_scanned, mounted};
 use crate::search::{put, read};
 use flash_tree::{CHECK_OBJECT, tag_at};
 use nand_model::{MemNand, Nand};
@@ -129,7 +129,7 @@ fn a_mount_by_all_tags_takes_nothing_from_a_summary(rt: HostRuntime) {
     for at in 0..512 + 48 {
         let altered = altered_at(&rt, alloc, &nand, at);
         let mut volume = mount_scanned(&rt, alloc, altered);
-        let names = told(&rt, alloc, &mut volume, "list /");
+        let names = answers(&rt, alloc, &mut volume, "list /");
         assert_eq!(&rt;
             str::from_utf8(&names).expect(&rt, "a text"),
             "names 1 a\n",

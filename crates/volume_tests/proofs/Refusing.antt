@@ -16,12 +16,12 @@ use Rattle.volume_tests.specs.Refusing.{refusing}
 
 -- a call of the pages inside
 pub goes_on : (a b : ℕ) (p q : PagesState) → a ≤ b → GoesOn p q → GoesOn (refusing a p) (refusing b q)
-goes_on a b p q told x = record {
+goes_on a b p q answers x = record {
   page_bytes = x.page_bytes;
   most = x.most;
   spare = x.spare;
   worn = x.worn;
-  refused = omega (arith, told, x.refused);
+  refused = omega (arith, answers, x.refused);
   commits = x.commits;
   failed = x.failed;
   device = x.device;
@@ -43,12 +43,12 @@ below_more f g s more below b p t good has = let was = below b p t good has in (
 
 -- a call that is refused
 pub goes_nowhere : (a b : ℕ) (p : PagesState) → a ≤ b → GoesOn (refusing a p) (refusing b p)
-goes_nowhere a b p told = record {
+goes_nowhere a b p answers = record {
   page_bytes = refl;
   most = refl;
   spare = refl;
   worn = refl;
-  refused = omega (arith, told);
+  refused = omega (arith, answers);
   commits = omega arith;
   failed = λ is. is;
   device = lasts_here p.device;
@@ -71,9 +71,9 @@ stops_always : (result : Result (Unit {0}) StoreFault) → IfErr result (λ faul
 stops_always (Ok done) = tt
 stops_always (Err fault) = refl
 
-pub refreshes : (told block : ℕ) (p q : PagesState) (result : Result (Unit {0}) StoreFault) → Refreshes block p q result → Refreshes block (refusing told p) (refusing told q) result
-refreshes told block p q result x = record {
-  goes_on = goes_on told told p q (omega arith) x.goes_on;
+pub refreshes : (answers block : ℕ) (p q : PagesState) (result : Result (Unit {0}) StoreFault) → Refreshes block p q result → Refreshes block (refusing answers p) (refusing answers q) result
+refreshes answers block p q result x = record {
+  goes_on = goes_on answers answers p q (omega arith) x.goes_on;
   commits = x.commits;
   buffered = x.buffered;
   lent = x.lent;

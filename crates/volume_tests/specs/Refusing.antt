@@ -4,4 +4,4 @@ use Rattle.pages.specs.State.{PagesState}
 
 -- the same, with growths that were refused besides, and nothing promised of what the pages are
 abbrev pub refusing : ℕ → PagesState → PagesState
-refusing told p = record p { sound = false; refused = told + p.refused }
+refusing answers p = record p { sound = false; refused = answers + p.refused }

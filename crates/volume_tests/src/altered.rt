@@ -2,9 +2,9 @@
 
 use crate::devices::{Hit, cut, erased, formatted};
 use crate::rows::expect;
+use crate::scenarios::Part::Rows;
+use crate::scenarios::{Part, tell};
 use crate::served::{Served, try_mount};
-use crate::stories::Part::Rows;
-use crate::stories::{Part, tell};
 use flash_tree::Key;
 use nand_model::{MemNand, Nand};
 use page_tags::Tag;
@@ -32,8 +32,8 @@ pub(crate) enum Patch {
 #[derive(Clone, Copy)]
 enum Answer {
     Fault(MountFault),
-    /// It is mounted, and told these rows.
-    Told(&'static str),
+    /// It is mounted, and answers these rows.
+    Answered(&'static str),
 }
 
 const NOT_A_VOLUME: Answer = Answer::Fault(MountFault::NotAVolume);
@@ -77,7 +77,7 @@ pub(crate) const WITH_FILE: [TestPage; 4] = [
     },
 ];
 
-const HAS_FILE: Answer = Answer::Told(
+const HAS_FILE: Answer = Answer::Answered(
     "list / -> names 1 a
 open /a r -> fd 0
 read 0 10 -> data 5 hello
@@ -130,7 +130,7 @@ const FILE_CASES: [(&[Patch], Answer); 21] = [
             Patch::Bytes(2, 8, b"\0\x1a\x01"),
             Patch::Bytes(2, 32, b"\0"),
         ],
-        Answer::Told("stat /a -> info file 2 1 72192 0\nspace -> space 512 144 0"),
+        Answer::Answered("stat /a -> info file 2 1 72192 0\nspace -> space 512 144 0"),
     ),
     (
         &[
@@ -229,14 +229,14 @@ const OTHER_CASES: [(&[TestPage], &[Patch], Answer); 5] = [
     (
         &LOST_RING,
         &[],
-        Answer::Told(
+        Answer::Answered(
             "list / -> names 1 a
 stat / -> info dir 1 3 0 0
 list /a -> names 0
 space -> space 512 144 141",
         ),
     ),
-    (&TWO_NAMES, &[], Answer::Told("list / -> names 2 a b")),
+    (&TWO_NAMES, &[], Answer::Answered("list / -> names 2 a b")),
     (&TWO_NAMES, &[Patch::Bytes(2, 10, b"a")], DAMAGED),
 ];
 
@@ -326,12 +326,12 @@ pub(crate) fn flash_of(
 /// That a mount of a device answers this, and changes nothing.
 fn expect_answer(rt: &impl Abort, alloc: Global, nand: MemNand, answer: Answer) {
     let nand = match (try_mount(alloc, nand, 16), answer) {
-        (Ok(mut served), Answer::Told(rows)) => {
+        (Ok(mut served), Answer::Answered(rows)) => {
             expect(rt, alloc, &mut served, rows);
             served.abandon()
         }
-        (Err((nand, told)), Answer::Fault(fault)) => {
-            assert_eq!(rt; told, fault);
+        (Err((nand, reported)), Answer::Fault(fault)) => {
+            assert_eq!(rt; reported, fault);
             nand
         }
         _ => panic!(rt; "the other answer"),
@@ -354,7 +354,7 @@ fn an_altered_flash_has_its_fault(rt: HostRuntime) {
     }
 }
 
-/// Mounts a device, and once more where memory is refused, which is counted.
+/// Mounts a device, and once more where memory is refused, and that is noted.
 fn mount_again(
     alloc: Global,
     nand: MemNand,
@@ -406,7 +406,7 @@ const FAULTS: [(&[TestPage], &[Patch], Option<MountFault>); 6] = [
 ];
 
 // Run it with each allocation refused in turn.
-/// Want of memory is told of one mount at most, and the next one tells the fault.
+/// Want of memory is reported by one mount at most, and the next one reports the fault.
 #[test]
 fn a_mount_that_is_refused_memory_has_its_fault_next(rt: HostRuntime) {
     let alloc = rt.alloc();
@@ -452,8 +452,8 @@ fn expect_header(
     let mut wanted = vec![in alloc; 0u8; 512].expect(rt, "memory");
     put(&mut wanted, 0, page.bytes);
     put(&mut wanted, place, &[byte]);
-    let told = header_of(rt, alloc, nand, page.object);
-    assert_eq!(rt; told.as_slice(), wanted.as_slice());
+    let header = header_of(rt, alloc, nand, page.object);
+    assert_eq!(rt; header.as_slice(), wanted.as_slice());
 }
 
 const MADE: Part = Rows(

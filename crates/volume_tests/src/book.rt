@@ -1,4 +1,4 @@
-// What a plain tree tells of commands, and the tree after each of them.
+// What a plain tree answers to commands, and the tree after each of them.
 
 use line_shell::{read_script, write_reply};
 use plain_volume::{Answers, PlainTree};
@@ -7,7 +7,7 @@ use std::alloc::Global;
 use std::process::Abort;
 use volume_terms::VolumeSizes;
 
-/// Commands, and what a plain tree tells of them.
+/// Commands, and what a plain tree answers to them.
 #[derive(Drop)]
 pub(crate) struct Book {
     pub(crate) commands: Vec<Stamped>,
@@ -28,7 +28,7 @@ pub(crate) fn text_of(rt: &impl Abort, alloc: Global, reply: &Reply) -> String {
     String::from_str(alloc, str::from_utf8(&text).expect(rt, "a text")).expect(rt, "memory")
 }
 
-/// What a plain tree tells of a command.
+/// What a plain tree answers to a command.
 pub(crate) fn step(
     rt: &impl Abort,
     alloc: Global,
@@ -59,7 +59,7 @@ fn trees_of(rt: &impl Abort, alloc: Global, commands: &[Stamped]) -> Vec<PlainTr
     trees
 }
 
-/// What a plain tree tells of some commands.
+/// What a plain tree answers to some commands.
 fn replies_of(rt: &impl Abort, alloc: Global, commands: &[Stamped]) -> Vec<String> {
     let mut replies = Vec::new(alloc);
     let mut tree = new_tree(rt, alloc);
@@ -100,7 +100,7 @@ impl Book {
         false
     }
 
-    /// Looks whether this is told of the command of a number.
+    /// Looks whether this is answered to the command of a number.
     pub(crate) fn expect_reply(
         &self,
         rt: &impl Abort,
@@ -109,7 +109,7 @@ impl Book {
         reply: &Reply,
     ) {
         let wanted = self.replies.get(number).expect(rt, "no such command");
-        let told = text_of(rt, alloc, reply);
-        assert_eq!(rt; told.as_str(), wanted.as_str(), "{number}");
+        let answers = text_of(rt, alloc, reply);
+        assert_eq!(rt; answers.as_str(), wanted.as_str(), "{number}");
     }
 }

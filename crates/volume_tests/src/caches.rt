@@ -1,10 +1,10 @@
 // How often what is read again calls the device.
 
 use crate::devices::formatted;
+use crate::scenarios::Part::{Rows, Turns};
+use crate::scenarios::{Part, ask_part, served_after, tell, tell_part};
 use crate::served::mount_by_itself;
 use crate::sessions::HELLO;
-use crate::stories::Part::{Rows, Turns};
-use crate::stories::{Part, ask_part, served_after, tell, tell_part};
 use std::alloc::Global;
 use std::process::Abort;
 
@@ -17,22 +17,22 @@ write 0 [x*1024] -> wrote 1024
 fsync 0 -> ok
 seek 0 0 set -> at 0";
 
-/// A story, with rows at its end that read again.
+/// A scenario, with rows at its end that read again.
 #[derive(Clone, Copy)]
 struct Reading {
-    story: &'static [Part],
+    scenario: &'static [Part],
     last: Part,
 }
 
 /// A file of one page is read twice.
 const ONE: Reading = Reading {
-    story: &[Rows(HELLO), Rows("fsync 0 -> ok"), READ],
+    scenario: &[Rows(HELLO), Rows("fsync 0 -> ok"), READ],
     last: READ,
 };
 
 /// A file of two pages is read, and its first page once more.
 const OTHER: Reading = Reading {
-    story: &[Rows(TWO_PAGES), Turns(2, "read 0 512 -> data 512 [x*512]")],
+    scenario: &[Rows(TWO_PAGES), Turns(2, "read 0 512 -> data 512 [x*512]")],
     last: FIRST_PAGE,
 };
 
@@ -45,9 +45,9 @@ const READINGS: [(Reading, usize, bool); 5] = [
     (OTHER, 2, false),
 ];
 
-/// The calls of a device in a story, which ends with these rows.
+/// The calls of a device in a scenario, which ends with these rows.
 fn calls_of(rt: &impl Abort, alloc: Global, reading: Reading, capacity: usize, last: Part) -> u64 {
-    let mut served = served_after(rt, alloc, formatted(rt, alloc), capacity, reading.story);
+    let mut served = served_after(rt, alloc, formatted(rt, alloc), capacity, reading.scenario);
     served = tell_part(rt, alloc, served, capacity, last);
     served.abandon().calls()
 }
@@ -64,12 +64,12 @@ fn what_is_in_the_cache_is_read_without_a_call(rt: HostRuntime) {
 
 /// The calls of a device on which a file of so many pages is read from its first to its last page, so many times, after a mount.
 fn calls_of_turns(rt: &impl Abort, alloc: Global, pages: u32, turns: u32) -> u64 {
-    let story = [
+    let scenario = [
         Rows("open /a rwc -> fd 0"),
         Turns(pages, "write 0 [x*512] -> wrote 512"),
         Rows("fsync 0 -> ok"),
     ];
-    let mut nand = tell(rt, alloc, formatted(rt, alloc), &story);
+    let mut nand = tell(rt, alloc, formatted(rt, alloc), &scenario);
     nand.power_up();
     let mut served = mount_by_itself(rt, alloc, nand);
     ask_part(rt, alloc, &mut served, Rows("open /a r -> fd 0"));

@@ -2,15 +2,15 @@
 // the last page is there.
 
 use crate::devices::{ALL_LEFT, Hit, cut, formatted};
-use crate::served::told;
+use crate::scenarios::Part::{Rows, Turns};
+use crate::scenarios::{Part, served_after, tell};
+use crate::served::answers;
 use crate::sessions::HELLO;
-use crate::stories::Part::{Rows, Turns};
-use crate::stories::{Part, served_after, tell};
 use nand_model::{Fate, MemNand};
 use std::alloc::Global;
 use std::process::Abort;
 
-/// A session, its last lines, which are asked whatever they are told, and rows of the trees before and after these.
+/// A session, its last lines, which are sent whatever the answers, and rows of the trees before and after these.
 #[derive(Clone, Copy)]
 struct Trial {
     before: &'static [Part],
@@ -50,10 +50,10 @@ rename /x /y -> ok",
     new: "list / -> names 1 y\nopen /y r -> fd 0\nread 0 10 -> data 3 new",
 };
 
-/// The device after a session, and after lines that are told whatever they are.
+/// The device after a session, and after lines whatever their answers.
 fn run(rt: &impl Abort, alloc: Global, nand: MemNand, before: &[Part], last: &str) -> MemNand {
     let mut served = served_after(rt, alloc, nand, 16, before);
-    let _told = told(rt, alloc, &mut served, last.as_bytes());
+    let _answers = answers(rt, alloc, &mut served, last.as_bytes());
     served.abandon()
 }
 

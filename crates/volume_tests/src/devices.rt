@@ -50,7 +50,7 @@ pub(crate) const ALL_LEFT: [Left; 5] = [
     &[Fate::Old, Fate::Erased, Fate::Uncorrectable],
 ];
 
-/// A call that is cut or fails, counted from the power-up.
+/// A call that is cut or fails, numbered from the power-up.
 #[derive(Clone, Copy)]
 pub(crate) struct Hit {
     pub(crate) call: u64,

@@ -1,8 +1,8 @@
 // Programs and erases that fail.
 
 use crate::devices::{Hit, Left, erased, failing, formatted, formatted_with, marked};
-use crate::stories::Part::{Lost, Rows, Turns};
-use crate::stories::{Part, tell};
+use crate::scenarios::Part::{Lost, Rows, Turns};
+use crate::scenarios::{Part, tell};
 use nand_model::{Fate, MemNand};
 use std::alloc::Global;
 use std::process::Abort;
@@ -11,15 +11,15 @@ const NEW: Left = &[Fate::New];
 
 const UNCORRECTABLE: Left = &[Fate::Uncorrectable];
 
-/// The number of the first call after a story, of a device of which these calls fail; and how many blocks are marked.
+/// The number of the first call after a scenario, of a device of which these calls fail; and how many blocks are marked.
 fn next_call(
     rt: &impl Abort,
     alloc: Global,
     nand: &MemNand,
     hits: &[Hit],
-    story: &[Part],
+    scenario: &[Part],
 ) -> (u64, u32) {
-    let nand = tell(rt, alloc, failing(rt, alloc, nand, hits), story);
+    let nand = tell(rt, alloc, failing(rt, alloc, nand, hits), scenario);
     (nand.calls().saturating_add(1), marked(&nand))
 }
 
@@ -55,8 +55,8 @@ fn a_volume_stops_where_more_blocks_fail_than_are_to_spare(rt: HostRuntime) {
             call,
             left: UNCORRECTABLE,
         };
-        let story = [ONE, TWO, STOPPED, Lost, READ_ONLY];
-        let (_, bad) = next_call(&rt, alloc, &nand, &[third, first], &story);
+        let scenario = [ONE, TWO, STOPPED, Lost, READ_ONLY];
+        let (_, bad) = next_call(&rt, alloc, &nand, &[third, first], &scenario);
         assert_eq!(rt; bad, 2);
     }
 }

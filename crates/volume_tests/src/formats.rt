@@ -1,8 +1,8 @@
 // Devices that are formatted: which blocks have to be there, where the root stands, and calls that fail or are cut.
 
 use crate::devices::{Hit, erased, failing, format_of, formatted_with, marked};
-use crate::stories::Part::Rows;
-use crate::stories::tell;
+use crate::scenarios::Part::Rows;
+use crate::scenarios::tell;
 use nand_model::{Fate, MemNand, Nand, PageKind};
 use posix_calls::FormatFault;
 use std::alloc::Global;
@@ -87,7 +87,7 @@ fn four_blocks_stand_beside_the_spare_ones(rt: HostRuntime) {
     let _ = tell(&rt, alloc, nand, &[Rows("space -> space 512 72 71")]);
 }
 
-/// A block that fails is marked, and the root stands in another; more marks than spare blocks are told.
+/// A block that fails is marked, and the root stands in another; more marks than spare blocks are reported.
 #[test]
 fn what_fails_is_marked_bad(rt: HostRuntime) {
     let alloc = rt.alloc();
@@ -117,7 +117,7 @@ fn what_fails_is_marked_bad(rt: HostRuntime) {
     );
 }
 
-/// A cut is told at each call of a format whose third erase fails: eight erases, with a mark after the third, and a program.
+/// A cut is reported at each call of a format whose third erase fails: eight erases, with a mark after the third, and a program.
 #[test]
 fn each_cut_of_a_format_is_told(rt: HostRuntime) {
     let alloc = rt.alloc();

@@ -9,7 +9,7 @@ use std::alloc::Global;
 use std::io::{Cursor, Error, ErrorKind, Read, Result as IoResult, Seek, SeekFrom, Write};
 use std::process::Abort;
 
-/// What a file is asked for.
+/// What is called of a file.
 #[derive(Clone, Copy, Debug, PartialEq, Eq)]
 enum FileCall {
     Read,
@@ -122,35 +122,40 @@ fn opened(rt: &impl Abort, alloc: Global, bytes: &[u8], fails: (FileCall, u64)) 
     open_image(alloc, file).expect(rt, "an image")
 }
 
-/// Adds what a volume is told of these lines.
+/// Adds what a volume answers to these lines.
 fn ask(
     rt: &impl Abort,
     alloc: Global,
     volume: &mut Volume<Image>,
     lines: &str,
-    told: &mut Vec<u8>,
+    answers: &mut Vec<u8>,
 ) {
     for stamped in &commands_of(rt, alloc, lines) {
-        write_reply(told, &answered(volume, stamped)).expect(rt, "a reply");
+        write_reply(answers, &answered(volume, stamped)).expect(rt, "a reply");
     }
 }
 
-/// What a session of these lines and an unmount are told, and the file after it.
-fn told_of(rt: &impl Abort, alloc: Global, image: Image, lines: &str) -> (Vec<u8>, CountingFile) {
+/// What a session of these lines and an unmount are answered, and the file after it.
+fn answers_of(
+    rt: &impl Abort,
+    alloc: Global,
+    image: Image,
+    lines: &str,
+) -> (Vec<u8>, CountingFile) {
     let mut volume = mounted(rt, alloc, image);
-    let mut told = Vec::new(alloc);
-    ask(rt, alloc, &mut volume, lines, &mut told);
+    let mut answers = Vec::new(alloc);
+    ask(rt, alloc, &mut volume, lines, &mut answers);
     let (image, reply) = unmounted(volume);
-    write_reply(&mut told, &reply).expect(rt, "a reply");
-    (told, image.into_file())
+    write_reply(&mut answers, &reply).expect(rt, "a reply");
+    (answers, image.into_file())
 }
 
 /// A volume that was mounted and looked at.
 fn looked_at(rt: &impl Abort, alloc: Global, bytes: &[u8]) -> Volume<Image> {
     let mut volume = mounted(rt, alloc, opened(rt, alloc, bytes, NONE));
-    let mut told = Vec::new(alloc);
-    ask(rt, alloc, &mut volume, "list /\n", &mut told);
-    assert_eq!(rt; str::from_utf8(&told).expect(rt, "a text"), "names 0\n");
+    let mut answers = Vec::new(alloc);
+    ask(rt, alloc, &mut volume, "list /\n", &mut answers);
+    assert_eq!(rt; str::from_utf8(&answers).expect(rt, "a text"), "names 0\n");
     volume
 }
 
@@ -170,7 +175,7 @@ fn a_mount_makes_no_call_of_the_file(rt: HostRuntime) {
 
 const LINES: &str = "mkdir /a\nsync\nmkdir /b\n";
 
-/// What the lines and an unmount are told, where the write or the seek of this number fails. The sync erases a block, with a
+/// What the lines and an unmount are answered, where the write or the seek of this number fails. The sync erases a block, with a
 /// write for each of its 32 pages, and programs three pages, the header of the directory, the entry of its name and the
 /// header of the root, with three writes for each: 41 writes. The unmount programs as many pages again, in 9 writes, and then
 /// erases a block for the checkpoint, which takes one page: in 35 writes.
@@ -182,12 +187,12 @@ fn wanted(number: u64) -> &'static str {
     }
 }
 
-/// The call in which the file fails is told EIO, and so is each later one; the file is not called again.
+/// The call in which the file fails is answered by EIO, and so is each later one; the file is not called again.
 fn fails_once(rt: &impl Abort, alloc: Global, bytes: &[u8], kind: FileCall, number: u64) {
     let image = opened(rt, alloc, bytes, (kind, number));
-    let (told, file) = told_of(rt, alloc, image, LINES);
+    let (answers, file) = answers_of(rt, alloc, image, LINES);
     assert_eq!(rt;
-        str::from_utf8(&told).expect(rt, "a text"),
+        str::from_utf8(&answers).expect(rt, "a text"),
         wanted(number),
         "{kind:?} {number}"
     );

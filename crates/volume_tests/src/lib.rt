@@ -1,4 +1,4 @@
-//! Tests of a volume on a device in memory, by lines of a shell: how the device is formatted, what sessions are told, what is
+//! Tests of a volume on a device in memory, by lines of a shell: how the device is formatted, what sessions are answered, what is
 //! left where power goes, where calls fail and where memory is refused, flashes that no volume wrote, and a plain tree beside it.
 #![tactic(auto)]
 
@@ -17,8 +17,6 @@ mod cuts;
 #[cfg(test)]
 mod devices;
 #[cfg(test)]
-mod drawn;
-#[cfg(test)]
 mod failures;
 #[cfg(test)]
 mod formats;
@@ -31,6 +29,8 @@ mod losses;
 #[cfg(test)]
 mod numbers;
 #[cfg(test)]
+mod random;
+#[cfg(test)]
 mod refreshes;
 #[cfg(test)]
 mod refusals;
@@ -39,8 +39,8 @@ mod refused;
 #[cfg(test)]
 mod rows;
 #[cfg(test)]
+mod scenarios;
+#[cfg(test)]
 mod served;
 #[cfg(test)]
 mod sessions;
-#[cfg(test)]
-mod stories;

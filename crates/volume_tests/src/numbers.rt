@@ -1,10 +1,10 @@
 // Three sessions that are cut before anything of them counts, and the numbers of what is written after them.
 
 use crate::devices::{Hit, Left, cut, formatted};
+use crate::scenarios::Part::Rows;
+use crate::scenarios::{Part, tell};
 use crate::served::try_mount;
 use crate::sessions::HELLO;
-use crate::stories::Part::Rows;
-use crate::stories::{Part, tell};
 use flash_tree::{TagNumbers, tag_at};
 use nand_model::{Fate, MemNand, Nand};
 use page_tags::Tag;

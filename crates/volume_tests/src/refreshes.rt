@@ -2,9 +2,9 @@
 // fails.
 
 use crate::devices::{ALL_LEFT, Hit, cut, failing, formatted};
+use crate::scenarios::Part::Rows;
+use crate::scenarios::{Part, ask_part, served_after, tell};
 use crate::served::Served;
-use crate::stories::Part::Rows;
-use crate::stories::{Part, ask_part, served_after, tell};
 use nand_model::MemNand;
 use posix_calls::Errno;
 use std::alloc::Global;

@@ -112,7 +112,7 @@ fn run_again(rt: &impl Abort, served: &mut Served, replies: &mut Vec<Reply>, com
     served.run(rest, replies).expect(rt, "memory");
 }
 
-/// Looks whether a tree tells the same of each command, but for those that were refused memory, which it leaves out.
+/// Looks whether a tree answers the same to each command, but for those that were refused memory, which it leaves out.
 fn expect_replies(
     rt: &impl Abort,
     alloc: Global,
@@ -142,13 +142,14 @@ fn a_run_tells_what_its_commands_do(rt: HostRuntime) {
     served
         .run(&commands_of(&rt, alloc, FILE), &mut replies)
         .expect(&rt, "memory");
-    let mut told = String::new(alloc);
+    let mut answers = String::new(alloc);
     for reply in &replies {
-        told.push_str(&text_of(&rt, alloc, reply))
+        answers
+            .push_str(&text_of(&rt, alloc, reply))
             .expect(&rt, "memory");
     }
     assert_eq!(&rt;
-        told.as_str(),
+        answers.as_str(),
         "fd 0\nwrote 5\nat 0\ndata 5 hello\nspace 512 144 140\n"
     );
 }

@@ -1,11 +1,11 @@
-// Rows of a session: a line, an arrow, and what is to be told. `[x*3]` stands for `xxx`.
+// Rows of a session: a line, an arrow, and what is to be answered. `[x*3]` stands for `xxx`.
 
-use crate::served::told;
+use crate::served::answers;
 use line_shell::Serve;
 use std::alloc::{AllocError, Global};
 use std::process::Abort;
 
-/// Lines, and what is to be told of them.
+/// Lines, and what is to be answered of them.
 #[derive(Drop)]
 struct Script {
     lines: String,
@@ -39,7 +39,7 @@ fn push_line(text: &mut String, line: &str) -> Result<(), AllocError> {
     text.push_str("\n")
 }
 
-/// The lines of rows. One without an arrow is to be told nothing.
+/// The lines of rows. One without an arrow is to be answered by nothing.
 fn script_of(alloc: Global, rows: &str) -> Result<Script, AllocError> {
     let mut lines = String::new(alloc);
     let mut replies = String::new(alloc);
@@ -55,15 +55,15 @@ fn script_of(alloc: Global, rows: &str) -> Result<Script, AllocError> {
     Ok(Script { lines, replies })
 }
 
-/// Asks the lines of the rows, which are to be told their replies.
+/// Asks the lines of the rows, which are to be answered by their replies.
 pub(crate) fn expect<S: Serve>(rt: &impl Abort, alloc: Global, served: &mut S, rows: &str) {
     let Script { lines, replies } = script_of(alloc, &written_out(rt, alloc, rows)).expect(
         rt,
         "script of",
     );
-    let told = told(rt, alloc, served, lines.as_bytes());
+    let answers = answers(rt, alloc, served, lines.as_bytes());
     assert_eq!(rt;
-        str::from_utf8(&told).expect(rt, "a text"),
+        str::from_utf8(&answers).expect(rt, "a text"),
         replies.as_str()
     );
 }

@@ -59,17 +59,17 @@ pub(crate) fn mount_by_itself(rt: &impl Abort, alloc: Global, nand: MemNand) -> 
     }
 }
 
-/// What the shell tells of these lines.
-pub(crate) fn told<S: Serve>(
+/// What the shell answers to these lines.
+pub(crate) fn answers<S: Serve>(
     rt: &impl Abort,
     alloc: Global,
     served: &mut S,
     lines: &[u8],
 ) -> Vec<u8> {
     let mut reader = lines;
-    let mut told = Vec::new(alloc);
-    shell(alloc, &mut reader, &mut told, served).expect(rt, "a shell");
-    told
+    let mut answers = Vec::new(alloc);
+    shell(alloc, &mut reader, &mut answers, served).expect(rt, "a shell");
+    answers
 }
 
 impl Served {
@@ -92,7 +92,7 @@ impl Served {
         self.volume.abandon()
     }
 
-    /// Gives the device back once all is written, and tells whether it is.
+    /// Gives the device back once all is written, and returns whether it is.
     pub(crate) fn unmount(self) -> (MemNand, bool) {
         let (nand, reply) = self.volume.unmount();
         (nand, matches!(reply, Reply::Done))

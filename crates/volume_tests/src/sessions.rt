@@ -1,9 +1,9 @@
-// What sessions are told on a device that was just formatted.
+// What sessions are answered on a device that was just formatted.
 
 use crate::book::new_tree;
 use crate::devices::formatted;
-use crate::stories::Part::{Lost, LostAfter, Rows, Turns, Unmounted};
-use crate::stories::{Part, ask_part, served_after};
+use crate::scenarios::Part::{Lost, LostAfter, Rows, Turns, Unmounted};
+use crate::scenarios::{Part, ask_part, served_after};
 use line_shell::Serve;
 use plain_volume::PlainTree;
 use posix_calls::{Errno, Reply, Stamped};
@@ -173,7 +173,7 @@ rename / /q -> error EBUSY
 rmdir /d/e -> ok
 stat /d -> info dir 2 2 0 0";
 
-/// Other lines are bad, and an empty one is told nothing. Names are told in their order.
+/// Other lines are bad, and an empty one is answered by nothing. Names come in their order.
 const LINES: &str = "nope -> bad line
 read 0 -> bad line
 
@@ -245,7 +245,7 @@ const SYNC: Part = Rows("sync -> ok");
 
 const THREE: Part = Turns(3, "mkdir /# -> ok");
 
-const STORIES: [&[Part]; 23] = [
+const SCENARIOS: [&[Part]; 23] = [
     &[Rows(GAP)],
     &[Rows(HELLO), LostAfter(0), NONE],
     &[Rows(CUT_OFF)],
@@ -302,9 +302,9 @@ const STORIES: [&[Part]; 23] = [
 #[test]
 fn sessions_are_told_their_replies(rt: HostRuntime) {
     let alloc = rt.alloc();
-    for story in STORIES {
+    for scenario in SCENARIOS {
         for capacity in [1usize, 2, 16] {
-            let _ = served_after(&rt, alloc, formatted(&rt, alloc), capacity, story);
+            let _ = served_after(&rt, alloc, formatted(&rt, alloc), capacity, scenario);
         }
     }
 }
@@ -326,15 +326,15 @@ impl Serve for Plain {
     }
 }
 
-/// A plain tree is told the same, up to the first loss or unmount of a story.
+/// A plain tree answers the same, up to the first loss or unmount of a scenario.
 #[test]
 fn a_plain_tree_is_told_the_same(rt: HostRuntime) {
     let alloc = rt.alloc();
-    for story in STORIES {
+    for scenario in SCENARIOS {
         let mut plain = Plain {
             tree: new_tree(&rt, alloc),
         };
-        for part in story {
+        for part in scenario {
             if !ask_part(&rt, alloc, &mut plain, *part) {
                 break;
             }

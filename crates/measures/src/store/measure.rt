@@ -36,7 +36,7 @@ pub(crate) enum Measure {
     Settling,
 }
 
-/// What was asked of the device, and how long a processor took for a round.
+/// The calls of the device, and how long a processor took for a round.
 #[derive(Clone, Copy, Debug)]
 pub(crate) struct Report {
     pub(crate) counts: Counts,

@@ -61,7 +61,7 @@ returns-in_err-tell-clause-tells g c =
     let pages = c.pages-pages.ensures ∙ ap (λ (g : Geometry). g.pages) c.geometry.ensures in
     let done =
     cut_session x c.loop-before.before c.pages-pages.result (answers c.loop-before.generator) c.loop-before.session c.exercise.new.session (device c.loop-before.standing.device) (device c.in_ok-done.done.device) pages was.words
-    one.same (ap (λ (v : Vec Stamped). v.items) was.commands) was.failures was.unmounts c.in_ok-done.done.end c.in_ok-done.done.operation one.fuse one.drawn one.ended one.truth in
+    one.same (ap (λ (v : Vec Stamped). v.items) was.commands) was.failures was.unmounts c.in_ok-done.done.end c.in_ok-done.done.operation one.fuse one.random one.ended one.truth in
     let is_seen = subst (λ (v : Vec Stamped). IsSeen c.loop-before.standing.tree v.items c.in_ok-done.done.end.replies.items c.in_ok-done.done.seen) was.commands one.seen in
     let mounts = subst (λ (v : Vec Stamped). MountsAs (device c.in_ok-done.done.device) c.loop-before.standing.tree v.items c.in_ok-done.done.end.replies.items c.in_ok-done.done.seen) was.commands one.mounts in
     let told = told_as (g.W.Write.contents c.loop-before.writer) (g.W.Write.contents c.tell.new.writer) (c.loop-before.before + 1) c.in_ok-done.done.operation c.finding-finding.result (finding_of c.in_ok-done.done.seen)
@@ -80,7 +80,7 @@ returns-in_err-standing-2-clause-tells g c =
     let pages = c.pages-pages.ensures ∙ ap (λ (g : Geometry). g.pages) c.geometry.ensures in
     let done =
     cut_session x c.loop-before.before c.pages-pages.result (answers c.loop-before.generator) c.loop-before.session c.exercise.new.session (device c.loop-before.standing.device) (device c.in_ok-done.done.device) pages was.words
-    one.same (ap (λ (v : Vec Stamped). v.items) was.commands) was.failures was.unmounts c.in_ok-done.done.end c.in_ok-done.done.operation one.fuse one.drawn one.ended one.truth in
+    one.same (ap (λ (v : Vec Stamped). v.items) was.commands) was.failures was.unmounts c.in_ok-done.done.end c.in_ok-done.done.operation one.fuse one.random one.ended one.truth in
     let is_seen = subst (λ (v : Vec Stamped). IsSeen c.loop-before.standing.tree v.items c.in_ok-done.done.end.replies.items c.in_ok-done.done.seen) was.commands one.seen in
     let mounts = subst (λ (v : Vec Stamped). MountsAs (device c.in_ok-done.done.device) c.loop-before.standing.tree v.items c.in_ok-done.done.end.replies.items c.in_ok-done.done.seen) was.commands one.mounts in
     let told = told_as (g.W.Write.contents c.loop-before.writer) (g.W.Write.contents c.tell.new.writer) (c.loop-before.before + 1) c.in_ok-done.done.operation c.finding-finding.result (finding_of c.in_ok-done.done.seen)
@@ -98,7 +98,7 @@ loop-before-preserved g c =
     let pages = c.pages-pages.ensures ∙ ap (λ (g : Geometry). g.pages) c.geometry.ensures in
     let done =
     cut_session x c.loop-before.before c.pages-pages.result (answers c.loop-before.generator) c.loop-before.session c.exercise.new.session (device c.loop-before.standing.device) (device c.in_ok-done.done.device) pages was.words
-    one.same (ap (λ (v : Vec Stamped). v.items) was.commands) was.failures was.unmounts c.in_ok-done.done.end c.in_ok-done.done.operation one.fuse one.drawn one.ended one.truth in
+    one.same (ap (λ (v : Vec Stamped). v.items) was.commands) was.failures was.unmounts c.in_ok-done.done.end c.in_ok-done.done.operation one.fuse one.random one.ended one.truth in
     let is_seen = subst (λ (v : Vec Stamped). IsSeen c.loop-before.standing.tree v.items c.in_ok-done.done.end.replies.items c.in_ok-done.done.seen) was.commands one.seen in
     let mounts = subst (λ (v : Vec Stamped). MountsAs (device c.in_ok-done.done.device) c.loop-before.standing.tree v.items c.in_ok-done.done.end.replies.items c.in_ok-done.done.seen) was.commands one.mounts in
     let told = told_as (g.W.Write.contents c.loop-before.writer) (g.W.Write.contents c.tell.new.writer) (c.loop-before.before + 1) c.in_ok-done.done.operation c.finding-finding.result (finding_of c.in_ok-done.done.seen)

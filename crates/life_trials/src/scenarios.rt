@@ -32,7 +32,7 @@ mkdir /f
 sync
 ";
 
-/// A file of one page that is kept, and another one to be written.
+/// A file of one page that stays, and another one to be written.
 const TWO_FILES: &str = "open /a rwc
 write 0 hello
 fsync 0
@@ -106,8 +106,8 @@ fn live_failing(alloc: Global, counts: &mut Vec<Count>) -> Result<()> {
 }
 
 /// Lives through each of five sessions with each call cut, and then with each call failing; through one with a call that fails and
-/// each call cut; and through three with cuts that are drawn.
-pub(crate) fn live_stories(alloc: Global, counts: &mut Vec<Count>) -> Result<()> {
+/// each call cut; and through three with random cuts.
+pub(crate) fn live_scenarios(alloc: Global, counts: &mut Vec<Count>) -> Result<()> {
     let two_files = filled(alloc, TWO_FILES, 1, 12)?;
     let one_file = filled(alloc, "open /a rwc\n", 0, 40)?;
     let names = named(alloc)?;

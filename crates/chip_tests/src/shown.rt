@@ -64,11 +64,11 @@ fn draws_rows_of_cells(rt: HostRuntime) {
     let alloc = rt.alloc();
     let mut nand = flash(&rt, alloc);
     let chip = survey(alloc, &mut nand).expect(&rt, "a survey");
-    let mut drawn = Vec::new(alloc);
-    write_svg(alloc, &mut drawn, &chip, Marked::Object(3)).expect(&rt, "a drawing");
-    assert!(rt; drawn.starts_with(HEAD.as_bytes()));
-    assert!(rt; drawn.windows(ROW.len()).any(|part| part == ROW.as_bytes()));
-    assert!(rt; drawn.ends_with(b"</svg>\n"));
+    let mut shown = Vec::new(alloc);
+    write_svg(alloc, &mut shown, &chip, Marked::Object(3)).expect(&rt, "a drawing");
+    assert!(rt; shown.starts_with(HEAD.as_bytes()));
+    assert!(rt; shown.windows(ROW.len()).any(|part| part == ROW.as_bytes()));
+    assert!(rt; shown.ends_with(b"</svg>\n"));
     let mut small = [0u8; 100];
     let refused = write_svg(alloc, &mut &mut small[..], &chip, Marked::Nothing);
     assert_eq!(rt; refused, Err(MapFault::Output));

@@ -1,4 +1,4 @@
-// What is asked of images, and of the help.
+// Questions on images, and on the help.
 use crate::images::Images;
 use anyhow::{Result, anyhow};
 use flash_program::parse;
@@ -21,14 +21,14 @@ fn are_same(rt: &HostRuntime, images: &mut Images, image: &str, other: &str) -> 
     Ok(same)
 }
 
-/// Whether what is told on standard output in place of a run, as the help of a subcommand, has this text in it.
-fn is_told(rt: &HostRuntime, words: &[&str], text: &str) -> Result<bool> {
-    let Err(told) = parse(rt.alloc(), words) else {
+/// Whether what is written on standard output in place of a run, as the help of a subcommand, has this text in it.
+fn is_shown(rt: &HostRuntime, words: &[&str], text: &str) -> Result<bool> {
+    let Err(written) = parse(rt.alloc(), words) else {
         return Ok(false);
     };
-    let asked_for = !told.use_stderr();
-    let told = format!(in rt.alloc(); "{told}")?;
-    Ok(asked_for && told.contains(text))
+    let is_help = !written.use_stderr();
+    let written = format!(in rt.alloc(); "{written}")?;
+    Ok(is_help && written.contains(text))
 }
 
 /// Tells an answer.
@@ -37,7 +37,7 @@ fn tell(rt: &HostRuntime, holds: bool) -> Result<()> {
     Ok(())
 }
 
-/// Tells what the words ask of images, or of what the program tells in place of a run.
+/// Answers what the words ask of images, or of what the program writes in place of a run.
 pub(crate) fn answer(
     rt: &HostRuntime,
     images: &mut Images,
@@ -47,8 +47,8 @@ pub(crate) fn answer(
     match words {
         ["length", image] => println!(rt; "{}", length(rt, images, image)?)?,
         ["same", image, other] => tell(rt, are_same(rt, images, image, other)?)?,
-        ["told", words @ ..] => tell(rt, is_told(rt, words, text.trim_end())?)?,
-        _ => return Err(anyhow!("length, same or told is wanted")),
+        ["shown", words @ ..] => tell(rt, is_shown(rt, words, text.trim_end())?)?,
+        _ => return Err(anyhow!("length, same or shown is wanted")),
     }
     Ok(())
 }

@@ -1,4 +1,4 @@
-// Lives of three sessions that are drawn.
+// Lives of three random sessions.
 use crate::counting::Count;
 use crate::drawing::draw_session;
 use crate::judging::judge;
@@ -11,7 +11,7 @@ use std::alloc::Global;
 /// Sessions of a life.
 const SESSIONS: u32 = 3;
 
-/// Lives through sessions that are drawn, one of which at most has a call that fails: one block is spare.
+/// Lives through random sessions, one of which at most has a call that fails: one block is spare.
 fn live_once(alloc: Global, random: &mut Lcg128Xsl64, count: &mut Count) -> Result<()> {
     let mut stage = new_stage(alloc)?;
     let mut may_fail = true;
@@ -26,7 +26,7 @@ fn live_once(alloc: Global, random: &mut Lcg128Xsl64, count: &mut Count) -> Resu
 }
 
 /// Lives through so many lives.
-pub(crate) fn live_drawn(alloc: Global, lives: u64, seed: u64) -> Result<Count> {
+pub(crate) fn live_random(alloc: Global, lives: u64, seed: u64) -> Result<Count> {
     let mut random = Lcg128Xsl64::seed_from_u64(seed);
     let mut count = Count::new();
     for _ in 0..lives {

@@ -1,4 +1,4 @@
-// Stories: rows that are asked, and between them losses of power and unmounts.
+// Scenarios: rows that are sent, and between them losses of power and unmounts.
 
 use crate::rows::expect;
 use crate::served::{Served, mount};
@@ -7,7 +7,7 @@ use nand_model::MemNand;
 use std::alloc::Global;
 use std::process::Abort;
 
-/// A part of a story.
+/// A part of a scenario.
 #[derive(Clone, Copy)]
 pub(crate) enum Part {
     Rows(&'static str),
@@ -30,7 +30,7 @@ fn expect_turns<S: Serve>(rt: &impl Abort, alloc: Global, served: &mut S, count:
     }
 }
 
-/// Asks the rows of a part, and tells whether the volume goes on.
+/// Sends the rows of a part, and returns whether the volume goes on.
 pub(crate) fn ask_part<S: Serve>(
     rt: &impl Abort,
     alloc: Global,
@@ -59,7 +59,7 @@ fn end(rt: &impl Abort, served: Served, part: Part) -> MemNand {
     nand
 }
 
-/// Tells a part of a story.
+/// Tells a part of a scenario.
 pub(crate) fn tell_part(
     rt: &impl Abort,
     alloc: Global,
@@ -75,22 +75,22 @@ pub(crate) fn tell_part(
     mount(rt, alloc, nand, capacity)
 }
 
-/// The volume of a device, mounted as it is, after a story.
+/// The volume of a device, mounted as it is, after a scenario.
 pub(crate) fn served_after(
     rt: &impl Abort,
     alloc: Global,
     nand: MemNand,
     capacity: usize,
-    story: &[Part],
+    scenario: &[Part],
 ) -> Served {
     let mut served = mount(rt, alloc, nand, capacity);
-    for part in story {
+    for part in scenario {
         served = tell_part(rt, alloc, served, capacity, *part);
     }
     served
 }
 
-/// The device after a story, as if power were lost.
-pub(crate) fn tell(rt: &impl Abort, alloc: Global, nand: MemNand, story: &[Part]) -> MemNand {
-    served_after(rt, alloc, nand, 16, story).abandon()
+/// The device after a scenario, as if power were lost.
+pub(crate) fn tell(rt: &impl Abort, alloc: Global, nand: MemNand, scenario: &[Part]) -> MemNand {
+    served_after(rt, alloc, nand, 16, scenario).abandon()
 }

@@ -1,6 +1,6 @@
-//! Tells a story of the program: runs of it over images, one after the other, with what each writes and the status that it ends
-//! with. The story comes from standard input. A line of it that begins with one of these marks is a step, which is told as it
-//! stands; under it stands what comes of it. Words are separated by spaces.
+//! Runs a scenario of the program: runs of it over images, one after the other, with what each writes and the status that it ends
+//! with. The scenario comes from standard input. A line of it that begins with one of these marks is a step, which is written as it
+//! is; under it stands what comes of it. Words are separated by spaces.
 //!
 //! - `# TEXT`: nothing is done.
 //! - `$ WORDS`: a run of the program with these words; `$` alone is one without a subcommand. The lines after it, up to the next
@@ -11,10 +11,10 @@
 //! - `! byte IMAGE PLACE VALUE`: one byte of the image is set; the first has the place 0.
 //! - `? length IMAGE`: under it stands how many bytes the image has.
 //! - `? same IMAGE OTHER`: under it stands `yes` where both have the same bytes, else `no`.
-//! - `? told WORDS`: under it stands `yes` where what the program tells on standard output in place of a run with these words,
+//! - `? shown WORDS`: under it stands `yes` where what the program writes on standard output in place of a run with these words,
 //!   as its help, has the line after it in it, else `no`.
 //!
-//! Images are kept in memory by their names. The first time that one is asked for it is read from the file of that name in the
+//! Images are held in memory by their names. The first time that one is wanted it is read from the file of that name in the
 //! folder that the program runs in, and no file is ever written. A run of `format` begins with an empty image; where there is no
 //! image of a name, other runs find no file. A step with other words, or without its image, ends the program by an error.
 #![tactic(auto)]
@@ -54,10 +54,10 @@ fn take(rt: &HostRuntime, images: &mut Images, step: &Step<'_>) -> Result<()> {
 
 fn main(rt: HostRuntime) -> Result<()> {
     let alloc = rt.alloc();
-    let mut story = String::new(alloc);
-    rt.stdin().lock().read_to_string(&mut story)?;
+    let mut scenario = String::new(alloc);
+    rt.stdin().lock().read_to_string(&mut scenario)?;
     let mut images = Images::new(alloc);
-    for step in &steps_of(alloc, &story)? {
+    for step in &steps_of(alloc, &scenario)? {
         take(&rt, &mut images, step)?;
     }
     Ok(())

@@ -1,5 +1,5 @@
-// Stories of three sessions: the second is cut at each of its last calls, and the third tells what is left.
-use crate::lines::{cut_session, failing_session, formatted, live_through, session, told};
+// Scenarios of three sessions: the second is cut at each of its last calls, and the third shows what is left.
+use crate::lines::{answers, cut_session, failing_session, formatted, live_through, session};
 use nand_model::{Fate, MemNand};
 use powercut::Session;
 use std::alloc::Global;
@@ -8,17 +8,17 @@ use std::process::Abort;
 /// All that a cut may leave of a page.
 const FATES: [Fate; 4] = [Fate::Old, Fate::New, Fate::Erased, Fate::Uncorrectable];
 
-/// What is told of one of two trees.
+/// What is answered of one of two trees.
 #[derive(Clone, Copy, Debug, PartialEq, Eq)]
 enum Left {
     Old,
     New,
 }
 
-/// A story: lines of a session, of which the last ones are cut, lines that tell the tree in the session after it, and
-/// what they are told of the tree before and of the one after the last ones.
+/// A scenario: lines of a session, of which the last ones are cut, lines that tell the tree in the session after it, and
+/// what they are answered of the tree before and of the one after the last ones.
 #[derive(Clone, Copy, Debug)]
-struct Story<'a> {
+struct Scenario<'a> {
     before: &'a [&'a str],
     all: &'a [&'a str],
     looks: &'a [&'a str],
@@ -33,18 +33,18 @@ fn calls_of(rt: &impl Abort, alloc: Global, nand: &MemNand, lines: &[&str]) -> u
     nand.calls()
 }
 
-/// The sessions of a cut, of a mount and an unmount that are cut too where a call is told, and of looks.
+/// The sessions of a cut, of a mount and an unmount that are cut too where a call is given, and of looks.
 fn sessions_of(
     rt: &impl Abort,
     alloc: Global,
-    story: Story<'_>,
+    scenario: Scenario<'_>,
     call: u64,
     fates: &[Fate],
     again: Option<u64>,
 ) -> Vec<Session> {
     let mut sessions = Vec::new(alloc);
     sessions
-        .push(cut_session(rt, alloc, story.all, call, fates))
+        .push(cut_session(rt, alloc, scenario.all, call, fates))
         .expect(rt, "memory");
     if let Some(again) = again {
         let mut second = cut_session(rt, alloc, &[], again, fates);
@@ -52,17 +52,17 @@ fn sessions_of(
         sessions.push(second).expect(rt, "memory");
     }
     sessions
-        .push(session(rt, alloc, story.looks))
+        .push(session(rt, alloc, scenario.looks))
         .expect(rt, "memory");
     sessions
 }
 
-/// What is left of a story that is cut at this call.
+/// What is left of a scenario that is cut at this call.
 fn left_by(
     rt: &impl Abort,
     alloc: Global,
     nand: &MemNand,
-    story: Story<'_>,
+    scenario: Scenario<'_>,
     sessions: &[Session],
 ) -> Left {
     let (_nand, ends) = live_through(rt, alloc, nand.copy().expect(rt, "memory"), sessions);
@@ -70,26 +70,31 @@ fn left_by(
         panic!(rt; "a session has no end");
     };
     assert!(rt; first.cut);
-    let text = told(rt, alloc, last);
-    if text.as_slice() == story.new.as_bytes() {
+    let text = answers(rt, alloc, last);
+    if text.as_slice() == scenario.new.as_bytes() {
         return Left::New;
     }
-    assert_eq!(rt; str::from_utf8(&text).expect(rt, "a text"), story.old);
+    assert_eq!(rt; str::from_utf8(&text).expect(rt, "a text"), scenario.old);
     Left::Old
 }
 
 /// Cuts each of the last calls with all pages left in one way, alone and with a cut in the next session. Gives the calls
 /// and the fates after which the tree is the one after the last lines, the first of the last calls being 0.
-fn cut_each(rt: &impl Abort, alloc: Global, nand: &MemNand, story: Story<'_>) -> Vec<(u64, Fate)> {
-    let first = calls_of(rt, alloc, nand, story.before).saturating_add(1);
+fn cut_each(
+    rt: &impl Abort,
+    alloc: Global,
+    nand: &MemNand,
+    scenario: Scenario<'_>,
+) -> Vec<(u64, Fate)> {
+    let first = calls_of(rt, alloc, nand, scenario.before).saturating_add(1);
     let mut news = Vec::new(alloc);
-    for call in first..=calls_of(rt, alloc, nand, story.all) {
+    for call in first..=calls_of(rt, alloc, nand, scenario.all) {
         for fate in FATES {
             let fates = [fate; 32];
-            let once = sessions_of(rt, alloc, story, call, &fates, None);
-            let left = left_by(rt, alloc, nand, story, &once);
-            let twice = sessions_of(rt, alloc, story, call, &fates, Some(100));
-            assert_eq!(rt; left_by(rt, alloc, nand, story, &twice), left);
+            let once = sessions_of(rt, alloc, scenario, call, &fates, None);
+            let left = left_by(rt, alloc, nand, scenario, &once);
+            let twice = sessions_of(rt, alloc, scenario, call, &fates, Some(100));
+            assert_eq!(rt; left_by(rt, alloc, nand, scenario, &twice), left);
             if left == Left::New {
                 news.push((call.saturating_sub(first), fate))
                     .expect(rt, "memory");
@@ -101,7 +106,7 @@ fn cut_each(rt: &impl Abort, alloc: Global, nand: &MemNand, story: Story<'_>) ->
 
 #[test]
 fn a_sync_is_done_by_its_last_page(rt: HostRuntime) {
-    let story = Story {
+    let scenario = Scenario {
         before: &["open /a rwc", "write 0 hello"],
         all: &["open /a rwc", "write 0 hello", "fsync 0"],
         looks: &["list /", "open /a r", "read 0 10"],
@@ -109,7 +114,7 @@ fn a_sync_is_done_by_its_last_page(rt: HostRuntime) {
         new: "names 1 a\nfd 0\ndata 5 hello\n",
     };
     let alloc = rt.alloc();
-    let news = cut_each(&rt, alloc, &formatted(&rt, alloc), story);
+    let news = cut_each(&rt, alloc, &formatted(&rt, alloc), scenario);
     assert_eq!(rt; news.as_slice(), [(4, Fate::New)].as_slice());
 }
 
@@ -131,18 +136,18 @@ fn a_renamed_file_takes_the_place_of_another_at_once(rt: HostRuntime) {
     ]
     .expect(&rt, "memory");
     let (nand, _ends) = live_through(&rt, alloc, formatted(&rt, alloc), &files);
-    let story = Story {
+    let scenario = Scenario {
         before: &["rename /x /y"],
         all: &["rename /x /y", "sync"],
         looks: &["list /", "open /y r", "read 0 10"],
         old: "names 2 x y\nfd 0\ndata 3 old\n",
         new: "names 1 y\nfd 0\ndata 3 new\n",
     };
-    let news = cut_each(&rt, alloc, &nand, story);
+    let news = cut_each(&rt, alloc, &nand, scenario);
     assert_eq!(rt; news.len(), 1);
 }
 
-/// Lives through the sessions, of which the first and the last are told this. Gives back how many calls the last made.
+/// Lives through the sessions, of which the first and the last are answered so. Returns how many calls the last made.
 fn tells_at_its_ends(
     rt: &impl Abort,
     alloc: Global,
@@ -156,11 +161,11 @@ fn tells_at_its_ends(
         panic!(rt; "a session has no end");
     };
     assert_eq!(rt;
-        str::from_utf8(&told(rt, alloc, first)).expect(rt, "a text"),
+        str::from_utf8(&answers(rt, alloc, first)).expect(rt, "a text"),
         first_told
     );
     assert_eq!(rt;
-        str::from_utf8(&told(rt, alloc, last)).expect(rt, "a text"),
+        str::from_utf8(&answers(rt, alloc, last)).expect(rt, "a text"),
         last_told
     );
     after.calls()

@@ -1,4 +1,4 @@
-// The steps of a story.
+// The steps of a scenario.
 use anyhow::{Result, anyhow};
 use std::alloc::Global;
 
@@ -17,17 +17,17 @@ fn is_step(line: &str) -> bool {
 /// Puts a line behind the lines of the last step.
 fn put_line(steps: &mut Vec<Step<'_>>, line: &str) -> Result<()> {
     let Some(step) = steps.last_mut() else {
-        return Err(anyhow!("a story begins with a step"));
+        return Err(anyhow!("a scenario begins with a step"));
     };
     step.input.push_str(line)?;
     step.input.push('\n')?;
     Ok(())
 }
 
-/// The steps of a story, in turn.
-pub(crate) fn steps_of<'a>(alloc: Global, story: &'a str) -> Result<Vec<Step<'a>>> {
+/// The steps of a scenario, in turn.
+pub(crate) fn steps_of<'a>(alloc: Global, scenario: &'a str) -> Result<Vec<Step<'a>>> {
     let mut steps = Vec::new(alloc);
-    for line in story.lines() {
+    for line in scenario.lines() {
         if is_step(line) {
             steps.push(Step {
                 line,

@@ -1,4 +1,4 @@
-// Commands that are drawn, on a volume and on a plain tree beside it.
+// Random commands, on a volume and on a plain tree beside it.
 
 use crate::book::{commands_of, new_tree, step, text_of};
 use crate::devices::formatted;
@@ -75,7 +75,7 @@ fn push_bytes(alloc: Global, lines: &mut String, text: &str, count: u64) -> Resu
     lines.push_str("\\e")
 }
 
-/// Adds what is drawn for a letter.
+/// Adds what a letter stands for, at random.
 fn push_word(
     alloc: Global,
     lines: &mut String,
@@ -94,7 +94,7 @@ fn push_word(
     }
 }
 
-/// Adds a line that is drawn.
+/// Adds a random line.
 fn push_line(
     alloc: Global,
     lines: &mut String,
@@ -106,8 +106,8 @@ fn push_line(
     lines.push('\n')
 }
 
-/// So many commands that are drawn.
-fn drawn(rt: &impl Abort, alloc: Global, seed: u64, count: u32) -> Vec<Stamped> {
+/// So many random commands.
+fn random_commands(rt: &impl Abort, alloc: Global, seed: u64, count: u32) -> Vec<Stamped> {
     let mut random = Lcg128Xsl64::seed_from_u64(seed);
     let mut lines = String::new(alloc);
     for _ in 0..count {
@@ -125,9 +125,9 @@ fn do_both(
     stamped: &Stamped,
 ) -> bool {
     let wanted = step(rt, alloc, tree, stamped);
-    let told = text_of(rt, alloc, &served.answer(stamped));
-    assert_eq!(rt; told.as_str(), wanted.as_str(), "{stamped:?}");
-    !told.starts_with("error")
+    let answers = text_of(rt, alloc, &served.answer(stamped));
+    assert_eq!(rt; answers.as_str(), wanted.as_str(), "{stamped:?}");
+    !answers.starts_with("error")
 }
 
 /// Unmounts, and mounts again, by the checkpoint; or loses power after a sync, and mounts again, by a scan.
@@ -158,7 +158,10 @@ fn a_volume_tells_what_a_plain_tree_does(rt: HostRuntime) {
         let mut tree = new_tree(&rt, alloc);
         let mut served = mount(&rt, alloc, formatted(&rt, alloc), capacity);
         let mut done = 0u32;
-        for (turn, commands) in drawn(&rt, alloc, seed, 1100).chunks(50).enumerate() {
+        for (turn, commands) in random_commands(&rt, alloc, seed, 1100)
+            .chunks(50)
+            .enumerate()
+        {
             for stamped in commands {
                 if do_both(&rt, alloc, &mut served, &mut tree, stamped) {
                     done = done.saturating_add(1);

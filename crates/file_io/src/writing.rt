@@ -140,6 +140,7 @@ pub fn write_at<P: Pages>(
     let first = offset / size;
     let end = (to - 1) / size + 1;
     if head.moment == moment && to <= head.length && has_all(head.bits(), first, end) {
+        pages.return_frame(head.page);
         return Ok(change);
     }
     let length = head.length.max(to);

@@ -106,6 +106,10 @@ impl<N: Nand> Pages for LentPages<'_, N> {
     fn take_frame(&mut self) -> Option<Vec<u8>> {
         None
     }
+
+    fn return_frame(&mut self, frame: Vec<u8>) {
+        let _frame = frame;
+    }
 }
 
 impl<N: Nand> KnownPages for LentPages<'_, N> {

@@ -30,6 +30,13 @@ key_same o c k e = let p = and_parts (o == k.0) (c == k.1) e in (eqb-true o k.0 
 pub same_key : (o c : ℕ) (k : ℕ × ℕ) → o ≡ k.0 → c ≡ k.1 → is_key o c k ≡ true
 same_key o c k a b = rw (eq-eqb o k.0 a, eq-eqb c k.1 b) refl
 
+-- the first entry is found, if it passes the test
+pub first_found : (test : ℕ × ℕ → Bool) (es : List ((ℕ × ℕ) × Slot)) (e : (ℕ × ℕ) × Slot) → slice_get es 0 ≡ Some e → test e.0 ≡ true → lookup test es ≡ Some e.1
+first_found test [] e first passes = absurd cc
+first_found test (y ∷ es) e first passes =
+    let same : y ≡ e = cc in
+    cond-true (test y.0) (Some y.1) (lookup test es) (ap (λ (x : (ℕ × ℕ) × Slot). test x.0) same ∙ passes) ∙ ap (λ (x : (ℕ × ℕ) × Slot). Some x.1) same
+
 -- a key that passes both tests is of both
 keys_apart : (o c p q : ℕ) → IsOther o c p q → (k : ℕ × ℕ) → is_key o c k ≡ true → is_key p q k ≡ false
 keys_apart o c p q other k e = elim (cases_Bool (is_key p q k)) [

@@ -1,8 +1,9 @@
 // A bounded cache of pages.
 ghost use Rattle.std.specs.Prelude.{◌≡◌, ◌≤◌, ◌+◌, ◌↔◌, ℕ, length, None, Some, IsNone, IsSome, IfSome, IfOk, OnOk, OnErr, IsTrue};
+ghost use Rattle.std.specs.Map.{lookup};
 ghost use Rattle.std.specs.Option.{option_copied};
 ghost use Rattle.std.specs.NonZero.{non_zero_usize_get};
-ghost use Rattle.page_store.specs.Slots.{AreFrames, AreSized, HasSize, Page, Reserved, held_in};
+ghost use Rattle.page_store.specs.Slots.{AreFrames, AreSized, HasSize, Page, Reserved, held_in, is_key};
 
 use crate::slot::Slot;
 use flash_tree::Key;
@@ -81,10 +82,22 @@ impl PageCache {
         ensures page { option_copied result ≡ cached self.now key.object key.chunk }
         ensures size { IfSome result (λ page. length page.now ≡ page_bytes_of self.now) }
     {
-        match self.slots.peek(&(key.object, key.chunk)) {
+        match self.slot(key) {
             Some(slot) => slot.page(),
             None => None,
         }
+    }
+
+    /// What there is of the key. Most often it is the key that was used last, which is not looked up.
+    fn slot(&self, key: Key) -> Option<&Slot>
+        ensures { option_copied result ≡ lookup (is_key key.object key.chunk) self.now.slots.entries }
+    {
+        if let Some((last, slot)) = self.slots.peek_mru() {
+            if last.0 == key.object && last.1 == key.chunk {
+                return Some(slot);
+            }
+        }
+        self.slots.peek(&(key.object, key.chunk))
     }
 
     /// Makes the bytes of the frame the page of the key. The frame changes places with one that no key has, so that no
@@ -140,6 +153,14 @@ impl PageCache {
         ensures same { KeepsSlots self.old self.new }
     {
         self.spare.pop()
+    }
+
+    /// Takes back a frame that no key has, where there is room for it.
+    pub fn return_spare(&mut self, frame: Vec<u8>)
+        requires { length frame.items ≡ page_bytes_of self.old }
+        ensures { KeepsSlots self.old self.new }
+    {
+        self.keep_frame(Slot::Page(frame))
     }
 
     /// Frees the spare frames but so many.

@@ -92,6 +92,13 @@ impl<N: Nand> Pages for FlashPages<N> {
             FlashPages::ReadOnly(pages) => pages.take_frame(),
         }
     }
+
+    fn return_frame(&mut self, frame: Vec<u8>) {
+        match self {
+            FlashPages::Store(store) => store.return_frame(frame),
+            FlashPages::ReadOnly(pages) => pages.return_frame(frame),
+        }
+    }
 }
 
 impl<N: Nand> PageStore for FlashPages<N> {

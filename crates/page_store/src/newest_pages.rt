@@ -100,6 +100,10 @@ impl<N: Nand> Pages for NewestPages<N> {
     fn take_frame(&mut self) -> Option<Vec<u8>> {
         None
     }
+
+    fn return_frame(&mut self, frame: Vec<u8>) {
+        let _frame = frame;
+    }
 }
 
 impl<N: Nand> KnownPages for NewestPages<N> {

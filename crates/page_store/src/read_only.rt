@@ -103,6 +103,10 @@ impl<N: Nand> Pages for ReadOnlyPages<N> {
     fn take_frame(&mut self) -> Option<Vec<u8>> {
         self.pages.take_frame()
     }
+
+    fn return_frame(&mut self, frame: Vec<u8>) {
+        self.pages.return_frame(frame)
+    }
 }
 
 impl<N: Nand> PageStore for ReadOnlyPages<N> {

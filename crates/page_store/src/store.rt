@@ -210,4 +210,8 @@ impl<N: Nand> Pages for Store<N> {
     fn take_frame(&mut self) -> Option<Vec<u8>> {
         self.cache.take_spare()
     }
+
+    fn return_frame(&mut self, frame: Vec<u8>) {
+        self.cache.return_spare(frame)
+    }
 }

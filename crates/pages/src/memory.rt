@@ -187,4 +187,8 @@ impl Pages for MemPages {
     fn take_frame(&mut self) -> Option<Vec<u8>> {
         None
     }
+
+    fn return_frame(&mut self, frame: Vec<u8>) {
+        let _frame = frame;
+    }
 }

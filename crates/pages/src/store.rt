@@ -53,6 +53,11 @@ pub trait Pages {
         ensures same { state self.new ≡ state self.old }
         ensures size { IfSome result (λ frame. length frame.items ≡ (state self.old).page_bytes) };
 
+    /// Takes a frame back that is not needed, to hand it out again. What was found is lent still.
+    fn return_frame(&mut self, frame: Vec<u8>)
+        requires { length frame.items ≡ (state self.old).page_bytes }
+        ensures { state self.new ≡ state self.old };
+
     /// How large a page is.
     ghost sized: { (pages : Self) → (512 ≤ (state pages).page_bytes) × ((state pages).page_bytes ≤ 4096) };
 }

@@ -81,6 +81,10 @@ impl<P: Pages> Pages for RefusingPages<P> {
     fn take_frame(&mut self) -> Option<Vec<u8>> {
         self.inner.take_frame()
     }
+
+    fn return_frame(&mut self, frame: Vec<u8>) {
+        self.inner.return_frame(frame)
+    }
 }
 
 impl<P: PageStore> PageStore for RefusingPages<P> {

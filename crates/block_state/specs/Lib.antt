@@ -1,5 +1,5 @@
 pub mod Table
 pub mod TableOf
 pub mod Counting
-pub mod Kept
+pub mod Committed
 pub mod laws

@@ -16,7 +16,7 @@ pub record Table : Type 0 where
 
 -- a good block that was never written
 abbrev pub blank : BlockEntry
-blank = record { bad = false; kept = 0; seq = 0; next = 0 }
+blank = record { bad = false; committed = 0; seq = 0; next = 0 }
 
 abbrev pub entry_at : List BlockEntry → ℕ → BlockEntry
 entry_at entries b = get_or entries b blank
@@ -29,35 +29,35 @@ is_open opened b = option_map_or (λ o. nat_eq o b) opened false
 abbrev pub is_bad : Table → ℕ → Bool
 is_bad t b = (t.entry b).bad
 
--- a free block: good, not open, and without a kept page
+-- a free block: good, not open, and without a committed page
 abbrev pub is_free : Table → ℕ → Bool
-is_free t b = not (t.entry b).bad && (nat_eq (t.entry b).kept 0 && not (is_open t.open_block b))
+is_free t b = not (t.entry b).bad && (nat_eq (t.entry b).committed 0 && not (is_open t.open_block b))
 
 -- the pages that can still be written in the open block; with none open there are none
 abbrev pub room : Table → ℕ
 room t = option_map_or (λ o. t.geometry.pages - (t.entry o).next) t.open_block 0
 
--- Among the first n blocks a good one with the least kept count of those that hold a kept page; of those with as many
+-- Among the first n blocks a good one with the least committed count of those that hold a committed page; of those with as many
 -- none was taken longer ago.
 pub record IsFewest (t : Table) (n b : ℕ) : Type 0 where
   pub within : b < n
   pub good : (t.entry b).bad ≡ false
-  pub some : 1 ≤ (t.entry b).kept
-  pub least : (k : ℕ) → k < n → (t.entry k).bad ≡ false → 1 ≤ (t.entry k).kept → (t.entry b).kept ≤ (t.entry k).kept
-  pub oldest : (k : ℕ) → k < n → (t.entry k).bad ≡ false → (t.entry k).kept ≡ (t.entry b).kept → (t.entry b).seq ≤ (t.entry k).seq
+  pub some : 1 ≤ (t.entry b).committed
+  pub least : (k : ℕ) → k < n → (t.entry k).bad ≡ false → 1 ≤ (t.entry k).committed → (t.entry b).committed ≤ (t.entry k).committed
+  pub oldest : (k : ℕ) → k < n → (t.entry k).bad ≡ false → (t.entry k).committed ≡ (t.entry b).committed → (t.entry b).seq ≤ (t.entry k).seq
 
--- no good one of the first n blocks holds a kept page
-abbrev pub NoneKept : Table → ℕ → Type 0
-NoneKept t n = (b : ℕ) → b < n → (t.entry b).bad ≡ false → (t.entry b).kept ≡ 0
+-- no good one of the first n blocks holds a committed page
+abbrev pub NoneCommitted : Table → ℕ → Type 0
+NoneCommitted t n = (b : ℕ) → b < n → (t.entry b).bad ≡ false → (t.entry b).committed ≡ 0
 
--- the block has fewer kept pages than another, or as many and was taken longer ago
+-- the block has fewer committed pages than another, or as many and was taken longer ago
 abbrev pub IsFewer : Table → ℕ → ℕ → Type 0
-IsFewer t b k = ((t.entry b).kept < (t.entry k).kept) ⊎ (((t.entry b).kept ≡ (t.entry k).kept) × ((t.entry b).seq < (t.entry k).seq))
+IsFewer t b k = ((t.entry b).committed < (t.entry k).committed) ⊎ (((t.entry b).committed ≡ (t.entry k).committed) × ((t.entry b).seq < (t.entry k).seq))
 
--- a good block with a kept page, that goes before another where there is one
+-- a good block with a committed page, that goes before another where there is one
 abbrev pub HoldsFewer : Table → ℕ → Option ℕ → Type 0
-HoldsFewer t b None = ((t.entry b).bad ≡ false) × (1 ≤ (t.entry b).kept)
-HoldsFewer t b (Some k) = ((t.entry b).bad ≡ false) × (1 ≤ (t.entry b).kept) × IsFewer t b k
+HoldsFewer t b None = ((t.entry b).bad ≡ false) × (1 ≤ (t.entry b).committed)
+HoldsFewer t b (Some k) = ((t.entry b).bad ≡ false) × (1 ≤ (t.entry b).committed) × IsFewer t b k
 
 -- when a block is allocated: one in which nothing was programmed since it was erased goes before all others, and of these the one that was
 -- allocated longest ago

@@ -1,4 +1,4 @@
 pub mod Checkpoint
 pub mod Counting
-pub mod Kept
+pub mod Committed
 pub mod Table

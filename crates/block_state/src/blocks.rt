@@ -11,8 +11,8 @@ use std::alloc::{AllocError, Global};
 pub struct BlockEntry {
     /// Whether it is marked bad.
     pub bad: bool,
-    /// How many kept pages it has.
-    pub kept: u32,
+    /// How many committed pages it has.
+    pub committed: u32,
     /// The number that it got when it was last taken, 0 if it was not.
     pub seq: u64,
     /// How many of its pages were programmed since it was erased, as far as is known: while the block is open, the page that is
@@ -56,13 +56,13 @@ pub struct Blocks {
 impl Blocks {
     ghost use Rattle.block_state.specs.TableOf.{table};
 
-    /// All blocks good and without kept pages, none open, and the numbers 1 next.
+    /// All blocks good and without committed pages, none open, and the numbers 1 next.
     pub fn new(alloc: Global, geometry: Geometry) -> Result<Blocks, AllocError>
         ensures { IfOk result (λ blocks. table blocks ≡ record { geometry = geometry; entry = λ b. blank; open_block = None; checkpoint = None; next_seq = 1; next_group = 1 }) }
     {
         let blank = BlockEntry {
             bad: false,
-            kept: 0,
+            committed: 0,
             seq: 0,
             next: 0,
         };
@@ -198,30 +198,30 @@ impl Blocks {
         };
     }
 
-    /// Notes that one more page of a block is kept.
+    /// Notes that one more page of a block is committed.
     #[tactic(auto, using(crate::specs::laws::Table::whole_set))]
     pub fn keep(&mut self, block: u32)
         requires block { block < (table self.old).geometry.blocks }
-        requires room { ((table self.old).entry block).kept < 2 ^ 32 - 1 }
-        ensures { SetsEntry block (record ((table self.old).entry block) { kept = ((table self.old).entry block).kept + 1 }) (table self.old) (table self.new) }
+        requires room { ((table self.old).entry block).committed < 2 ^ 32 - 1 }
+        ensures { SetsEntry block (record ((table self.old).entry block) { committed = ((table self.old).entry block).committed + 1 }) (table self.old) (table self.new) }
     {
         let entry = self.entry(block);
         self.entries[block as usize] = BlockEntry {
-            kept: entry.kept + 1,
+            committed: entry.committed + 1,
             ..entry
         };
     }
 
-    /// Notes that one page less of a block is kept.
+    /// Notes that one page less of a block is committed.
     #[tactic(auto, using(crate::specs::laws::Table::whole_set))]
     pub fn release(&mut self, block: u32)
         requires block { block < (table self.old).geometry.blocks }
-        requires some { 1 ≤ ((table self.old).entry block).kept }
-        ensures { SetsEntry block (record ((table self.old).entry block) { kept = ((table self.old).entry block).kept - 1 }) (table self.old) (table self.new) }
+        requires some { 1 ≤ ((table self.old).entry block).committed }
+        ensures { SetsEntry block (record ((table self.old).entry block) { committed = ((table self.old).entry block).committed - 1 }) (table self.old) (table self.new) }
     {
         let entry = self.entry(block);
         self.entries[block as usize] = BlockEntry {
-            kept: entry.kept - 1,
+            committed: entry.committed - 1,
             ..entry
         };
     }

@@ -1,20 +1,20 @@
-// What is counted over the table, and which block is to be taken or to be collected.
+// Counts over the table, and which block is to be taken or to be collected.
 ghost use Rattle.std.specs.Prelude.{◌≡◌, ◌<◌, ◌↔◌, IsTrue, IfSome, IfNone};
-ghost use Rattle.block_state.specs.Table.{is_free, IsFewest, NoneKept, HoldsFewer, IsNextFree, IsNextTaken, NoneFree, GoesBefore};
-ghost use Rattle.block_state.specs.Kept.{bad_count, free_count};
+ghost use Rattle.block_state.specs.Table.{is_free, IsFewest, NoneCommitted, HoldsFewer, IsNextFree, IsNextTaken, NoneFree, GoesBefore};
+ghost use Rattle.block_state.specs.Committed.{bad_count, free_count};
 
 use crate::blocks::Blocks;
 
 impl Blocks {
     ghost use Rattle.block_state.specs.TableOf.{table};
 
-    /// Whether a block is free: good, not the open one, and without a kept page.
+    /// Whether a block is free: good, not the open one, and without a committed page.
     pub fn is_free(&self, block: u32) -> bool
         requires { block < (table self.now).geometry.blocks }
         ensures { result ≡ is_free (table self.now) block }
     {
         let entry = self.entry(block);
-        !entry.bad && entry.kept == 0 && self.open_block() != Some(block)
+        !entry.bad && entry.committed == 0 && self.open_block() != Some(block)
     }
 
     /// How many blocks are free, in one pass over the blocks.
@@ -45,11 +45,11 @@ impl Blocks {
         count
     }
 
-    /// The block to be collected, in one pass over the blocks: a good one with the least kept pages among those that
+    /// The block to be collected, in one pass over the blocks: a good one with the least committed pages among those that
     /// hold one, and of these one that was taken longest ago.
-    pub fn fewest_kept(&self) -> Option<u32>
+    pub fn fewest_committed(&self) -> Option<u32>
         ensures found { IfSome result (λ block. IsFewest (table self.now) (table self.now).geometry.blocks block) }
-        ensures none { IfNone result (NoneKept (table self.now) (table self.now).geometry.blocks) }
+        ensures none { IfNone result (NoneCommitted (table self.now) (table self.now).geometry.blocks) }
     {
         let mut fewest = None;
         for block in 0..self.geometry().blocks() {
@@ -60,21 +60,22 @@ impl Blocks {
         fewest
     }
 
-    /// Whether a block is to be preferred to the one with the fewest kept pages so far.
+    /// Whether a block is to be preferred to the one with the fewest committed pages so far.
     fn holds_fewer(&self, block: u32, fewest: Option<u32>) -> bool
         requires block { block < (table self.now).geometry.blocks }
         requires fewest { IfSome fewest (λ k. k < (table self.now).geometry.blocks) }
         ensures { IsTrue result ↔ HoldsFewer (table self.now) block fewest }
     {
         let entry = self.entry(block);
-        if entry.bad || entry.kept == 0 {
+        if entry.bad || entry.committed == 0 {
             return false;
         }
         match fewest {
             None => true,
             Some(best) => {
                 let other = self.entry(best);
-                entry.kept < other.kept || entry.kept == other.kept && entry.seq < other.seq
+                entry.committed < other.committed
+                    || entry.committed == other.committed && entry.seq < other.seq
             }
         }
     }

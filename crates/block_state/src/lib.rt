@@ -1,4 +1,4 @@
-//! The table of a device's blocks: which are bad, how many kept pages each has, which one is being written, and the
+//! The table of a device's blocks: which are bad, how many committed pages each has, which one is being written, and the
 //! numbers that are handed out next.
 #![tactic(auto)]
 
@@ -8,6 +8,6 @@ mod law;
 
 pub use blocks::{BlockEntry, Blocks, NextNumbers};
 pub use law::{
-    a_block_can_be_collected, a_mark_moves_a_block, free_blocks_are_unkept,
+    a_block_can_be_collected, a_mark_moves_a_block, free_blocks_are_uncommitted,
     the_same_counts_count_the_same,
 };

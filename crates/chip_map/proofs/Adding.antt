@@ -23,9 +23,6 @@ pub record HasPower (old new : Device) : Type 0 where
   pub only : OnlyReads old new
   pub power : old.gone ≡ false → new.gone ≡ false
 
-pub power_here : (a : Device) → HasPower a a
-power_here a = record { only = only_reads_here a; power = λ is. is }
-
 pub power_on : (a b c : Device) → HasPower a b → OnlyReads b c → (b.gone ≡ false → c.gone ≡ false) → HasPower a c
 power_on a b c first only power = record { only = only_reads_on a b c first.only only; power = λ is. power (first.power is) }
 
@@ -73,7 +70,7 @@ pub page_back : (a b : Device) (k p : ℕ) (page : SurveyedPage) → OnlyReads a
 page_back a b k p page only honest noted = subst (λ (f : Flash). IsNoted f k p page) (same_flash a b only honest) (noted (only.lasts.honest ∙ honest))
 
 -- the places that a scan lists are those of pages that were read
-pub placed_within : (pages blocks : ℕ) (counted : List Found) (list : List SurveyedPage) → ArePlaced blocks pages counted → length list ≡ blocks * pages → AreWithin pages counted list
-placed_within pages blocks counted list placed len k f at =
-    let is = All-contains (λ (x : Found). (x.block < blocks) × (x.page < pages)) counted f placed (in_list counted k f at) in
+pub placed_within : (pages blocks : ℕ) (valid_pages : List Found) (list : List SurveyedPage) → ArePlaced blocks pages valid_pages → length list ≡ blocks * pages → AreWithin pages valid_pages list
+placed_within pages blocks valid_pages list placed len k f at =
+    let is = All-contains (λ (x : Found). (x.block < blocks) × (x.page < pages)) valid_pages f placed (in_list valid_pages k f at) in
     (is.1, omega (arith, mul-add-lt f.block pages f.page blocks is.0 is.1, len))

@@ -49,9 +49,9 @@ one_index b c p q n lt less same = (
 
 -- those that a scan lists
 pub valid_listed : (flash : Flash) (list : List Found) → AreCounted flash list → AreValid flash list
-valid_listed flash list counted f = (
-  λ has. (counted.each (spot_of f)).1 ((listed_spot list (spot_of f)).1 has),
-  λ holds. (listed_spot list (spot_of f)).0 ((counted.each (spot_of f)).0 holds),
+valid_listed flash list valid_pages f = (
+  λ has. (valid_pages.each (spot_of f)).1 ((listed_spot list (spot_of f)).1 has),
+  λ holds. (listed_spot list (spot_of f)).0 ((valid_pages.each (spot_of f)).0 holds),
 )
 
 -- a page whose place is that of the newest page of its key is current
@@ -125,17 +125,17 @@ module _ (flash : Flash) (valid : List Found) (are : AreValid flash valid) where
   -- a page that counts is noted as valid
   counted_noted : (pages b p : ℕ) (list : List SurveyedPage) (page : SurveyedPage) → Notes flash pages valid (length valid) list → slice_get list (b * pages + p) ≡ Some page
       → page.state ≡ states.Invalid → IsCounted flash b p → ⊥
-  counted_noted pages b p list page notes there invalid counted =
-      let part : IsPart flash counted.group counted.index = counted.whole.each counted.index counted.within in
+  counted_noted pages b p list page notes there invalid valid_pages =
+      let part : IsPart flash valid_pages.group valid_pages.index = valid_pages.whole.each valid_pages.index valid_pages.within in
       let f : Found = record { block = b; page = p; tag = part.tag } in
-      let has : HasTag flash b p part.tag = subst (λ n. HasTag flash n p part.tag) (sym counted.block) (subst (λ n. HasTag flash counted.group.block n part.tag) (sym counted.page) part.has) in
+      let has : HasTag flash b p part.tag = subst (λ n. HasTag flash n p part.tag) (sym valid_pages.block) (subst (λ n. HasTag flash valid_pages.group.block n part.tag) (sym valid_pages.page) part.has) in
       let holds : Holds flash f.tag.object f.tag.chunk (spot_of f) = record {
-        group = counted.group;
-        whole = counted.whole;
-        index = counted.index;
-        within = counted.within;
-        block = counted.block;
-        page = counted.page;
+        group = valid_pages.group;
+        whole = valid_pages.whole;
+        index = valid_pages.index;
+        within = valid_pages.within;
+        block = valid_pages.block;
+        page = valid_pages.page;
         has = has;
         object = refl;
         chunk = refl;

@@ -28,6 +28,6 @@ pub record AreCounts (pages : List SurveyedPage) (counts : PageCounts) : Type 0 
   pub stale : counts.stale ≡ count_of states.Stale pages
   pub current : counts.current ≡ count_of states.Current pages
 
--- all pages that were counted
+-- all pages that were in the count
 abbrev pub total_of : PageCounts → ℕ
 total_of counts = counts.bad + counts.erased + counts.uncorrectable + counts.invalid + counts.stale + counts.current

@@ -36,7 +36,7 @@ IsPageState flash b p states.Invalid = IsWritten flash b p × (IsCounted flash b
 IsPageState flash b p states.Stale = IsStale flash b p
 IsPageState flash b p states.Current = IsCurrent flash b p
 
--- the state of the page, and its tag: of a page of a bad block none is told
+-- the state of the page, and its tag: of a page of a bad block none is reported
 pub record IsSurveyed (flash : Flash) (b p : ℕ) (page : SurveyedPage) : Type 0 where
   pub state : IsPageState flash b p page.state
   pub tag : flash.bad b ≡ false → TagIs flash b p page.tag

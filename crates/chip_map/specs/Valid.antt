@@ -1,5 +1,5 @@
 -- The valid pages of a flash, and what is known while they are noted.
-use Rattle.std.specs.Prelude.{◌≡◌, ◌≢◌, ◌↔◌, ◌<◌, ℕ, ◌+◌, ◌*◌, true, false, List, Option, Some, None, length, slice_get, Contains}
+use Rattle.std.specs.Prelude.{◌≡◌, ◌≢◌, ◌↔◌, ◌<◌, ℕ, ◌+◌, ◌*◌, true, false, List, Option, Some, None, length, slice_get, Contains, Result, OnOk}
 use Rattle.nand_model.specs.Flash.{Flash}
 use Rattle.flash_tree.specs.Newest.{Holds}
 use Rattle.flash_tree.specs.declared.place.Found.{Found}
@@ -8,6 +8,7 @@ use Rattle.chip_map.specs.declared.page_state.PageState.{PageState}
 use Rattle.chip_map.specs.declared.page_state.PageState.TheVariants as states
 use Rattle.chip_map.specs.declared.page_state.SurveyedPage.{SurveyedPage}
 use Rattle.chip_map.specs.States.{IsWritten, IsPageState}
+use Rattle.nand_model.specs.Calls.{Device}
 
 -- exactly the valid pages of the flash
 abbrev pub AreValid : Flash → List Found → Type 0
@@ -46,3 +47,7 @@ pub record Notes (flash : Flash) (pages : ℕ) (valid : List Found) (n : ℕ) (l
 -- each place lies on a device of so many pages a block, of which the list has all
 abbrev pub AreWithin : (pages : ℕ) → List Found → List SurveyedPage → Type 0
 AreWithin pages valid list = (k : ℕ) (f : Found) → slice_get valid k ≡ Some f → (f.page < pages) × (f.block * pages + f.page < length list)
+
+-- of an honest device: where the pages of the blocks before were noted, so are they with those of one more
+abbrev pub KeepsNoted : {T E : Type 0} → Device → List SurveyedPage → List SurveyedPage → Result T E → Type 0
+KeepsNoted d old new result = d.honest ≡ true → AreNoted d.flash d.geometry.pages old → OnOk result (AreNoted d.flash d.geometry.pages new)

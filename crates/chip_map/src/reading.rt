@@ -1,8 +1,8 @@
 // The pages of a chip, read one after another.
 ghost use Rattle.std.specs.Prelude.{◌≡◌, ◌<◌, ◌+◌, ◌*◌, true, false, IfOk, OnOk, OnErr, length};
 ghost use Rattle.nand_model.specs.Changes.{OnlyReads};
-ghost use Rattle.mount_scan.specs.Scanned.{TellsGone};
-ghost use Rattle.chip_map.specs.Valid.{IsNoted, AreNoted};
+ghost use Rattle.mount_scan.specs.Scanned.{ScanReportsGone};
+ghost use Rattle.chip_map.specs.Valid.{IsNoted, AreNoted, KeepsNoted};
 
 use crate::page_state::{PageState, SurveyedPage};
 use mount_scan::ScanFault;
@@ -51,10 +51,9 @@ fn read_block<N: Nand>(
     requires block { block < (N.state device.old).geometry.blocks }
     requires before { length pages.old.items ≡ block * (N.state device.old).geometry.pages }
     ensures reads { OnlyReads (N.state device.old) (N.state device.new) }
-    ensures gone { TellsGone (N.state device.old) (N.state device.new) result }
+    ensures gone { ScanReportsGone (N.state device.old) (N.state device.new) result }
     ensures len { OnOk result (length pages.new.items ≡ (block + 1) * (N.state device.old).geometry.pages) }
-    ensures noted { (N.state device.old).honest ≡ true → AreNoted (N.state device.old).flash (N.state device.old).geometry.pages pages.old.items
-        → OnOk result (AreNoted (N.state device.old).flash (N.state device.old).geometry.pages pages.new.items) }
+    ensures noted { KeepsNoted (N.state device.old) pages.old.items pages.new.items result }
 {
     for page in 0..device.geometry().pages() {
         let read = read_one(device, block, page)?;
@@ -69,7 +68,7 @@ pub(crate) fn read_all<N: Nand>(
     device: &mut N,
 ) -> Result<Vec<SurveyedPage>, ScanFault>
     ensures reads { OnlyReads (N.state device.old) (N.state device.new) }
-    ensures gone { TellsGone (N.state device.old) (N.state device.new) result }
+    ensures gone { ScanReportsGone (N.state device.old) (N.state device.new) result }
     ensures len { IfOk result (λ pages. length pages.items ≡ (N.state device.old).geometry.blocks * (N.state device.old).geometry.pages) }
     ensures noted { (N.state device.old).honest ≡ true
         → IfOk result (λ pages. AreNoted (N.state device.old).flash (N.state device.old).geometry.pages pages.items) }

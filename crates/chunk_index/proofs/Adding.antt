@@ -5,20 +5,20 @@ use Rattle.std.specs.Option.{option_map}
 use Rattle.std.proofs.lemmas.Bool.{cases_eq}
 use Rattle.std.proofs.lemmas.Option.{slice_get-map, slice_get_within}
 use Rattle.flash_tree.specs.Places.{ComesBefore}
-use Rattle.chunk_index.specs.declared.form.KeptKey.{KeptKey}
+use Rattle.chunk_index.specs.declared.form.CommittedKey.{CommittedKey}
 use Rattle.chunk_index.specs.declared.entry.KeyEntry.{KeyEntry}
 use Rattle.chunk_index.specs.declared.index.Index.{Index}
 use Rattle.chunk_index.specs.Adding.{IsPageOf, AreOfOtherKeys, AreAbsent, AddsFirst}
 use Rattle.chunk_index.specs.Counts.{Recounts}
-use Rattle.chunk_index.specs.Entries.{kept_at, weight, counted_at, as_kept, kept_of, present_of}
-use Rattle.chunk_index.specs.Kept.{KeyRises, IsListOf}
-use Rattle.chunk_index.specs.Maps.{kept_in, kept_pages, present, CountsAgree}
+use Rattle.chunk_index.specs.Entries.{committed_at, weight, counted_at, as_committed, committed_of, present_of}
+use Rattle.chunk_index.specs.Committed.{KeyRises, IsListOf}
+use Rattle.chunk_index.specs.Maps.{count_committed_in, committed_pages, present, CountsAgree}
 use Rattle.chunk_index.specs.Shelves.{ObjectMap, look, total, Differs, AltersKey, SameEntries}
 use Rattle.block_state.specs.Table.{Table}
 use Rattle.chunk_index.proofs.Counting.{recounts_on, recounts_more}
 
 -- one page stands at a place
-one_page : (ks : List KeptKey) (i : ℕ) (k l : KeptKey) → slice_get ks i ≡ Some k → slice_get ks i ≡ Some l → k ≡ l
+one_page : (ks : List CommittedKey) (i : ℕ) (k l : CommittedKey) → slice_get ks i ≡ Some k → slice_get ks i ≡ Some l → k ≡ l
 one_page ks i k l x y = let two : Some k ≡ Some l = sym x ∙ y in cc
 
 -- what is read of a list that was mapped
@@ -40,41 +40,34 @@ turned o c k l (inl ne) = inl (λ is. ne (sym is))
 turned o c k l (inr ne) = inr (λ is. ne (sym is))
 
 -- a key that the page is not of is another
-other_key : (k : KeptKey) (o c : ℕ) → (IsPageOf o c k → ⊥) → Differs k.key.object k.key.chunk o c
+other_key : (k : CommittedKey) (o c : ℕ) → (IsPageOf o c k → ⊥) → Differs k.key.object k.key.chunk o c
 other_key k o c not = elim (cases_eq o k.key.object) [
   | inl e ↦ inr (λ h. not (sym e, sym h))
   | inr ne ↦ inl ne
 ]
 
 -- and a page of another key is not of that key
-not_of : (k : KeptKey) (o c : ℕ) → Differs k.key.object k.key.chunk o c → IsPageOf o c k → ⊥
+not_of : (k : CommittedKey) (o c : ℕ) → Differs k.key.object k.key.chunk o c → IsPageOf o c k → ⊥
 not_of k o c (inl ne) of = ne (sym of.0)
 not_of k o c (inr ne) of = ne (sym of.1)
 
--- keys that rise are other keys
-pub rising_once : (ks : List KeptKey) → KeyRises ks → AreOfOtherKeys ks
-rising_once ks rise i j k l lt at there = go (rise i j k l lt at there) where
-  go : ComesBefore k.key.object k.key.chunk l.key.object l.key.chunk → Differs k.key.object k.key.chunk l.key.object l.key.chunk
-  go (inl less) = inl (λ is. absurd (omega (arith, less, is)))
-  go (inr both) = inr (λ is. let less = both.1 in absurd (omega (arith, less, is)))
-
 -- before the first page nothing is added
-pub adds_none : (ks : List KeptKey) (m : ObjectMap) → AddsFirst ks 0 m m
+pub adds_none : (ks : List CommittedKey) (m : ObjectMap) → AddsFirst ks 0 m m
 adds_none ks m = record { done = λ i k lt. absurd (omega (arith, lt)); rest = λ o c none. refl }
 
 -- the keys of the pages further on have no entries still
-pub still_absent : (ks : List KeptKey) (n : ℕ) (old new : ObjectMap) (x : KeptKey) → AreOfOtherKeys ks → AreAbsent ks old → AddsFirst ks n old new → slice_get ks n ≡ Some x → look new x.key.object x.key.chunk ≡ None
+pub still_absent : (ks : List CommittedKey) (n : ℕ) (old new : ObjectMap) (x : CommittedKey) → AreOfOtherKeys ks → AreAbsent ks old → AddsFirst ks n old new → slice_get ks n ≡ Some x → look new x.key.object x.key.chunk ≡ None
 still_absent ks n old new x once absent adds at =
     adds.rest x.key.object x.key.chunk (λ i k lt there. not_of k x.key.object x.key.chunk (once i n k x lt there at)) ∙ absent n x at
 
 -- one page more
-pub adds_more : (ks : List KeptKey) (n : ℕ) (first old mid new : ObjectMap) (x : KeptKey) → AreOfOtherKeys ks → slice_get ks n ≡ Some x → AddsFirst ks n first old → SameEntries old mid
-    → AltersKey x.key.object x.key.chunk (Some (kept_at x.key.chunk (Some x.at))) mid new → AddsFirst ks (n + 1) first new
+pub adds_more : (ks : List CommittedKey) (n : ℕ) (first old mid new : ObjectMap) (x : CommittedKey) → AreOfOtherKeys ks → slice_get ks n ≡ Some x → AddsFirst ks n first old → SameEntries old mid
+    → AltersKey x.key.object x.key.chunk (Some (committed_at x.key.chunk (Some x.at))) mid new → AddsFirst ks (n + 1) first new
 adds_more ks n first old mid new x once at was same alters = record {
   done = λ i k lt there. elim (cases_eq i n) [
     | inl here ↦
         let equal : x ≡ k = one_page ks n x k at (subst (λ j. slice_get ks j ≡ Some k) here there) in
-        subst (λ (y : KeptKey). look new y.key.object y.key.chunk ≡ Some (kept_at y.key.chunk (Some y.at))) equal alters.here
+        subst (λ (y : CommittedKey). look new y.key.object y.key.chunk ≡ Some (committed_at y.key.chunk (Some y.at))) equal alters.here
     | inr ne ↦
         let less : i < n = omega (arith, lt, ne) in
         let apart : Differs x.key.object x.key.chunk k.key.object k.key.chunk = turned k.key.object k.key.chunk x.key.object x.key.chunk (once i n k x less there at) in
@@ -98,53 +91,53 @@ alters_on o c a b old mid new first next = record {
 
 -- ---- counts
 
--- entries that are the same are counted as before
-pub agree_kept : (t : Table) (old new : Index) → SameEntries old.shelf.objects new.shelf.objects → CountsAgree t old → CountsAgree t new
-agree_kept t old new same agree = record {
+-- entries that are the same are in the count as before
+pub agree_committed : (t : Table) (old new : Index) → SameEntries old.shelf.objects new.shelf.objects → CountsAgree t old → CountsAgree t new
+agree_committed t old new same agree = record {
   counts = λ b. agree.counts b ∙ sym (same.weighs (counted_at b));
   within = λ b le. same.weighs (counted_at b) ∙ agree.within b le;
 }
 
--- and an entry that tells of nothing is not counted
-sum_added : (o c b : ℕ) (old new : ObjectMap) → look old o c ≡ None → AltersKey o c (Some (kept_at c None)) old new → total (counted_at b) new ≡ total (counted_at b) old
+-- and an entry that holds nothing is not in the count
+sum_added : (o c b : ℕ) (old new : ObjectMap) → look old o c ≡ None → AltersKey o c (Some (committed_at c None)) old new → total (counted_at b) new ≡ total (counted_at b) old
 sum_added o c b old new absent alters =
     let sum = alters.weighs (counted_at b) in
     let nothing : weight (counted_at b) (look old o c) ≡ 0 = ap (weight (counted_at b)) absent in
-    let none : weight (counted_at b) (Some (kept_at c None)) ≡ 0 = refl in
+    let none : weight (counted_at b) (Some (committed_at c None)) ≡ 0 = refl in
     omega (arith, sum, nothing, none)
 
-pub agree_added : (t : Table) (old new : Index) (o c : ℕ) → look old.shelf.objects o c ≡ None → AltersKey o c (Some (kept_at c None)) old.shelf.objects new.shelf.objects → CountsAgree t old → CountsAgree t new
+pub agree_added : (t : Table) (old new : Index) (o c : ℕ) → look old.shelf.objects o c ≡ None → AltersKey o c (Some (committed_at c None)) old.shelf.objects new.shelf.objects → CountsAgree t old → CountsAgree t new
 agree_added t old new o c absent alters agree = record {
   counts = λ b. agree.counts b ∙ sym (sum_added o c b old.shelf.objects new.shelf.objects absent alters);
   within = λ b le. sum_added o c b old.shelf.objects new.shelf.objects absent alters ∙ agree.within b le;
 }
 
-pub counts_added : (t u : Table) (old mid new : Index) (o c : ℕ) → look old.shelf.objects o c ≡ None → AltersKey o c (Some (kept_at c None)) old.shelf.objects mid.shelf.objects
-    → Recounts (kept_in mid) (kept_in new) t u → Recounts (kept_in old) (kept_in new) t u
+pub counts_added : (t u : Table) (old mid new : Index) (o c : ℕ) → look old.shelf.objects o c ≡ None → AltersKey o c (Some (committed_at c None)) old.shelf.objects mid.shelf.objects
+    → Recounts (count_committed_in mid) (count_committed_in new) t u → Recounts (count_committed_in old) (count_committed_in new) t u
 counts_added t u old mid new o c absent alters recounts =
-    recounts_more (λ b. let same : kept_in mid b ≡ kept_in old b = sum_added o c b old.shelf.objects mid.shelf.objects absent alters in omega (arith, same)) recounts
+    recounts_more (λ b. let same : count_committed_in mid b ≡ count_committed_in old b = sum_added o c b old.shelf.objects mid.shelf.objects absent alters in omega (arith, same)) recounts
 
--- pages that were counted, and then others
-pub counts_on : (t u v : Table) (first old mid new : Index) → SameEntries old.shelf.objects mid.shelf.objects → Recounts (kept_in first) (kept_in old) t u → Recounts (kept_in mid) (kept_in new) u v
-    → Recounts (kept_in first) (kept_in new) t v
+-- pages that were in the count, and then others
+pub counts_on : (t u v : Table) (first old mid new : Index) → SameEntries old.shelf.objects mid.shelf.objects → Recounts (count_committed_in first) (count_committed_in old) t u → Recounts (count_committed_in mid) (count_committed_in new) u v
+    → Recounts (count_committed_in first) (count_committed_in new) t v
 counts_on t u v first old mid new same before next =
-    recounts_on before (recounts_more (λ b. let equal : kept_in mid b ≡ kept_in old b = same.weighs (counted_at b) in omega (arith, equal)) next)
+    recounts_on before (recounts_more (λ b. let equal : count_committed_in mid b ≡ count_committed_in old b = same.weighs (counted_at b) in omega (arith, equal)) next)
 
 -- ---- all pages of a list
 
-abbrev HasPageOf : List KeptKey → ℕ → ℕ → Type 0
-HasPageOf ks o c = (i : ℕ) × (k : KeptKey) × (slice_get ks i ≡ Some k) × IsPageOf o c k
+abbrev HasPageOf : List CommittedKey → ℕ → ℕ → Type 0
+HasPageOf ks o c = (i : ℕ) × (k : CommittedKey) × (slice_get ks i ≡ Some k) × IsPageOf o c k
 
-abbrev HasNoPageOf : List KeptKey → ℕ → ℕ → Type 0
-HasNoPageOf ks o c = (i : ℕ) (k : KeptKey) → slice_get ks i ≡ Some k → IsPageOf o c k → ⊥
+abbrev HasNoPageOf : List CommittedKey → ℕ → ℕ → Type 0
+HasNoPageOf ks o c = (i : ℕ) (k : CommittedKey) → slice_get ks i ≡ Some k → IsPageOf o c k → ⊥
 
-none_first : (k : KeptKey) (ks : List KeptKey) (o c : ℕ) → (IsPageOf o c k → ⊥) → HasNoPageOf ks o c → HasNoPageOf (k ∷ ks) o c
+none_first : (k : CommittedKey) (ks : List CommittedKey) (o c : ℕ) → (IsPageOf o c k → ⊥) → HasNoPageOf ks o c → HasNoPageOf (k ∷ ks) o c
 none_first k ks o c not rest zero l at of =
     let same : k ≡ l = cc in
     not (subst (IsPageOf o c) (sym same) of)
 none_first k ks o c not rest (suc i) l at of = rest i l at of
 
-later : (k : KeptKey) (ks : List KeptKey) (o c : ℕ) → (IsPageOf o c k → ⊥) → HasPageOf ks o c ⊎ HasNoPageOf ks o c → HasPageOf (k ∷ ks) o c ⊎ HasNoPageOf (k ∷ ks) o c
+later : (k : CommittedKey) (ks : List CommittedKey) (o c : ℕ) → (IsPageOf o c k → ⊥) → HasPageOf ks o c ⊎ HasNoPageOf ks o c → HasPageOf (k ∷ ks) o c ⊎ HasNoPageOf (k ∷ ks) o c
 later k ks o c not (inl one) = inl (suc one.0, one.1, one.2, one.3)
 later k ks o c not (inr none) = inr (none_first k ks o c not none)
 
@@ -153,7 +146,7 @@ no_page o c zero k at of = absurd cc
 no_page o c (suc i) k at of = absurd cc
 
 -- a page of the key stands in the list, or none does
-page_or_none : (ks : List KeptKey) (o c : ℕ) → HasPageOf ks o c ⊎ HasNoPageOf ks o c
+page_or_none : (ks : List CommittedKey) (o c : ℕ) → HasPageOf ks o c ⊎ HasNoPageOf ks o c
 page_or_none [] o c = inr (no_page o c)
 page_or_none (k ∷ ks) o c = elim (cases_eq k.key.object o) [
   | inl object ↦ elim (cases_eq k.key.chunk c) [
@@ -163,36 +156,36 @@ page_or_none (k ∷ ks) o c = elim (cases_eq k.key.object o) [
   | inr ne ↦ later k ks o c (λ of. ne of.0) (page_or_none ks o c)
 ]
 
-module _ (ks : List KeptKey) (n : ℕ) (old : ObjectMap) (x : Index) (whole : n ≡ length ks) (empty : (o c : ℕ) → look old o c ≡ None) (adds : AddsFirst ks n old x.shelf.objects) where
-  within : (i : ℕ) (k : KeptKey) → slice_get ks i ≡ Some k → i < n
+module _ (ks : List CommittedKey) (n : ℕ) (old : ObjectMap) (x : Index) (whole : n ≡ length ks) (empty : (o c : ℕ) → look old o c ≡ None) (adds : AddsFirst ks n old x.shelf.objects) where
+  within : (i : ℕ) (k : CommittedKey) → slice_get ks i ≡ Some k → i < n
   within i k at = let lt = slice_get_within ks i k at in omega (arith, lt, whole)
 
-  entry_is : (i : ℕ) (k : KeptKey) (o c : ℕ) → slice_get ks i ≡ Some k → IsPageOf o c k → look x.shelf.objects o c ≡ Some (kept_at k.key.chunk (Some k.at))
+  entry_is : (i : ℕ) (k : CommittedKey) (o c : ℕ) → slice_get ks i ≡ Some k → IsPageOf o c k → look x.shelf.objects o c ≡ Some (committed_at k.key.chunk (Some k.at))
   entry_is i k o c at of = sym (ap (λ p. look x.shelf.objects p k.key.chunk) of.0 ∙ ap (look x.shelf.objects o) of.1) ∙ adds.done i k (within i k at) at
 
   entry_none : (o c : ℕ) → HasNoPageOf ks o c → look x.shelf.objects o c ≡ None
   entry_none o c none = adds.rest o c (λ i k lt at. none i k at) ∙ empty o c
 
-  -- exactly these are kept
-  pub kept_list : KeyRises ks → IsListOf (kept_pages x) ks
-  kept_list rise = record {
-    each = λ i k at. ap kept_of (entry_is i k k.key.object k.key.chunk at (refl, refl));
-    all = λ o c p kept. elim (page_or_none ks o c) [
+  -- exactly these are committed
+  pub committed_list : KeyRises ks → IsListOf (committed_pages x) ks
+  committed_list rise = record {
+    each = λ i k at. ap committed_of (entry_is i k k.key.object k.key.chunk at (refl, refl));
+    all = λ o c p committed. elim (page_or_none ks o c) [
       | inl (i, k, at, of) ↦
-          let two : Some k.at ≡ Some p = sym (ap kept_of (entry_is i k o c at of)) ∙ kept in
+          let two : Some k.at ≡ Some p = sym (ap committed_of (entry_is i k o c at of)) ∙ committed in
           let page : k.at ≡ p = cc in
           let same : k ≡ record { key = record { object = o; chunk = c }; at = p } = λ j. record { key = record { object = of.0 j; chunk = of.1 j }; at = page j } in
           (i, at ∙ ap Some same)
       | inr none ↦
-          let two : None ≡ Some p = sym (ap kept_of (entry_none o c none)) ∙ kept in
+          let two : None ≡ Some p = sym (ap committed_of (entry_none o c none)) ∙ committed in
           absurd cc
     ];
     rise = rise;
   }
 
   -- and present
-  pub kept_shown : (o c : ℕ) → present x o c ≡ as_kept (kept_pages x o c)
-  kept_shown o c = elim (page_or_none ks o c) [
-    | inl (i, k, at, of) ↦ ap present_of (entry_is i k o c at of) ∙ sym (ap as_kept (ap kept_of (entry_is i k o c at of)))
-    | inr none ↦ ap present_of (entry_none o c none) ∙ sym (ap as_kept (ap kept_of (entry_none o c none)))
+  pub committed_shown : (o c : ℕ) → present x o c ≡ as_committed (committed_pages x o c)
+  committed_shown o c = elim (page_or_none ks o c) [
+    | inl (i, k, at, of) ↦ ap present_of (entry_is i k o c at of) ∙ sym (ap as_committed (ap committed_of (entry_is i k o c at of)))
+    | inr none ↦ ap present_of (entry_none o c none) ∙ sym (ap as_committed (ap committed_of (entry_none o c none)))
   ]

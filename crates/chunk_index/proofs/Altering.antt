@@ -1,4 +1,4 @@
--- What an edit of an object's entries does to what is told of its chunks.
+-- What an edit of an object's entries does to what is reported of its chunks.
 use Rattle.std.proofs.Common.{◌≡◌, ℕ, ◌+◌, ◌-◌, ◌<◌, ◌≤◌, List, length, get_or, set, Option, Some, None, Bool, true, false, if◌then◌else◌, IsSome, refl, sym, ap, subst, ◌∙◌, arith, inl, inr}
 use mathlib.Core.Bool.{false≢true}
 use Rattle.std.specs.List.{insert, remove}

@@ -4,7 +4,7 @@ use Rattle.std.proofs.lemmas.Bool.{cases_eq, cases_lt}
 use Rattle.chunk_index.specs.Lists.{IsBelow}
 use Rattle.chunk_index.specs.Entries.{chunk, present_of}
 use Rattle.chunk_index.specs.Shelves.{look, Differs, IsLastFrom}
-use Rattle.chunk_index.specs.Maps.{present, IsReadyKey, StaysPrepared, SameKept, Places}
+use Rattle.chunk_index.specs.Maps.{present, IsReadyKey, StaysPrepared, SameCommitted, Places}
 use Rattle.chunk_index.specs.declared.entry.KeyEntry.{KeyEntry}
 use Rattle.chunk_index.specs.declared.form.Form.TheVariants as forms
 use Rattle.chunk_index.specs.declared.form.Present.TheVariants as presents
@@ -14,11 +14,11 @@ abbrev pub bound_or : Option ℕ → ℕ → ℕ
 bound_or None n = n
 bound_or (Some b) n = b
 
--- What is told of the object from the chunk on and not before the bound is gone, and all else is as it was.
+-- What is reported of the object from the chunk on and not before the bound is gone, and all else is as it was.
 pub record Cutting (o from : ℕ) (bound : Option ℕ) (old new : Index) : Type 0 where
   pub gone : (l : ℕ) → from ≤ l → (IsBelow l bound → ⊥) → present new o l ≡ presents.Absent
   pub others : (k l : ℕ) → (k ≢ o) ⊎ (l < from) → present new k l ≡ present old k l
-  pub kept : SameKept old new
+  pub committed : SameCommitted old new
   pub prepared : StaysPrepared old new
   pub ready : (k l : ℕ) → (k ≢ o) ⊎ (l < from) → IsReadyKey old k l → IsReadyKey new k l
 
@@ -35,9 +35,9 @@ differs o from k l c le (inl ne) = inl ne
 differs o from k l c le (inr lt) = inr (λ e. omega (arith, le, lt, e))
 
 pub cutting_more : (o from : ℕ) (bound : Option ℕ) (old mid new : Index) (e : KeyEntry) → Cutting o from bound old mid → IsLastFrom mid.shelf.objects o from bound (Some e)
-    → Places o (chunk e) forms.Dropped mid new → SameKept mid new → StaysPrepared mid new → ((k l : ℕ) → Differs o (chunk e) k l → IsReadyKey mid k l → IsReadyKey new k l)
+    → Places o (chunk e) forms.Dropped mid new → SameCommitted mid new → StaysPrepared mid new → ((k l : ℕ) → Differs o (chunk e) k l → IsReadyKey mid k l → IsReadyKey new k l)
     → Cutting o from (Some (chunk e)) old new
-cutting_more o from bound old mid new e was last places kept prepared ready = record {
+cutting_more o from bound old mid new e was last places committed prepared ready = record {
   gone = λ l le not. elim (cases_eq l (chunk e)) [
     | inl same ↦ ap (present new o) same ∙ places.here
     | inr ne ↦
@@ -48,7 +48,7 @@ cutting_more o from bound old mid new e was last places kept prepared ready = re
         ]
   ];
   others = λ k l other. places.others k l (differs o from k l (chunk e) last.1 other) ∙ was.others k l other;
-  kept = record { kept = λ k l. kept.kept k l ∙ was.kept.kept k l; counts = λ b. kept.counts b ∙ was.kept.counts b };
+  committed = record { committed = λ k l. committed.committed k l ∙ was.committed.committed k l; counts = λ b. committed.counts b ∙ was.committed.counts b };
   prepared = λ k l is. prepared k l (was.prepared k l is);
   ready = λ k l other is. ready k l (differs o from k l (chunk e) last.1 other) (was.ready k l other is);
 }

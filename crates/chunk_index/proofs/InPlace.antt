@@ -1,4 +1,4 @@
--- What a change of an entry in its place does to what is told of its key.
+-- What a change of an entry in its place does to what is reported of its key.
 use Rattle.std.proofs.Common.{◌≡◌, ℕ, ◌+◌, ◌<◌, List, get_or, set, true, false, Option, Some, None, IsSome, IfSome, is_none, refl, sym, ap, subst, ◌∙◌, arith}
 use mathlib.Core.Bool.{false≢true}
 use Rattle.std.specs.Option.{option_map, unwrap_or}
@@ -10,7 +10,7 @@ use Rattle.chunk_index.specs.declared.form.WrittenGroup.{WrittenGroup}
 use Rattle.chunk_index.specs.declared.entry.KeyEntry.{KeyEntry}
 use Rattle.chunk_index.specs.declared.object.ObjectEntries.{ObjectEntries}
 use Rattle.chunk_index.specs.Lists.{find_by, Rises, IsAt}
-use Rattle.chunk_index.specs.Entries.{chunk, settled, settled_by, kept_of, one_at, weight, Alters}
+use Rattle.chunk_index.specs.Entries.{chunk, settled, settled_by, committed_of, one_at, weight, Alters}
 use Rattle.chunk_index.specs.Shelves.{ObjectMap, look, total, AltersKey}
 use Rattle.chunk_index.specs.Counts.{Recounts, Tallies}
 use Rattle.chunk_index.specs.Settled.{MaySettle, MaySettleEntry, SettlesWhere, RecountsSettled, IsKey}
@@ -57,14 +57,14 @@ alters_gone es c e is g by = alters_none es c _ (is ∙ ap (λ (w : Option KeyEn
 pub alters_absent : (es : List KeyEntry) (c : ℕ) → find_by chunk es c ≡ None → (f : KeyEntry → KeyEntry) → Alters c (option_map f (find_by chunk es c)) es es
 alters_absent es c none f = alters_none es c _ (none ∙ sym (ap (option_map f) none))
 
--- ---- what is told of the key of an entry
+-- ---- what is reported of the key of an entry
 
 module _ (g : WrittenGroup) (v : Option KeyEntry) (e : KeyEntry) (is : v ≡ Some e) (w : Option KeyEntry) (by : w ≡ settled_by g e e.state) where
   pub goes_found : is_none w ≡ goes_of g v
   goes_found = ap is_none by ∙ sym (ap (goes_of g) is)
 
-  pub counts_found : (t u : Table) → Recounts (one_at e.kept) (one_at (kept_of w)) t u → RecountsSettled g v t u
-  counts_found t u counts = subst (λ z. RecountsSettled g z t u) (sym is) (subst (λ z. Recounts (one_at e.kept) (one_at (kept_of z)) t u) by counts)
+  pub counts_found : (t u : Table) → Recounts (one_at e.committed) (one_at (committed_of w)) t u → RecountsSettled g v t u
+  counts_found t u counts = subst (λ z. RecountsSettled g z t u) (sym is) (subst (λ z. Recounts (one_at e.committed) (one_at (committed_of z)) t u) by counts)
 
 pub goes_absent : (g : WrittenGroup) (v : Option KeyEntry) → v ≡ None → false ≡ goes_of g v
 goes_absent g v none = sym (ap (goes_of g) none)
@@ -123,13 +123,13 @@ alters_twice {m} {n} {p} {o} {c} {v} {w} a b = record {
 
 -- the entry of a key may be settled, where all may
 pub may_key : (g : WrittenGroup) (m : ObjectMap) (o c : ℕ) (t : Table) → MaySettle g m t → (size : ℕ) → total (λ (e : KeyEntry). 1) m ≡ size → size < 4294967296 → IfSome (look m o c) (λ e. MaySettleEntry g e t)
-may_key g m o c t may size counted few = go (look m o c) refl where
+may_key g m o c t may size totaled few = go (look m o c) refl where
   go : (v : Option KeyEntry) → look m o c ≡ v → IfSome v (λ e. MaySettleEntry g e t)
   go None is = tt
   go (Some e) is = record {
     block = may.block;
     page = settled_page g m o c e is (λ i shown. let fits = may.fits o c i shown in omega (arith, fits, t.geometry.most_pages));
-    room = settled_room g m o c e is t may.tallies size counted few;
+    room = settled_room g m o c e is t may.tallies size totaled few;
   }
 
 module _ (g : WrittenGroup) (k : Key) (m n : ObjectMap) (t u : Table) (alters : AltersKey k.object k.chunk (left_of g (look m k.object k.chunk)) m n)

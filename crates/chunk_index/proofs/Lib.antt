@@ -4,7 +4,7 @@ pub mod Shelving
 pub mod Counting
 pub mod Settling
 pub mod Mapping
-pub mod Telling
+pub mod Reporting
 pub mod Cutting
 pub mod Noting
 pub mod InPlace
@@ -21,6 +21,6 @@ pub mod Following
 pub mod PassedKeys
 pub mod Freeing
 pub mod Once
-pub mod Kept
+pub mod Committed
 pub mod Reordered
-pub mod Counted
+pub mod Totaled

@@ -1,4 +1,4 @@
--- What a change of one entry does to what an index tells.
+-- What a change of one entry does to what an index reports.
 use Rattle.std.proofs.Common.{◌≡◌, ℕ, false, Option, Some, None, Result, Ok, Err, IsSome, OnOk, OnErr, refl, sym, ap, subst, ◌∙◌, arith, inl, inr}
 use Rattle.std.proofs.lemmas.Bool.{cases_eq}
 use Rattle.chunk_index.specs.declared.entry.KeyEntry.{KeyEntry}
@@ -17,8 +17,8 @@ there_at m o c e l is same = subst (λ k. IsSome (look m o k)) (sym (same ∙ lo
 
 module _ {m n : ObjectMap} {o c : ℕ} {to : Option KeyEntry} (alters : AltersKey o c to m n) where
   -- what is the same of the entry is the same of each
-  pub told_same : {X : Type 0} (f : Option KeyEntry → X) → f to ≡ f (look m o c) → (k l : ℕ) → f (look n k l) ≡ f (look m k l)
-  told_same f same k l = elim (cases_eq k o) [
+  pub reported_same : {X : Type 0} (f : Option KeyEntry → X) → f to ≡ f (look m o c) → (k l : ℕ) → f (look n k l) ≡ f (look m k l)
+  reported_same f same k l = elim (cases_eq k o) [
     | inr ne ↦ ap f (alters.others k l (inl ne))
     | inl e ↦ elim (cases_eq l c) [
       | inr ne ↦ ap f (alters.others k l (inr ne))
@@ -46,14 +46,9 @@ module _ {m n : ObjectMap} {o c : ℕ} {to : Option KeyEntry} (alters : AltersKe
 -- ---- an entry that is put, or refused
 
 module _ {E : Type 0} (r : Result (Unit {0}) E) (m n : ObjectMap) (o c : ℕ) (e : KeyEntry) (ok : OnOk r (AltersKey o c (Some e) m n)) (err : OnErr r (SameEntries m n)) (none : look m o c ≡ None) where
-  -- what it tells as little of as no entry is the same
-  pub told_inserted : {X : Type 0} (f : Option KeyEntry → X) → f (Some e) ≡ f None → (k l : ℕ) → f (look n k l) ≡ f (look m k l)
-  told_inserted f same k l = go r ok err where
+  -- what it reports as little of as no entry is the same
+  pub reported_inserted : {X : Type 0} (f : Option KeyEntry → X) → f (Some e) ≡ f None → (k l : ℕ) → f (look n k l) ≡ f (look m k l)
+  reported_inserted f same k l = go r ok err where
     go : (q : Result (Unit {0}) E) → OnOk q (AltersKey o c (Some e) m n) → OnErr q (SameEntries m n) → f (look n k l) ≡ f (look m k l)
-    go (Ok u) alters x = told_same alters f (same ∙ sym (ap f none)) k l
+    go (Ok u) alters x = reported_same alters f (same ∙ sym (ap f none)) k l
     go (Err x) u entries = ap f (entries.looks k l)
-
--- a form changes what is present
-pub state_changes : (f : Form) → is_same_state (state_of f) ≡ false
-state_changes (forms.Buffered i) = refl
-state_changes forms.Dropped = refl

@@ -12,14 +12,14 @@ use Rattle.chunk_index.specs.declared.entry.KeyEntry.{KeyEntry}
 use Rattle.chunk_index.specs.declared.entry.State.{State}
 use Rattle.chunk_index.specs.declared.entry.State.TheVariants as states
 use Rattle.chunk_index.specs.Lists.{IsBelow}
-use Rattle.chunk_index.specs.Entries.{chunk, settled, settled_by, same_of, present_of, present_by, as_kept, counted_at, written_page}
+use Rattle.chunk_index.specs.Entries.{chunk, settled, settled_by, same_of, present_of, present_by, as_committed, counted_at, written_page}
 use Rattle.chunk_index.specs.Shelves.{ObjectMap, look, total, AltersKey, SameEntries, IsListed, IsLastFrom, IsAfterNumber, IsNextObject}
 use Rattle.chunk_index.specs.Counts.{Recounts, Tallies}
 use Rattle.chunk_index.specs.Settled.{MaySettle, SettlesWhere, IsKey, IsFrom, IsAny}
 use Rattle.chunk_index.specs.Noted.{IsCut, IsNotedBy}
 use Rattle.chunk_index.proofs.Counting.{recounts_on, recounts_here}
 use Rattle.chunk_index.proofs.Settling.{settled_twice, settled_same}
-use Rattle.chunk_index.proofs.Staying.{after_or_not, none_told, tallies_then_same, counts_then_same}
+use Rattle.chunk_index.proofs.Staying.{after_or_not, none_reported, tallies_then_same, counts_then_same}
 use Rattle.chunk_index.proofs.Cutting.{below_or_not}
 
 -- no key
@@ -41,7 +41,7 @@ where_then g P Q R old mid new t u v one two meant = record {
     ]
     | inr (same, none) ↦ elim (two.each o c) [
       | inl done ↦ inl (done ∙ ap (settled g) same)
-      | inr (stays, never) ↦ elim (cases_told (look mid o c)) [
+      | inr (stays, never) ↦ elim (cases_reported (look mid o c)) [
         | inl nothing ↦ inl (stays ∙ nothing ∙ sym (ap (settled g) (sym same ∙ nothing)))
         | inr some ↦ inr (
           stays ∙ same,
@@ -56,9 +56,9 @@ where_then g P Q R old mid new t u v one two meant = record {
   tallies = two.tallies;
   counts = recounts_on one.counts two.counts;
 } where
-  cases_told : (w : Option KeyEntry) → (w ≡ None) ⊎ (w ≡ None → ⊥)
-  cases_told None = inl refl
-  cases_told (Some e) = inr (λ is. absurd cc)
+  cases_reported : (w : Option KeyEntry) → (w ≡ None) ⊎ (w ≡ None → ⊥)
+  cases_reported None = inl refl
+  cases_reported (Some e) = inr (λ is. absurd cc)
 
 -- fewer keys that are meant
 pub where_fewer : (g : WrittenGroup) (P R : ℕ → ℕ → Type 0) (old new : ObjectMap) (t u : Table) → SettlesWhere g P old new t u → ((o c : ℕ) → R o c → P o c ⊎ (look new o c ≡ None)) → SettlesWhere g R old new t u
@@ -91,23 +91,23 @@ where_key g k m n t u alters tallies counts = record {
 settled_not_buffered : (g : WrittenGroup) (w : Option KeyEntry) (i : ℕ) → present_of (settled g w) ≡ presents.InBuffer i → ⊥
 settled_not_buffered g None i is = absurd cc
 settled_not_buffered g (Some e) i is = go e.state refl where
-  kept_not : (p : _) → as_kept p ≡ presents.InBuffer i → ⊥
-  kept_not None both = absurd cc
-  kept_not (Some p) both = absurd cc
+  committed_not : (p : _) → as_committed p ≡ presents.InBuffer i → ⊥
+  committed_not None both = absurd cc
+  committed_not (Some p) both = absurd cc
 
   go : (s : State) → e.state ≡ s → ⊥
   go states.Same at =
-      let one : present_of (settled g (Some e)) ≡ present_by e.kept states.Same = ap (λ s. present_of (settled_by g e s)) at ∙ ap (present_by e.kept) at in
-      kept_not e.kept (sym one ∙ is)
+      let one : present_of (settled g (Some e)) ≡ present_by e.committed states.Same = ap (λ s. present_of (settled_by g e s)) at ∙ ap (present_by e.committed) at in
+      committed_not e.committed (sym one ∙ is)
   go (states.Buffered j) at =
       let one : present_of (settled g (Some e)) ≡ presents.OnFlash (written_page g j) = ap (λ s. present_of (settled_by g e s)) at in
-      kept_not (Some (written_page g j)) (sym one ∙ is)
+      committed_not (Some (written_page g j)) (sym one ∙ is)
   go states.Dropped at =
       let one : present_of (settled g (Some e)) ≡ presents.Absent = ap (λ s. present_of (settled_by g e s)) at in
-      kept_not None (sym one ∙ is)
+      committed_not None (sym one ∙ is)
   go states.Vacant at =
       let one : present_of (settled g (Some e)) ≡ presents.Absent = ap (λ s. present_of (settled_by g e s)) at in
-      kept_not None (sym one ∙ is)
+      committed_not None (sym one ∙ is)
 
 -- and the next keys may be settled
 pub may_after : (g : WrittenGroup) (P : ℕ → ℕ → Type 0) (m n : ObjectMap) (t u : Table) → MaySettle g m t → SettlesWhere g P m n t u → MaySettle g n u
@@ -188,14 +188,14 @@ pub past_more : (done : Option ℕ) (m : ObjectMap) (k : ℕ) → IsNextObject m
 past_more done m k next o c is = elim (cases_eq k o) [
   | inl e ↦ inr (inl (e, omega arith))
   | inr ne ↦ elim (after_or_not o done) [
-    | inl after ↦ inr (inr (none_told m o c (next.2 o after (elim (cases_lt k o) [ inl lt ↦ absurd (is lt) | inr ge ↦ omega (arith, ge, ne) ]))))
+    | inl after ↦ inr (inr (none_reported m o c (next.2 o after (elim (cases_lt k o) [ inl lt ↦ absurd (is lt) | inr ge ↦ omega (arith, ge, ne) ]))))
     | inr before ↦ inl before
   ]
 ]
 
 pub past_all : (done : Option ℕ) (m : ObjectMap) → IsNextObject m done None → (o c : ℕ) → IsAny o c → IsPast done o c ⊎ (look m o c ≡ None)
 past_all done m none o c any = elim (after_or_not o done) [
-  | inl after ↦ inr (none_told m o c (none o after))
+  | inl after ↦ inr (none_reported m o c (none o after))
   | inr before ↦ inl before
 ]
 

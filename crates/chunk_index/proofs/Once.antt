@@ -11,8 +11,8 @@ use Rattle.std.proofs.lemmas.Bool.Decides.{nat_tests}
 use Rattle.std.proofs.lemmas.Cmp.{ranked}
 use Rattle.std.proofs.lemmas.Map.Keys.{sorted_head, sorted_tail}
 use Rattle.flash_tree.specs.declared.place.Key.{Key}
-use Rattle.chunk_index.specs.declared.form.KeptPage.{KeptPage}
-use Rattle.chunk_index.specs.declared.form.KeptKey.{KeptKey}
+use Rattle.chunk_index.specs.declared.form.CommittedPage.{CommittedPage}
+use Rattle.chunk_index.specs.declared.form.CommittedKey.{CommittedKey}
 use Rattle.chunk_index.specs.declared.entry.KeyEntry.{KeyEntry}
 use Rattle.chunk_index.specs.declared.object.ObjectEntries.{ObjectEntries}
 use Rattle.chunk_index.specs.declared.index.Index.{Index}
@@ -22,21 +22,21 @@ use Rattle.chunk_index.specs.Listing.{key_in, keys_of as keys_of_object, keys_in
 use Rattle.chunk_index.proofs.Keys.{each_append}
 
 -- no key of one list is in the other
-abbrev AreApart : List KeptKey → List KeptKey → Type 0
-AreApart xs ys = (i j : ℕ) (k l : KeptKey) → slice_get xs i ≡ Some k → slice_get ys j ≡ Some l → k.key ≡ l.key → ⊥
+abbrev AreApart : List CommittedKey → List CommittedKey → Type 0
+AreApart xs ys = (i j : ℕ) (k l : CommittedKey) → slice_get xs i ≡ Some k → slice_get ys j ≡ Some l → k.key ≡ l.key → ⊥
 
 -- one key more, in front
-once_cons : (x : KeptKey) (ks : List KeptKey) → ((j : ℕ) (l : KeptKey) → slice_get ks j ≡ Some l → x.key ≡ l.key → ⊥) → HasKeysOnce ks → HasKeysOnce (x ∷ ks)
+once_cons : (x : CommittedKey) (ks : List CommittedKey) → ((j : ℕ) (l : CommittedKey) → slice_get ks j ≡ Some l → x.key ≡ l.key → ⊥) → HasKeysOnce ks → HasKeysOnce (x ∷ ks)
 once_cons x ks first rest zero zero k l at there same = refl
 once_cons x ks first rest zero (suc j) k l at there same =
     let is : x ≡ k = cc in
-    absurd (first j l there (ap (λ (y : KeptKey). y.key) is ∙ same))
+    absurd (first j l there (ap (λ (y : CommittedKey). y.key) is ∙ same))
 once_cons x ks first rest (suc i) zero k l at there same =
     let is : x ≡ l = cc in
-    absurd (first i k at (ap (λ (y : KeptKey). y.key) is ∙ sym same))
+    absurd (first i k at (ap (λ (y : CommittedKey). y.key) is ∙ sym same))
 once_cons x ks first rest (suc i) (suc j) k l at there same = ap suc (rest i j k l at there same)
 
-once_append : (xs ys : List KeptKey) → HasKeysOnce xs → HasKeysOnce ys → AreApart xs ys → HasKeysOnce (xs ++ ys)
+once_append : (xs ys : List CommittedKey) → HasKeysOnce xs → HasKeysOnce ys → AreApart xs ys → HasKeysOnce (xs ++ ys)
 once_append [] ys one two apart = two
 once_append (x ∷ xs) ys one two apart = once_cons x (xs ++ ys)
     (each_append (λ l. x.key ≡ l.key → ⊥) xs ys
@@ -46,15 +46,15 @@ once_append (x ∷ xs) ys one two apart = once_cons x (xs ++ ys)
     (λ i j k l at there same. apart (suc i) j k l at there same))
 
 -- the list of one entry has it alone, if at all
-key_in_is : (b o : ℕ) (e : KeyEntry) (i : ℕ) (k : KeptKey) → slice_get (key_in b o e) i ≡ Some k → (i ≡ 0) × (k.key.object ≡ o) × (k.key.chunk ≡ chunk e)
-key_in_is b o e i k is = go e.kept refl where
-  go : (p : Option KeptPage) → e.kept ≡ p → (i ≡ 0) × (k.key.object ≡ o) × (k.key.chunk ≡ chunk e)
+key_in_is : (b o : ℕ) (e : KeyEntry) (i : ℕ) (k : CommittedKey) → slice_get (key_in b o e) i ≡ Some k → (i ≡ 0) × (k.key.object ≡ o) × (k.key.chunk ≡ chunk e)
+key_in_is b o e i k is = go e.committed refl where
+  go : (p : Option CommittedPage) → e.committed ≡ p → (i ≡ 0) × (k.key.object ≡ o) × (k.key.chunk ≡ chunk e)
   go None none =
       let nothing : key_in b o e ≡ [] = ap (λ q. option_map_or (λ p. if p.block == b then record { key = record { object = o; chunk = e.chunk }; at = p } ∷ [] else []) q []) none in
       let both : None ≡ Some k = sym (ap (λ ks. slice_get ks i) nothing) ∙ is in
       absurd cc
   go (Some p) some =
-      let this : KeptKey = record { key = record { object = o; chunk = e.chunk }; at = p } in
+      let this : CommittedKey = record { key = record { object = o; chunk = e.chunk }; at = p } in
       let listed : key_in b o e ≡ (if p.block == b then this ∷ [] else []) = ap (λ q. option_map_or (λ p. if p.block == b then record { key = record { object = o; chunk = e.chunk }; at = p } ∷ [] else []) q []) some in
       elim (cases_eq p.block b) [
         | inr ne ↦
@@ -65,19 +65,19 @@ key_in_is b o e i k is = go e.kept refl where
             let one : (if p.block == b then this ∷ [] else []) ≡ this ∷ [] = grind (arith, nat_tests, at) in
             let here : slice_get (this ∷ []) i ≡ Some k = sym (ap (λ ks. slice_get ks i) (listed ∙ one)) ∙ is in
             let same = only i here in
-            (same.0, ap (λ (y : KeptKey). y.key.object) (sym same.1), ap (λ (y : KeptKey). y.key.chunk) (sym same.1))
+            (same.0, ap (λ (y : CommittedKey). y.key.object) (sym same.1), ap (λ (y : CommittedKey). y.key.chunk) (sym same.1))
       ] where
-        only : {y : KeptKey} (j : ℕ) → slice_get (y ∷ []) j ≡ Some k → (j ≡ 0) × (y ≡ k)
+        only : {y : CommittedKey} (j : ℕ) → slice_get (y ∷ []) j ≡ Some k → (j ≡ 0) × (y ≡ k)
         only zero e = (refl, cc)
         only (suc j) e = absurd cc
 
 -- all keys of an object are its
-of_object : (b o : ℕ) (es : List KeyEntry) (i : ℕ) (k : KeptKey) → slice_get (keys_of_object b o es) i ≡ Some k → k.key.object ≡ o
+of_object : (b o : ℕ) (es : List KeyEntry) (i : ℕ) (k : CommittedKey) → slice_get (keys_of_object b o es) i ≡ Some k → k.key.object ≡ o
 of_object b o [] i k is = absurd cc
 of_object b o (e ∷ es) i k is = each_append (λ k. k.key.object ≡ o) (key_in b o e) (keys_of_object b o es) (λ j l at. (key_in_is b o e j l at).1) (of_object b o es) i k is
 
 -- and above a chunk where all entries are
-above_chunk : (b o n : ℕ) (es : List KeyEntry) → ((j : ℕ) (d : KeyEntry) → j < length es → n < chunk (get_or es j d)) → (i : ℕ) (k : KeptKey) → slice_get (keys_of_object b o es) i ≡ Some k → n < k.key.chunk
+above_chunk : (b o n : ℕ) (es : List KeyEntry) → ((j : ℕ) (d : KeyEntry) → j < length es → n < chunk (get_or es j d)) → (i : ℕ) (k : CommittedKey) → slice_get (keys_of_object b o es) i ≡ Some k → n < k.key.chunk
 above_chunk b o n [] above i k is = absurd cc
 above_chunk b o n (e ∷ es) above i k is =
     each_append (λ k. n < k.key.chunk) (key_in b o e) (keys_of_object b o es)
@@ -96,7 +96,7 @@ once_object b o (e ∷ es) rises = once_append (key_in b o e) (keys_of_object b 
     omega (arith, here, above, both))
 
 -- no key of these objects is of one that comes before all of them
-other_objects : (b o : ℕ) (xs : List (ℕ × ObjectEntries)) → AllByRecursion (λ y. nat_cmp o y ≡ Less) (keys_of xs) → (i : ℕ) (k : KeptKey) → slice_get (keys_in b xs) i ≡ Some k → o < k.key.object
+other_objects : (b o : ℕ) (xs : List (ℕ × ObjectEntries)) → AllByRecursion (λ y. nat_cmp o y ≡ Less) (keys_of xs) → (i : ℕ) (k : CommittedKey) → slice_get (keys_in b xs) i ≡ Some k → o < k.key.object
 other_objects b o [] all i k is = absurd cc
 other_objects b o (x ∷ xs) all i k is =
     each_append (λ k. o < k.key.object) (keys_of_object b x.0 x.1.entries.items) (keys_in b xs)

@@ -1,12 +1,12 @@
 -- The listing of one part after another.
 use Rattle.std.proofs.Common.{◌≡◌, ℕ, ◌+◌, ◌<◌, ◌≤◌, List, ◌++◌, length, drop, get_or, ap, arith}
 use Rattle.std.proofs.lemmas.List.{length-append, drop_more}
-use Rattle.chunk_index.specs.declared.form.KeptKey.{KeptKey}
+use Rattle.chunk_index.specs.declared.form.CommittedKey.{CommittedKey}
 use Rattle.chunk_index.specs.declared.entry.KeyEntry.{KeyEntry}
 use Rattle.chunk_index.specs.Listing.{key_in, keys_of}
 
 -- there is room for the next part
-pub list_room : (now old part rest all : List KeptKey) → now ++ (part ++ rest) ≡ old ++ all → (before after : ℕ) → length old + length all ≤ before → before ≤ after → length now + length part ≤ after
+pub list_room : (now old part rest all : List CommittedKey) → now ++ (part ++ rest) ≡ old ++ all → (before after : ℕ) → length old + length all ≤ before → before ≤ after → length now + length part ≤ after
 list_room now old part rest all same before after fits grows =
     let one = length-append now (part ++ rest) in
     let two = length-append part rest in

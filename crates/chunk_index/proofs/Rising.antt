@@ -1,4 +1,4 @@
--- The list of all kept keys, in rising order.
+-- The list of all committed keys, in rising order.
 use Rattle.std.proofs.Common.{◌≡◌, ℕ, zero, suc, ◌+◌, ◌<◌, ◌≤◌, List, [], ◌∷◌, ◌++◌, length, get_or, slice_get, Option, Some, None, refl, sym, ap, subst, ◌∙◌, arith, inl, inr}
 use Rattle.std.specs.List.{sum_by, cons_option}
 use Rattle.std.specs.Option.{option_map, option_and_then, option_map_or}
@@ -14,55 +14,55 @@ use Rattle.std.proofs.lemmas.Option.{slice_get_within}
 use Rattle.std.proofs.lemmas.Map.Entries.{btree_map_get_place}
 use Rattle.std.proofs.lemmas.Map.Keys.{below_from_sorted}
 use Rattle.block_state.specs.Table.{Table}
-use Rattle.block_state.specs.Kept.{kept_count}
-use Rattle.chunk_index.specs.declared.form.KeptPage.{KeptPage}
-use Rattle.chunk_index.specs.declared.form.KeptKey.{KeptKey}
+use Rattle.block_state.specs.Committed.{committed_count}
+use Rattle.chunk_index.specs.declared.form.CommittedPage.{CommittedPage}
+use Rattle.chunk_index.specs.declared.form.CommittedKey.{CommittedKey}
 use Rattle.chunk_index.specs.declared.entry.KeyEntry.{KeyEntry}
 use Rattle.chunk_index.specs.declared.object.ObjectEntries.{ObjectEntries}
 use Rattle.chunk_index.specs.declared.index.Index.{Index}
 use Rattle.chunk_index.specs.Lists.{find_by, Rises}
-use Rattle.chunk_index.specs.Entries.{chunk, kept_of, weigh}
+use Rattle.chunk_index.specs.Entries.{chunk, committed_of, weigh}
 use Rattle.chunk_index.specs.Shelves.{entry_of}
 use Rattle.flash_tree.specs.Places.{ComesBefore}
-use Rattle.chunk_index.specs.Kept.{KeyRises, IsListOf, HasKept}
-use Rattle.chunk_index.specs.Maps.{KeptMap, kept_pages, CountsAgree}
+use Rattle.chunk_index.specs.Committed.{KeyRises, IsListOf, HasCommitted}
+use Rattle.chunk_index.specs.Maps.{CommittedMap, committed_pages, CountsAgree}
 use Rattle.chunk_index.proofs.Finding.{find_at}
 use Rattle.chunk_index.proofs.Keys.{Stands, first, later, stands_left, stands_right, stands_place, each_append}
-use Rattle.chunk_index.proofs.Totals.{kept_one, all_counted}
+use Rattle.chunk_index.proofs.Totals.{committed_one, all_counted}
 
 -- ---- lists of keys
 
 -- the key of one comes before that of another
-abbrev Before : KeptKey → KeptKey → Type 0
+abbrev Before : CommittedKey → CommittedKey → Type 0
 Before j k = ComesBefore j.key.object j.key.chunk k.key.object k.key.chunk
 
 -- each element of the list comes after a key
-abbrev After : KeptKey → List KeptKey → Type 0
-After k ks = (i : ℕ) (l : KeptKey) → slice_get ks i ≡ Some l → Before k l
+abbrev After : CommittedKey → List CommittedKey → Type 0
+After k ks = (i : ℕ) (l : CommittedKey) → slice_get ks i ≡ Some l → Before k l
 
-rising_tail : (k : KeptKey) (ks : List KeptKey) → KeyRises (k ∷ ks) → KeyRises ks
+rising_tail : (k : CommittedKey) (ks : List CommittedKey) → KeyRises (k ∷ ks) → KeyRises ks
 rising_tail k ks rise i j a b lt at_i at_j = rise (suc i) (suc j) a b (omega (arith, lt)) at_i at_j
 
-rising_cons : (k : KeptKey) (ks : List KeptKey) → After k ks → KeyRises ks → KeyRises (k ∷ ks)
+rising_cons : (k : CommittedKey) (ks : List CommittedKey) → After k ks → KeyRises ks → KeyRises (k ∷ ks)
 rising_cons k ks after rise zero zero a b lt at_i at_j = absurd (omega (arith, lt))
 rising_cons k ks after rise zero (suc j) a b lt at_i at_j = let same : k ≡ a = cc in subst (λ x. Before x b) same (after j b at_j)
 rising_cons k ks after rise (suc i) zero a b lt at_i at_j = absurd (omega (arith, lt))
 rising_cons k ks after rise (suc i) (suc j) a b lt at_i at_j = rise i j a b (omega (arith, lt)) at_i at_j
 
-rising_append : (xs ys : List KeptKey) → KeyRises xs → KeyRises ys → ((i : ℕ) (k : KeptKey) → slice_get xs i ≡ Some k → After k ys) → KeyRises (xs ++ ys)
+rising_append : (xs ys : List CommittedKey) → KeyRises xs → KeyRises ys → ((i : ℕ) (k : CommittedKey) → slice_get xs i ≡ Some k → After k ys) → KeyRises (xs ++ ys)
 rising_append [] ys one two between = two
 rising_append (x ∷ xs) ys one two between =
     rising_cons x (xs ++ ys) (each_append (Before x) xs ys (λ i l at. one 0 (suc i) x l (omega arith) refl at) (between 0 x refl))
     (rising_append xs ys (rising_tail x xs one) two (λ i k at. between (suc i) k at))
 
-not_both : (j k : KeptKey) → Before j k → Before k j → ⊥
+not_both : (j k : CommittedKey) → Before j k → Before k j → ⊥
 not_both j k (inl a) (inl b) = omega (arith, a, b)
 not_both j k (inl a) (inr b) = omega (arith, a, b.0)
 not_both j k (inr a) (inl b) = omega (arith, a.0, b)
 not_both j k (inr a) (inr b) = omega (arith, a.1, b.1)
 
 -- a rising list whose keys all stand in another, from a place on, is no longer than what stands there
-no_longer : (ks js : List KeptKey) (n : ℕ) → KeyRises ks → KeyRises js → n ≤ length js → ((i : ℕ) (k : KeptKey) → slice_get ks i ≡ Some k → (j : ℕ) × (n ≤ j) × (slice_get js j ≡ Some k)) → n + length ks ≤ length js
+no_longer : (ks js : List CommittedKey) (n : ℕ) → KeyRises ks → KeyRises js → n ≤ length js → ((i : ℕ) (k : CommittedKey) → slice_get ks i ≡ Some k → (j : ℕ) × (n ≤ j) × (slice_get js j ≡ Some k)) → n + length ks ≤ length js
 no_longer [] js n rise other within each = omega (arith, within)
 no_longer (k ∷ ks) js n rise other within each =
     let first = each 0 k refl in
@@ -83,59 +83,59 @@ no_longer (k ∷ ks) js n rise other within each =
     omega (arith, rest, first.1)
 
 -- two lists of the same keys are as long
-pub one_length : (m : KeptMap) (n k : ℕ) → HasKept m n → HasKept m k → n ≡ k
+pub one_length : (m : CommittedMap) (n k : ℕ) → HasCommitted m n → HasCommitted m k → n ≡ k
 one_length m n k one two =
     let le = fits one.0 two.0 one.1 two.1 in
     let ge = fits two.0 one.0 two.1 one.1 in
     omega (arith, le, ge, one.2, two.2) where
-      fits : (ks js : List KeptKey) → IsListOf m ks → IsListOf m js → 0 + length ks ≤ length js
+      fits : (ks js : List CommittedKey) → IsListOf m ks → IsListOf m js → 0 + length ks ≤ length js
       fits ks js a b = no_longer ks js 0 a.rise b.rise (omega arith) (λ i k at.
           let there = b.all k.key.object k.key.chunk k.at (a.each i k at) in
           (there.0, omega arith, there.1))
 
 -- ---- the list of an index
 
-abbrev kept_key : ℕ → KeyEntry → Option KeptKey
-kept_key o e = option_map (λ (p : KeptPage). record { key = record { object = o; chunk = e.chunk }; at = p }) e.kept
+abbrev committed_key : ℕ → KeyEntry → Option CommittedKey
+committed_key o e = option_map (λ (p : CommittedPage). record { key = record { object = o; chunk = e.chunk }; at = p }) e.committed
 
-abbrev object_keys : ℕ → List KeyEntry → List KeptKey
+abbrev object_keys : ℕ → List KeyEntry → List CommittedKey
 object_keys o [] = []
-object_keys o (e ∷ es) = cons_option (kept_key o e) (object_keys o es)
+object_keys o (e ∷ es) = cons_option (committed_key o e) (object_keys o es)
 
-abbrev all_keys : List (ℕ × ObjectEntries) → List KeptKey
+abbrev all_keys : List (ℕ × ObjectEntries) → List CommittedKey
 all_keys [] = []
 all_keys (x ∷ xs) = object_keys x.0 x.1.entries.items ++ all_keys xs
 
--- a kept key of an entry
-record IsOfEntry (o : ℕ) (e : KeyEntry) (k : KeptKey) : Type 0 where
+-- a committed key of an entry
+record IsOfEntry (o : ℕ) (e : KeyEntry) (k : CommittedKey) : Type 0 where
   object : k.key.object ≡ o
   chunk_is : k.key.chunk ≡ e.chunk
-  page : e.kept ≡ Some k.at
+  page : e.committed ≡ Some k.at
 
-of_entry : (o : ℕ) (e : KeyEntry) (k : KeptKey) → kept_key o e ≡ Some k → IsOfEntry o e k
-of_entry o e k is = go e.kept refl where
-  go : (p : Option KeptPage) → e.kept ≡ p → IsOfEntry o e k
-  go None none = let both : None ≡ Some k = sym (ap (option_map (λ (p : KeptPage). record { key = record { object = o; chunk = e.chunk }; at = p })) none) ∙ is in absurd cc
+of_entry : (o : ℕ) (e : KeyEntry) (k : CommittedKey) → committed_key o e ≡ Some k → IsOfEntry o e k
+of_entry o e k is = go e.committed refl where
+  go : (p : Option CommittedPage) → e.committed ≡ p → IsOfEntry o e k
+  go None none = let both : None ≡ Some k = sym (ap (option_map (λ (p : CommittedPage). record { key = record { object = o; chunk = e.chunk }; at = p })) none) ∙ is in absurd cc
   go (Some p) some =
-      let this : KeptKey = record { key = record { object = o; chunk = e.chunk }; at = p } in
-      let both : Some this ≡ Some k = sym (ap (option_map (λ (p : KeptPage). record { key = record { object = o; chunk = e.chunk }; at = p })) some) ∙ is in
+      let this : CommittedKey = record { key = record { object = o; chunk = e.chunk }; at = p } in
+      let both : Some this ≡ Some k = sym (ap (option_map (λ (p : CommittedPage). record { key = record { object = o; chunk = e.chunk }; at = p })) some) ∙ is in
       let same : this ≡ k = cc in
       subst (IsOfEntry o e) same (record { object = refl; chunk_is = refl; page = some })
 
 -- what holds of the key of each entry holds of each key of an object
-each_object : (P : KeptKey → Type 0) (o : ℕ) (es : List KeyEntry) → ((j : ℕ) (d : KeyEntry) (k : KeptKey) → j < length es → IsOfEntry o (get_or es j d) k → P k)
-    → (i : ℕ) (k : KeptKey) → slice_get (object_keys o es) i ≡ Some k → P k
+each_object : (P : CommittedKey → Type 0) (o : ℕ) (es : List KeyEntry) → ((j : ℕ) (d : KeyEntry) (k : CommittedKey) → j < length es → IsOfEntry o (get_or es j d) k → P k)
+    → (i : ℕ) (k : CommittedKey) → slice_get (object_keys o es) i ≡ Some k → P k
 each_object P o [] each i k is = let both : None ≡ Some k = is in absurd cc
-each_object P o (e ∷ es) each i k is = go (λ j at. each_object P o es (λ n d l lt. each (suc n) d l (omega (arith, lt))) j k at) (kept_key o e) refl i is where
-  go : ((j : ℕ) → slice_get (object_keys o es) j ≡ Some k → P k) → (v : Option KeptKey) → kept_key o e ≡ v → (i : ℕ) → slice_get (cons_option v (object_keys o es)) i ≡ Some k → P k
+each_object P o (e ∷ es) each i k is = go (λ j at. each_object P o es (λ n d l lt. each (suc n) d l (omega (arith, lt))) j k at) (committed_key o e) refl i is where
+  go : ((j : ℕ) → slice_get (object_keys o es) j ≡ Some k → P k) → (v : Option CommittedKey) → committed_key o e ≡ v → (i : ℕ) → slice_get (cons_option v (object_keys o es)) i ≡ Some k → P k
   go rest None none i at = rest i at
   go rest (Some x) some zero at = let same : x ≡ k = cc in each 0 e k (omega arith) (of_entry o e k (some ∙ ap Some same))
   go rest (Some x) some (suc i) at = rest i at
 
 rising_object : (o : ℕ) (es : List KeyEntry) → Rises chunk es → KeyRises (object_keys o es)
 rising_object o [] rises = λ i j a b lt at_i. λ at_j. let both : None ≡ Some a = at_i in absurd cc
-rising_object o (e ∷ es) rises = go (rising_object o es (λ i j d lt within. rises (suc i) (suc j) d (omega (arith, lt)) (omega (arith, within)))) (kept_key o e) refl where
-  go : KeyRises (object_keys o es) → (v : Option KeptKey) → kept_key o e ≡ v → KeyRises (cons_option v (object_keys o es))
+rising_object o (e ∷ es) rises = go (rising_object o es (λ i j d lt within. rises (suc i) (suc j) d (omega (arith, lt)) (omega (arith, within)))) (committed_key o e) refl where
+  go : KeyRises (object_keys o es) → (v : Option CommittedKey) → committed_key o e ≡ v → KeyRises (cons_option v (object_keys o es))
   go rest None none = rest
   go rest (Some x) some =
       let this = of_entry o e x some in
@@ -147,8 +147,8 @@ rising_object o (e ∷ es) rises = go (rising_object o es (λ i j d lt within. r
 abbrev ObjectsRise : List (ℕ × ObjectEntries) → Type 0
 ObjectsRise xs = (i j o k : ℕ) (x y : ObjectEntries) → i < j → slice_get xs i ≡ Some (o, x) → slice_get xs j ≡ Some (k, y) → o < k
 
-each_all : (P : KeptKey → Type 0) (xs : List (ℕ × ObjectEntries)) → ((j o : ℕ) (z : ObjectEntries) → slice_get xs j ≡ Some (o, z) → (i : ℕ) (k : KeptKey) → slice_get (object_keys o z.entries.items) i ≡ Some k → P k)
-    → (i : ℕ) (k : KeptKey) → slice_get (all_keys xs) i ≡ Some k → P k
+each_all : (P : CommittedKey → Type 0) (xs : List (ℕ × ObjectEntries)) → ((j o : ℕ) (z : ObjectEntries) → slice_get xs j ≡ Some (o, z) → (i : ℕ) (k : CommittedKey) → slice_get (object_keys o z.entries.items) i ≡ Some k → P k)
+    → (i : ℕ) (k : CommittedKey) → slice_get (all_keys xs) i ≡ Some k → P k
 each_all P [] each i k is = let both : None ≡ Some k = is in absurd cc
 each_all P (x ∷ xs) each i k is = each_append P (object_keys x.0 x.1.entries.items) (all_keys xs) (each 0 x.0 x.1 refl) (each_all P xs (λ j o z at. each (suc j) o z at)) i k is
 
@@ -161,70 +161,70 @@ rising_all (x ∷ xs) rise =
     let less : x.0 < o = rise 0 (suc i) x.0 o x.1 z (omega arith) refl at in
     inl (omega (arith, less, is.object, of_l.object))))))
 
--- ---- each is kept, and each that is kept stands there
+-- ---- each is committed, and each that is committed stands there
 
-stands_object : (o c : ℕ) (p : KeptPage) (es : List KeyEntry) → kept_of (find_by chunk es c) ≡ Some p → Stands (record { key = record { object = o; chunk = c }; at = p }) (object_keys o es)
+stands_object : (o c : ℕ) (p : CommittedPage) (es : List KeyEntry) → committed_of (find_by chunk es c) ≡ Some p → Stands (record { key = record { object = o; chunk = c }; at = p }) (object_keys o es)
 stands_object o c p [] is = absurd cc
 stands_object o c p (e ∷ es) is = elim (cases_eq (chunk e) c) [
   | inl same ↦
       let here : find_by chunk (e ∷ es) c ≡ Some e = grind (arith, nat_tests, same) in
-      let some : e.kept ≡ Some p = sym (ap kept_of here) ∙ is in
-      let listed : kept_key o e ≡ Some (record { key = record { object = o; chunk = c }; at = p }) =
-      ap (option_map (λ (q : KeptPage). record { key = record { object = o; chunk = e.chunk }; at = q })) some ∙ ap (λ l. Some (record { key = record { object = o; chunk = l }; at = p })) same in
+      let some : e.committed ≡ Some p = sym (ap committed_of here) ∙ is in
+      let listed : committed_key o e ≡ Some (record { key = record { object = o; chunk = c }; at = p }) =
+      ap (option_map (λ (q : CommittedPage). record { key = record { object = o; chunk = e.chunk }; at = q })) some ∙ ap (λ l. Some (record { key = record { object = o; chunk = l }; at = p })) same in
       subst (λ v. Stands (record { key = record { object = o; chunk = c }; at = p }) (cons_option v (object_keys o es))) (sym listed) first
   | inr ne ↦
       let there : find_by chunk (e ∷ es) c ≡ find_by chunk es c = grind (arith, nat_tests, ne) in
-      behind (kept_key o e) (stands_object o c p es (sym (ap kept_of there) ∙ is))
+      behind (committed_key o e) (stands_object o c p es (sym (ap committed_of there) ∙ is))
 ] where
-  behind : (v : Option KeptKey) → Stands (record { key = record { object = o; chunk = c }; at = p }) (object_keys o es) → Stands (record { key = record { object = o; chunk = c }; at = p }) (cons_option v (object_keys o es))
+  behind : (v : Option CommittedKey) → Stands (record { key = record { object = o; chunk = c }; at = p }) (object_keys o es) → Stands (record { key = record { object = o; chunk = c }; at = p }) (cons_option v (object_keys o es))
   behind None s = s
   behind (Some x) s = later s
 
-stands_all : (o c : ℕ) (p : KeptPage) (xs : List (ℕ × ObjectEntries)) → kept_of (option_and_then (entry_of c) (lookup (is_at (nat_cmp o)) xs)) ≡ Some p → Stands (record { key = record { object = o; chunk = c }; at = p }) (all_keys xs)
+stands_all : (o c : ℕ) (p : CommittedPage) (xs : List (ℕ × ObjectEntries)) → committed_of (option_and_then (entry_of c) (lookup (is_at (nat_cmp o)) xs)) ≡ Some p → Stands (record { key = record { object = o; chunk = c }; at = p }) (all_keys xs)
 stands_all o c p [] is = absurd cc
 stands_all o c p (x ∷ xs) is = elim (cases_eq x.0 o) [
   | inl same ↦
       let here : lookup (is_at (nat_cmp o)) (x ∷ xs) ≡ Some x.1 = grind (arith, nat_tests, same) in
       stands_left _ (object_keys x.0 x.1.entries.items) (all_keys xs) (subst (λ n. Stands (record { key = record { object = n; chunk = c }; at = p }) (object_keys x.0 x.1.entries.items)) same
-      (stands_object x.0 c p x.1.entries.items (sym (ap (λ v. kept_of (option_and_then (entry_of c) v)) here) ∙ is)))
+      (stands_object x.0 c p x.1.entries.items (sym (ap (λ v. committed_of (option_and_then (entry_of c) v)) here) ∙ is)))
   | inr ne ↦
       let there : lookup (is_at (nat_cmp o)) (x ∷ xs) ≡ lookup (is_at (nat_cmp o)) xs = grind (arith, nat_tests, ne) in
-      stands_right _ (object_keys x.0 x.1.entries.items) (all_keys xs) (stands_all o c p xs (sym (ap (λ v. kept_of (option_and_then (entry_of c) v)) there) ∙ is))
+      stands_right _ (object_keys x.0 x.1.entries.items) (all_keys xs) (stands_all o c p xs (sym (ap (λ v. committed_of (option_and_then (entry_of c) v)) there) ∙ is))
 ]
 
 module _ (x : Index) where
   found_place : (j o : ℕ) (z : ObjectEntries) → slice_get x.shelf.objects.entries j ≡ Some (o, z) → get nat_cmp x.shelf.objects o ≡ Some z
   found_place j o z at = btree_map_get_place nat_cmp_total x.shelf.objects j o z x.shelf.ordered at
 
-  listed_kept : (i : ℕ) (k : KeptKey) → slice_get (all_keys x.shelf.objects.entries) i ≡ Some k → kept_pages x k.key.object k.key.chunk ≡ Some k.at
-  listed_kept = each_all (λ k. kept_pages x k.key.object k.key.chunk ≡ Some k.at) x.shelf.objects.entries (λ j o z at. each_object (λ k. kept_pages x k.key.object k.key.chunk ≡ Some k.at) o z.entries.items (λ n d k lt is.
+  listed_committed : (i : ℕ) (k : CommittedKey) → slice_get (all_keys x.shelf.objects.entries) i ≡ Some k → committed_pages x k.key.object k.key.chunk ≡ Some k.at
+  listed_committed = each_all (λ k. committed_pages x k.key.object k.key.chunk ≡ Some k.at) x.shelf.objects.entries (λ j o z at. each_object (λ k. committed_pages x k.key.object k.key.chunk ≡ Some k.at) o z.entries.items (λ n d k lt is.
       let here : find_by chunk z.entries.items k.key.chunk ≡ Some (get_or z.entries.items n d) = find_at chunk z.entries.items z.rises k.key.chunk n (record { within = lt; number = λ f. ap chunk (get_or_default z.entries.items n f d lt) ∙ sym is.chunk_is }) d in
-      ap (λ l. kept_pages x l k.key.chunk) is.object ∙ ap (λ v. kept_of (option_and_then (entry_of k.key.chunk) v)) (found_place j o z at) ∙ ap kept_of here ∙ is.page))
+      ap (λ l. committed_pages x l k.key.chunk) is.object ∙ ap (λ v. committed_of (option_and_then (entry_of k.key.chunk) v)) (found_place j o z at) ∙ ap committed_of here ∙ is.page))
 
 -- ---- its length
 
-length_object : (o : ℕ) (es : List KeyEntry) → length (object_keys o es) ≡ weigh kept_one es
+length_object : (o : ℕ) (es : List KeyEntry) → length (object_keys o es) ≡ weigh committed_one es
 length_object o [] = refl
 length_object o (e ∷ es) =
     let rest = length_object o es in
-    let all : weigh kept_one (e ∷ es) ≡ kept_one e + weigh kept_one es = sum_by-cons kept_one e es in
-    let one : length (cons_option (kept_key o e) (object_keys o es)) ≡ kept_one e + length (object_keys o es) = go e.kept in
+    let all : weigh committed_one (e ∷ es) ≡ committed_one e + weigh committed_one es = sum_by-cons committed_one e es in
+    let one : length (cons_option (committed_key o e) (object_keys o es)) ≡ committed_one e + length (object_keys o es) = go e.committed in
     omega (arith, rest, all, one) where
-      go : (p : Option KeptPage) → length (cons_option (option_map (λ (q : KeptPage). record { key = record { object = o; chunk = e.chunk }; at = q }) p) (object_keys o es)) ≡ option_map_or (λ (q : KeptPage). 1) p 0 + length (object_keys o es)
+      go : (p : Option CommittedPage) → length (cons_option (option_map (λ (q : CommittedPage). record { key = record { object = o; chunk = e.chunk }; at = q }) p) (object_keys o es)) ≡ option_map_or (λ (q : CommittedPage). 1) p 0 + length (object_keys o es)
       go None = omega arith
       go (Some p) = omega arith
 
-length_all : (xs : List (ℕ × ObjectEntries)) → length (all_keys xs) ≡ sum_by (λ (z : ObjectEntries). weigh kept_one z.entries.items) (values_of xs)
+length_all : (xs : List (ℕ × ObjectEntries)) → length (all_keys xs) ≡ sum_by (λ (z : ObjectEntries). weigh committed_one z.entries.items) (values_of xs)
 length_all [] = refl
 length_all (x ∷ xs) =
-    let g = λ (z : ObjectEntries). weigh kept_one z.entries.items in
+    let g = λ (z : ObjectEntries). weigh committed_one z.entries.items in
     let one = length-append (object_keys x.0 x.1.entries.items) (all_keys xs) in
     let here = length_object x.0 x.1.entries.items in
     let rest = length_all xs in
     let all : sum_by g (values_of (x ∷ xs)) ≡ g x.1 + sum_by g (values_of xs) = sum_by-cons g x.1 (values_of xs) in
     omega (arith, one, here, rest, all)
 
--- ---- so the blocks count the kept keys
+-- ---- so the blocks count the committed keys
 
 key_at : (xs : List (ℕ × ObjectEntries)) (i o : ℕ) (z : ObjectEntries) → slice_get xs i ≡ Some (o, z) → (i < length (keys_of xs)) × ((d : ℕ) → get_or (keys_of xs) i d ≡ o)
 key_at [] i o z is = absurd cc
@@ -239,11 +239,11 @@ objects_rise x i j o k y z lt at_i at_j =
     let rise : get_or (keys_of es) i 0 < get_or (keys_of es) j 0 = below_from_sorted (keys_of es) i j 0 x.shelf.ordered lt two.0 in
     omega (arith, rise, one.1 0, two.1 0)
 
-pub kept_counted : (t : Table) (x : Index) → CountsAgree t x → HasKept (kept_pages x) (kept_count t)
-kept_counted t x agree = (
+pub committed_counted : (t : Table) (x : Index) → CountsAgree t x → HasCommitted (committed_pages x) (committed_count t)
+committed_counted t x agree = (
   all_keys x.shelf.objects.entries,
   record {
-    each = listed_kept x;
+    each = listed_committed x;
     all = λ o c p is. stands_place _ (all_keys x.shelf.objects.entries) (stands_all o c p x.shelf.objects.entries is);
     rise = rising_all x.shelf.objects.entries (objects_rise x);
   },

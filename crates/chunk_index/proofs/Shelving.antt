@@ -1,4 +1,4 @@
--- What a change of one object's entries does to what is told of all keys.
+-- What a change of one object's entries does to what is reported of all keys.
 use Rattle.std.proofs.Common.{◌≡◌, ◌≢◌, ℕ, suc, ◌+◌, ◌<◌, false, List, [], ◌∷◌, length, get_or, Option, Some, None, Result, Ok, Err, IsSome, IfSome, OnOk, OnErr, is_some, refl, sym, ap, ◌∙◌, arith, inl, inr}
 use mathlib.Core.Bool.{false≢true}
 use Rattle.std.specs.Option.{option_and_then, option_map, unwrap_or}
@@ -21,7 +21,7 @@ use Rattle.chunk_index.specs.Shelves.{ObjectMap, entry_of, look, total, AltersKe
 pub look_in : (m : ObjectMap) (o c : ℕ) (x : ObjectEntries) → get nat_cmp m o ≡ Some x → look m o c ≡ find_by chunk x.entries.items c
 look_in m o c x found = ap (option_and_then (entry_of c)) found
 
--- what is told of the keys of another object stays
+-- what is reported of the keys of another object stays
 pub look_other : (m n : ObjectMap) (k l : ℕ) → get nat_cmp n k ≡ get nat_cmp m k → look n k l ≡ look m k l
 look_other m n k l same = ap (option_and_then (entry_of l)) same
 
@@ -41,8 +41,8 @@ alters_in m n o c to x y was is others sums alters = record {
   weighs = λ f.
       let all : total f n + weigh f x.entries.items ≡ total f m + weigh f y.entries.items = sums f in
       let one : weigh f y.entries.items + weight f (find_by chunk x.entries.items c) ≡ weigh f x.entries.items + weight f to = alters.weighs f in
-      let told : weight f (look m o c) ≡ weight f (find_by chunk x.entries.items c) = ap (weight f) (look_in m o c x was) in
-      omega (arith, all, one, told);
+      let reported : weight f (look m o c) ≡ weight f (find_by chunk x.entries.items c) = ap (weight f) (look_in m o c x was) in
+      omega (arith, all, one, reported);
 }
 
 module _ (o : ℕ) (m n : ObjectMap) (x y : ObjectEntries) (found : get nat_cmp m o ≡ Some x) (through : WritesThrough nat_cmp (nat_cmp o) m y n) where

@@ -1,4 +1,4 @@
--- The kept counts of all blocks add up to the number of kept keys.
+-- The committed counts of all blocks add up to the number of committed keys.
 use Rattle.std.proofs.Common.{◌≡◌, ℕ, zero, suc, ◌+◌, ◌-◌, ◌≤◌, List, [], ◌∷◌, Option, Some, None, if◌then◌else◌, ltb, refl, sym, ap, arith, inl, inr}
 use Rattle.std.specs.List.{sum_by}
 use Rattle.std.specs.Option.{option_map_or}
@@ -8,9 +8,9 @@ use Rattle.std.proofs.lemmas.Bool.Decides.{nat_tests}
 use Rattle.std.proofs.lemmas.List.Sums.{sum_by-cons}
 use Rattle.block_state.specs.Table.{Table}
 use Rattle.block_state.specs.Counting.{sum_below}
-use Rattle.block_state.specs.Kept.{kept_count}
+use Rattle.block_state.specs.Committed.{committed_count}
 use Rattle.block_state.specs.laws.Counting.{sum_below-suc, sum_below-same}
-use Rattle.chunk_index.specs.declared.form.KeptPage.{KeptPage}
+use Rattle.chunk_index.specs.declared.form.CommittedPage.{CommittedPage}
 use Rattle.chunk_index.specs.declared.entry.KeyEntry.{KeyEntry}
 use Rattle.chunk_index.specs.declared.object.ObjectEntries.{ObjectEntries}
 use Rattle.chunk_index.specs.declared.index.Index.{Index}
@@ -19,22 +19,22 @@ use Rattle.chunk_index.specs.Shelves.{ObjectMap, total}
 use Rattle.chunk_index.specs.Maps.{CountsAgree}
 use Rattle.chunk_index.proofs.Counting.{two_sums}
 
--- 1 for an entry whose key is kept
-abbrev pub kept_one : KeyEntry → ℕ
-kept_one e = option_map_or (λ (p : KeptPage). 1) e.kept 0
+-- 1 for an entry whose key is committed
+abbrev pub committed_one : KeyEntry → ℕ
+committed_one e = option_map_or (λ (p : CommittedPage). 1) e.committed 0
 
 -- 1 for a page in one of the first n blocks
-abbrev one_below : ℕ → Option KeptPage → ℕ
-one_below n p = option_map_or (λ (q : KeptPage). if ltb q.block n then 1 else 0) p 0
+abbrev one_below : ℕ → Option CommittedPage → ℕ
+one_below n p = option_map_or (λ (q : CommittedPage). if ltb q.block n then 1 else 0) p 0
 
 abbrev below : ℕ → KeyEntry → ℕ
-below n e = one_below n e.kept
+below n e = one_below n e.committed
 
-below_none : (p : Option KeptPage) → one_below 0 p ≡ 0
+below_none : (p : Option CommittedPage) → one_below 0 p ≡ 0
 below_none None = refl
 below_none (Some p) = grind (arith, nat_tests)
 
-below_more : (n : ℕ) (p : Option KeptPage) → one_below n p + one_at p n ≡ one_below (n + 1) p
+below_more : (n : ℕ) (p : Option CommittedPage) → one_below n p + one_at p n ≡ one_below (n + 1) p
 below_more n None = refl
 below_more n (Some p) = elim (cases_lt p.block n) [
   | inl lt ↦ grind (arith, nat_tests, lt)
@@ -50,15 +50,15 @@ two_totals f g h m each = two_sums (λ (x : ObjectEntries). weigh f x.entries.it
 
 none_below : (m : ObjectMap) → total (below 0) m ≡ 0
 none_below m =
-    let twice : total (below 0) m + total (below 0) m ≡ total (below 0) m = two_totals (below 0) (below 0) (below 0) m (λ e. let none = below_none e.kept in omega (arith, none)) in
+    let twice : total (below 0) m + total (below 0) m ≡ total (below 0) m = two_totals (below 0) (below 0) (below 0) m (λ e. let none = below_none e.committed in omega (arith, none)) in
     omega (arith, twice)
 
--- the keys that are kept in the first n blocks
+-- the keys that are committed in the first n blocks
 blocks_below : (m : ObjectMap) (n : ℕ) → sum_below (λ b. total (counted_at b) m) n ≡ total (below n) m
 blocks_below m zero = sym (none_below m)
 blocks_below m (suc n) =
     let before = blocks_below m n in
-    let more : total (below n) m + total (counted_at n) m ≡ total (below (n + 1)) m = two_totals (below n) (counted_at n) (below (n + 1)) m (λ e. below_more n e.kept) in
+    let more : total (below n) m + total (counted_at n) m ≡ total (below (n + 1)) m = two_totals (below n) (counted_at n) (below (n + 1)) m (λ e. below_more n e.committed) in
     let sum = sum_below-suc (λ b. total (counted_at b) m) n in
     let next : total (below (n + 1)) m ≡ total (below (suc n)) m = ap (λ k. total (below k) m) (omega arith) in
     omega (arith, before, more, sum, next)
@@ -66,11 +66,11 @@ blocks_below m (suc n) =
 -- ---- none lies past the last block
 
 abbrev above : ℕ → KeyEntry → ℕ
-above n e = kept_one e - below n e
+above n e = committed_one e - below n e
 
 above_one : (n : ℕ) (e : KeyEntry) → ((b : ℕ) → n ≤ b → counted_at b e ≡ 0) → above n e ≡ 0
-above_one n e none = go e.kept (λ b le. none b le) where
-  go : (p : Option KeptPage) → ((b : ℕ) → n ≤ b → one_at p b ≡ 0) → option_map_or (λ (q : KeptPage). 1) p 0 - one_below n p ≡ 0
+above_one n e none = go e.committed (λ b le. none b le) where
+  go : (p : Option CommittedPage) → ((b : ℕ) → n ≤ b → one_at p b ≡ 0) → option_map_or (λ (q : CommittedPage). 1) p 0 - one_below n p ≡ 0
   go None nil = refl
   go (Some p) nil = elim (cases_lt p.block n) [
     | inl lt ↦ grind (arith, nat_tests, lt)
@@ -107,17 +107,17 @@ above_all n (x ∷ xs) none =
     let sum : sum_by h (x ∷ xs) ≡ h x + sum_by h xs = sum_by-cons h x xs in
     omega (arith, here, rest, sum)
 
-below_most : (n : ℕ) (p : Option KeptPage) → one_below n p ≤ option_map_or (λ (q : KeptPage). 1) p 0
+below_most : (n : ℕ) (p : Option CommittedPage) → one_below n p ≤ option_map_or (λ (q : CommittedPage). 1) p 0
 below_most n None = omega arith
 below_most n (Some p) = elim (cases_lt p.block n) [ inl lt ↦ grind (arith, nat_tests, lt) | inr ge ↦ grind (arith, nat_tests, ge) ]
 
--- so the counts of all blocks add up to the kept keys
-pub all_counted : (t : Table) (x : Index) → CountsAgree t x → kept_count t ≡ total kept_one x.shelf.objects
+-- so the counts of all blocks add up to the committed keys
+pub all_counted : (t : Table) (x : Index) → CountsAgree t x → committed_count t ≡ total committed_one x.shelf.objects
 all_counted t x agree =
     let m = x.shelf.objects in
     let n = t.geometry.blocks in
-    let counts : kept_count t ≡ sum_below (λ b. total (counted_at b) m) n = sum_below-same (λ b. (t.entry b).kept) (λ b. total (counted_at b) m) n (λ b lt. agree.counts b) in
+    let counts : committed_count t ≡ sum_below (λ b. total (counted_at b) m) n = sum_below-same (λ b. (t.entry b).committed) (λ b. total (counted_at b) m) n (λ b lt. agree.counts b) in
     let some : sum_below (λ b. total (counted_at b) m) n ≡ total (below n) m = blocks_below m n in
     let none : total (above n) m ≡ 0 = above_all n (values m) (λ b le. agree.within b le) in
-    let both : total (below n) m + total (above n) m ≡ total kept_one m = two_totals (below n) (above n) kept_one m (λ e. let most = below_most n e.kept in omega (arith, most)) in
+    let both : total (below n) m + total (above n) m ≡ total committed_one m = two_totals (below n) (above n) committed_one m (λ e. let most = below_most n e.committed in omega (arith, most)) in
     omega (arith, counts, some, none, both)

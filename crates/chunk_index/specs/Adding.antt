@@ -1,45 +1,45 @@
--- Pages that become kept, one after another.
+-- Pages that become committed, one after another.
 use Rattle.std.specs.Prelude.{◌≡◌, ◌<◌, ◌^◌, ℕ, List, slice_get, Some, None}
 use Rattle.mount_scan.specs.declared.page_copy.PageCopy.{PageCopy}
 use Rattle.page_tags.specs.declared.check.CheckEntry.{CheckEntry}
-use Rattle.chunk_index.specs.declared.form.KeptKey.{KeptKey}
-use Rattle.chunk_index.specs.Entries.{kept_at}
+use Rattle.chunk_index.specs.declared.form.CommittedKey.{CommittedKey}
+use Rattle.chunk_index.specs.Entries.{committed_at}
 use Rattle.chunk_index.specs.Newest.{page_of}
 use Rattle.chunk_index.specs.Shelves.{ObjectMap, look, Differs}
 
 -- the key of a page that a scan found, with the page
-abbrev pub found_key : PageCopy → KeptKey
+abbrev pub found_key : PageCopy → CommittedKey
 found_key f = record { key = record { object = f.object; chunk = f.chunk }; at = page_of f }
 
--- the key of an entry of a checkpoint, with the page that it tells
-abbrev pub entry_key : CheckEntry → KeptKey
+-- the key of an entry of a checkpoint, with the page that it reports
+abbrev pub entry_key : CheckEntry → CommittedKey
 entry_key e = record { key = record { object = e.object; chunk = e.chunk }; at = record { block = e.block; page = e.page; version = e.version } }
 
 -- the page is of chunk c of object o
-abbrev pub IsPageOf : ℕ → ℕ → KeptKey → Type 0
+abbrev pub IsPageOf : ℕ → ℕ → CommittedKey → Type 0
 IsPageOf o c k = (k.key.object ≡ o) × (k.key.chunk ≡ c)
 
 -- no two pages are of one key
-abbrev pub AreOfOtherKeys : List KeptKey → Type 0
-AreOfOtherKeys ks = (i j : ℕ) (k l : KeptKey) → i < j → slice_get ks i ≡ Some k → slice_get ks j ≡ Some l → Differs k.key.object k.key.chunk l.key.object l.key.chunk
+abbrev pub AreOfOtherKeys : List CommittedKey → Type 0
+AreOfOtherKeys ks = (i j : ℕ) (k l : CommittedKey) → i < j → slice_get ks i ≡ Some k → slice_get ks j ≡ Some l → Differs k.key.object k.key.chunk l.key.object l.key.chunk
 
 -- each page lies in one of so many blocks
-abbrev pub AreWithin : ℕ → List KeptKey → Type 0
-AreWithin blocks ks = (i : ℕ) (k : KeptKey) → slice_get ks i ≡ Some k → k.at.block < blocks
+abbrev pub AreWithin : ℕ → List CommittedKey → Type 0
+AreWithin blocks ks = (i : ℕ) (k : CommittedKey) → slice_get ks i ≡ Some k → k.at.block < blocks
 
 -- each page is one of so many of its block
-abbrev pub AreInPages : ℕ → List KeptKey → Type 0
-AreInPages pages ks = (i : ℕ) (k : KeptKey) → slice_get ks i ≡ Some k → k.at.page < pages
+abbrev pub AreInPages : ℕ → List CommittedKey → Type 0
+AreInPages pages ks = (i : ℕ) (k : CommittedKey) → slice_get ks i ≡ Some k → k.at.page < pages
 
 -- each page is of a chunk that a tree may look up
-abbrev pub AreLow : List KeptKey → Type 0
-AreLow ks = (i : ℕ) (k : KeptKey) → slice_get ks i ≡ Some k → k.key.chunk < 2 ^ 32
+abbrev pub AreLow : List CommittedKey → Type 0
+AreLow ks = (i : ℕ) (k : CommittedKey) → slice_get ks i ≡ Some k → k.key.chunk < 2 ^ 32
 
 -- the key of none of the pages has an entry
-abbrev pub AreAbsent : List KeptKey → ObjectMap → Type 0
-AreAbsent ks m = (i : ℕ) (k : KeptKey) → slice_get ks i ≡ Some k → look m k.key.object k.key.chunk ≡ None
+abbrev pub AreAbsent : List CommittedKey → ObjectMap → Type 0
+AreAbsent ks m = (i : ℕ) (k : CommittedKey) → slice_get ks i ≡ Some k → look m k.key.object k.key.chunk ≡ None
 
 -- The first n of the pages have their entries, and no other key's entry changes.
-pub record AddsFirst (ks : List KeptKey) (n : ℕ) (old new : ObjectMap) : Type 0 where
-  pub done : (i : ℕ) (k : KeptKey) → i < n → slice_get ks i ≡ Some k → look new k.key.object k.key.chunk ≡ Some (kept_at k.key.chunk (Some k.at))
-  pub rest : (o c : ℕ) → ((i : ℕ) (k : KeptKey) → i < n → slice_get ks i ≡ Some k → IsPageOf o c k → ⊥) → look new o c ≡ look old o c
+pub record AddsFirst (ks : List CommittedKey) (n : ℕ) (old new : ObjectMap) : Type 0 where
+  pub done : (i : ℕ) (k : CommittedKey) → i < n → slice_get ks i ≡ Some k → look new k.key.object k.key.chunk ≡ Some (committed_at k.key.chunk (Some k.at))
+  pub rest : (o c : ℕ) → ((i : ℕ) (k : CommittedKey) → i < n → slice_get ks i ≡ Some k → IsPageOf o c k → ⊥) → look new o c ≡ look old o c

@@ -1,16 +1,16 @@
--- The kept key that comes next.
+-- The committed key that comes next.
 use Rattle.std.specs.Prelude.{◌≡◌, ◌⊎◌, ◌<◌, ◌≤◌, ℕ, zero, suc, ◌+◌, List, [], length, get_or, slice_get, Option, Some, None}
 use Rattle.std.specs.Option.{option_map_or}
-use Rattle.chunk_index.specs.declared.form.KeptPage.{KeptPage}
-use Rattle.chunk_index.specs.declared.form.KeptKey.{KeptKey}
+use Rattle.chunk_index.specs.declared.form.CommittedPage.{CommittedPage}
+use Rattle.chunk_index.specs.declared.form.CommittedKey.{CommittedKey}
 use Rattle.chunk_index.specs.declared.entry.KeyEntry.{KeyEntry}
 use Rattle.chunk_index.specs.declared.object.ObjectEntries.{ObjectEntries}
 use Rattle.chunk_index.specs.declared.passing.Passed.{Passed}
 use Rattle.chunk_index.specs.Lists.{find_by}
-use Rattle.chunk_index.specs.Entries.{chunk, kept_of}
+use Rattle.chunk_index.specs.Entries.{chunk, committed_of}
 use Rattle.chunk_index.specs.Shelves.{IsAfterNumber}
 use Rattle.flash_tree.specs.Places.{ComesBefore}
-use Rattle.chunk_index.specs.Maps.{KeptMap}
+use Rattle.chunk_index.specs.Maps.{CommittedMap}
 
 -- the elements from place i on are those whose numbers lie after another
 pub record IsStartFor {X : Type 0} (f : X → ℕ) (xs : List X) (after : Option ℕ) (i : ℕ) : Type 0 where
@@ -18,17 +18,17 @@ pub record IsStartFor {X : Type 0} (f : X → ℕ) (xs : List X) (after : Option
   pub lesser : (j : ℕ) (d : X) → j < i → IsAfterNumber (f (get_or xs j d)) after → ⊥
   pub greater : (j : ℕ) (d : X) → i ≤ j → j < length xs → IsAfterNumber (f (get_or xs j d)) after
 
--- the first chunk after another with its page, in a map of an object's kept chunks; with none, none is kept after it
-abbrev pub IsNextChunk : (ℕ → Option KeptPage) → Option ℕ → Option (ℕ × KeptPage) → Type 0
+-- the first chunk after another with its page, in a map of an object's committed chunks; with none, none is committed after it
+abbrev pub IsNextChunk : (ℕ → Option CommittedPage) → Option ℕ → Option (ℕ × CommittedPage) → Type 0
 IsNextChunk m after None = (c : ℕ) → IsAfterNumber c after → m c ≡ None
 IsNextChunk m after (Some x) = (m x.0 ≡ Some x.1) × IsAfterNumber x.0 after × ((c : ℕ) → IsAfterNumber c after → c < x.0 → m c ≡ None)
 
--- the kept page of a chunk of an object
-abbrev pub kept_chunk : List KeyEntry → ℕ → Option KeptPage
-kept_chunk es c = kept_of (find_by chunk es c)
+-- the committed page of a chunk of an object
+abbrev pub committed_chunk : List KeyEntry → ℕ → Option CommittedPage
+committed_chunk es c = committed_of (find_by chunk es c)
 
--- the first kept key of the objects after another; with none, no key of these is kept
-abbrev pub IsNextBeyond : KeptMap → Option ℕ → Option KeptKey → Type 0
+-- the first committed key of the objects after another; with none, no key of these is committed
+abbrev pub IsNextBeyond : CommittedMap → Option ℕ → Option CommittedKey → Type 0
 IsNextBeyond m object None = (o c : ℕ) → IsAfterNumber o object → m o c ≡ None
 IsNextBeyond m object (Some k) = (m k.key.object k.key.chunk ≡ Some k.at) × IsAfterNumber k.key.object object
     × ((o c : ℕ) → IsAfterNumber o object → ComesBefore o c k.key.object k.key.chunk → m o c ≡ None)
@@ -38,10 +38,10 @@ abbrev pub items_in : Option ObjectEntries → List KeyEntry
 items_in None = []
 items_in (Some x) = x.entries.items
 
--- what is passed once an entry of an object was, if it is there: a key more, where a page of it is kept
+-- what is passed once an entry of an object was, if it is there: a key more, where a page of it is committed
 abbrev pub pass_entry : ℕ → Option KeyEntry → Passed → Passed
 pass_entry o None passed = passed
-pass_entry o (Some e) passed = option_map_or (λ (p : KeptPage). record { count = passed.count + 1; last = Some (record { object = o; chunk = chunk e }) }) e.kept passed
+pass_entry o (Some e) passed = option_map_or (λ (p : CommittedPage). record { count = passed.count + 1; last = Some (record { object = o; chunk = chunk e }) }) e.committed passed
 
 -- and once the first n entries were
 abbrev pub pass_first : ℕ → List KeyEntry → ℕ → Passed → Passed

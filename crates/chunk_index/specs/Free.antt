@@ -6,12 +6,12 @@ use Rattle.posix_profile.specs.State.{Objects}
 use Rattle.flash_tree.specs.Newest.{Spot, IsNewest, HasNewest}
 use Rattle.flash_tree.specs.Tree.{InFootprint}
 use Rattle.block_state.specs.Table.{Table}
-use Rattle.chunk_index.specs.declared.form.KeptPage.{KeptPage}
-use Rattle.chunk_index.specs.Maps.{KeptMap}
+use Rattle.chunk_index.specs.declared.form.CommittedPage.{CommittedPage}
+use Rattle.chunk_index.specs.Maps.{CommittedMap}
 
--- each key that is looked up to see the objects is kept in the block where its newest page lies
-abbrev pub KeepsTree : Flash → Sizes → Objects → KeptMap → Type 0
-KeepsTree flash z objects m = (o c : ℕ) (s : Spot) → InFootprint z (HasNewest flash) objects o c → IsNewest flash o c s → (p : KeptPage) × (m o c ≡ Some p) × (p.block ≡ s.block)
+-- each key that is looked up to see the objects is committed in the block where its newest page lies
+abbrev pub KeepsTree : Flash → Sizes → Objects → CommittedMap → Type 0
+KeepsTree flash z objects m = (o c : ℕ) (s : Spot) → InFootprint z (HasNewest flash) objects o c → IsNewest flash o c s → (p : CommittedPage) × (m o c ≡ Some p) × (p.block ≡ s.block)
 
 -- the blocks of the table are marked as those of the flash
 abbrev pub HasMarks : Flash → Table → Type 0

@@ -13,7 +13,7 @@ pub mod Newest
 pub mod Found
 pub mod Adding
 pub mod Listing
-pub mod Kept
+pub mod Committed
 pub mod Following
 pub mod Free
 pub mod laws

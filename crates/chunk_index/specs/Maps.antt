@@ -2,22 +2,22 @@
 use Rattle.std.specs.Prelude.{◌≡◌, ◌≢◌, ◌⊎◌, ◌<◌, ◌≤◌, ◌+◌, ℕ, Bool, true, false, Option, Some, None, IsSome, IsTrue}
 use Rattle.block_state.specs.Table.{Table}
 use Rattle.chunk_index.specs.declared.form.PagePlace.{PagePlace}
-use Rattle.chunk_index.specs.declared.form.KeptPage.{KeptPage}
+use Rattle.chunk_index.specs.declared.form.CommittedPage.{CommittedPage}
 use Rattle.chunk_index.specs.declared.form.Form.{Form}
 use Rattle.chunk_index.specs.declared.form.Present.{Present}
 use Rattle.chunk_index.specs.declared.form.Present.TheVariants as presents
 use Rattle.chunk_index.specs.declared.form.WrittenGroup.{WrittenGroup}
 use Rattle.chunk_index.specs.declared.index.Index.{Index}
-use Rattle.chunk_index.specs.Entries.{kept_of, present_of, stays_of, as_kept, shown_by, written_page, one_at, counted_at}
+use Rattle.chunk_index.specs.Entries.{committed_of, present_of, stays_of, as_committed, shown_by, written_page, one_at, counted_at}
 use Rattle.chunk_index.specs.Shelves.{look, total, Differs}
 
--- from the object and the chunk of a key to its kept page
-abbrev pub KeptMap : Type 0
-KeptMap = ℕ → ℕ → Option KeptPage
+-- from the object and the chunk of a key to its committed page
+abbrev pub CommittedMap : Type 0
+CommittedMap = ℕ → ℕ → Option CommittedPage
 
--- the kept page of chunk c of object o
-abbrev pub kept_pages : Index → KeptMap
-kept_pages x o c = kept_of (look x.shelf.objects o c)
+-- the committed page of chunk c of object o
+abbrev pub committed_pages : Index → CommittedMap
+committed_pages x o c = committed_of (look x.shelf.objects o c)
 
 -- the present page of chunk c of object o
 abbrev pub present : Index → ℕ → ℕ → Present
@@ -35,25 +35,25 @@ IsReadyKey x o c = IsTrue (stays_of (look x.shelf.objects o c))
 abbrev pub StaysPrepared : Index → Index → Type 0
 StaysPrepared old new = (o c : ℕ) → IsPrepared old o c → IsPrepared new o c
 
--- how many keys are kept in the block, by a recount over all entries
-abbrev pub kept_in : Index → ℕ → ℕ
-kept_in x b = total (counted_at b) x.shelf.objects
+-- how many keys are committed in the block, by a recount over all entries
+abbrev pub count_committed_in : Index → ℕ → ℕ
+count_committed_in x b = total (counted_at b) x.shelf.objects
 
--- The kept count of each block is the number of keys that are kept in it, and no key is kept past the last block.
+-- The committed count of each block is the number of keys that are committed in it, and no key is committed past the last block.
 pub record CountsAgree (t : Table) (x : Index) : Type 0 where
-  pub counts : (b : ℕ) → (t.entry b).kept ≡ kept_in x b
-  pub within : (b : ℕ) → t.geometry.blocks ≤ b → kept_in x b ≡ 0
+  pub counts : (b : ℕ) → (t.entry b).committed ≡ count_committed_in x b
+  pub within : (b : ℕ) → t.geometry.blocks ≤ b → count_committed_in x b ≡ 0
 
--- no key is kept, present or prepared
+-- no key is committed, present or prepared
 pub record IsEmpty (x : Index) : Type 0 where
-  pub kept : (o c : ℕ) → kept_pages x o c ≡ None
+  pub committed : (o c : ℕ) → committed_pages x o c ≡ None
   pub present : (o c : ℕ) → present x o c ≡ presents.Absent
-  pub counts : (b : ℕ) → kept_in x b ≡ 0
+  pub counts : (b : ℕ) → count_committed_in x b ≡ 0
 
--- no key's kept page changes, and so no block's count
-pub record SameKept (old new : Index) : Type 0 where
-  pub kept : (o c : ℕ) → kept_pages new o c ≡ kept_pages old o c
-  pub counts : (b : ℕ) → kept_in new b ≡ kept_in old b
+-- no key's committed page changes, and so no block's count
+pub record SameCommitted (old new : Index) : Type 0 where
+  pub committed : (o c : ℕ) → committed_pages new o c ≡ committed_pages old o c
+  pub counts : (b : ℕ) → count_committed_in new b ≡ count_committed_in old b
 
 -- no key's present page changes
 abbrev pub SamePresent : Index → Index → Type 0
@@ -70,45 +70,45 @@ pub record Cuts (o from : ℕ) (old new : Index) : Type 0 where
   pub others : (k l : ℕ) → (k ≢ o) ⊎ (l < from) → present new k l ≡ present old k l
 
 -- the page at another place, in the version that it has
-abbrev pub moved_page : PagePlace → KeptPage → KeptPage
+abbrev pub moved_page : PagePlace → CommittedPage → CommittedPage
 moved_page place p = record { block = place.block; page = place.page; version = p.version }
 
--- what is present of a key once its kept page is another
-abbrev pub moved_to : KeptPage → Present → Present
+-- what is present of a key once its committed page is another
+abbrev pub moved_to : CommittedPage → Present → Present
 moved_to p presents.Absent = presents.Absent
 moved_to p (presents.OnFlash q) = presents.OnFlash p
 moved_to p (presents.InBuffer i) = presents.InBuffer i
 
--- The kept page of one key lies at another place, in its version; a key that is buffered or dropped stays so, and no
+-- The committed page of one key lies at another place, in its version; a key that is buffered or dropped stays so, and no
 -- other key changes. Its old block counts one key less, and its new one one more.
-pub record Copies (o c : ℕ) (place : PagePlace) (was : KeptPage) (old new : Index) : Type 0 where
-  pub kept_here : kept_pages new o c ≡ Some (moved_page place was)
+pub record Copies (o c : ℕ) (place : PagePlace) (was : CommittedPage) (old new : Index) : Type 0 where
+  pub committed_here : committed_pages new o c ≡ Some (moved_page place was)
   pub present_here : present new o c ≡ moved_to (moved_page place was) (present old o c)
-  pub kept_elsewhere : (k l : ℕ) → Differs o c k l → kept_pages new k l ≡ kept_pages old k l
+  pub committed_elsewhere : (k l : ℕ) → Differs o c k l → committed_pages new k l ≡ committed_pages old k l
   pub present_elsewhere : (k l : ℕ) → Differs o c k l → present new k l ≡ present old k l
-  pub counts : (b : ℕ) → kept_in new b + one_at (Some was) b ≡ kept_in old b + one_at (Some (moved_page place was)) b
+  pub counts : (b : ℕ) → count_committed_in new b + one_at (Some was) b ≡ count_committed_in old b + one_at (Some (moved_page place was)) b
 
--- the kept page of what is present, once the pages of the buffer were written as this group
-abbrev pub once_written : WrittenGroup → Present → Option KeptPage
+-- the committed page of what is present, once the pages of the buffer were written as this group
+abbrev pub once_written : WrittenGroup → Present → Option CommittedPage
 once_written g presents.Absent = None
 once_written g (presents.OnFlash p) = Some p
 once_written g (presents.InBuffer i) = Some (written_page g i)
 
--- Each kept page is where the present page lies, and what is present is what is kept.
+-- Each committed page is where the present page lies, and what is present is what is committed.
 pub record Settles (g : WrittenGroup) (old new : Index) : Type 0 where
-  pub kept : (o c : ℕ) → kept_pages new o c ≡ once_written g (present old o c)
-  pub presents : (o c : ℕ) → present new o c ≡ as_kept (kept_pages new o c)
+  pub committed : (o c : ℕ) → committed_pages new o c ≡ once_written g (present old o c)
+  pub presents : (o c : ℕ) → present new o c ≡ as_committed (committed_pages new o c)
   pub ready : (o c : ℕ) → IsReadyKey old o c → IsReadyKey new o c
 
 -- each page of the buffer lies in a block of so many pages
 abbrev pub Fits : ℕ → WrittenGroup → Index → Type 0
 Fits pages g x = (o c i : ℕ) → present x o c ≡ presents.InBuffer i → g.first + i < pages
 
--- The keys that stay are kept, present, prepared and ready as they were, and of all others nothing is kept or present.
+-- The keys that stay are committed, present, prepared and ready as they were, and of all others nothing is committed or present.
 pub record Retains (keeps : ℕ → ℕ → Bool) (old new : Index) : Type 0 where
-  pub kept_no_more : (o c : ℕ) → keeps o c ≡ false → kept_pages new o c ≡ None
+  pub committed_no_more : (o c : ℕ) → keeps o c ≡ false → committed_pages new o c ≡ None
   pub present_no_more : (o c : ℕ) → keeps o c ≡ false → present new o c ≡ presents.Absent
-  pub kept : (o c : ℕ) → keeps o c ≡ true → kept_pages new o c ≡ kept_pages old o c
+  pub committed : (o c : ℕ) → keeps o c ≡ true → committed_pages new o c ≡ committed_pages old o c
   pub present : (o c : ℕ) → keeps o c ≡ true → present new o c ≡ present old o c
   pub prepared : (o c : ℕ) → keeps o c ≡ true → IsPrepared old o c → IsPrepared new o c
   pub ready : (o c : ℕ) → keeps o c ≡ true → IsReadyKey old o c → IsReadyKey new o c

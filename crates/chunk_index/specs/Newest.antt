@@ -1,13 +1,13 @@
 -- The newest pages of a scan, and the index of them.
 use Rattle.std.specs.Prelude.{◌≡◌, ◌<◌, ◌^◌, ℕ, List, length, get_or, Some, None}
 use Rattle.mount_scan.specs.declared.page_copy.PageCopy.{PageCopy}
-use Rattle.chunk_index.specs.declared.form.KeptPage.{KeptPage}
+use Rattle.chunk_index.specs.declared.form.CommittedPage.{CommittedPage}
 use Rattle.chunk_index.specs.declared.form.Present.TheVariants as presents
 use Rattle.chunk_index.specs.declared.index.Index.{Index}
-use Rattle.chunk_index.specs.Maps.{kept_pages, present}
+use Rattle.chunk_index.specs.Maps.{committed_pages, present}
 
 -- where a page lies, and its version
-abbrev pub page_of : PageCopy → KeptPage
+abbrev pub page_of : PageCopy → CommittedPage
 page_of f = record { block = f.block; page = f.page; version = f.version }
 
 -- the page is of chunk c of object o
@@ -26,9 +26,9 @@ LieInPages pages fs = (i : ℕ) (d : PageCopy) → i < length fs → (get_or fs 
 abbrev pub LieLow : List PageCopy → Type 0
 LieLow fs = (i : ℕ) (d : PageCopy) → i < length fs → (get_or fs i d).chunk < 2 ^ 32
 
--- The first n of the pages are kept and present, each where it lies in its version, and no key that none of them is of.
+-- The first n of the pages are committed and present, each where it lies in its version, and no key that none of them is of.
 pub record Indexes (fs : List PageCopy) (n : ℕ) (x : Index) : Type 0 where
-  pub kept_here : (i : ℕ) (d : PageCopy) → i < n → kept_pages x (get_or fs i d).object (get_or fs i d).chunk ≡ Some (page_of (get_or fs i d))
+  pub committed_here : (i : ℕ) (d : PageCopy) → i < n → committed_pages x (get_or fs i d).object (get_or fs i d).chunk ≡ Some (page_of (get_or fs i d))
   pub present_here : (i : ℕ) (d : PageCopy) → i < n → present x (get_or fs i d).object (get_or fs i d).chunk ≡ presents.OnFlash (page_of (get_or fs i d))
-  pub kept_elsewhere : (o c : ℕ) → ((i : ℕ) (d : PageCopy) → i < n → IsFoundOf o c (get_or fs i d) → ⊥) → kept_pages x o c ≡ None
+  pub committed_elsewhere : (o c : ℕ) → ((i : ℕ) (d : PageCopy) → i < n → IsFoundOf o c (get_or fs i d) → ⊥) → committed_pages x o c ≡ None
   pub present_elsewhere : (o c : ℕ) → ((i : ℕ) (d : PageCopy) → i < n → IsFoundOf o c (get_or fs i d) → ⊥) → present x o c ≡ presents.Absent

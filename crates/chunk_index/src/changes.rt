@@ -1,4 +1,4 @@
-// The keys whose present page may not be the kept one.
+// The keys whose present page may not be the committed one.
 ghost use Rattle.std.specs.Prelude.{◌≡◌, ◌≤◌, ℕ, OnOk};
 ghost use Rattle.chunk_index.specs.Noted.{IsNoted, KeepsNotes, NotesNone, HasRoomFor};
 

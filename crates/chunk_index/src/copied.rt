@@ -9,7 +9,7 @@ ghost use Rattle.chunk_index.specs.Moved.{moved, moved_of, MayMove, RecountsMove
 
 use crate::change;
 use crate::entry::KeyEntry;
-use crate::form::{KeptPage, PagePlace};
+use crate::form::{CommittedPage, PagePlace};
 use crate::object::ObjectEntries;
 use crate::packed::PackedEntry;
 use crate::shelf::Shelf;
@@ -17,7 +17,7 @@ use block_state::Blocks;
 use flash_tree::Key;
 
 impl Shelf {
-    /// The kept page of a key, if there is one, was copied to another place. It is counted there.
+    /// The committed page of a key, if there is one, was copied to another place. It is in the count there.
     pub fn copied(&mut self, key: Key, place: PagePlace, blocks: &mut Blocks)
         requires { IfSome (look self.old.objects key.object key.chunk) (λ e. MayMove place e (table blocks.old)) }
         ensures alters { AltersKey key.object key.chunk (moved_of place (look self.old.objects key.object key.chunk)) self.old.objects self.new.objects }
@@ -31,7 +31,7 @@ impl Shelf {
 }
 
 impl ObjectEntries {
-    /// The kept page of a chunk, if there is one, was copied to another place. It is counted there.
+    /// The committed page of a chunk, if there is one, was copied to another place. It is in the count there.
     fn copied(&mut self, number: u64, place: PagePlace, blocks: &mut Blocks)
         requires { IfSome (find_by chunk self.old.entries.items number) (λ e. MayMove place e (table blocks.old)) }
         ensures alters { Alters number (moved_of place (find_by chunk self.old.entries.items number)) self.old.entries.items self.new.entries.items }
@@ -48,23 +48,23 @@ impl ObjectEntries {
 }
 
 impl KeyEntry {
-    /// The entry, whose kept page, if there is one, was copied to another place. The page is counted there.
+    /// The entry, whose committed page, if there is one, was copied to another place. The page is in the count there.
     fn copied(self, place: PagePlace, blocks: &mut Blocks) -> KeyEntry
         requires may { MayMove place self (table blocks.old) }
         requires small { IsSmall self }
         ensures entry { result ≡ moved place self }
         ensures small { IsSmall result }
-        ensures counts { Recounts (one_at self.kept) (one_at result.kept) (table blocks.old) (table blocks.new) }
+        ensures counts { Recounts (one_at self.committed) (one_at result.committed) (table blocks.old) (table blocks.new) }
     {
-        let Some(was) = self.kept else {
+        let Some(was) = self.committed else {
             return self;
         };
-        let kept = Some(KeptPage {
+        let committed = Some(CommittedPage {
             block: place.block,
             page: place.page,
             version: was.version,
         });
-        change::recount(self.kept, kept, blocks);
-        KeyEntry { kept, ..self }
+        change::recount(self.committed, committed, blocks);
+        KeyEntry { committed, ..self }
     }
 }

@@ -3,7 +3,7 @@ ghost use Rattle.std.specs.Prelude.{◌≡◌, ◌⊎◌, ◌≢◌, ◌<◌, �
 ghost use Rattle.chunk_index.specs.Entries.{IsSmall};
 ghost use Rattle.chunk_index.specs.Noted.{IsNoted};
 ghost use Rattle.chunk_index.specs.Shelves.{look, Differs, IsLastFrom};
-ghost use Rattle.chunk_index.specs.Maps.{IsReadyKey, StaysPrepared, SameKept, Places, Cuts};
+ghost use Rattle.chunk_index.specs.Maps.{IsReadyKey, StaysPrepared, SameCommitted, Places, Cuts};
 ghost use Rattle.chunk_index.specs.declared.form.Form.TheVariants as forms;
 
 use crate::entry::KeyEntry;
@@ -16,7 +16,7 @@ impl Index {
     /// Nothing of an object is present any more. It takes no memory, and touches the entries of the object alone.
     pub fn forget(&mut self, object: u64)
         ensures cuts { Cuts object 0 self.old self.new }
-        ensures kept { SameKept self.old self.new }
+        ensures committed { SameCommitted self.old self.new }
         ensures prepared { StaysPrepared self.old self.new }
         ensures ready { (k l : ℕ) → k ≢ object → IsReadyKey self.old k l → IsReadyKey self.new k l }
     {
@@ -26,7 +26,7 @@ impl Index {
     /// Nothing of an object is present from a chunk on. It takes no memory, and touches these entries alone.
     pub fn cut(&mut self, object: u64, from: u64)
         ensures cuts { Cuts object from self.old self.new }
-        ensures kept { SameKept self.old self.new }
+        ensures committed { SameCommitted self.old self.new }
         ensures prepared { StaysPrepared self.old self.new }
         ensures ready { (k l : ℕ) → (k ≢ object) ⊎ (l < from) → IsReadyKey self.old k l → IsReadyKey self.new k l }
     {
@@ -51,7 +51,7 @@ impl Index {
         requires small { IsSmall entry }
         requires noted { ∥ IsNoted self.old.changes key.object key.chunk ∥₁ }
         ensures places { Places key.object key.chunk forms.Dropped self.old self.new }
-        ensures kept { SameKept self.old self.new }
+        ensures committed { SameCommitted self.old self.new }
         ensures prepared { StaysPrepared self.old self.new }
         ensures changes { self.new.changes ≡ self.old.changes }
         ensures ready { (k l : ℕ) → Differs key.object key.chunk k l → IsReadyKey self.old k l → IsReadyKey self.new k l }

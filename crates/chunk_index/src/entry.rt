@@ -1,9 +1,9 @@
 // What the index has of one chunk.
 ghost use Rattle.std.specs.Prelude.{◌≡◌};
 
-use crate::form::{Form, KeptPage, Present};
+use crate::form::{CommittedPage, Form, Present};
 
-/// How what is present of a chunk differs from what is kept.
+/// How what is present of a chunk differs from what is committed.
 #[derive(Clone, Copy, Debug, PartialEq, Eq)]
 pub enum State {
     /// It is the same.
@@ -19,7 +19,7 @@ pub enum State {
 #[derive(Clone, Copy, Debug, PartialEq, Eq)]
 pub struct KeyEntry {
     pub chunk: u64,
-    pub kept: Option<KeptPage>,
+    pub committed: Option<CommittedPage>,
     pub state: State,
 }
 
@@ -28,10 +28,10 @@ impl KeyEntry {
 
     /// The present page.
     pub fn present(&self) -> Present
-        ensures { result ≡ present_by self.now.kept self.now.state }
+        ensures { result ≡ present_by self.now.committed self.now.state }
     {
         match self.state {
-            State::Same => match self.kept {
+            State::Same => match self.committed {
                 Some(page) => Present::OnFlash(page),
                 None => Present::Absent,
             },
@@ -41,7 +41,7 @@ impl KeyEntry {
         }
     }
 
-    /// Whether what is present is what is kept.
+    /// Whether what is present is what is committed.
     pub fn is_same(&self) -> bool
         ensures { result ≡ is_same self.now }
     {

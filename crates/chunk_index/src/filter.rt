@@ -3,7 +3,7 @@ ghost use Rattle.std.specs.Prelude.{◌≡◌, ℕ, Bool};
 
 use flash_tree::Key;
 
-/// Tells which keys stay in an index.
+/// Returns which keys stay in an index.
 pub trait KeyFilter {
     /// Whether the key of an object and a chunk stays.
     ghost keeps: { Self → ℕ → ℕ → Bool };

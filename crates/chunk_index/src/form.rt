@@ -1,4 +1,4 @@
-// What is told of a key.
+// What is reported of a key.
 use flash_tree::Key;
 
 /// A place of a page on the flash.
@@ -8,19 +8,19 @@ pub struct PagePlace {
     pub page: u32,
 }
 
-/// Where the page of a key is kept on the flash, and the version that it has there.
+/// Where the page of a key is committed on the flash, and the version that it has there.
 #[derive(Clone, Copy, Debug, PartialEq, Eq)]
-pub struct KeptPage {
+pub struct CommittedPage {
     pub block: u32,
     pub page: u32,
     pub version: u64,
 }
 
-/// A key with its kept page.
+/// A key with its committed page.
 #[derive(Clone, Copy, Debug, PartialEq, Eq)]
-pub struct KeptKey {
+pub struct CommittedKey {
     pub key: Key,
-    pub at: KeptPage,
+    pub at: CommittedPage,
 }
 
 /// What becomes present of a key.
@@ -36,7 +36,7 @@ pub enum Form {
 #[derive(Clone, Copy, Debug, PartialEq, Eq)]
 pub enum Present {
     Absent,
-    OnFlash(KeptPage),
+    OnFlash(CommittedPage),
     InBuffer(u32),
 }
 

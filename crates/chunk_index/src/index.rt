@@ -2,22 +2,22 @@
 ghost use Rattle.std.specs.Prelude.{◌≡◌, ◌≢◌, ◌<◌, ◌≤◌, ◌+◌, ◌^◌, ℕ, true, false, length, vec_capacity, None, Some, OnOk, OnErr, IsOk, IsSome};
 ghost use Rattle.block_state.specs.Table.{Table};
 ghost use Rattle.block_state.specs.TableOf.{table};
-ghost use Rattle.chunk_index.specs.Entries.{same_of, with_state, with_kept, kept_at, state_of, IsSmall, IsSmallPage, IsSmallState};
+ghost use Rattle.chunk_index.specs.Entries.{same_of, with_state, with_committed, committed_at, state_of, IsSmall, IsSmallPage, IsSmallState};
 ghost use Rattle.chunk_index.specs.Noted.{IsNoted};
 ghost use Rattle.chunk_index.specs.Shelves.{look, total, Differs, AltersKey, SameEntries};
 ghost use Rattle.chunk_index.specs.Counts.{Recounts};
-ghost use Rattle.chunk_index.specs.declared.form.KeptPage.{KeptPage};
+ghost use Rattle.chunk_index.specs.declared.form.CommittedPage.{CommittedPage};
 
 use crate::change;
 use crate::changes::ChangeList;
 use crate::entry::{KeyEntry, State};
-use crate::form::{Form, KeptPage, PagePlace, Present, WrittenGroup};
+use crate::form::{CommittedPage, Form, PagePlace, Present, WrittenGroup};
 use crate::shelf::Shelf;
 use block_state::Blocks;
 use flash_tree::Key;
 use std::alloc::{AllocError, Global};
 
-/// For each key its kept page on the flash and its present page, and notes of the keys where these may differ. Only
+/// For each key its committed page on the flash and its present page, and notes of the keys where these may differ. Only
 /// `prepare` and the making of an index take memory.
 #[derive(Drop)]
 pub struct Index {
@@ -27,12 +27,12 @@ pub struct Index {
 }
 
 impl Index {
-    ghost use Rattle.chunk_index.specs.Maps.{kept_pages, present, kept_in, IsPrepared, IsReadyKey, StaysPrepared, IsEmpty, CountsAgree, SameKept, SamePresent, Places, Copies, Settles, Fits};
+    ghost use Rattle.chunk_index.specs.Maps.{committed_pages, present, count_committed_in, IsPrepared, IsReadyKey, StaysPrepared, IsEmpty, CountsAgree, SameCommitted, SamePresent, Places, Copies, Settles, Fits};
 
-    /// No key is kept or present.
+    /// No key is committed or present.
     pub fn new(alloc: Global) -> Index
         ensures empty { IsEmpty result }
-        ensures agree { (t : Table) → ((b : ℕ) → (t.entry b).kept ≡ 0) → CountsAgree t result }
+        ensures agree { (t : Table) → ((b : ℕ) → (t.entry b).committed ≡ 0) → CountsAgree t result }
     {
         Index::bare(alloc)
     }
@@ -40,7 +40,7 @@ impl Index {
     /// There is no entry.
     pub(crate) fn bare(alloc: Global) -> Index
         ensures looks { (o c : ℕ) → look result.shelf.objects o c ≡ None }
-        ensures counts { (b : ℕ) → kept_in result b ≡ 0 }
+        ensures counts { (b : ℕ) → count_committed_in result b ≡ 0 }
         ensures size { result.shelf.size ≡ 0 }
     {
         Index {
@@ -49,12 +49,12 @@ impl Index {
         }
     }
 
-    /// The kept page of a key.
-    pub fn kept(&self, key: Key) -> Option<KeptPage>
-        ensures { result ≡ kept_pages self.now key.object key.chunk }
+    /// The committed page of a key.
+    pub fn committed(&self, key: Key) -> Option<CommittedPage>
+        ensures { result ≡ committed_pages self.now key.object key.chunk }
     {
         match self.shelf.entry(key) {
-            Some(entry) => entry.kept,
+            Some(entry) => entry.committed,
             None => None,
         }
     }
@@ -70,11 +70,11 @@ impl Index {
     }
 
     /// Sees that there is room for the present page of a key, also once the changes are settled, so that `place` and
-    /// `settle_group` take no memory. No kept and no present page changes, also where memory is refused, which it never is
-    /// for a key that is kept or present. The chunk is one that a tree may look up.
+    /// `settle_group` take no memory. No committed and no present page changes, also where memory is refused, which it never is
+    /// for a key that is committed or present. The chunk is one that a tree may look up.
     pub fn prepare(&mut self, key: Key) -> Result<(), AllocError>
         requires { key.chunk < 2 ^ 32 }
-        ensures kept { SameKept self.old self.new }
+        ensures committed { SameCommitted self.old self.new }
         ensures present { SamePresent self.old self.new }
         ensures ready { OnOk result (IsReadyKey self.new key.object key.chunk) }
         ensures stays { (o c : ℕ) → IsReadyKey self.old o c → IsReadyKey self.new o c }
@@ -95,7 +95,7 @@ impl Index {
     fn keep_entry(&mut self, key: Key, entry: KeyEntry)
         requires entry { look self.old.shelf.objects key.object key.chunk ≡ Some entry }
         requires small { IsSmall entry }
-        ensures kept { SameKept self.old self.new }
+        ensures committed { SameCommitted self.old self.new }
         ensures present { SamePresent self.old self.new }
         ensures ready { IsReadyKey self.new key.object key.chunk }
         ensures stays { (o c : ℕ) → IsReadyKey self.old o c → IsReadyKey self.new o c }
@@ -112,11 +112,11 @@ impl Index {
         }
     }
 
-    /// Gives a key an entry, which tells of nothing.
+    /// Gives a key an entry, which holds nothing.
     fn add_entry(&mut self, key: Key) -> Result<(), AllocError>
         requires absent { look self.old.shelf.objects key.object key.chunk ≡ None }
         requires low { key.chunk < 2 ^ 32 }
-        ensures kept { SameKept self.old self.new }
+        ensures committed { SameCommitted self.old self.new }
         ensures present { SamePresent self.old self.new }
         ensures ready { OnOk result (IsReadyKey self.new key.object key.chunk) }
         ensures stays { (o c : ℕ) → IsReadyKey self.old o c → IsReadyKey self.new o c }
@@ -125,18 +125,22 @@ impl Index {
         self.add(key, None)
     }
 
-    /// Gives a key an entry, whose present page is the kept one.
-    pub(crate) fn add(&mut self, key: Key, kept: Option<KeptPage>) -> Result<(), AllocError>
+    /// Gives a key an entry, whose present page is the committed one.
+    pub(crate) fn add(
+        &mut self,
+        key: Key,
+        committed: Option<CommittedPage>,
+    ) -> Result<(), AllocError>
         requires absent { look self.old.shelf.objects key.object key.chunk ≡ None }
-        requires small { IsSmallPage kept }
+        requires small { IsSmallPage committed }
         requires low { key.chunk < 2 ^ 32 }
-        ensures ok { OnOk result (AltersKey key.object key.chunk (Some (kept_at key.chunk kept)) self.old.shelf.objects self.new.shelf.objects) }
+        ensures ok { OnOk result (AltersKey key.object key.chunk (Some (committed_at key.chunk committed)) self.old.shelf.objects self.new.shelf.objects) }
         ensures err { OnErr result (SameEntries self.old.shelf.objects self.new.shelf.objects) }
     {
         self.changes.reserve()?;
         let entry = KeyEntry {
             chunk: key.chunk,
-            kept,
+            committed,
             state: State::Same,
         };
         self.shelf.insert(key.object, entry)
@@ -147,7 +151,7 @@ impl Index {
         requires prepared { IsPrepared self.old key.object key.chunk }
         requires number { IsSmallState (state_of form) }
         ensures places { Places key.object key.chunk form self.old self.new }
-        ensures kept { SameKept self.old self.new }
+        ensures committed { SameCommitted self.old self.new }
         ensures prepared { StaysPrepared self.old self.new }
         ensures ready { (o c : ℕ) → Differs key.object key.chunk o c → IsReadyKey self.old o c → IsReadyKey self.new o c }
     {
@@ -169,35 +173,41 @@ impl Index {
         self.shelf.set(key.object, KeyEntry { state, ..entry });
     }
 
-    /// Notes that the kept page of a key was copied to another place, in the same version.
+    /// Notes that the committed page of a key was copied to another place, in the same version.
     pub fn copied(&mut self, key: Key, place: PagePlace, blocks: &mut Blocks)
-        requires kept { IsSome (kept_pages self.old key.object key.chunk) }
+        requires committed { IsSome (committed_pages self.old key.object key.chunk) }
         requires block { place.block < (table blocks.old).geometry.blocks }
         requires page { place.page < (table blocks.old).geometry.pages }
         requires agree { CountsAgree (table blocks.old) self.old }
-        ensures copies { (was : KeptPage) → kept_pages self.old key.object key.chunk ≡ Some was → Copies key.object key.chunk place was self.old self.new }
+        ensures copies { (was : CommittedPage) → committed_pages self.old key.object key.chunk ≡ Some was → Copies key.object key.chunk place was self.old self.new }
         ensures prepared { StaysPrepared self.old self.new }
         ensures ready { (o c : ℕ) → IsReadyKey self.old o c → IsReadyKey self.new o c }
         ensures agree { CountsAgree (table blocks.new) self.new }
-        ensures counts { Recounts (kept_in self.old) (kept_in self.new) (table blocks.old) (table blocks.new) }
+        ensures counts { Recounts (count_committed_in self.old) (count_committed_in self.new) (table blocks.old) (table blocks.new) }
     {
         self.shelf.copied(key, place, blocks);
     }
 
-    /// Gives the entry of a key another kept page.
-    pub(crate) fn move_to(&mut self, key: Key, entry: KeyEntry, page: KeptPage, blocks: &mut Blocks)
+    /// Gives the entry of a key another committed page.
+    pub(crate) fn move_to(
+        &mut self,
+        key: Key,
+        entry: KeyEntry,
+        page: CommittedPage,
+        blocks: &mut Blocks,
+    )
         requires entry { look self.old.shelf.objects key.object key.chunk ≡ Some entry }
         requires small { IsSmall entry }
         requires block { page.block < (table blocks.old).geometry.blocks }
         requires page { page.page < (table blocks.old).geometry.pages }
         requires agree { CountsAgree (table blocks.old) self.old }
-        ensures alters { AltersKey key.object key.chunk (Some (with_kept (Some page) entry)) self.old.shelf.objects self.new.shelf.objects }
+        ensures alters { AltersKey key.object key.chunk (Some (with_committed (Some page) entry)) self.old.shelf.objects self.new.shelf.objects }
         ensures agree { CountsAgree (table blocks.new) self.new }
-        ensures counts { Recounts (kept_in self.old) (kept_in self.new) (table blocks.old) (table blocks.new) }
+        ensures counts { Recounts (count_committed_in self.old) (count_committed_in self.new) (table blocks.old) (table blocks.new) }
     {
-        change::recount(entry.kept, Some(page), blocks);
-        let kept = Some(page);
-        self.shelf.set(key.object, KeyEntry { kept, ..entry });
+        change::recount(entry.committed, Some(page), blocks);
+        let committed = Some(page);
+        self.shelf.set(key.object, KeyEntry { committed, ..entry });
     }
 
     /// Settles all keys: the pages of the buffer were written as this group. Only keys that changed are touched.
@@ -207,7 +217,7 @@ impl Index {
         requires agree { CountsAgree (table blocks.old) self.old }
         ensures settles { Settles group self.old self.new }
         ensures agree { CountsAgree (table blocks.new) self.new }
-        ensures counts { Recounts (kept_in self.old) (kept_in self.new) (table blocks.old) (table blocks.new) }
+        ensures counts { Recounts (count_committed_in self.old) (count_committed_in self.new) (table blocks.old) (table blocks.new) }
     {
         self.shelf.settle(&self.changes, group, blocks);
         self.changes.clear();

@@ -1,4 +1,4 @@
-//! The index of the store: for each key its kept page on the flash, and what is present.
+//! The index of the store: for each key its committed page on the flash, and what is present.
 #![tactic(auto)]
 
 mod change;
@@ -8,7 +8,7 @@ mod cut;
 mod entry;
 mod filter;
 mod form;
-mod from_kept;
+mod from_committed;
 mod index;
 mod law;
 mod listing;
@@ -23,11 +23,11 @@ mod settle;
 mod shelf;
 
 pub use filter::KeyFilter;
-pub use form::{Form, KeptKey, KeptPage, PagePlace, Present, WrittenGroup};
+pub use form::{CommittedKey, CommittedPage, Form, PagePlace, Present, WrittenGroup};
 pub use index::Index;
 pub use law::{
-    a_list_as_long_as_the_count_is_whole, blocks_without_kept_pages_are_free,
-    the_counts_add_up_to_the_kept_keys, the_counts_are_of_the_keys, the_list_of_a_block_is_whole,
-    the_sorted_list_of_a_block_is_whole,
+    a_list_as_long_as_the_count_is_whole, blocks_without_committed_pages_are_free,
+    the_counts_add_up_to_the_committed_keys, the_counts_are_of_the_keys,
+    the_list_of_a_block_is_whole, the_sorted_list_of_a_block_is_whole,
 };
 pub use placed::Placed;

@@ -6,7 +6,7 @@ ghost use Rattle.mount_scan.specs.Keys.{HaveOtherKeys};
 ghost use Rattle.mount_scan.specs.Listed.{listed};
 ghost use Rattle.chunk_index.specs.Counts.{Recounts};
 ghost use Rattle.chunk_index.specs.Shelves.{look};
-ghost use Rattle.chunk_index.specs.Maps.{kept_in, CountsAgree};
+ghost use Rattle.chunk_index.specs.Maps.{count_committed_in, CountsAgree};
 ghost use Rattle.chunk_index.specs.Newest.{LieInPages, LieLow, LieWithin, Indexes};
 ghost use Rattle.chunk_index.specs.Found.{HasPages};
 
@@ -16,7 +16,7 @@ use mount_scan::{BUCKETS, FoundPages};
 use std::alloc::{AllocError, Global};
 
 impl Index {
-    /// The index of the newest pages of a scan, with the blocks: these pages are kept, and counted in their blocks. They are given
+    /// The index of the newest pages of a scan, with the blocks: these pages are committed, and in the counts of their blocks. They are given
     /// up bucket by bucket, so that they and the index are never both whole.
     pub fn from_newest(
         alloc: Global,
@@ -27,10 +27,10 @@ impl Index {
         requires within { LieWithin (table blocks).geometry.blocks (listed newest) }
         requires pages { LieInPages (table blocks).geometry.pages (listed newest) }
         requires low { LieLow (listed newest) }
-        requires none { (b : ℕ) → ((table blocks).entry b).kept ≡ 0 }
+        requires none { (b : ℕ) → ((table blocks).entry b).committed ≡ 0 }
         ensures indexes { IfOk result (λ made. Indexes (listed newest) (length (listed newest)) made.0) }
         ensures agree { IfOk result (λ made. CountsAgree (table made.1) made.0) }
-        ensures counts { IfOk result (λ made. Recounts (λ b. 0) (kept_in made.0) (table blocks) (table made.1)) }
+        ensures counts { IfOk result (λ made. Recounts (λ b. 0) (count_committed_in made.0) (table blocks) (table made.1)) }
     {
         let mut index = Index::bare(alloc);
         let mut blocks = blocks;
@@ -48,7 +48,7 @@ impl Index {
         requires agree { CountsAgree (table blocks.old) self.old }
         ensures has { OnOk result (HasPages (listed newest) (length (listed newest)) self.new.shelf.objects) }
         ensures agree { OnOk result (CountsAgree (table blocks.new) self.new) }
-        ensures counts { OnOk result (Recounts (kept_in self.old) (kept_in self.new) (table blocks.old) (table blocks.new)) }
+        ensures counts { OnOk result (Recounts (count_committed_in self.old) (count_committed_in self.new) (table blocks.old) (table blocks.new)) }
     {
         let mut left = newest;
         for at in 0..BUCKETS {

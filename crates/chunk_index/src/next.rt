@@ -1,22 +1,22 @@
-// All kept keys, one after another.
+// All committed keys, one after another.
 ghost use Rattle.std.specs.Prelude.{◌≡◌, Some};
-ghost use Rattle.chunk_index.specs.Entries.{chunk, kept_of};
+ghost use Rattle.chunk_index.specs.Entries.{chunk, committed_of};
 ghost use Rattle.chunk_index.specs.Shelves.{look};
-ghost use Rattle.chunk_index.specs.Kept.{IsNextKept};
-ghost use Rattle.chunk_index.specs.Following.{IsStartFor, IsNextChunk, IsNextBeyond, kept_chunk};
-ghost use Rattle.chunk_index.specs.Maps.{kept_pages};
+ghost use Rattle.chunk_index.specs.Committed.{IsNextCommitted};
+ghost use Rattle.chunk_index.specs.Following.{IsStartFor, IsNextChunk, IsNextBeyond, committed_chunk};
+ghost use Rattle.chunk_index.specs.Maps.{committed_pages};
 
-use crate::form::{KeptKey, KeptPage};
+use crate::form::{CommittedKey, CommittedPage};
 use crate::index::Index;
 use crate::object::ObjectEntries;
 use crate::shelf::Shelf;
 use flash_tree::Key;
 
 impl Index {
-    /// The first kept key after another, or of all, with its page: by the object, then by the chunk. It finds its place by
-    /// halves, and passes those after it that are prepared and not kept.
-    pub fn next_kept(&self, after: Option<Key>) -> Option<KeptKey>
-        ensures { IsNextKept (kept_pages self.now) after result }
+    /// The first committed key after another, or of all, with its page: by the object, then by the chunk. It finds its place by
+    /// halves, and passes those after it that are prepared and not committed.
+    pub fn next_committed(&self, after: Option<Key>) -> Option<CommittedKey>
+        ensures { IsNextCommitted (committed_pages self.now) after result }
     {
         let Some(Key { object, chunk }) = after else {
             return self.next_beyond(None);
@@ -24,21 +24,21 @@ impl Index {
         match self.shelf.next_chunk(object, Some(chunk)) {
             Some((chunk, at)) => {
                 let key = Key { object, chunk };
-                Some(KeptKey { key, at })
+                Some(CommittedKey { key, at })
             }
             None => self.next_beyond(Some(object)),
         }
     }
 
-    /// The first kept key of the objects after one, or of all.
-    fn next_beyond(&self, after: Option<u64>) -> Option<KeptKey>
-        ensures { IsNextBeyond (kept_pages self.now) after result }
+    /// The first committed key of the objects after one, or of all.
+    fn next_beyond(&self, after: Option<u64>) -> Option<CommittedKey>
+        ensures { IsNextBeyond (committed_pages self.now) after result }
     {
         let mut last = after;
         while let Some(object) = self.shelf.next_object(last) {
             if let Some((chunk, at)) = self.shelf.next_chunk(object, None) {
                 let key = Key { object, chunk };
-                return Some(KeptKey { key, at });
+                return Some(CommittedKey { key, at });
             }
             last = Some(object);
         }
@@ -47,9 +47,9 @@ impl Index {
 }
 
 impl Shelf {
-    /// The first kept chunk of an object after one, or of all, with its page.
-    fn next_chunk(&self, object: u64, after: Option<u64>) -> Option<(u64, KeptPage)>
-        ensures { IsNextChunk (λ c. kept_of (look self.now.objects object c)) after result }
+    /// The first committed chunk of an object after one, or of all, with its page.
+    fn next_chunk(&self, object: u64, after: Option<u64>) -> Option<(u64, CommittedPage)>
+        ensures { IsNextChunk (λ c. committed_of (look self.now.objects object c)) after result }
     {
         match self.objects.get(&object) {
             Some(entries) => entries.next_chunk(after),
@@ -59,13 +59,13 @@ impl Shelf {
 }
 
 impl ObjectEntries {
-    /// The first kept chunk after one, or of all, with its page.
-    fn next_chunk(&self, after: Option<u64>) -> Option<(u64, KeptPage)>
-        ensures { IsNextChunk (kept_chunk self.now.entries.items) after result }
+    /// The first committed chunk after one, or of all, with its page.
+    fn next_chunk(&self, after: Option<u64>) -> Option<(u64, CommittedPage)>
+        ensures { IsNextChunk (committed_chunk self.now.entries.items) after result }
     {
         for at in self.start_after(after)..self.entries.len() {
             let entry = self.entries[at].unpack();
-            if let Some(page) = entry.kept {
+            if let Some(page) = entry.committed {
                 return Some((entry.chunk, page));
             }
         }

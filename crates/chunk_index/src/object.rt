@@ -116,7 +116,7 @@ impl ObjectEntries {
         }
     }
 
-    /// Gives the entry of a chunk another state, and returns whether what was present is what is kept.
+    /// Gives the entry of a chunk another state, and returns whether what was present is what is committed.
     pub fn place(&mut self, number: u64, state: State) -> bool
         requires here { IsSome (find_by chunk self.old.entries.items number) }
         requires small { IsSmallState state }

@@ -1,16 +1,16 @@
 // An entry as it is held in memory.
 ghost use Rattle.std.specs.Prelude.{◌≡◌, ◌<◌, ◌^◌, is_some};
 ghost use Rattle.chunk_index.specs.Entries.{IsSmall, IsSmallPage, IsSmallState};
-ghost use Rattle.chunk_index.specs.Packed.{kept_from, state_from};
+ghost use Rattle.chunk_index.specs.Packed.{committed_from, state_from};
 
 use crate::entry::{KeyEntry, State};
-use crate::form::KeptPage;
+use crate::form::CommittedPage;
 use std::marker::Model;
 
-/// The block of an entry without a kept page. A device has at most 4,096 blocks.
+/// The block of an entry without a committed page. A device has at most 4,096 blocks.
 const NO_BLOCK: u16 = 65_535;
 
-/// The number of an entry whose present page is the kept one.
+/// The number of an entry whose present page is the committed one.
 const SAME: u8 = 255;
 
 /// The number of an entry of which nothing is present, and that goes.
@@ -20,7 +20,7 @@ const DROPPED: u8 = 254;
 const VACANT: u8 = 253;
 
 /// One entry in 16 bytes, where a `KeyEntry` takes 40: no tree looks up a page of a chunk of more than 32 bits. A page of
-/// the buffer is told by its number, and each other state by a number that no buffer reaches: it has at most a quarter of
+/// the buffer is given by its number, and each other state by a number that no buffer reaches: it has at most a quarter of
 /// a block's 256 pages.
 #[derive(Drop)]
 pub struct PackedEntry {
@@ -49,7 +49,7 @@ impl PackedEntry {
         requires { IsSmall entry }
         ensures { result ≡ entry }
     {
-        let at = page_or_none(entry.kept);
+        let at = page_or_none(entry.committed);
         PackedEntry {
             version: at.version,
             chunk: entry.chunk as u32,
@@ -66,7 +66,7 @@ impl PackedEntry {
     {
         KeyEntry {
             chunk: self.chunk(),
-            kept: self.kept(),
+            committed: self.committed(),
             state: self.state(),
         }
     }
@@ -79,29 +79,29 @@ impl PackedEntry {
         self.chunk as u64
     }
 
-    /// Whether a page is kept.
-    pub fn is_kept(&self) -> bool
-        ensures { result ≡ is_some self.now.kept }
+    /// Whether a page is committed.
+    pub fn is_committed(&self) -> bool
+        ensures { result ≡ is_some self.now.committed }
     {
-        self.kept().is_some()
+        self.committed().is_some()
     }
 
-    /// Where the page is kept, and its version.
-    fn kept(&self) -> Option<KeptPage>
-        ensures kept { result ≡ self.now.kept }
+    /// Where the page is committed, and its version.
+    fn committed(&self) -> Option<CommittedPage>
+        ensures committed { result ≡ self.now.committed }
         ensures small { IsSmallPage result }
     {
         if self.block == NO_BLOCK {
             return None;
         }
-        Some(KeptPage {
+        Some(CommittedPage {
             block: u32::from(self.block),
             page: u32::from(self.page),
             version: self.version,
         })
     }
 
-    /// How what is present differs from what is kept.
+    /// How what is present differs from what is committed.
     fn state(&self) -> State
         ensures state { result ≡ self.now.state }
         ensures small { IsSmallState result }
@@ -119,19 +119,19 @@ impl PackedEntry {
     }
 }
 
-/// A kept page; where there is none, one in no block.
-fn page_or_none(kept: Option<KeptPage>) -> KeptPage
-    requires { IsSmallPage kept }
-    ensures kept { kept_from result ≡ kept }
+/// A committed page; where there is none, one in no block.
+fn page_or_none(committed: Option<CommittedPage>) -> CommittedPage
+    requires { IsSmallPage committed }
+    ensures committed { committed_from result ≡ committed }
     ensures block { result.block < 65536 }
     ensures page { result.page < 256 }
 {
-    let none = KeptPage {
+    let none = CommittedPage {
         block: u32::from(NO_BLOCK),
         page: 0,
         version: 0,
     };
-    match kept {
+    match committed {
         Some(page) => page,
         None => none,
     }

@@ -1,34 +1,34 @@
-// What becomes kept.
+// What becomes committed.
 ghost use Rattle.std.specs.Prelude.{◌≡◌};
 
-use crate::form::{KeptKey, KeptPage};
+use crate::form::{CommittedKey, CommittedPage};
 use flash_tree::Key;
 use mount_scan::PageCopy;
 use page_tags::CheckEntry;
 
 /// A page of a key, on the flash.
 pub trait Placed {
-    ghost use Rattle.chunk_index.specs.declared.form.KeptKey.{KeptKey};
+    ghost use Rattle.chunk_index.specs.declared.form.CommittedKey.{CommittedKey};
 
     /// The key, and where its page lies in which version.
-    ghost kept_key: { Self → KeptKey };
+    ghost committed_key: { Self → CommittedKey };
 
-    fn kept_key(&self) -> KeptKey
-        ensures { result ≡ kept_key self.now };
+    fn committed_key(&self) -> CommittedKey
+        ensures { result ≡ committed_key self.now };
 }
 
 impl Placed for PageCopy {
     ghost use Rattle.chunk_index.specs.Adding.{found_key};
 
-    ghost kept_key = { found_key };
+    ghost committed_key = { found_key };
 
-    fn kept_key(&self) -> KeptKey {
-        KeptKey {
+    fn committed_key(&self) -> CommittedKey {
+        CommittedKey {
             key: Key {
                 object: self.object,
                 chunk: self.chunk as u64,
             },
-            at: KeptPage {
+            at: CommittedPage {
                 block: self.block as u32,
                 page: self.page as u32,
                 version: self.version,
@@ -40,18 +40,18 @@ impl Placed for PageCopy {
 impl Placed for CheckEntry {
     ghost use Rattle.chunk_index.specs.Adding.{entry_key};
 
-    ghost kept_key = { entry_key };
+    ghost committed_key = { entry_key };
 
-    fn kept_key(&self) -> KeptKey {
+    fn committed_key(&self) -> CommittedKey {
         let key = Key {
             object: self.object,
             chunk: self.chunk,
         };
-        let at = KeptPage {
+        let at = CommittedPage {
             block: self.block,
             page: self.page,
             version: self.version,
         };
-        KeptKey { key, at }
+        CommittedKey { key, at }
     }
 }

@@ -1,11 +1,11 @@
 // The keys that stay, and the end of all others.
 ghost use Rattle.std.specs.Prelude.{◌≡◌, ◌<◌, ◌≤◌, ◌+◌, ℕ, length, IfSome};
 ghost use Rattle.block_state.specs.TableOf.{table};
-ghost use Rattle.chunk_index.specs.Entries.{kept_of, one_at, counted_at, weigh, IsSmall};
+ghost use Rattle.chunk_index.specs.Entries.{committed_of, one_at, counted_at, weigh, IsSmall};
 ghost use Rattle.chunk_index.specs.Shelves.{look, total, IsNextObject};
 ghost use Rattle.chunk_index.specs.Counts.{Recounts, HasCounted, Tallies};
-ghost use Rattle.chunk_index.specs.Retained.{retained, retained_told, retained_of, RetainsObject};
-ghost use Rattle.chunk_index.specs.Maps.{kept_in, CountsAgree, Retains};
+ghost use Rattle.chunk_index.specs.Retained.{retained, retained_reported, retained_of, RetainsObject};
+ghost use Rattle.chunk_index.specs.Maps.{count_committed_in, CountsAgree, Retains};
 
 use crate::change;
 use crate::entry::{KeyEntry, State};
@@ -18,24 +18,24 @@ use block_state::Blocks;
 use flash_tree::Key;
 
 impl Index {
-    /// Forgets all keys but those that a filter keeps: they are neither kept nor present any more. It takes no memory,
+    /// Forgets all keys but those that a filter keeps: they are neither committed nor present any more. It takes no memory,
     /// asks of each key once, and goes over the index once.
     pub fn retain<F: KeyFilter>(&mut self, filter: &F, blocks: &mut Blocks)
         requires agree { CountsAgree (table blocks.old) self.old }
         ensures retains { Retains (F.keeps filter.now) self.old self.new }
         ensures agree { CountsAgree (table blocks.new) self.new }
-        ensures counts { Recounts (kept_in self.old) (kept_in self.new) (table blocks.old) (table blocks.new) }
+        ensures counts { Recounts (count_committed_in self.old) (count_committed_in self.new) (table blocks.old) (table blocks.new) }
     {
         self.shelf.retain(filter, blocks);
     }
 }
 
 impl Shelf {
-    /// Keeps of each object the entries that a filter keeps. A key whose present page was not the kept one may have an
-    /// entry still, which tells of nothing.
+    /// Keeps of each object the entries that a filter keeps. A key whose present page was not the committed one may have an
+    /// entry still, which holds nothing.
     fn retain<F: KeyFilter>(&mut self, filter: &F, blocks: &mut Blocks)
         requires tallies { Tallies (table blocks.old) self.old.objects }
-        ensures looks { (o c : ℕ) → look self.new.objects o c ≡ retained_told (F.keeps filter.now o c) (look self.old.objects o c) }
+        ensures looks { (o c : ℕ) → look self.new.objects o c ≡ retained_reported (F.keeps filter.now o c) (look self.old.objects o c) }
         ensures tallies { Tallies (table blocks.new) self.new.objects }
         ensures counts { Recounts (λ b. total (counted_at b) self.old.objects) (λ b. total (counted_at b) self.new.objects) (table blocks.old) (table blocks.new) }
     {
@@ -75,9 +75,9 @@ impl Shelf {
 }
 
 impl ObjectEntries {
-    /// Keeps the entries of this object that a filter keeps, and tells how many went.
+    /// Keeps the entries of this object that a filter keeps, and returns how many went.
     fn retain<F: KeyFilter>(&mut self, object: u64, filter: &F, blocks: &mut Blocks) -> usize
-        requires counted { HasCounted (table blocks.old) (λ b. weigh (counted_at b) self.old.entries.items) }
+        requires totaled { HasCounted (table blocks.old) (λ b. weigh (counted_at b) self.old.entries.items) }
         ensures items { self.new.entries.items ≡ retained_of (F.keeps filter.now object) self.old.entries.items }
         ensures gone { length self.new.entries.items + result ≡ length self.old.entries.items }
         ensures counts { Recounts (λ b. weigh (counted_at b) self.old.entries.items) (λ b. weigh (counted_at b) self.new.entries.items) (table blocks.old) (table blocks.new) }
@@ -95,43 +95,43 @@ fn gather<F: KeyFilter>(
     filter: &F,
     blocks: &mut Blocks,
 )
-    requires counted { HasCounted (table blocks.old) (λ b. weigh (counted_at b) entries.old.items) }
+    requires totaled { HasCounted (table blocks.old) (λ b. weigh (counted_at b) entries.old.items) }
     ensures items { entries.new.items ≡ retained_of (F.keeps filter.now object) entries.old.items }
     ensures counts { Recounts (λ b. weigh (counted_at b) entries.old.items) (λ b. weigh (counted_at b) entries.new.items) (table blocks.old) (table blocks.new) }
 {
-    let mut kept = 0;
+    let mut committed = 0;
     for at in 0..entries.len() {
         let entry = entries[at].unpack();
         let chunk = entry.chunk;
         let stays = filter.keeps(Key { object, chunk });
         if let Some(left) = entry.retained(stays, blocks) {
-            entries[kept] = PackedEntry::pack(left);
-            kept += 1;
+            entries[committed] = PackedEntry::pack(left);
+            committed += 1;
         }
     }
-    entries.truncate(kept);
+    entries.truncate(committed);
 }
 
 impl KeyEntry {
-    /// What is left of the entry, whose key stays or is forgotten. One whose present page is not the kept one stays until the changes
-    /// are settled, and tells of nothing.
+    /// What is left of the entry, whose key stays or is forgotten. One whose present page is not the committed one stays until the changes
+    /// are settled, and holds nothing.
     fn retained(self, stays: bool, blocks: &mut Blocks) -> Option<KeyEntry>
-        requires counted { HasCounted (table blocks.old) (one_at self.kept) }
+        requires totaled { HasCounted (table blocks.old) (one_at self.committed) }
         requires small { IsSmall self }
         ensures result { result ≡ retained stays self }
         ensures small { IfSome result IsSmall }
-        ensures counts { Recounts (one_at self.kept) (one_at (kept_of result)) (table blocks.old) (table blocks.new) }
+        ensures counts { Recounts (one_at self.committed) (one_at (committed_of result)) (table blocks.old) (table blocks.new) }
     {
         if stays {
             return Some(self);
         }
-        change::release(self.kept, blocks);
+        change::release(self.committed, blocks);
         if self.is_same() {
             return None;
         }
         Some(KeyEntry {
             chunk: self.chunk,
-            kept: None,
+            committed: None,
             state: State::Dropped,
         })
     }

@@ -1,7 +1,7 @@
 // What becomes of the entries once the buffer was written.
 ghost use Rattle.std.specs.Prelude.{◌≡◌, ◌<◌, ◌≤◌, ◌+◌, ◌^◌, ℕ, false, Some, IfSome};
 ghost use Rattle.block_state.specs.TableOf.{table};
-ghost use Rattle.chunk_index.specs.Entries.{chunk, settled, settled_by, same_of, kept_of, one_at, counted_at, HasPage, Alters, IsSmall};
+ghost use Rattle.chunk_index.specs.Entries.{chunk, settled, settled_by, same_of, committed_of, one_at, counted_at, HasPage, Alters, IsSmall};
 ghost use Rattle.chunk_index.specs.InPlace.{goes_of, left_of};
 ghost use Rattle.chunk_index.specs.Lists.{find_by};
 ghost use Rattle.chunk_index.specs.Shelves.{look, total, AltersKey, IsListed};
@@ -12,7 +12,7 @@ ghost use Rattle.chunk_index.specs.Noted.{IsNoted, IsCut};
 use crate::change;
 use crate::changes::ChangeList;
 use crate::entry::{KeyEntry, State};
-use crate::form::{KeptPage, WrittenGroup};
+use crate::form::{CommittedPage, WrittenGroup};
 use crate::object::ObjectEntries;
 use crate::packed::PackedEntry;
 use crate::shelf::Shelf;
@@ -20,22 +20,22 @@ use block_state::Blocks;
 use flash_tree::Key;
 
 impl KeyEntry {
-    /// What the entry becomes, if it stays. The page that is kept then is counted in place of the one that was.
+    /// What the entry becomes, if it stays. The page that is committed then is in the count in place of the one that was.
     fn settle(self, group: WrittenGroup, blocks: &mut Blocks) -> Option<KeyEntry>
         requires may { MaySettleEntry group self (table blocks.old) }
         requires small { IsSmall self }
         ensures result { result ≡ settled_by group self self.state }
         ensures chunk { IfSome result (λ e. e.chunk ≡ self.chunk) }
         ensures small { IfSome result IsSmall }
-        ensures counts { Recounts (one_at self.kept) (one_at (kept_of result)) (table blocks.old) (table blocks.new) }
+        ensures counts { Recounts (one_at self.committed) (one_at (committed_of result)) (table blocks.old) (table blocks.new) }
     {
         match self.settled(group) {
             Some(new) => {
-                change::recount(self.kept, new.kept, blocks);
+                change::recount(self.committed, new.committed, blocks);
                 Some(new)
             }
             None => {
-                change::recount(self.kept, None, blocks);
+                change::recount(self.committed, None, blocks);
                 None
             }
         }
@@ -54,7 +54,7 @@ impl KeyEntry {
             State::Same => Some(self),
             State::Buffered(i) => Some(KeyEntry {
                 chunk: self.chunk,
-                kept: Some(KeptPage {
+                committed: Some(CommittedPage {
                     block: group.block,
                     page: group.first + i,
                     version: group.number,
@@ -64,7 +64,7 @@ impl KeyEntry {
             State::Dropped => None,
             State::Vacant => Some(KeyEntry {
                 chunk: self.chunk,
-                kept: None,
+                committed: None,
                 state: State::Same,
             }),
         }
@@ -72,7 +72,7 @@ impl KeyEntry {
 }
 
 impl Shelf {
-    /// Settles each key that is noted, among which is each whose present page is not the kept one. Others are not touched.
+    /// Settles each key that is noted, among which is each whose present page is not the committed one. Others are not touched.
     pub fn settle(&mut self, changes: &ChangeList, group: WrittenGroup, blocks: &mut Blocks)
         requires may { MaySettle group self.old.objects (table blocks.old) }
         requires noted { (o c : ℕ) → same_of (look self.old.objects o c) ≡ false → ∥ IsNoted changes.now o c ∥₁ }

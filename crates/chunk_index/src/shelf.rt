@@ -1,5 +1,5 @@
 // The entries of all objects.
-ghost use Rattle.std.specs.Prelude.{◌≡◌, ◌<◌, ◌≤◌, ◌+◌, ◌-◌, ◌^◌, ◌↔◌, [], None, IsSome, IfSome, Some, IsTrue, OnOk, OnErr};
+ghost use Rattle.std.specs.Prelude.{◌≡◌, ◌<◌, ◌≤◌, ◌+◌, ◌-◌, ◌^◌, ◌↔◌, [], None, IsSome, IfSome, Some, IsTrue, OnOk, OnErr, option_map};
 ghost use Rattle.std.specs.Ordering.{nat_cmp};
 ghost use Rattle.std.proofs.Props.{props};
 ghost use Rattle.std.specs.BTreeMap.{get, IsEmpty, IsOrdered};
@@ -14,7 +14,7 @@ use std::alloc::{AllocError, Global};
 use std::collections::BTreeMap;
 use std::ops::Bound;
 
-/// No more than a kept count can tell.
+/// No more than a committed count can tell.
 const MOST_ENTRIES: usize = 4_294_967_295;
 
 /// As many as a node of the map has room for, and one more: so a node is split at its end only while it has each second one
@@ -29,7 +29,7 @@ pub struct Shelf {
     pub(crate) objects: BTreeMap<u64, ObjectEntries>,
     pub(crate) size: usize,
     ghost ordered: { IsOrdered nat_cmp objects } by { Prim.hlevel props },
-    ghost counted: { total (λ e. 1) objects ≡ size },
+    ghost totaled: { total (λ e. 1) objects ≡ size },
     ghost bounded: { size < 2 ^ 32 },
 }
 
@@ -65,7 +65,7 @@ impl Shelf {
         }
     }
 
-    /// Whether one entry more would be more than a kept count can tell.
+    /// Whether one entry more would be more than a committed count can tell.
     fn is_full(&self) -> bool
         ensures { IsTrue result ↔ (2 ^ 32 - 1 ≤ self.now.size) }
     {
@@ -85,7 +85,7 @@ impl Shelf {
         }
     }
 
-    /// Gives the entry of a key another state, and returns whether its present page was the kept one.
+    /// Gives the entry of a key another state, and returns whether its present page was the committed one.
     pub fn place(&mut self, key: Key, state: State) -> bool
         requires here { IsSome (look self.old.objects key.object key.chunk) }
         requires small { IsSmallState state }
@@ -269,15 +269,24 @@ impl Shelf {
     pub fn next_object(&self, after: Option<u64>) -> Option<u64>
         ensures { IsNextObject self.now.objects after result }
     {
+        let (object, _) = self.next_entries(after)?;
+        Some(object)
+    }
+
+    /// The first object after a number, or of all, with its entries.
+    pub(crate) fn next_entries(&self, after: Option<u64>) -> Option<(u64, &ObjectEntries)>
+        ensures next { IsNextObject self.now.objects after (option_map (λ found. found.0) result) }
+        ensures entries { IfSome result (λ found. get nat_cmp self.now.objects found.0 ≡ Some found.1.now) }
+    {
         match after {
             Some(number) => {
                 let range = (Bound::Excluded(number), Bound::Unbounded);
-                let (object, _) = self.objects.range(range).next()?;
-                Some(*object)
+                let (object, entries) = self.objects.range(range).next()?;
+                Some((*object, entries))
             }
             None => {
-                let (object, _) = self.objects.first_key_value()?;
-                Some(*object)
+                let (object, entries) = self.objects.first_key_value()?;
+                Some((*object, entries))
             }
         }
     }

@@ -13,7 +13,7 @@ use Rattle.posix_profile.specs.declared.reply.Errno.{Errno}
 use Rattle.posix_profile.specs.declared.reply.Errno.TheVariants as errors
 use Rattle.object_store.specs.Facts.{NamedBy}
 use Rattle.object_store.specs.Stores.{Meaning, IsLawful}
-use Rattle.object_store.specs.laws.Store.{unread_after, tells_on}
+use Rattle.object_store.specs.laws.Store.{unread_after, reports_on}
 use Rattle.object_store.specs.declared.refusal.Refusal.{Refusal}
 use Rattle.object_store.specs.declared.refusal.Refusal.TheVariants as refusals
 use Rattle.command_plans.specs.declared.path.parts.PathPlace.{PathPlace}
@@ -66,45 +66,45 @@ some_at (x ∷ xs) i lt = (get_or (x ∷ xs) i x, drop_at (x ∷ xs) i x lt)
 pub walk_more : (objects : Objects) (slash_follows : Bool) (directory o : ℕ) (last : Option Component) (rest more : List Component) (here next : Component) (all : Result Place Errno)
     → rest ≡ next ∷ more → here ≡ next → going objects slash_follows directory last rest ≡ all → ((on : ℕ → Result Place Errno) → goes_on objects directory last on ≡ on o)
     → going objects slash_follows o (Some here) more ≡ all
-walk_more objects slash_follows directory o last rest more here next all is same told step =
+walk_more objects slash_follows directory o last rest more here next all is same reported step =
     ap (λ c. going objects slash_follows o (Some c) more) same
     ∙ going_more objects slash_follows o next more
     ∙ sym (step (λ o. walk objects slash_follows o next more))
     ∙ ap (going objects slash_follows directory last) (sym is)
-    ∙ told
+    ∙ reported
 
 walk_stops : (objects : Objects) (slash_follows : Bool) (directory : ℕ) (last : Option Component) (rest more : List Component) (next : Component) (all : Result Place Errno) (e : Errno)
     → rest ≡ next ∷ more → going objects slash_follows directory last rest ≡ all → ((on : ℕ → Result Place Errno) → goes_on objects directory last on ≡ Err e) → Err e ≡ all
-walk_stops objects slash_follows directory last rest more next all e is told step =
-    sym (step (λ o. walk objects slash_follows o next more)) ∙ ap (going objects slash_follows directory last) (sym is) ∙ told
+walk_stops objects slash_follows directory last rest more next all e is reported step =
+    sym (step (λ o. walk objects slash_follows o next more)) ∙ ap (going objects slash_follows directory last) (sym is) ∙ reported
 
 -- a walk over all components
 pub walk_done : (objects : Objects) (slash_follows : Bool) (directory : ℕ) (last : Option Component) (rest : List Component) (here : Component) (all : Result Place Errno)
     → rest ≡ [] → last ≡ Some here → going objects slash_follows directory last rest ≡ all → arrive objects slash_follows directory here (leads_to objects directory here) ≡ all
-walk_done objects slash_follows directory last rest here all done is told =
-    ap (finish objects slash_follows directory) (sym is) ∙ ap (going objects slash_follows directory last) (sym done) ∙ told
+walk_done objects slash_follows directory last rest here all done is reported =
+    ap (finish objects slash_follows directory) (sym is) ∙ ap (going objects slash_follows directory last) (sym done) ∙ reported
 
 -- an error that is handed on
 pub leads_back : {S : Type 0} (m : Meaning S) (a b : S) (all : Result Place Errno) (r : Result PathPlace Refusal) (x y : Refusal)
     → r ≡ Err x → x ≡ y → Leads m all a b (Err y) → Leads m all a b r
-leads_back m a b all r x y is same told = subst (λ r. Leads m all a b r) (sym is) (subst (λ x. Leads m all a b (Err x)) (sym same) told)
+leads_back m a b all r x y is same reported = subst (λ r. Leads m all a b r) (sym is) (subst (λ x. Leads m all a b (Err x)) (sym same) reported)
 
 -- a walk that a step ends
 pub walk_err : {S : Type 0} (m : Meaning S) (law : IsLawful m) (objects : Objects) (a b c : S) (slash_follows : Bool) (directory : ℕ) (last : Option Component) (rest more : List Component) (next : Component) (all : Result Place Errno)
     → m.reads a b → rest ≡ next ∷ more → going objects slash_follows directory last rest ≡ all
     → (r : Result PathPlace Refusal) (x y : Refusal) → r ≡ Err x → x ≡ y → Passes m objects (goes_on objects directory last) b c (Err y) → Leads m all a c r
-walk_err m law objects a b c slash_follows directory last rest more next all reads is told r x y same from passes =
+walk_err m law objects a b c slash_follows directory last rest more next all reads is reported r x y same from passes =
     leads_back m a c all r x y same from (go y passes)
   where
     go : (y : Refusal) → Passes m objects (goes_on objects directory last) b c (Err y) → Leads m all a c (Err y)
     go (refusals.Fault fault) p = unread_after m law a b c reads fault p
-    go (refusals.Error e) p = walk_stops objects slash_follows directory last rest more next all e is told p
+    go (refusals.Error e) p = walk_stops objects slash_follows directory last rest more next all e is reported p
 
 -- a walk that ends after calls that read
 pub leads_same : {S : Type 0} (m : Meaning S) (law : IsLawful m) (a b c : S) (here all : Result Place Errno)
     → m.reads a b → here ≡ all → (r : Result PathPlace Refusal) → Leads m here b c r → Leads m all a c r
-leads_same m law a b c here all reads is r told =
-    subst (λ all. Leads m all a c r) is (tells_on m law a b c (λ place. Ok (place_of place) ≡ here) (λ e. Err e ≡ here) reads r told)
+leads_same m law a b c here all reads is r reported =
+    subst (λ all. Leads m all a c r) is (reports_on m law a b c (λ place. Ok (place_of place) ≡ here) (λ e. Err e ≡ here) reads r reported)
 
 map_map : {A B C : Type 0} (f : A → B) (g : B → C) (xs : List A) → list_map (λ x. g (f x)) xs ≡ list_map g (list_map f xs)
 map_map f g [] = refl
@@ -114,8 +114,8 @@ pub resolve_is : (objects : Objects) (path : List ℕ) (pieces : List (Bor (List
     → list_map (λ part. part.now) pieces ≡ parts path → slash_follows ≡ ends_in_slash path → None ≡ first_error (path_tests path)
     → r ≡ walk_from_root objects slash_follows (list_map (λ part. component part.now) pieces) → r ≡ resolve objects path
 unfolding resolve
-resolve_is objects path pieces slash_follows r are ends none told =
-    told
+resolve_is objects path pieces slash_follows r are ends none reported =
+    reported
     ∙ ap (walk_from_root objects slash_follows) (map_map (λ (part : Bor (List ℕ)). part.now) component pieces ∙ ap (list_map component) are)
     ∙ ap (λ b. walk_from_root objects b (list_map component (parts path))) ends
     ∙ ap (walk_unless objects path) none

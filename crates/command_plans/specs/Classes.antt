@@ -9,15 +9,15 @@ use Rattle.posix_profile.specs.declared.reply.Errno.{Errno}
 use Rattle.posix_profile.specs.declared.reply.Reply.{Reply}
 use Rattle.posix_profile.specs.declared.reply.Reply.TheVariants as replies
 
--- a command tells of the objects alone, or may change them, or makes them last
+-- a command only reads the objects, or may change them, or makes them last
 pub data Class : Type 0 where
-  Telling : Class
+  Reporting : Class
   Changing : Class
   Syncing : Class
 
--- a command that tells where this is so, and else is of this kind
-abbrev pub tells_if : Bool → Class → Class
-tells_if tells class = if tells then Telling else class
+-- a command that says where this is so, and else is of this kind
+abbrev pub reports_if : Bool → Class → Class
+reports_if reports class = if reports then Reporting else class
 
 -- whether a path leads to an object
 abbrev pub is_there : Result Place Errno → Bool
@@ -38,24 +38,24 @@ lead_to_one (Ok from) (Ok to) = is_one from.object to.object
 -- The kind of a command at a state of a volume that may be read-only. Nothing changes where an object that is there is opened
 -- and not cut, where no bytes are written, and where an object gets a name that it has. A read-only volume has nothing to sync.
 abbrev pub class_of : Bool → State → Command → Class
-class_of read_only s (commands.Open path flags) = tells_if (is_there (resolve s.objects path) && not flags.trunc) Changing
+class_of read_only s (commands.Open path flags) = reports_if (is_there (resolve s.objects path) && not flags.trunc) Changing
 class_of read_only s (commands.Close fd) = Changing
-class_of read_only s (commands.Read fd count) = Telling
-class_of read_only s (commands.Write fd bytes) = tells_if (nat_eq (length bytes) 0) Changing
-class_of read_only s (commands.Seek fd offset whence) = Telling
+class_of read_only s (commands.Read fd count) = Reporting
+class_of read_only s (commands.Write fd bytes) = reports_if (nat_eq (length bytes) 0) Changing
+class_of read_only s (commands.Seek fd offset whence) = Reporting
 class_of read_only s (commands.Truncate fd length) = Changing
-class_of read_only s (commands.Fsync fd) = tells_if read_only Syncing
-class_of read_only s commands.Sync = tells_if read_only Syncing
-class_of read_only s (commands.Stat path) = Telling
+class_of read_only s (commands.Fsync fd) = reports_if read_only Syncing
+class_of read_only s commands.Sync = reports_if read_only Syncing
+class_of read_only s (commands.Stat path) = Reporting
 class_of read_only s (commands.Mkdir path) = Changing
 class_of read_only s (commands.Rmdir path) = Changing
 class_of read_only s (commands.Link old new) = Changing
 class_of read_only s (commands.Unlink path) = Changing
-class_of read_only s (commands.Rename old new) = tells_if (lead_to_one (resolve s.objects old) (resolve s.objects new)) Changing
-class_of read_only s (commands.List path) = Telling
-class_of read_only s commands.Space = Telling
+class_of read_only s (commands.Rename old new) = reports_if (lead_to_one (resolve s.objects old) (resolve s.objects new)) Changing
+class_of read_only s (commands.List path) = Reporting
+class_of read_only s commands.Space = Reporting
 
--- whether a command leaves the device as it is: what it asks for is told without it
+-- whether a command leaves the device as it is: what it asks for is reported without it
 abbrev pub makes_no_call : Command → Bool
 makes_no_call (commands.Close fd) = true
 makes_no_call (commands.Seek fd offset whence) = true

@@ -3,7 +3,7 @@ use Rattle.std.specs.Prelude.{◌≡◌, ℕ, Option, Some, None, Result, Ok, Er
 use Rattle.posix_profile.specs.Paths.{Component, Dot, DotDot, Named, Place, leads_to, pass}
 use Rattle.posix_profile.specs.State.{Objects, IsDirectory}
 use Rattle.posix_profile.specs.declared.reply.Errno.{Errno}
-use Rattle.object_store.specs.Stores.{Meaning, Tells}
+use Rattle.object_store.specs.Stores.{Meaning, Reports}
 use Rattle.object_store.specs.declared.refusal.Refusal.{Refusal}
 use Rattle.command_plans.specs.declared.path.parts.PathPart.{PathPart}
 use Rattle.command_plans.specs.declared.path.parts.PathPart.TheVariants as path_parts
@@ -32,8 +32,8 @@ goes_on objects directory (Some last) on = pass objects (leads_to objects direct
 -- the walk goes on from this directory, or ends
 abbrev pub Passes : {S : Type 0} (m : Meaning S) → Objects → ((ℕ → Result Place Errno) → Result Place Errno) → S → S → Result ℕ Refusal → Type 0
 Passes m objects meant a b r =
-    Tells m a b (λ o. IsDirectory objects o × ((on : ℕ → Result Place Errno) → meant on ≡ on o)) (λ e. (on : ℕ → Result Place Errno) → meant on ≡ Err e) r
+    Reports m a b (λ o. IsDirectory objects o × ((on : ℕ → Result Place Errno) → meant on ≡ on o)) (λ e. (on : ℕ → Result Place Errno) → meant on ≡ Err e) r
 
 -- the place, or why there is none
 abbrev pub Leads : {S : Type 0} (m : Meaning S) → Result Place Errno → S → S → Result PathPlace Refusal → Type 0
-Leads m meant a b r = Tells m a b (λ place. Ok (place_of place) ≡ meant) (λ e. Err e ≡ meant) r
+Leads m meant a b r = Reports m a b (λ place. Ok (place_of place) ≡ meant) (λ e. Err e ≡ meant) r

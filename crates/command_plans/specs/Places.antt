@@ -7,7 +7,7 @@ use Rattle.posix_profile.specs.Outcomes.{Outcome, refuse, at_place}
 use Rattle.posix_profile.specs.Paths.{Place}
 use Rattle.posix_profile.specs.laws.Path.{IsPlace}
 use Rattle.posix_profile.specs.declared.reply.Errno.{Errno}
-use Rattle.object_store.specs.Stores.{Meaning, Tells}
+use Rattle.object_store.specs.Stores.{Meaning, Reports}
 use Rattle.object_store.specs.declared.refusal.Refusal.{Refusal}
 use Rattle.command_plans.specs.Paths.{place_of}
 use Rattle.command_plans.specs.declared.path.parts.PathPlace.{PathPlace}
@@ -25,7 +25,7 @@ NoPlace s r e = (act : Place → Outcome) → refuse s e ≡ at_place s r act
 
 -- the place, or why there is none
 abbrev pub FindsPlace : {S : Type 0} (m : Meaning S) → State → Result Place Errno → S → S → Result PathPlace Refusal → Type 0
-FindsPlace m s r a b result = Tells m a b (λ p. AtPlace s r (place_of p)) (NoPlace s r) result
+FindsPlace m s r a b result = Reports m a b (λ p. AtPlace s r (place_of p)) (NoPlace s r) result
 
 -- whatever is to be done with the object at the place, it is to be done with this one
 pub record AtObject (s : State) (r : Result Place Errno) (p : Place) (o : ℕ) : Type 0 where
@@ -40,4 +40,4 @@ NoObject s r e = (act : Place → ℕ → Outcome) → refuse s e ≡ at_place s
 
 -- the object at the place, or why there is none
 abbrev pub FindsObject : {S : Type 0} (m : Meaning S) → State → Result Place Errno → S → S → Result FoundObject Refusal → Type 0
-FindsObject m s r a b result = Tells m a b (λ f. AtObject s r (place_of f.place) f.number) (NoObject s r) result
+FindsObject m s r a b result = Reports m a b (λ f. AtObject s r (place_of f.place) f.number) (NoObject s r) result

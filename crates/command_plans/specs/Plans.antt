@@ -9,12 +9,12 @@ use Rattle.posix_profile.specs.declared.reply.Errno.{Errno}
 use Rattle.posix_profile.specs.declared.reply.Reply.{Reply}
 use Rattle.posix_profile.specs.declared.reply.Reply.TheVariants as replies
 use Rattle.object_store.specs.Changes.{made, CanMake, takes_none}
-use Rattle.object_store.specs.Stores.{Meaning, Has, Faults, Tells}
+use Rattle.object_store.specs.Stores.{Meaning, Has, Faults, Reports}
 use Rattle.volume_terms.specs.declared.fault.StoreFault.{StoreFault}
 use Rattle.volume_terms.specs.declared.fault.StoreFault.TheVariants as faults
 use Rattle.object_store.specs.declared.refusal.Refusal.{Refusal}
 use Rattle.object_store.specs.declared.refusal.Refusal.TheVariants as refusals
-use Rattle.command_plans.specs.Classes.{Class, Telling, Changing, Syncing, is_error}
+use Rattle.command_plans.specs.Classes.{Class, Reporting, Changing, Syncing, is_error}
 use Rattle.command_plans.specs.Tables.{handle_of}
 use Rattle.command_plans.specs.declared.plan.HandleChange.{HandleChange}
 use Rattle.command_plans.specs.declared.plan.HandleChange.TheVariants as handle_changes
@@ -69,11 +69,11 @@ leaves_device work.Nothing = true
 leaves_device (work.Change change) = takes_none change
 leaves_device work.Commit = false
 
--- a command that tells changes nothing, one that may change makes a change only where its reply is no error, and one that syncs commits
+-- a command that reports changes nothing, one that may change makes a change only where its reply is no error, and one that syncs commits
 abbrev pub Suits : Class → Reply → StoreWork → Type 0
-Suits Telling reply work.Nothing = Unit {0}
-Suits Telling reply (work.Change change) = ⊥
-Suits Telling reply work.Commit = ⊥
+Suits Reporting reply work.Nothing = Unit {0}
+Suits Reporting reply (work.Change change) = ⊥
+Suits Reporting reply work.Commit = ⊥
 Suits Changing reply work.Nothing = Unit {0}
 Suits Changing reply (work.Change change) = is_error reply ≡ false
 Suits Changing reply work.Commit = ⊥
@@ -94,7 +94,7 @@ pub record IsPlan (z : Sizes) (class : Class) (s : State) (meant : Outcome) (pla
 
 -- The plan is one for what is meant, or the error is what is meant, unless the store has a fault.
 abbrev pub Plans : {S : Type 0} (m : Meaning S) → Sizes → Class → State → Outcome → S → S → Result Plan Refusal → Type 0
-Plans m z class s meant a b r = Tells m a b (IsPlan z class s meant) (λ e. refuse s e ≡ meant) r
+Plans m z class s meant a b r = Reports m a b (IsPlan z class s meant) (λ e. refuse s e ≡ meant) r
 
 -- The plan is one for what is meant, or the error is what is meant.
 abbrev pub Tries : Sizes → Class → State → Outcome → Result Plan Errno → Type 0

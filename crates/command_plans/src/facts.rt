@@ -1,19 +1,19 @@
 // What a store knows of an object without reading.
-ghost use Rattle.std.specs.Prelude.{◌≡◌, true, false, Some, length, nat_le, MatchBool, MatchOption};
+ghost use Rattle.std.specs.Prelude.{◌≡◌, true, false, Some, length, nat_le, MatchBool};
 ghost use Rattle.std.specs.FinMap as map;
-ghost use Rattle.volume_terms.specs.Sizes.{Sizes};
-ghost use Rattle.posix_profile.specs.State.{Object, Objects, is_directory, is_file};
+ghost use Rattle.posix_profile.specs.State.{Object, is_directory};
 ghost use Rattle.posix_profile.specs.Names.{link_pairs};
 ghost use Rattle.posix_profile.specs.WellFormed.{IsNamed};
 ghost use Rattle.object_store.specs.Facts.{bytes_of};
-ghost use Rattle.object_store.specs.Stores.{Has};
+ghost use Rattle.object_store.specs.Stores.{OfTree};
+ghost use Rattle.command_plans.specs.Rooms.{IsFileLength};
 
 use object_store::ObjectStore;
 use posix_profile::Kind;
 
 /// The bytes of a file.
 pub fn length<S: ObjectStore>(store: &S, number: u64) -> u64
-    ensures { (z : Sizes) (objects : Objects) → Has S.meaning z objects store.now → result ≡ length (bytes_of (map.get objects number)) }
+    ensures { OfTree S.meaning store.now (λ z objects. result ≡ length (bytes_of (map.get objects number))) }
 {
     match store.info(number) {
         Some(info) => info.size,
@@ -23,9 +23,7 @@ pub fn length<S: ObjectStore>(store: &S, number: u64) -> u64
 
 /// The bytes of a file; nothing where no file is at this number.
 pub fn file_length<S: ObjectStore>(store: &S, number: u64) -> Option<u64>
-    ensures { (z : Sizes) (objects : Objects) → Has S.meaning z objects store.now
-        → MatchOption result (is_file (map.get objects number) ≡ false)
-        (λ size. (is_file (map.get objects number) ≡ true) × (size ≡ length (bytes_of (map.get objects number)))) }
+    ensures { OfTree S.meaning store.now (λ z objects. IsFileLength objects number result) }
 {
     match store.info(number) {
         Some(info) => match info.kind {
@@ -38,7 +36,7 @@ pub fn file_length<S: ObjectStore>(store: &S, number: u64) -> Option<u64>
 
 /// Whether a directory is at this number.
 pub fn is_directory<S: ObjectStore>(store: &S, number: u64) -> bool
-    ensures { (z : Sizes) (objects : Objects) → Has S.meaning z objects store.now → result ≡ is_directory (map.get objects number) }
+    ensures { OfTree S.meaning store.now (λ z objects. result ≡ is_directory (map.get objects number)) }
 {
     match store.info(number) {
         Some(info) => match info.kind {
@@ -51,8 +49,7 @@ pub fn is_directory<S: ObjectStore>(store: &S, number: u64) -> bool
 
 /// Whether more than one name leads to an object. A directory has one at most.
 pub fn has_other_name<S: ObjectStore>(store: &S, number: u64) -> bool
-    ensures { (z : Sizes) (objects : Objects) → Has S.meaning z objects store.now
-        → result ≡ nat_le 2 (length (link_pairs objects number)) }
+    ensures { OfTree S.meaning store.now (λ z objects. result ≡ nat_le 2 (length (link_pairs objects number))) }
 {
     match store.info(number) {
         Some(info) => match info.kind {
@@ -65,8 +62,8 @@ pub fn has_other_name<S: ObjectStore>(store: &S, number: u64) -> bool
 
 /// Whether a name leads to an object that is there.
 pub fn is_named<S: ObjectStore>(store: &S, number: u64) -> bool
-    ensures { (z : Sizes) (objects : Objects) → Has S.meaning z objects store.now → (x : Object) → map.get objects number ≡ Some x
-        → MatchBool result (IsNamed objects number) (IsNamed objects number → ⊥) }
+    ensures { OfTree S.meaning store.now (λ z objects. (x : Object) → map.get objects number ≡ Some x
+        → MatchBool result (IsNamed objects number) (IsNamed objects number → ⊥)) }
 {
     match store.info(number) {
         Some(info) => match info.kind {

@@ -1,8 +1,7 @@
 // Whether there is room for a change.
-ghost use Rattle.std.specs.Prelude.{◌≡◌, ◌<◌, ◌≤◌, ◌-◌, ◌+◌, ◌^◌, ℕ, List, Some, None, length, nat_le};
+ghost use Rattle.std.specs.Prelude.{◌≡◌, ◌<◌, ◌≤◌, ◌-◌, ◌+◌, ℕ, List, length};
 ghost use Rattle.std.specs.FinMap as map;
-ghost use Rattle.volume_terms.specs.Sizes.{Sizes, page_slots, capacity};
-ghost use Rattle.posix_profile.specs.State.{Objects, File, IsDirectory, IsFile, entries_of};
+ghost use Rattle.volume_terms.specs.Sizes.{page_slots, capacity};
 ghost use Rattle.posix_profile.specs.Charge.{fits, charge};
 ghost use Rattle.volume_terms.specs.Rounding.{ceiling};
 ghost use Rattle.posix_profile.specs.Changes.{with_object, with_name, with_bytes};
@@ -10,8 +9,8 @@ ghost use Rattle.posix_profile.specs.declared.reply.Kind.{Kind};
 ghost use Rattle.volume_terms.specs.VolumeSizes.{sizes_of};
 ghost use Rattle.object_store.specs.Changes.{empty_object};
 ghost use Rattle.object_store.specs.Facts.{bytes_of};
-ghost use Rattle.object_store.specs.Stores.{Has};
-ghost use Rattle.command_plans.specs.Rooms.{entry_units};
+ghost use Rattle.object_store.specs.Stores.{OfDirectory, OfFile, OfTree, OfAnyFile};
+ghost use Rattle.command_plans.specs.Rooms.{entry_units, OfNewName, IsRoomOf};
 
 use crate::facts::length;
 use object_store::ObjectStore;
@@ -36,7 +35,7 @@ fn slots_of(sizes: VolumeSizes) -> u64
 
 /// The units that a further entry of a directory of so many takes.
 pub fn units_past<S: ObjectStore>(store: &S, count: u64) -> u64
-    ensures units { (z : Sizes) (objects : Objects) → Has S.meaning z objects store.now → result ≡ entry_units count (page_slots z) }
+    ensures units { OfTree S.meaning store.now (λ z objects. result ≡ entry_units count (page_slots z)) }
     ensures few { result ≤ 1 }
 {
     entry_units(count, slots_of(store.sizes()))
@@ -44,16 +43,15 @@ pub fn units_past<S: ObjectStore>(store: &S, count: u64) -> u64
 
 /// The units that are free.
 pub fn free_units<S: ObjectStore>(store: &S) -> u64
-    ensures { (z : Sizes) (objects : Objects) → Has S.meaning z objects store.now → result ≡ capacity z - charge z objects }
+    ensures { OfTree S.meaning store.now (λ z objects. result ≡ capacity z - charge z objects) }
 {
     store.sizes().capacity().saturating_sub(store.charge())
 }
 
 /// Whether there is room for a new object and its name.
 pub fn has_object_room<S: ObjectStore>(store: &S, directory: u64) -> bool
-    ensures { (z : Sizes) (objects : Objects) → Has S.meaning z objects store.now → IsDirectory objects directory
-        → (name : List ℕ) → map.get (entries_of (map.get objects directory)) name ≡ None
-        → (kind : Kind) (moment : ℕ) → result ≡ fits z (with_object objects moment directory name (empty_object kind moment)) }
+    ensures { OfDirectory S.meaning store.now directory (λ z objects. OfNewName objects directory (λ name.
+        (kind : Kind) (moment : ℕ) → result ≡ fits z (with_object objects moment directory name (empty_object kind moment)))) }
 {
     let units = units_past(store, store.entry_count(directory));
     1 + units <= free_units(store)
@@ -61,9 +59,8 @@ pub fn has_object_room<S: ObjectStore>(store: &S, directory: u64) -> bool
 
 /// Whether there is room for a further name.
 pub fn has_name_room<S: ObjectStore>(store: &S, directory: u64) -> bool
-    ensures { (z : Sizes) (objects : Objects) → Has S.meaning z objects store.now → IsDirectory objects directory
-        → (name : List ℕ) → map.get (entries_of (map.get objects directory)) name ≡ None
-        → (number moment : ℕ) → result ≡ fits z (with_name objects moment directory name number) }
+    ensures { OfDirectory S.meaning store.now directory (λ z objects. OfNewName objects directory (λ name.
+        (number moment : ℕ) → result ≡ fits z (with_name objects moment directory name number))) }
 {
     units_past(store, store.entry_count(directory)) <= free_units(store)
 }
@@ -77,17 +74,14 @@ pub fn units_of(sizes: VolumeSizes, size: u64) -> u64
 
 /// The units that there are for a file of so many bytes, with those that it has.
 pub fn units_for<S: ObjectStore>(store: &S, size: u64) -> u64
-    ensures { (z : Sizes) (objects : Objects) (file : ℕ) → Has S.meaning z objects store.now → IsFile objects file
-        → size ≡ length (bytes_of (map.get objects file))
-        → (result ≡ capacity z - charge z objects + ceiling (length (bytes_of (map.get objects file))) z.page_bytes) × (result ≤ 2 ^ 28) }
+    ensures { OfAnyFile S.meaning store.now (λ z objects file. size ≡ length (bytes_of (map.get objects file)) → IsRoomOf z objects file result) }
 {
     free_units(store).saturating_add(units_of(store.sizes(), size))
 }
 
 /// Whether there is room for so many bytes in place of those of a file.
 pub fn has_bytes_room<S: ObjectStore>(store: &S, file: u64, size: u64) -> bool
-    ensures { (z : Sizes) (objects : Objects) → Has S.meaning z objects store.now → IsFile objects file
-        → (moment : ℕ) (new : List ℕ) → size ≡ length new → result ≡ fits z (with_bytes objects moment file new) }
+    ensures { OfFile S.meaning store.now file (λ z objects. (moment : ℕ) (new : List ℕ) → size ≡ length new → result ≡ fits z (with_bytes objects moment file new)) }
 {
     units_of(store.sizes(), size) <= units_for(store, length(store, file))
 }

@@ -3,7 +3,7 @@ ghost use Rattle.volume_terms.specs.Names.{AreBytes};
 ghost use Rattle.posix_profile.specs.Requests.{command_of, stamped_of};
 ghost use Rattle.posix_profile.specs.laws.Sound.{HasBytes, IsStamped};
 
-use posix_profile::{Asked, Request};
+use posix_profile::{Request, StampedRequest};
 
 /// Each element is a byte.
 fn are_bytes(bytes: &[u8])
@@ -41,9 +41,9 @@ fn has_bytes(request: Request<'_>)
 }
 
 /// A command is as its types allow it.
-pub fn is_stamped(asked: &Asked<'_>)
-    ensures { IsStamped (stamped_of asked.now) }
+pub fn is_stamped(issued: &StampedRequest<'_>)
+    ensures { IsStamped (stamped_of issued.now) }
 {
-    let _moment = asked.moment;
-    has_bytes(asked.request);
+    let _moment = issued.moment;
+    has_bytes(issued.request);
 }

@@ -6,15 +6,15 @@ use Rattle.object_store.specs.Stores.{Has, Finds}
 use Rattle.plain_volume.specs.PlainMeaning.{plain_meaning}
 use Rattle.volume_terms.specs.declared.fault.StoreFault.{StoreFault}
 use Rattle.volume_terms.specs.declared.fault.StoreFault.TheVariants as faults
-use Rattle.command_tests.specs.declared.kept.KeptObjects.{KeptObjects}
-use Rattle.command_tests.specs.Kept.{kept_meaning}
+use Rattle.command_tests.specs.declared.committed.CommittedObjects.{CommittedObjects}
+use Rattle.command_tests.specs.Committed.{committed_meaning}
 
 -- the maps have what the store has
-pub maps_have : (z : Sizes) (objects : Objects) (a : KeptObjects) → Has kept_meaning z objects a → Has plain_meaning z objects a.objects
+pub maps_have : (z : Sizes) (objects : Objects) (a : CommittedObjects) → Has committed_meaning z objects a → Has plain_meaning z objects a.objects
 maps_have z objects a has = record { numbers = has.numbers; sizes = has.sizes; stands = has.stands; forest = has.forest; fit = has.fit }
 
 -- what the maps find, the store finds
-pub store_finds : {A : Type 0} (meant : A) (a b : KeptObjects) (r : Result A StoreFault) → Finds plain_meaning meant a.objects b.objects r → Finds kept_meaning meant a b r
+pub store_finds : {A : Type 0} (meant : A) (a b : CommittedObjects) (r : Result A StoreFault) → Finds plain_meaning meant a.objects b.objects r → Finds committed_meaning meant a b r
 store_finds meant a b (Ok found) is = is
 store_finds meant a b (Err faults.NoMemory) is = is
 store_finds meant a b (Err faults.Device) is = is

@@ -28,7 +28,7 @@ pub record IsUnread {S : Type 0} (m : Meaning S) (calls : ℕ) (a b : S) : Type 
   pub reads : m.reads a b
   pub failed : (calls ≡ 0) ⊎ m.unread a b
 
--- A store as the one inside, of which calls are counted: one that changes or commits takes one of those that are left, and
+-- A store as the one inside, with a count of its calls: one that changes or commits takes one of those that are left, and
 -- the last one may be cut off.
 abbrev pub fused_meaning : {S T : Type 0} (m : Meaning S) (inner : T → S) (calls : T → ℕ) (last : T → LastCall) → Meaning T
 fused_meaning m inner calls last = record {

@@ -1,4 +1,4 @@
-pub mod Kept
+pub mod Committed
 pub mod laws
 pub mod Fuses
 pub mod Refusals

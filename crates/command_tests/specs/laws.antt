@@ -1,3 +1,3 @@
-pub mod Kept
+pub mod Committed
 pub mod Fuses
 pub mod Refusals

@@ -1,5 +1,5 @@
 // Runs that are cut off at each of their calls: what was committed is a tree that a loss may leave.
-use crate::kept::KeptObjects;
+use crate::committed::CommittedObjects;
 use crate::lines::{commands_of, reply_text};
 use crate::{FusedStore, LastCall};
 use object_commands::Volume;
@@ -164,7 +164,7 @@ fn cut_run(
     calls: u64,
     last: LastCall,
 ) -> (Vec<Reply>, String) {
-    let inner = KeptObjects::new(no_objects(rt, alloc)).expect(rt, "memory");
+    let inner = CommittedObjects::new(no_objects(rt, alloc)).expect(rt, "memory");
     let store = FusedStore { inner, calls, last };
     let mut volume = match Volume::new(alloc, store, false) {
         Ok(volume) => volume,
@@ -177,7 +177,7 @@ fn cut_run(
         calls: _,
         last: _,
     } = volume.into_store();
-    let KeptObjects { objects: _, shown } = inner;
+    let CommittedObjects { objects: _, shown } = inner;
     (replies, tree_text(rt, alloc, shown))
 }
 

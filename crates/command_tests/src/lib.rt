@@ -2,12 +2,12 @@
 //! cut off at each of their calls.
 #![tactic(auto)]
 
+mod committed;
 mod fuse;
-mod kept;
 mod refusing;
 
+pub use committed::CommittedObjects;
 pub use fuse::{FusedStore, LastCall};
-pub use kept::KeptObjects;
 pub use refusing::RefusingStore;
 
 #[cfg(test)]

@@ -200,7 +200,7 @@ fn refuse_each(
 }
 
 /// The request, the reply, and how many calls of the store may be refused.
-const COUNTED: [(&str, &str, u64); 18] = [
+const COSTS: [(&str, &str, u64); 18] = [
     ("mkdir /d", "ok", 2),
     ("open /d/f rwc", "fd 0", 3),
     ("write 0 hello", "wrote 5", 1),
@@ -225,7 +225,7 @@ const COUNTED: [(&str, &str, u64); 18] = [
 fn each_call_may_be_refused(rt: HostRuntime) {
     let alloc = rt.alloc();
     let mut volume = volume_over(&rt, alloc, no_objects(&rt, alloc), false);
-    for (line, answers, calls) in COUNTED {
+    for (line, answers, calls) in COSTS {
         let stamped = command_of(&rt, alloc, line);
         let refused = refuse_each(&rt, alloc, &mut volume, &stamped, answers);
         assert_eq!(&rt; refused, calls, "{line}");

@@ -11,8 +11,8 @@ use Rattle.nand_model.specs.declared.nand.ProgramFault.{ProgramFault}
 use Rattle.nand_model.specs.declared.nand.EraseFault.{EraseFault}
 
 -- a device with the same sizes and marks is as small
-pub small_kept : (old new : Device) → IsSmall old → new.geometry ≡ old.geometry → new.flash.bad ≡ old.flash.bad → IsSmall new
-small_kept old new small geometry bad = record {
+pub small_committed : (old new : Device) → IsSmall old → new.geometry ≡ old.geometry → new.flash.bad ≡ old.flash.bad → IsSmall new
+small_committed old new small geometry bad = record {
   bytes = ap (λ (g : Geometry). g.bytes) geometry ∙ small.bytes;
   pages = ap (λ (g : Geometry). g.pages) geometry ∙ small.pages;
   blocks = ap (λ (g : Geometry). g.blocks) geometry ∙ small.blocks;
@@ -26,16 +26,16 @@ pub open_same : (old new : Device) → new ≡ old → (p : ℕ) → TakesPage p
 open_same old new same p was = subst (TakesPage p) (sym same) was
 
 pub small_read : (old new : Device) (result : Result PageKind Gone) → IsSmall old → Reads old new result → IsSmall new
-small_read old new result small does = small_kept old new small does.lasts.geometry does.bad
+small_read old new result small does = small_committed old new small does.lasts.geometry does.bad
 
 pub small_up : (old new : Device) → IsSmall old → PowersUp old new → IsSmall new
-small_up old new small up = small_kept old new small up.geometry up.bad
+small_up old new small up = small_committed old new small up.geometry up.bad
 
 pub small_program : (b p : ℕ) (bytes tag : List ℕ) (old new : Device) (result : Result (Unit {0}) ProgramFault) → IsSmall old → Programs b p bytes tag old new result → IsSmall new
-small_program b p bytes tag old new result small does = small_kept old new small does.lasts.geometry does.bad
+small_program b p bytes tag old new result small does = small_committed old new small does.lasts.geometry does.bad
 
 pub small_erase : (b : ℕ) (old new : Device) (result : Result (Unit {0}) EraseFault) → IsSmall old → Erases b old new result → IsSmall new
-small_erase b old new result small does = small_kept old new small does.lasts.geometry does.bad
+small_erase b old new result small does = small_committed old new small does.lasts.geometry does.bad
 
 -- after an erase that is done the first page of the block is the next
 pub open_erased : (old new : Device) (result : Result (Unit {0}) EraseFault) (done : Unit {0}) → result ≡ Ok done → IsSmall old → Erases 1 old new result → TakesPage 0 new

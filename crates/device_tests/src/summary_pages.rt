@@ -2,7 +2,7 @@
 ghost use Rattle.std.specs.Prelude.{◌≡◌, ◌<◌, false, IfOk, Some};
 ghost use Rattle.nand_model.specs.MemoryState.{device};
 
-use block_summaries::{FoundSummary, SummaryFault, read_summary};
+use mount_scan::{FoundSummary, SummaryFault, read_summary};
 use nand_model::{Geometry, MemNand, Nand};
 use page_tags::{CheckEntry, SummaryHead, Tag};
 use std::alloc::Global;

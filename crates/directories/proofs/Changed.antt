@@ -25,22 +25,22 @@ module _ (z : Sizes) (old new : PageMap) (o before : ℕ) (entries : Entries) (r
   -- one slot more
   pub added_each : (entry : Entry) → SlotOf z new o (length r.slots) entry → KeepsSlots z old new o (length r.slots) (length r.slots)
       → (k : ℕ) (e : Entry) → slice_get (r.slots ++ entry ∷ []) k ≡ Some e → SlotOf z new o k e
-  added_each entry slot kept k e at = elim (get_push r.slots entry k e at) [
-    | inl x ↦ kept k e (λ same. omega (arith, same, x.0)) x.0 (r.each k e x.1)
+  added_each entry slot committed k e at = elim (get_push r.slots entry k e at) [
+    | inl x ↦ committed k e (λ same. omega (arith, same, x.0)) x.0 (r.each k e x.1)
     | inr x ↦ subst (λ y. SlotOf z new o k y) (sym x.1) (subst (λ n. SlotOf z new o n entry) (sym x.0) slot)
   ]
 
   -- a slot in place of another
   pub put_each : (i : ℕ) (entry : Entry) → SlotOf z new o i entry → KeepsSlots z old new o (length r.slots) i → (k : ℕ) (e : Entry) → slice_get (set r.slots i entry) k ≡ Some e → SlotOf z new o k e
-  put_each i entry slot kept k y at = elim (get_put r.slots i entry k y at) [
+  put_each i entry slot committed k y at = elim (get_put r.slots i entry k y at) [
     | inl x ↦ subst (λ e. SlotOf z new o k e) (sym x.1) (subst (λ n. SlotOf z new o n entry) (sym x.0) slot)
-    | inr x ↦ kept k y x.0 (slice_get_within r.slots k y x.1) (r.each k y x.1)
+    | inr x ↦ committed k y x.0 (slice_get_within r.slots k y x.1) (r.each k y x.1)
   ]
 
   -- one slot less
   pub fewer_each : z.page_bytes ≤ 4096 → (last : ℕ) → length r.slots ≡ last + 1 → (i : ℕ) (e : Entry) → slice_get r.slots i ≡ Some e → (l : Entry) → slice_get r.slots last ≡ Some l
       → (i < last → (x : Entry) × SlotOf z old o last x × SlotOf z new o i x) → KeepsSlots z old new o last i → (k : ℕ) (y : Entry) → slice_get (take last (set r.slots i l)) k ≡ Some y → SlotOf z new o k y
-  fewer_each few last len i e at_i l at_last filled kept k y at =
+  fewer_each few last len i e at_i l at_last filled committed k y at =
       let x = origin r.slots r.once entries r.entries_are i e at_i last len l at_last k y at in
       elim x.4 [
         | inl p ↦
@@ -48,7 +48,7 @@ module _ (z : Sizes) (old new : PageMap) (o before : ℕ) (entries : Entries) (r
             let there : SlotOf z old o last y = r.each last y (ap (slice_get r.slots) (sym p.1) ∙ x.1) in
             let one : f.0 ≡ y = one_entry z few old o last f.0 y f.1 there in
             subst (λ n. SlotOf z new o n y) (sym p.0) (subst (λ e. SlotOf z new o i e) one f.2)
-        | inr p ↦ kept k y p.0 x.3 (r.each k y (ap (slice_get r.slots) (sym p.1) ∙ x.1))
+        | inr p ↦ committed k y p.0 x.3 (r.each k y (ap (slice_get r.slots) (sym p.1) ∙ x.1))
       ]
 
 -- ---- what it reads
@@ -75,31 +75,31 @@ module _ (z : Sizes) (old new : PageMap) (o before moment : ℕ) (entries : Entr
   -- one slot more
   pub reads_added : head.length ≡ length r.slots + 1 → (entry : Entry) → map.get entries entry.name ≡ None → SlotOf z new o (length r.slots) entry → KeepsSlots z old new o (length r.slots) (length r.slots)
       → ReadsDirectory z new o moment (map.insert entries entry.name entry.object) r.fields.spare
-  reads_added len entry absent slot kept = reads_slots (r.slots ++ entry ∷ []) (map.insert entries entry.name entry.object) (len ∙ sym (length-append r.slots (entry ∷ [])))
-      (added_each z old new o before entries r entry slot kept)
+  reads_added len entry absent slot committed = reads_slots (r.slots ++ entry ∷ []) (map.insert entries entry.name entry.object) (len ∙ sym (length-append r.slots (entry ∷ [])))
+      (added_each z old new o before entries r entry slot committed)
       (once_push r.slots r.once entries r.entries_are entry absent) (entries_push r.slots r.once entries r.entries_are entry absent)
 
   -- a slot in place of another
   pub reads_put : head.length ≡ length r.slots → (i : ℕ) (e : Entry) → slice_get r.slots i ≡ Some e → (entry : Entry) → entry.name ≡ e.name → SlotOf z new o i entry → KeepsSlots z old new o (length r.slots) i
       → ReadsDirectory z new o moment (map.insert entries entry.name entry.object) r.fields.spare
-  reads_put len i e at_i entry name_is slot kept = reads_slots (set r.slots i entry) (map.insert entries entry.name entry.object) (len ∙ sym (put_len r.slots i entry))
-      (put_each z old new o before entries r i entry slot kept)
+  reads_put len i e at_i entry name_is slot committed = reads_slots (set r.slots i entry) (map.insert entries entry.name entry.object) (len ∙ sym (put_len r.slots i entry))
+      (put_each z old new o before entries r i entry slot committed)
       (once_put r.slots r.once entries r.entries_are i e at_i entry name_is) (entries_put r.slots r.once entries r.entries_are i e at_i entry name_is)
 
   -- one slot less
   pub reads_fewer : z.page_bytes ≤ 4096 → length r.slots ≡ head.length + 1 → (i : ℕ) (e : Entry) → slice_get r.slots i ≡ Some e
       → (i < head.length → (x : Entry) × SlotOf z old o head.length x × SlotOf z new o i x) → KeepsSlots z old new o head.length i → ReadsDirectory z new o moment (map.remove entries e.name) r.fields.spare
-  reads_fewer few len i e at_i filled kept =
+  reads_fewer few len i e at_i filled committed =
       let last : ℕ = head.length in
       let l = slice_get_there r.slots last (omega (arith, len)) in
       reads_slots (fewer r.slots r.once entries r.entries_are i e at_i last len l.0 l.1) (map.remove entries e.name)
       (let t : length (fewer r.slots r.once entries r.entries_are i e at_i last len l.0 l.1) ≡ _ = length-take last (set r.slots i l.0) in omega (arith, t, put_len r.slots i l.0, len))
-      (fewer_each z old new o before entries r few last len i e at_i l.0 l.1 filled kept)
+      (fewer_each z old new o before entries r few last len i e at_i l.0 l.1 filled committed)
       (once_fewer r.slots r.once entries r.entries_are i e at_i last len l.0 l.1) (entries_fewer r.slots r.once entries r.entries_are i e at_i last len l.0 l.1)
 
 -- a directory whose pages stay
-pub reads_kept : (z : Sizes) (m n : PageMap) (o moment : ℕ) (entries : Entries) (r : ReadsDir z (has m) o moment entries) → ((c : ℕ) → n o c ≡ m o c) → ReadsDirectory z n o moment entries r.fields.spare
-reads_kept z m n o moment entries r same = (
+pub reads_committed : (z : Sizes) (m n : PageMap) (o moment : ℕ) (entries : Entries) (r : ReadsDir z (has m) o moment entries) → ((c : ℕ) → n o c ≡ m o c) → ReadsDirectory z n o moment entries r.fields.spare
+reads_committed z m n o moment entries r same = (
   record {
     fields = r.fields;
     has = (same 0 ∙ r.has.0, r.has.1);

@@ -1,4 +1,4 @@
--- Slots that an index holds under the hash of a name, and what is asked for of them.
+-- Slots that an index holds under the hash of a name, and what is looked up of them.
 use Rattle.std.specs.Prelude.{◌≡◌, ◌<◌, ◌≤◌, ℕ, ◌+◌, List, [], ◌∷◌, ◌++◌, length, Some, slice_get}
 use Rattle.std.proofs.Common.{sym, ◌∙◌, subst, inl, inr, arith}
 use Rattle.std.proofs.lemmas.List.{length-append}
@@ -7,7 +7,7 @@ use Rattle.name_index.specs.Hashes.{fnv1a}
 use Rattle.name_index.specs.Names.{Holds}
 use Rattle.name_index.specs.declared.index.NameIndex.{NameIndex}
 use Rattle.volume_terms.specs.laws.List.{get_push}
-use Rattle.directories.specs.Named.{AreHeld, AsksHeld}
+use Rattle.directories.specs.Named.{AreHeld, IssuesHeld}
 
 module _ (names : NameIndex) (d : ℕ) (name : List ℕ) where
   pub none_held : AreHeld names d name []
@@ -35,7 +35,7 @@ module _ (names : NameIndex) (d : ℕ) (name : List ℕ) where
     ];
   }
 
-  -- a page more is asked for, and its slot is behind those that were looked at
+  -- a page more is looked up, and its slot is behind those that were looked at
   pub asked_on : (old mid new from p : ℕ) → ((slots : List ℕ) × AreHeld names d name slots × ((i s : ℕ) → slice_get slots i ≡ Some s → s < from) × (mid ≤ old + length slots))
       → from ≤ p → Holds names d (fnv1a name) p → new ≤ mid + 1
       → (slots : List ℕ) × AreHeld names d name slots × ((i s : ℕ) → slice_get slots i ≡ Some s → s < p + 1) × (new ≤ old + length slots)
@@ -52,16 +52,16 @@ module _ (names : NameIndex) (d : ℕ) (name : List ℕ) where
         omega (arith, few, size, more),
       )
 
-  pub asks_none : (old new : ℕ) → new ≤ old → AsksHeld names d name old new
+  pub asks_none : (old new : ℕ) → new ≤ old → IssuesHeld names d name old new
   asks_none old new le = ([], none_held, omega (arith, le))
 
   -- some more before the search and some behind it
-  pub asks_more : (old new old' new' k : ℕ) → AsksHeld names d name old new → old + k ≤ old' → new' ≤ new + k → AsksHeld names d name old' new'
+  pub asks_more : (old new old' new' k : ℕ) → IssuesHeld names d name old new → old + k ≤ old' → new' ≤ new + k → IssuesHeld names d name old' new'
   asks_more old new old' new' k asks low high = let few : new ≤ old + length asks.0 = asks.2 in (asks.0, asks.1, omega (arith, few, low, high))
 
--- two names are looked for, one after the other, and some pages are asked for besides
-pub asks_both : (names : NameIndex) (d e : ℕ) (to from : List ℕ) (old mid next new : ℕ) → AsksHeld names d to (old + 1) mid → AsksHeld names e from (mid + 3) next → new ≤ next + 2
-    → (k : ℕ) × AsksHeld names d to (old + 6) k × AsksHeld names e from k new
+-- two names are looked for, one after the other, and some pages are looked up besides
+pub asks_both : (names : NameIndex) (d e : ℕ) (to from : List ℕ) (old mid next new : ℕ) → IssuesHeld names d to (old + 1) mid → IssuesHeld names e from (mid + 3) next → new ≤ next + 2
+    → (k : ℕ) × IssuesHeld names d to (old + 6) k × IssuesHeld names e from k new
 asks_both names d e to from old mid next new one two more = (
   mid + 5,
   asks_more names d to (old + 1) mid (old + 6) (mid + 5) 5 one (omega arith) (omega arith),
@@ -69,5 +69,5 @@ asks_both names d e to from old mid next new one two more = (
 )
 
 -- the second is not looked for
-pub asks_first : (names : NameIndex) (d e : ℕ) (to from : List ℕ) (old new : ℕ) → AsksHeld names d to (old + 1) new → (k : ℕ) × AsksHeld names d to (old + 6) k × AsksHeld names e from k new
+pub asks_first : (names : NameIndex) (d e : ℕ) (to from : List ℕ) (old new : ℕ) → IssuesHeld names d to (old + 1) new → (k : ℕ) × IssuesHeld names d to (old + 6) k × IssuesHeld names e from k new
 asks_first names d e to from old new one = (new, asks_more names d to (old + 1) new (old + 6) new 0 one (omega arith) (omega arith), asks_none names e from new new (omega arith))

@@ -40,12 +40,12 @@ module _ (pages : List FreshPage) (d slot page_bytes : ℕ) (page : List ℕ) (f
 
   pub written_by : (result : Option ℕ) → IfSome result (λ hash. (e : Entry) → IsTreeSlot e → bytes ≡ slot_bytes e → fnv1a e.name ≡ hash)
       → IfSome result (λ hash. (z : Sizes) → z.page_bytes ≡ page_bytes → WritesHash z pages d slot hash)
-  written_by (Some hash) told = λ z size m e s. told e s.2 (bytes_are z size m e s)
-  written_by None told = tt
+  written_by (Some hash) reported = λ z size m e s. reported e s.2 (bytes_are z size m e s)
+  written_by None reported = tt
 
   pub none_by : (result : Option ℕ) → IfNone result ((e : Entry) → IsTreeSlot e → bytes ≢ slot_bytes e) → IfNone result ((z : Sizes) → z.page_bytes ≡ page_bytes → WritesNoName z pages d slot)
-  none_by (Some hash) told = tt
-  none_by None told = λ z size i of m e s. told e s.2 (bytes_are z size m e s)
+  none_by (Some hash) reported = tt
+  none_by None reported = λ z size i of m e s. reported e s.2 (bytes_are z size m e s)
 
 -- a page with less bytes than a slot has none
 length_is : (e : Entry) → IsSlot e → length (slot_bytes e) ≡ 272
@@ -69,7 +69,7 @@ none_short pages d slot page_bytes sized short z i of m e s = elim (first_or_non
 
 -- ---- the slots that are held under a hash, one after the other
 module _ (z : Sizes) (change : Change) (d hash : ℕ) where
-  -- what is told of one of them
+  -- what is reported of one of them
   abbrev pub StaysAt : ℕ → Type 0
   StaysAt s = HasKey change d (1 + s / page_slots z) → WritesHash z change.pages.items d s hash
 

@@ -44,15 +44,15 @@ one_more_read z m d n entries f e slot absent = record {
 -- all slots that the header counts are the directory
 pub all_read : (p : PagesState) (z : Sizes) (d : ℕ) (head : DirectoryHead) (entries : Entries) → z.page_bytes ≡ p.page_bytes → SaysHead p d head → ReadsFirst z p.present d head.length entries
     → (moment : ℕ) × ReadsDir z (has p.present) d moment entries
-all_read p z d head entries size told f = (
-  told.0.fields.moment,
+all_read p z d head entries size reported f = (
+  reported.0.fields.moment,
   record {
-    fields = told.0.fields;
-    has = (told.0.has, subst (λ n. IsHeader n told.0.fields) (sym size) told.0.valid);
-    kind = told.0.kind;
+    fields = reported.0.fields;
+    has = (reported.0.has, subst (λ n. IsHeader n reported.0.fields) (sym size) reported.0.valid);
+    kind = reported.0.kind;
     when = refl;
     slots = f.slots;
-    size = sym told.1.length_is ∙ sym f.size;
+    size = sym reported.1.length_is ∙ sym f.size;
     each = f.each;
     once = f.once;
     entries_are = f.are;

@@ -33,12 +33,12 @@ one_more_page len n c some partly behind = elim (cases_lt (div_ceil len n) (div_
 
 module _ (z : Sizes) (old new : PageMap) (d but count : ℕ) (some : 1 ≤ page_slots z) (less : but < count) (keeps : KeepsPages z old new d but) where
   -- the slot that is written is one of these
-  pub kept_behind : KeepsBehind z old new d count
-  kept_behind c behind =
+  pub committed_behind : KeepsBehind z old new d count
+  committed_behind c behind =
       let up : but / page_slots z < div_ceil count (page_slots z) = part_within but count (page_slots z) some less in
       keeps c (omega (arith, behind)) (λ same. omega (arith, same, behind, up))
 
   pub only_written : (before : ℕ) → before ≤ count → HasOnly z old d before → HasOnly z new d count
   only_written before le only c behind =
       let few : div_ceil before (page_slots z) ≤ div_ceil count (page_slots z) = ceil_up before count (page_slots z) some le in
-      kept_behind c behind ∙ only c (omega (arith, behind, few))
+      committed_behind c behind ∙ only c (omega (arith, behind, few))

@@ -1,4 +1,4 @@
--- What is told of a directory that is there.
+-- What is reported of a directory that is there.
 use Rattle.std.specs.Prelude.{◌≡◌, ◌<◌, ◌≤◌, ℕ, List, length, Option, Some, None, option_map, slice_get}
 use Rattle.std.specs.FinMap as map
 use Rattle.std.proofs.Common.{sym, ◌∙◌, ap, subst, arith}
@@ -47,7 +47,7 @@ module _ (p : PagesState) (z : Sizes) (o moment : ℕ) (entries : Entries) (d : 
   pub slots_are : AreSlots (SlotOf z p.present o) 0 (length d.reads.slots)
   slots_are i low less = let at = slice_get_there d.reads.slots i less in (at.0, d.reads.each i at.0 at.1)
 
-  -- a slot that is told is the one of the directory
+  -- a slot that is reported is the one of the directory
   pub slot_is : z.page_bytes ≤ 4096 → (i : ℕ) (e : Entry) → i < length d.reads.slots → SlotOf z p.present o i e → slice_get d.reads.slots i ≡ Some e
   slot_is few i e less at =
       let s = slice_get_there d.reads.slots i less in

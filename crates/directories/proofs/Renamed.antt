@@ -41,8 +41,8 @@ module _ (names : NameIndex) (old mid next : PagesState) (first_finds : OnlyFind
   pub same : changed taken.change next.present ≡ changed taken.change mid.present
   same = ap (changed taken.change) finds.present
 
-  pub counted : length then_in.reads.slots ≡ taken.last
-  counted =
+  pub totaled : length then_in.reads.slots ≡ taken.last
+  totaled =
       sym (entries_len then_in.reads.slots then_in.reads.once (map.remove entries from) then_in.reads.entries_are)
       ∙ count_after z size (changed taken.change next.present) o moment (map.remove entries from) then_in.reads t.head (subst (λ (m : PageMap). HasHead z m o t.head) (sym same) t.loses.header)
       ∙ t.counts
@@ -50,12 +50,12 @@ module _ (names : NameIndex) (old mid next : PagesState) (first_finds : OnlyFind
   pub stands_in : (to : Name) (found : Option Located) (place : Option ℕ) → IsFoundAt d.reads.slots entries to found → IsMovedTo found taken.place taken.last place
       → StandsAt then_in.reads.slots (map.remove entries from) to place
   stands_in to found place is moved =
-      stands_then names mid z o before entries (named_later names old mid z o before entries first_finds d) size.most from to taken t (after (Some taken.change) next) same moment then_in counted found place is moved
+      stands_then names mid z o before entries (named_later names old mid z o before entries first_finds d) size.most from to taken t (after (Some taken.change) next) same moment then_in totaled found place is moved
 
 -- a directory whose pages stay
-abbrev pub dir_kept : (p q : PagesState) (z : Sizes) (o moment : ℕ) (entries : Entries) → q.sound ≡ true → z.page_bytes ≡ q.page_bytes → ((c : ℕ) → q.present o c ≡ p.present o c)
+abbrev pub dir_committed : (p q : PagesState) (z : Sizes) (o moment : ℕ) (entries : Entries) → q.sound ≡ true → z.page_bytes ≡ q.page_bytes → ((c : ℕ) → q.present o c ≡ p.present o c)
     → ReadsDir z (has p.present) o moment entries → DirIn q z o moment entries
-dir_kept p q z o moment entries sound size same r = record {
+dir_committed p q z o moment entries sound size same r = record {
   sound = sound;
   size = size;
   reads = record {

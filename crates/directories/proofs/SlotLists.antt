@@ -181,21 +181,21 @@ module _ (z : Sizes) (first second both : Change) (apart : AreApart both.pages.i
 
 module _ (z : Sizes) (few : z.page_bytes ≤ 4096) (m : PageMap) (o before : ℕ) (entries : Entries) (r : ReadsDir z (has m) o before entries) (name : Name) (taken : Taken)
     (t : TakesName z m o r.slots name taken) where
-  counted : length r.slots ≡ t.head.length + 1
-  counted = omega (arith, t.counts, t.last_is)
+  totaled : length r.slots ≡ t.head.length + 1
+  totaled = omega (arith, t.counts, t.last_is)
 
   pub last_of : (l : Entry) × (slice_get r.slots t.head.length ≡ Some l)
-  last_of = slice_get_there r.slots t.head.length (omega (arith, counted))
+  last_of = slice_get_there r.slots t.head.length (omega (arith, totaled))
 
   abbrev pub left_slots : List Entry
   left_slots = take t.head.length (set r.slots taken.place last_of.0)
 
   left_len : length left_slots ≡ t.head.length
-  left_len = let l = length-take t.head.length (set r.slots taken.place last_of.0) in omega (arith, l, put_len r.slots taken.place last_of.0, counted)
+  left_len = let l = length-take t.head.length (set r.slots taken.place last_of.0) in omega (arith, l, put_len r.slots taken.place last_of.0, totaled)
 
   pub left_without : IsWithout name r.slots left_slots
   left_without =
-      let one : length r.slots - 1 ≡ t.head.length = omega (arith, counted) in
+      let one : length r.slots - 1 ≡ t.head.length = omega (arith, totaled) in
       record {
         place = taken.place;
         entry = t.entry;
@@ -207,7 +207,7 @@ module _ (z : Sizes) (few : z.page_bytes ≤ 4096) (m : PageMap) (o before : ℕ
       }
 
   left_each : (k : ℕ) (y : Entry) → slice_get left_slots k ≡ Some y → SlotOf z (changed taken.change m) o k y
-  left_each = fewer_each z m (changed taken.change m) o before entries r few t.head.length counted taken.place t.entry t.there last_of.0 last_of.1 t.loses.filled t.loses.others
+  left_each = fewer_each z m (changed taken.change m) o before entries r few t.head.length totaled taken.place t.entry t.there last_of.0 last_of.1 t.loses.filled t.loses.others
 
   pub left_writes : (bytes most : ℕ) → IsChange taken.change bytes most → z.page_bytes ≡ bytes → WritesSlots z taken.change o left_slots
   left_writes bytes most is size = writes_slots z m taken.change o bytes most is size left_slots (subst (EndsInZeros z taken.change o) (sym left_len) t.loses.zeros) left_each
@@ -217,7 +217,7 @@ module _ (z : Sizes) (few : z.page_bytes ≤ 4096) (m : PageMap) (o before : ℕ
   left_are now same slots len each = same_lists left_slots slots (left_len ∙ t.counts ∙ sym len)
       (λ i x y a b. one_entry z few (changed taken.change m) o i x y (left_each i x a) (subst (λ (k : PageMap). SlotOf z k o i y) same (each i y b)))
 
--- ---- what is told of a result
+-- ---- what is reported of a result
 
 pub rewrites_ok : {E : Type 0} (p : PagesState) (o : ℕ) (Follows : List Entry → List Entry → Type 0) (r : Result Change E)
     → ((z : Sizes) (before : ℕ) (entries : Entries) (d : DirIn p z o before entries) → IfOk r (λ change. (new : List Entry) × Follows d.reads.slots new × WritesSlots z change o new)) → IfOk r (Rewrites p o Follows)

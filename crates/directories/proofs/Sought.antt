@@ -1,4 +1,4 @@
--- What a look-up through an index tells of a directory whose names it holds.
+-- What a look-up through an index reports on a directory whose names it holds.
 use Rattle.std.specs.Prelude.{◌≡◌, ◌≢◌, ◌<◌, ◌≤◌, ℕ, ◌+◌, ◌-◌, length, Option, Some, None, slice_get}
 use Rattle.std.specs.FinMap as map
 use Rattle.std.specs.Cmp.Lexicographic.{nat_list_cmp_total}
@@ -19,7 +19,7 @@ use Rattle.pages.specs.laws.State.{finds_none}
 use Rattle.pages.specs.declared.change.Change.{Change}
 use Rattle.directories.specs.Directories.{DirIn, ReadsDirectory, SlotOf}
 use Rattle.directories.specs.Heads.{IsHeadOf, SaysHead}
-use Rattle.directories.specs.Named.{NamedIn, FindsHeld, TellsHeld, StandsAt, IsFoundAt, IsSought}
+use Rattle.directories.specs.Named.{NamedIn, FindsHeld, ReportsHeld, StandsAt, IsFoundAt, IsSought}
 use Rattle.directories.specs.Slots.{Finds}
 use Rattle.directories.specs.Taking.{TakesName, IsMovedTo}
 use Rattle.directories.specs.Writes.{LosesSlot}
@@ -29,7 +29,7 @@ use Rattle.directories.specs.declared.taking.Taken.{Taken}
 use Rattle.directories.proofs.Changed.{reads_fewer}
 use Rattle.directories.proofs.Lists.{leads}
 use Rattle.directories.proofs.Reading.{one_entry, slot_is}
-use Rattle.directories.proofs.Told.{count_is, length_is, head_says, located, leads_nowhere}
+use Rattle.directories.proofs.Reported.{count_is, length_is, head_says, located, leads_nowhere}
 
 module _ (names : NameIndex) (p : PagesState) (z : Sizes) (o moment : ℕ) (entries : Entries) (d : NamedIn names p z o moment entries) where
   abbrev pub dir : DirIn p z o moment entries
@@ -127,10 +127,10 @@ module _ (names : NameIndex) (p : PagesState) (z : Sizes) (o moment : ℕ) (entr
           (there_then l.place is.0 less is.2 (t.loses.others l.place is.0 moved.0 (omega (arith, less, t.counts)) (d.reads.each l.place is.0 is.1)))
     ]
 
--- what is told of a name, whatever is there
+-- what is reported of a name, whatever is there
 module _ (names : NameIndex) (z : Sizes) (p : PagesState) (o : ℕ) (head : DirectoryHead) (s : SaysHead p o head) (name : Name) where
-  pub tells_some : (l : Located) → FindsHeld (Holds names o (fnv1a name)) (SlotOf z p.present o) head.length name (Some l) → TellsHeld names z p o name (Some l.object)
-  tells_some l is = (s.0, (l.place, subst (λ n. l.place < n) s.1.length_is is.most, (is.entry, is.there, is.name_is, is.object_is)))
+  pub reports_some : (l : Located) → FindsHeld (Holds names o (fnv1a name)) (SlotOf z p.present o) head.length name (Some l) → ReportsHeld names z p o name (Some l.object)
+  reports_some l is = (s.0, (l.place, subst (λ n. l.place < n) s.1.length_is is.most, (is.entry, is.there, is.name_is, is.object_is)))
 
-  pub tells_none : FindsHeld (Holds names o (fnv1a name)) (SlotOf z p.present o) head.length name None → TellsHeld names z p o name None
-  tells_none is = (s.0, λ i less held. is i (subst (λ n. i < n) (sym s.1.length_is) less) held)
+  pub reports_none : FindsHeld (Holds names o (fnv1a name)) (SlotOf z p.present o) head.length name None → ReportsHeld names z p o name None
+  reports_none is = (s.0, λ i less held. is i (subst (λ n. i < n) (sym s.1.length_is) less) held)

@@ -126,7 +126,7 @@ module _ (d bytes : ℕ) (slot_page head_page : FreshPage) (head : DirectoryHead
       pub two_keeps : KeepsSlots z old (changed change old) d (min writing.before writing.afterwards) writing.number
       two_keeps k e other less is = elim (cases_eq (k / page_slots z) (writing.number / page_slots z)) [
         | inl same ↦
-            let at = slot.kept k e other (grind (arith, less)) (grind (arith, less)) same is in
+            let at = slot.committed k e other (grind (arith, less)) (grind (arith, less)) same is in
             (slot_page.bytes.items, subst (λ n. changed change old d (1 + n) ≡ Some slot_page.bytes.items) (sym same) newest, at.0, at.1)
         | inr apart ↦ (
           is.0,
@@ -311,7 +311,7 @@ page_made z old d writing entry page n count was xs slots some room within valid
   chunk_is = chunk ∙ ap (λ m. 1 + writing.number / m) slots;
   size = size;
   here = (valid, ap (λ m. take 272 (drop (272 * (writing.number % m)) page.bytes.items)) (sym slots) ∙ here);
-  kept = λ k e other low high same is.
+  committed = λ k e other low high same is.
       let in_n : k / n ≡ writing.number / n = ap (λ m. k / m) slots ∙ same ∙ ap (λ m. writing.number / m) (sym slots) in
       let whole : k / n * n ≡ writing.number / n * n = ap (λ m. m * n) in_n in
       let place : k % n ≢ writing.number % n = λ one. other (omega (arith, one, whole, div-add-mod' k n, div-add-mod' writing.number n)) in
@@ -338,12 +338,12 @@ page_made z old d writing entry page n count was xs slots some room within valid
       let under : writing.number % n + 1 ≤ most = grind (arith, base, small, within) in
       let after_slot : a ≤ j = omega (arith, le_n, under) in
       let few : count ≤ most = subst (λ m. m ≤ most) (sym count_is) (grind arith) in
-      let after_kept : 272 * count ≤ j = omega (arith, few, le_n) in
+      let after_committed : 272 * count ≤ j = omega (arith, few, le_n) in
       let len : length (take (272 * count) xs) ≡ 272 * count = grind (arith, length-take (272 * count) xs, long) in
       let split : a + (j - a) ≡ j = omega (arith, after_slot) in
       ap (λ k. get_or page.bytes.items k 0) (sym split) ∙ sym (get_or-drop a page.bytes.items (j - a) 0) ∙ ap (λ (ys : List ℕ). get_or ys (j - a) 0) past ∙ get_or-drop a was (j - a) 0 ∙ ap (λ k. get_or was k 0) split
       ∙ ap (λ (ys : List ℕ). get_or ys j 0) made
-      ∙ get_or-append_right (take (272 * count) xs) (replicate (length was - 272 * count) 0) (272 * count) j 0 len after_kept
+      ∙ get_or-append_right (take (272 * count) xs) (replicate (length was - 272 * count) 0) (272 * count) j 0 len after_committed
       ∙ zero_at (length was - 272 * count) (j - 272 * count);
 }
 

@@ -1,5 +1,5 @@
 -- What a change makes of a directory.
-use Rattle.std.specs.Prelude.{◌≡◌, ℕ, List, Option, None, Result, IfOk, IfSome}
+use Rattle.std.specs.Prelude.{◌≡◌, ℕ, List, Option, None, Result, IfOk, IfSome, ◌≢◌}
 use Rattle.std.specs.FinMap as map
 use Rattle.std.specs.Int.{div_ceil}
 use Rattle.page_tags.specs.Slots.{Entry}
@@ -13,10 +13,13 @@ use Rattle.pages.specs.declared.change.Change.{Change}
 use Rattle.directories.specs.Directories.{DirIn, Directory, HasOnly, ReadsDirectory}
 use Rattle.directories.specs.Hashing.{WritesPast}
 use Rattle.directories.specs.Named.{NamedIn, StandsAt}
-use Rattle.directories.specs.SlotLists.{PutsSlot}
+use Rattle.directories.specs.SlotLists.{PutsSlot, IsWithout, IsPut, IsMoved, WritesSlots}
 use Rattle.directories.specs.Taking.{TakesName}
 use Rattle.directories.specs.declared.renaming.Route.{Route}
 use Rattle.directories.specs.declared.taking.Taken.{Taken}
+use Rattle.page_tags.specs.SlotEntry.{entry_of}
+use Rattle.pages.specs.Changes.{IsChange}
+use Rattle.directories.specs.Writes.{KeepsKey}
 
 -- this holds of what was made, where something was
 abbrev pub IfMade : {A E : Type 0} → Result (Option A) E → (A → Type 0) → Type 0
@@ -86,3 +89,34 @@ PutsIn d entry change = PutsSlot d.sizes change d.object entry d.reads.slots
 -- the name's slot goes from the directory's: the last one stands in its place
 abbrev pub TakesFrom : Directory → List ℕ → Taken → Type 0
 TakesFrom d name taken = TakesName d.sizes d.pages d.object d.reads.slots name taken
+
+-- the change writes the pages of a list of slots that follows so from the directory's
+abbrev pub RewritesIn : Directory → (List Entry → List Entry → Type 0) → Change → Type 0
+RewritesIn d Follows change = (new : List Entry) × Follows d.reads.slots new × WritesSlots d.sizes change d.object new
+
+-- After the change the directory has these entries, and no page behind those of their slots where it had none behind those before.
+pub record Makes (d : Directory) (moment : ℕ) (new : Entries) (change : Change) : Type 0 where
+  pub becomes : Becomes d moment new change
+  pub ends : Ends d → EndsAfter d new change
+
+-- the name is taken from the directory, and the pages of its slots without it are written
+pub record TakesOut (d : Directory) (moment : ℕ) (name : List ℕ) (change : Change) : Type 0 where
+  pub makes : Makes d moment (map.remove d.entries name) change
+  pub slots : RewritesIn d (IsWithout name) change
+
+-- the slot's name leads to its object: the pages of the slots with it are written, and each that is new
+pub record PutsName (d : Directory) (moment : ℕ) (slot : Slot) (change : Change) : Type 0 where
+  pub makes : Makes d moment (with_slot d.entries slot) change
+  pub more : WritesNew d (map.len (with_slot d.entries slot)) change
+  pub slots : RewritesIn d (IsPut (entry_of slot)) change
+
+-- the name is taken from the directory, and the slot's name leads to its object then
+pub record MovesName (d : Directory) (moment : ℕ) (from : List ℕ) (to : Slot) (change : Change) : Type 0 where
+  pub makes : Makes d moment (with_moved d.entries from to) change
+  pub more : WritesNew d (map.len (with_moved d.entries from to)) change
+  pub slots : RewritesIn d (IsMoved from (entry_of to)) change
+
+-- the change of two directories has at most four pages, and leaves each key of any other object
+pub record ChangesBoth (p : PagesState) (route : Route) (made : Change) : Type 0 where
+  pub change : IsChange made p.page_bytes 4
+  pub others : (o c : ℕ) → o ≢ route.source → o ≢ route.target → KeepsKey p.present o c made

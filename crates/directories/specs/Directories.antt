@@ -48,22 +48,17 @@ abbrev pub LeadsFrom : (ℕ → Entry → Type 0) → ℕ → List ℕ → Optio
 LeadsFrom at count name None = (i : ℕ) → i < count → (e : Entry) × at i e × (e.name ≢ name)
 LeadsFrom at count name (Some object) = (i : ℕ) × (i < count) × ((e : Entry) × at i e × (e.name ≡ name) × (object ≡ e.object))
 
--- what is told of a name is what the header and the slots say
-abbrev pub TellsName : Sizes → PagesState → ℕ → List ℕ → Option ℕ → Type 0
-TellsName z p d name found = (h : IsHeaded p d) × LeadsFrom (SlotOf z p.present d) h.fields.length name found
+-- what is reported of a name is what the header and the slots say
+abbrev pub ReportsName : Sizes → PagesState → ℕ → List ℕ → Option ℕ → Type 0
+ReportsName z p d name found = (h : IsHeaded p d) × LeadsFrom (SlotOf z p.present d) h.fields.length name found
 
--- what is told of a slot: it has the name and leads to the object, or it has another name
-abbrev pub TellsSlot : Sizes → PageMap → ℕ → ℕ → List ℕ → Option ℕ → Type 0
-TellsSlot z m d i name found = (e : Entry) × SlotOf z m d i e × NamedBy e name found
-
--- there is a change exactly where the header and the slots say that the name is there
-abbrev pub TellsChange : Sizes → PagesState → ℕ → List ℕ → Option Change → Type 0
-TellsChange z p d name None = TellsName z p d name None
-TellsChange z p d name (Some change) = (object : ℕ) × TellsName z p d name (Some object)
+-- what is reported of a slot: it has the name and leads to the object, or it has another name
+abbrev pub ReportsSlot : Sizes → PageMap → ℕ → ℕ → List ℕ → Option ℕ → Type 0
+ReportsSlot z m d i name found = (e : Entry) × SlotOf z m d i e × NamedBy e name found
 
 -- the header is there, and so is the page on which the next slot would stand beside others
-abbrev pub TellsEnd : Sizes → PagesState → ℕ → Type 0
-TellsEnd z p d = (h : IsHeaded p d) × HasBeside z p.present d h.fields.length h.fields.length
+abbrev pub ReportsEnd : Sizes → PagesState → ℕ → Type 0
+ReportsEnd z p d = (h : IsHeaded p d) × HasBeside z p.present d h.fields.length h.fields.length
 
 -- there is a change exactly where the directory has the name
 abbrev pub IsNamed : Entries → List ℕ → Option Change → Type 0

@@ -15,8 +15,8 @@ pub record TakesEntry (entry : Entry) (old new : Entries) : Type 0 where
   pub was_new : map.get old entry.name ≡ None
 
 -- these are the names of the directory that the object is
-abbrev pub TellsNames : Sizes → PageMap → ℕ → List (List ℕ) → Type 0
-TellsNames z m d names = (moment : ℕ) × (entries : Entries) × ReadsDir z (has m) d moment entries × (names ≡ map.keys entries)
+abbrev pub ReportsNames : Sizes → PageMap → ℕ → List (List ℕ) → Type 0
+ReportsNames z m d names = (moment : ℕ) × (entries : Entries) × ReadsDir z (has m) d moment entries × (names ≡ map.keys entries)
 
 -- the first n slots of the directory, in which no name stands twice, are these entries
 pub record ReadsFirst (z : Sizes) (m : PageMap) (d n : ℕ) (entries : Entries) : Type 0 where

@@ -1,4 +1,4 @@
--- Directories whose names an index holds, and what a look-up through it tells.
+-- Directories whose names an index holds, and what a look-up through it reports.
 use Rattle.std.specs.Prelude.{◌≡◌, ◌≢◌, ◌<◌, ◌≤◌, ◌+◌, ℕ, true, List, length, Option, Some, None, Result, IfOk, slice_get}
 use Rattle.std.specs.FinMap as map
 use Rattle.flash_tree.specs.Tree.{ReadsDir}
@@ -33,13 +33,13 @@ pub record AreHeld (names : NameIndex) (directory : ℕ) (name slots : List ℕ)
   pub held : (i s : ℕ) → slice_get slots i ≡ Some s → IsHeld names directory name s
   pub once : (i j s : ℕ) → slice_get slots i ≡ Some s → slice_get slots j ≡ Some s → i ≡ j
 
--- no more pages are asked for than slots are held under the name's hash, each once
-abbrev pub AsksHeld : NameIndex → ℕ → List ℕ → ℕ → ℕ → Type 0
-AsksHeld names directory name old new = (slots : List ℕ) × AreHeld names directory name slots × (new ≤ old + length slots)
+-- no more pages are looked up than slots are held under the name's hash, each once
+abbrev pub IssuesHeld : NameIndex → ℕ → List ℕ → ℕ → ℕ → Type 0
+IssuesHeld names directory name old new = (slots : List ℕ) × AreHeld names directory name slots × (new ≤ old + length slots)
 
--- six pages are asked for, and no more besides than the one relation and then the other allow
-abbrev pub AsksBoth : (ℕ → ℕ → Type 0) → (ℕ → ℕ → Type 0) → PagesState → PagesState → Type 0
-AsksBoth R S old new = (mid : ℕ) × R (old.asked + 6) mid × S mid new.asked
+-- six pages are looked up, and no more besides than the one relation and then the other allow
+abbrev pub IssuesBoth : (ℕ → ℕ → Type 0) → (ℕ → ℕ → Type 0) → PagesState → PagesState → Type 0
+IssuesBoth R S old new = (mid : ℕ) × R (old.issued + 6) mid × S mid new.issued
 
 -- where a name is among so many slots; or of those that may have it, each has another
 abbrev pub FindsHeld : (ℕ → Type 0) → (ℕ → Entry → Type 0) → ℕ → List ℕ → Option Located → Type 0
@@ -51,14 +51,14 @@ abbrev pub LeadsHeld : (ℕ → Type 0) → (ℕ → Entry → Type 0) → ℕ �
 LeadsHeld held at count name None = (i : ℕ) → i < count → held i → (e : Entry) × at i e × (e.name ≢ name)
 LeadsHeld held at count name (Some object) = (i : ℕ) × (i < count) × ((e : Entry) × at i e × (e.name ≡ name) × (object ≡ e.object))
 
--- what is told of a name is what the header says, and the slots that the index has under its hash
-abbrev pub TellsHeld : NameIndex → Sizes → PagesState → ℕ → List ℕ → Option ℕ → Type 0
-TellsHeld names z p d name found = (h : IsHeaded p d) × LeadsHeld (IsHeld names d name) (SlotOf z p.present d) h.fields.length name found
+-- what is reported of a name is what the header says, and the slots that the index has under its hash
+abbrev pub ReportsHeld : NameIndex → Sizes → PagesState → ℕ → List ℕ → Option ℕ → Type 0
+ReportsHeld names z p d name found = (h : IsHeaded p d) × LeadsHeld (IsHeld names d name) (SlotOf z p.present d) h.fields.length name found
 
 -- there is a change exactly where they say that the name is there
-abbrev pub TellsHeldChange : {A : Type 0} → NameIndex → Sizes → PagesState → ℕ → List ℕ → Option A → Type 0
-TellsHeldChange names z p d name None = TellsHeld names z p d name None
-TellsHeldChange names z p d name (Some change) = (object : ℕ) × TellsHeld names z p d name (Some object)
+abbrev pub ReportsHeldChange : {A : Type 0} → NameIndex → Sizes → PagesState → ℕ → List ℕ → Option A → Type 0
+ReportsHeldChange names z p d name None = ReportsHeld names z p d name None
+ReportsHeldChange names z p d name (Some change) = (object : ℕ) × ReportsHeld names z p d name (Some object)
 
 -- the slots are those of the entries: the name is in this one of them, or it is none of the entries
 abbrev pub StandsAt : List Entry → Entries → List ℕ → Option ℕ → Type 0
@@ -80,6 +80,6 @@ abbrev pub IsSoughtIn : {E : Type 0} → NameIndex → PagesState → ℕ → Li
 IsSoughtIn names p o name result =
     (z : Sizes) (moment : ℕ) (entries : Entries) (d : NamedIn names p z o moment entries) → IfOk result (λ sought. IsSought z p o name sought moment entries d.reads)
 
--- what is told of it, whatever is there
-abbrev pub TellsSought : NameIndex → Sizes → PagesState → ℕ → List ℕ → Sought → Type 0
-TellsSought names z p d name sought = SaysHead p d sought.head × FindsHeld (IsHeld names d name) (SlotOf z p.present d) sought.head.length name sought.found
+-- what is reported of it, whatever is there
+abbrev pub ReportsSought : NameIndex → Sizes → PagesState → ℕ → List ℕ → Sought → Type 0
+ReportsSought names z p d name sought = SaysHead p d sought.head × FindsHeld (IsHeld names d name) (SlotOf z p.present d) sought.head.length name sought.found

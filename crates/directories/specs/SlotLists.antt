@@ -1,14 +1,12 @@
 -- The list of a directory's slots after a change, and the pages of it that the change writes.
 use Rattle.std.specs.Prelude.{◌≡◌, ◌≢◌, ◌⊎◌, ℕ, ◌+◌, ◌-◌, ◌*◌, List, [], ◌∷◌, ◌++◌, length, take, drop, set, replicate, flat_map, Some, slice_get}
 use Rattle.page_tags.specs.Slots.{Entry, slot_bytes}
-use Rattle.name_index.specs.declared.index.NameIndex.{NameIndex}
 use Rattle.volume_terms.specs.Sizes.{Sizes, page_slots}
 use Rattle.posix_profile.specs.State.{Entries}
 use Rattle.pages.specs.Maps.{IsPageOf}
 use Rattle.pages.specs.State.{PagesState}
 use Rattle.pages.specs.declared.change.Change.{Change}
 use Rattle.directories.specs.Directories.{DirIn}
-use Rattle.directories.specs.Named.{NamedIn}
 use Rattle.directories.specs.Writes.{HasKey}
 
 -- the bytes of page c of a directory with these slots: those that stand on it, in their order, and zeros behind them
@@ -49,11 +47,6 @@ IsMoved from entry old new = (mid : List Entry) × IsWithout from old mid × IsP
 abbrev pub Rewrites : PagesState → ℕ → (List Entry → List Entry → Type 0) → Change → Type 0
 Rewrites p o Follows change =
     (z : Sizes) (before : ℕ) (entries : Entries) (d : DirIn p z o before entries) → (new : List Entry) × Follows d.reads.slots new × WritesSlots z change o new
-
--- the same where an index has the hash of each of its names
-abbrev pub RewritesHeld : NameIndex → PagesState → ℕ → (List Entry → List Entry → Type 0) → Change → Type 0
-RewritesHeld names p o Follows change =
-    (z : Sizes) (before : ℕ) (entries : Entries) (d : NamedIn names p z o before entries) → (new : List Entry) × Follows d.reads.slots new × WritesSlots z change o new
 
 -- the change writes the pages of a list of slots in which the entry is put, and each page that is another in it
 abbrev pub PutsSlot : Sizes → Change → ℕ → Entry → List Entry → Type 0

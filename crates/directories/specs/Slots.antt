@@ -1,4 +1,4 @@
--- Slots of a page or of a directory, and what a search of them tells.
+-- Slots of a page or of a directory, and what a search of them reports.
 use Rattle.std.specs.Prelude.{◌≡◌, ◌≢◌, ◌<◌, ◌≤◌, ◌*◌, ℕ, List, take, drop, Option, Some, None}
 use Rattle.volume_terms.specs.Sizes.{slot_length}
 use Rattle.page_tags.specs.Slots.{Entry, slot_bytes}
@@ -13,7 +13,7 @@ slot_in page k = take slot_length (drop (slot_length * k) page)
 abbrev pub SlotAt : List ℕ → ℕ → Entry → Type 0
 SlotAt page k entry = IsTreeSlot entry × (slot_in page k ≡ slot_bytes entry)
 
--- the slot has this name and leads to the object that is told, or it has another name and none is told
+-- the slot has this name and leads to the object that is returned, or it has another name and none is reported
 abbrev pub NamedBy : Entry → List ℕ → Option ℕ → Type 0
 NamedBy entry name None = entry.name ≢ name
 NamedBy entry name (Some object) = (entry.name ≡ name) × (object ≡ entry.object)
@@ -31,7 +31,7 @@ pub record IsLocated (at : ℕ → Entry → Type 0) (from to : ℕ) (name : Lis
   pub name_is : entry.name ≡ name
   pub object_is : found.object ≡ entry.object
 
--- what is told of a name after a search: where it is, or that each slot has another
+-- what is reported of a name after a search: where it is, or that each slot has another
 abbrev pub Finds : (ℕ → Entry → Type 0) → ℕ → ℕ → List ℕ → Option Located → Type 0
 Finds at from to name None = (i : ℕ) → from ≤ i → i < to → (e : Entry) × at i e × (e.name ≢ name)
 Finds at from to name (Some found) = IsLocated at from to name found

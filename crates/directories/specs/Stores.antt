@@ -38,10 +38,6 @@ OfSlotted p d count A = OfSound p (λ z. AreSlots (SlotOf z p.present d) 0 count
 abbrev pub OfSlotAt : PagesState → ℕ → ℕ → Type 0 → Type 0
 OfSlotAt p d i A = OfSound p (λ z. (e : Entry) → SlotOf z p.present d i e → A)
 
--- this holds of a sound store in which the chunk has so many slots of the directory, and one at least
-abbrev pub OfChunkSlots : PagesState → ℕ → ℕ → ℕ → Type 0 → Type 0
-OfChunkSlots p d chunk count A = OfSound p (λ z. 1 ≤ count → AreSlots (SlotOf z p.present d) (chunk * page_slots z) (chunk * page_slots z + count) → A)
-
 -- this holds of a sound store in which the object has the header of a directory
 abbrev pub OfHeaded : PagesState → ℕ → Type 0 → Type 0
 OfHeaded p d A = p.sound ≡ true → IsHeaded p d → A

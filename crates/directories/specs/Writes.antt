@@ -32,7 +32,7 @@ pub record IsSlotPage (z : Sizes) (old : PageMap) (d : ℕ) (writing : Writing) 
   pub chunk_is : page.key.chunk ≡ 1 + writing.number / page_slots z
   pub size : length page.bytes.items ≡ z.page_bytes
   pub here : SlotAt page.bytes.items (writing.number % page_slots z) entry
-  pub kept : (k : ℕ) (e : Entry) → k ≢ writing.number → k < writing.before → k < writing.afterwards → k / page_slots z ≡ writing.number / page_slots z → SlotOf z old d k e
+  pub committed : (k : ℕ) (e : Entry) → k ≢ writing.number → k < writing.before → k < writing.afterwards → k / page_slots z ≡ writing.number / page_slots z → SlotOf z old d k e
       → SlotAt page.bytes.items (k % page_slots z) e
   pub past : (j : ℕ) → slot_length * min (writing.afterwards - writing.number / page_slots z * page_slots z) (page_slots z) ≤ j → slice_index page.bytes.items j ≡ 0
 

@@ -1,15 +1,14 @@
 // The addition of a name.
-ghost use Rattle.std.specs.Prelude.{◌≡◌, ◌≤◌, ◌+◌, None, OnOk, IfOk, IfErr};
+ghost use Rattle.std.specs.Prelude.{◌≤◌, ◌+◌, None, OnOk, IfOk, IfErr};
 ghost use Rattle.std.specs.FinMap as map;
 ghost use Rattle.page_tags.specs.SlotEntry.{entry_of};
 ghost use Rattle.flash_tree.specs.Slots.{IsTreeSlot};
 ghost use Rattle.pages.specs.Changes.{IsChange, IsOnlyOf};
-ghost use Rattle.pages.specs.State.{OnlyFinds, KeepsPower};
-ghost use Rattle.directories.specs.Directories.{TellsEnd};
-ghost use Rattle.pages.specs.Faults.{SaysWhyChanging};
+ghost use Rattle.directories.specs.Directories.{ReportsEnd};
+ghost use Rattle.pages.specs.Faults.{SaysWhyChanging, LooksUp};
 ghost use Rattle.directories.specs.Faults.{MayLackRoomIn};
 ghost use Rattle.directories.specs.SlotLists.{IsPushed, Rewrites};
-ghost use Rattle.directories.specs.Changing.{with_slot, IsNew, OfDir, Becomes, Ends, EndsAfter, WritesNew};
+ghost use Rattle.directories.specs.Changing.{with_slot, IsNew, OfDir, WritesNew, Makes};
 ghost use Rattle.pages.specs.Sound.{OfSound};
 
 use crate::head::{DirectoryHead, head_after};
@@ -29,17 +28,14 @@ pub fn add<P: Pages>(
     moment: u64,
 ) -> Result<Change, PageFault>
     requires { IsTreeSlot (entry_of slot.now) }
-    ensures finds { OnlyFinds (P.state pages.old) (P.state pages.new) }
-    ensures asked { (P.state pages.new).asked ≤ (P.state pages.old).asked + 2 }
-    ensures power { OnOk result (KeepsPower (P.state pages.old) (P.state pages.new)) }
+    ensures looks { LooksUp SaysWhyChanging (P.state pages.old) (P.state pages.new) result }
+    ensures issued { (P.state pages.new).issued ≤ (P.state pages.old).issued + 2 }
     ensures change { IfOk result (λ change. IsChange change (P.state pages.old).page_bytes 2) }
     ensures only { IfOk result (λ change. IsOnlyOf change directory) }
     ensures slot { OfDir (P.state pages.old) directory (λ d. IfOk result (WritesNew d (map.len d.entries + 1))) }
-    ensures adds { OfDir (P.state pages.old) directory (λ d. IsNew d.entries slot.now → IfOk result (Becomes d moment (with_slot d.entries slot.now))) }
-    ensures besides { OfDir (P.state pages.old) directory (λ d. IsNew d.entries slot.now → Ends d → IfOk result (EndsAfter d (with_slot d.entries slot.now))) }
-    ensures told { OfSound (P.state pages.old) (λ z. OnOk result (TellsEnd z (P.state pages.old) directory)) }
+    ensures adds { OfDir (P.state pages.old) directory (λ d. IsNew d.entries slot.now → IfOk result (Makes d moment (with_slot d.entries slot.now))) }
+    ensures reported { OfSound (P.state pages.old) (λ z. OnOk result (ReportsEnd z (P.state pages.old) directory)) }
     ensures slots { IfOk result (Rewrites (P.state pages.old) directory (IsPushed (entry_of slot.now))) }
-    ensures why { IfErr result (SaysWhyChanging (P.state pages.new)) }
     ensures fault { OfDir (P.state pages.old) directory (λ d. IfErr result (MayLackRoomIn d.entries (P.state pages.new))) }
 {
     let head = head_after(pages, None, directory)?;

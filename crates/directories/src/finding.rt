@@ -3,7 +3,7 @@ ghost use Rattle.std.specs.Prelude.{◌≡◌, ◌<◌, ◌^◌, OnOk, IfOk, IfE
 ghost use Rattle.std.specs.FinMap as map;
 ghost use Rattle.pages.specs.Faults.{MayLack, SaysWhy};
 ghost use Rattle.pages.specs.State.{OnlyFinds, KeepsPower};
-ghost use Rattle.directories.specs.Named.{AsksHeld, LeadsHeld, IsHeld};
+ghost use Rattle.directories.specs.Named.{IssuesHeld, LeadsHeld, IsHeld};
 ghost use Rattle.directories.specs.Stores.{OfSlots};
 ghost use Rattle.directories.specs.Changing.{OfDir, OfNamed};
 
@@ -12,7 +12,7 @@ use name_index::NameIndex;
 use pages::{PageFault, Pages};
 
 /// The object that a name leads to from a directory of so many entries, found through an index of its names: only the pages of
-/// slots are asked for that the index has under the name's hash, and not the header.
+/// slots are looked up that the index has under the name's hash, and not the header.
 pub fn find<P: Pages>(
     names: &NameIndex,
     pages: &mut P,
@@ -21,10 +21,10 @@ pub fn find<P: Pages>(
     name: &[u8],
 ) -> Result<Option<u64>, PageFault>
     ensures finds { OnlyFinds (P.state pages.old) (P.state pages.new) }
-    ensures asked { AsksHeld names.now directory name.now (P.state pages.old).asked (P.state pages.new).asked }
+    ensures issued { IssuesHeld names.now directory name.now (P.state pages.old).issued (P.state pages.new).issued }
     ensures power { OnOk result (KeepsPower (P.state pages.old) (P.state pages.new)) }
     ensures found { OfNamed names.now (P.state pages.old) directory (λ d. count ≡ map.len d.entries → IfOk result (λ it. it ≡ map.get d.entries name.now)) }
-    ensures told { count < 2 ^ 32 → OfSlots (P.state pages.old) directory (λ _ s. IfOk result (LeadsHeld (IsHeld names.now directory name.now) s count name.now)) }
+    ensures reported { count < 2 ^ 32 → OfSlots (P.state pages.old) directory (λ _ s. IfOk result (LeadsHeld (IsHeld names.now directory name.now) s count name.now)) }
     ensures why { IfErr result (SaysWhy (P.state pages.old) (P.state pages.new)) }
     ensures fault { OfDir (P.state pages.old) directory (λ d. count ≡ map.len d.entries → IfErr result (MayLack (P.state pages.old) (P.state pages.new))) }
 {

@@ -26,9 +26,9 @@ pub struct DirectoryHead {
 /// Reads the header of a directory.
 pub fn read_head<P: Pages>(pages: &mut P, directory: u64) -> Result<DirectoryHead, PageFault>
     ensures finds { OnlyFinds (P.state pages.old) (P.state pages.new) }
-    ensures asked { (P.state pages.new).asked ≤ (P.state pages.old).asked + 1 }
+    ensures issued { (P.state pages.new).issued ≤ (P.state pages.old).issued + 1 }
     ensures power { OnOk result (KeepsPower (P.state pages.old) (P.state pages.new)) }
-    ensures told { (P.state pages.old).sound ≡ true → IfOk result (SaysHead (P.state pages.old) directory) }
+    ensures reported { (P.state pages.old).sound ≡ true → IfOk result (SaysHead (P.state pages.old) directory) }
     ensures why { IfErr result (SaysWhy (P.state pages.old) (P.state pages.new)) }
     ensures fault { OfHeaded (P.state pages.old) directory (IfErr result (MayLack (P.state pages.old) (P.state pages.new))) }
 {
@@ -43,9 +43,9 @@ pub(crate) fn head_after<P: Pages>(
 ) -> Result<DirectoryHead, PageFault>
     requires { IsSizedBy (option_copied earlier) (P.state pages.old).page_bytes }
     ensures finds { OnlyFinds (P.state pages.old) (P.state pages.new) }
-    ensures asked { (P.state pages.new).asked ≤ (P.state pages.old).asked + 1 }
+    ensures issued { (P.state pages.new).issued ≤ (P.state pages.old).issued + 1 }
     ensures power { OnOk result (KeepsPower (P.state pages.old) (P.state pages.new)) }
-    ensures told { (P.state pages.old).sound ≡ true → IfOk result (SaysHead (later earlier.entry (P.state pages.old)) directory) }
+    ensures reported { (P.state pages.old).sound ≡ true → IfOk result (SaysHead (later earlier.entry (P.state pages.old)) directory) }
     ensures why { IfErr result (SaysWhy (P.state pages.old) (P.state pages.new)) }
     ensures fault { OfHeaded (later earlier.entry (P.state pages.old)) directory (IfErr result (MayLack (P.state pages.old) (P.state pages.new))) }
 {
@@ -65,7 +65,7 @@ fn decode_head(page: &[u8]) -> Option<DirectoryHead>
     requires least { 32 ≤ length page.now }
     requires most { length page.now ≤ 4096 }
     ensures read { (f : Fields) → IsHeaderOf page.now f → f.kind ≡ kinds.Directory → IsSomeAnd result (λ head. IsHeadOf head f) }
-    ensures told { IfSome result (λ head. (f : Fields) × IsHeaderOf page.now f × (f.kind ≡ kinds.Directory) × IsHeadOf head f) }
+    ensures reported { IfSome result (λ head. (f : Fields) × IsHeaderOf page.now f × (f.kind ≡ kinds.Directory) × IsHeadOf head f) }
 {
     let Ok(header) = decode_header(page) else {
         return None;

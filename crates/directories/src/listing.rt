@@ -8,7 +8,7 @@ ghost use Rattle.volume_terms.specs.Sizes.{slot_length};
 ghost use Rattle.pages.specs.Faults.{MayLackMemory, SaysWhyMaking};
 ghost use Rattle.pages.specs.Maps.{has};
 ghost use Rattle.pages.specs.State.{PagesState, OnlyFinds, KeepsPower};
-ghost use Rattle.directories.specs.Listings.{TakesEntry, TellsNames, ReadsBefore, ReadsPast, OfPage, OfDirPage, OfChunk};
+ghost use Rattle.directories.specs.Listings.{TakesEntry, ReportsNames, ReadsBefore, ReadsPast, OfPage, OfDirPage, OfChunk};
 ghost use Rattle.directories.specs.Stores.{OfPages, OfObject};
 ghost use Rattle.directories.specs.Changing.{OfDir, pages_of};
 ghost use Rattle.directories.specs.Slots.{OfEntry};
@@ -25,9 +25,9 @@ use volume_terms::SLOT_BYTES;
 /// The names of a directory, in the order of their bytes.
 pub fn names<P: Pages>(alloc: Global, pages: &mut P, directory: u64) -> Result<NameList, PageFault>
     ensures finds { OnlyFinds (P.state pages.old) (P.state pages.new) }
-    ensures asked { OfDir (P.state pages.old) directory (λ d. (P.state pages.new).asked ≤ (P.state pages.old).asked + 1 + pages_of d) }
+    ensures issued { OfDir (P.state pages.old) directory (λ d. (P.state pages.new).issued ≤ (P.state pages.old).issued + 1 + pages_of d) }
     ensures power { OnOk result (KeepsPower (P.state pages.old) (P.state pages.new)) }
-    ensures told { OfPages (P.state pages.old) (λ z m. IfOk result (TellsNames z m directory)) }
+    ensures reported { OfPages (P.state pages.old) (λ z m. IfOk result (ReportsNames z m directory)) }
     ensures found { OfDir (P.state pages.old) directory (λ d. IfOk result (λ names. names ≡ map.keys d.entries)) }
     ensures why { IfErr result (SaysWhyMaking (P.state pages.new)) }
     ensures fault { OfDir (P.state pages.old) directory (λ d. IfErr result (MayLackMemory (P.state pages.new))) }
@@ -37,12 +37,12 @@ pub fn names<P: Pages>(alloc: Global, pages: &mut P, directory: u64) -> Result<N
     Ok(names)
 }
 
-/// The names of a directory, with the objects that they lead to. Each page is asked for once.
+/// The names of a directory, with the objects that they lead to. Each page is looked up once.
 pub fn entries<P: Pages>(alloc: Global, pages: &mut P, directory: u64) -> Result<NameMap, PageFault>
     ensures finds { OnlyFinds (P.state pages.old) (P.state pages.new) }
-    ensures asked { OfDir (P.state pages.old) directory (λ d. (P.state pages.new).asked ≤ (P.state pages.old).asked + 1 + pages_of d) }
+    ensures issued { OfDir (P.state pages.old) directory (λ d. (P.state pages.new).issued ≤ (P.state pages.old).issued + 1 + pages_of d) }
     ensures power { OnOk result (KeepsPower (P.state pages.old) (P.state pages.new)) }
-    ensures told { OfPages (P.state pages.old) (λ z m. IfOk result (λ entries. (moment : ℕ) × ReadsDir z (has m) directory moment entries)) }
+    ensures reported { OfPages (P.state pages.old) (λ z m. IfOk result (λ entries. (moment : ℕ) × ReadsDir z (has m) directory moment entries)) }
     ensures found { OfDir (P.state pages.old) directory (λ d. IfOk result (λ found. found ≡ d.entries)) }
     ensures why { IfErr result (SaysWhyMaking (P.state pages.new)) }
     ensures fault { OfDir (P.state pages.old) directory (λ d. IfErr result (MayLackMemory (P.state pages.new))) }
@@ -68,9 +68,9 @@ fn take_chunk<P: Pages>(
 ) -> Result<(), PageFault>
     requires { slot_length * count ≤ (P.state pages.old).page_bytes }
     ensures finds { OnlyFinds (P.state pages.old) (P.state pages.new) }
-    ensures asked { (P.state pages.new).asked ≤ (P.state pages.old).asked + 1 }
+    ensures issued { (P.state pages.new).issued ≤ (P.state pages.old).issued + 1 }
     ensures power { OnOk result (KeepsPower (P.state pages.old) (P.state pages.new)) }
-    ensures told { OfObject (P.state pages.old) directory (λ it. ReadsBefore it chunk entries.old → IfOk result (λ _. ReadsPast it chunk count entries.new)) }
+    ensures reported { OfObject (P.state pages.old) directory (λ it. ReadsBefore it chunk entries.old → IfOk result (λ _. ReadsPast it chunk count entries.new)) }
     ensures why { IfErr result (SaysWhyMaking (P.state pages.new)) }
     ensures fault { OfDir (P.state pages.old) directory (λ d. 1 ≤ count → OfChunk d chunk count entries.old (IfErr result (MayLackMemory (P.state pages.new)))) }
 {
@@ -92,7 +92,7 @@ fn take_page(
 ) -> Result<(), PageFault>
     requires room { slot_length * count ≤ length page.now }
     requires few { length page.now ≤ 4096 }
-    ensures told { OfPage page.now chunk (λ it. ReadsBefore it chunk entries.old → IfOk result (λ _. ReadsPast it chunk count entries.new)) }
+    ensures reported { OfPage page.now chunk (λ it. ReadsBefore it chunk entries.old → IfOk result (λ _. ReadsPast it chunk count entries.new)) }
     ensures why { (new : PagesState) → IfErr result (SaysWhyMaking new) }
     ensures fault { (new : PagesState) → OfDirPage page.now chunk (λ d. OfChunk d chunk count entries.old (IfErr result (MayLackMemory new))) }
 {
@@ -105,7 +105,7 @@ fn take_page(
 /// Puts the entry that the bytes of a slot say into a map. A name that is there already is `Damaged`.
 fn take_entry(alloc: Global, bytes: &[u8], entries: &mut NameMap) -> Result<(), PageFault>
     requires { length bytes.now ≡ slot_length }
-    ensures told { IfOk result (λ _. (entry : Entry) × IsTreeSlot entry × (bytes.now ≡ slot_bytes entry) × TakesEntry entry entries.old entries.new) }
+    ensures reported { IfOk result (λ _. (entry : Entry) × IsTreeSlot entry × (bytes.now ≡ slot_bytes entry) × TakesEntry entry entries.old entries.new) }
     ensures why { (new : PagesState) → IfErr result (SaysWhyMaking new) }
     ensures fault { (new : PagesState) → OfEntry bytes.now (λ e. map.get entries.old e.name ≡ None → IfErr result (MayLackMemory new)) }
 {

@@ -33,7 +33,7 @@ pub fn hash_change(
     requires least { 512 ≤ page_bytes }
     requires most { page_bytes ≤ 4096 }
     requires sized { AreSized change.now.pages.items page_bytes }
-    ensures kept { HoldsMore names.old names.new }
+    ensures committed { HoldsMore names.old names.new }
     ensures hashes { OfNewSlots page_bytes change.now names.old (λ z m d count. OnOk result (HasHashes names.new z m d count)) }
 {
     hash_pages(names, page_bytes, &change.pages)
@@ -44,7 +44,7 @@ fn hash_pages(names: &mut NameIndex, page_bytes: u32, pages: &[FreshPage]) -> Re
     requires least { 512 ≤ page_bytes }
     requires most { page_bytes ≤ 4096 }
     requires sized { AreSized pages.now page_bytes }
-    ensures kept { HoldsMore names.old names.new }
+    ensures committed { HoldsMore names.old names.new }
     ensures all { OnOk result ((i : ℕ) (page : FreshPage) → slice_get pages.now i ≡ Some page → HashesPage names.new pages.now (page_bytes / slot_length) page) }
 {
     for page in pages {
@@ -64,7 +64,7 @@ fn hash_one(
     requires most { page_bytes ≤ 4096 }
     requires sized { AreSized pages.now page_bytes }
     requires here { length page.now.bytes.items ≡ page_bytes }
-    ensures kept { HoldsMore names.old names.new }
+    ensures committed { HoldsMore names.old names.new }
     ensures all { OnOk result (HashesPage names.new pages.now (page_bytes / slot_length) page.now) }
 {
     if page.key.chunk == 0 {
@@ -76,7 +76,7 @@ fn hash_one(
     hash_page(names, page_bytes / SLOT_BYTES as u32, page)
 }
 
-/// Whether the page of an object's header among these is not that of a directory. Where there is none it is not told.
+/// Whether the page of an object's header among these is not that of a directory. Where there is none it is not reported.
 fn is_no_directory(pages: &[FreshPage], page_bytes: u32, object: u64) -> bool
     requires least { 512 ≤ page_bytes }
     requires most { page_bytes ≤ 4096 }
@@ -92,7 +92,7 @@ fn is_no_directory(pages: &[FreshPage], page_bytes: u32, object: u64) -> bool
     false
 }
 
-/// Whether a page may be the header of a directory, by the byte of the kind alone: this is asked for each page of a change.
+/// Whether a page may be the header of a directory, by the byte of the kind alone: this is wanted for each page of a change.
 fn is_directory_page(page: &[u8]) -> bool
     requires { 32 ≤ length page.now }
     ensures { (f : Fields) → IsHeaderOf page.now f → f.kind ≡ kinds.Directory → result ≡ true }
@@ -104,7 +104,7 @@ fn is_directory_page(page: &[u8]) -> bool
 fn hash_page(names: &mut NameIndex, slots: u32, page: &FreshPage) -> Result<(), AllocError>
     requires slots { 1 ≤ page.now.key.chunk }
     requires room { slot_length * slots ≤ length page.now.bytes.items }
-    ensures kept { HoldsMore names.old names.new }
+    ensures committed { HoldsMore names.old names.new }
     ensures all { OnOk result (HoldsPage names.new slots page.now) }
 {
     let Some(first) = (page.key.chunk - 1).checked_mul(u64::from(slots)) else {
@@ -128,7 +128,7 @@ fn hash_slot(
     bytes: &[u8],
 ) -> Result<(), AllocError>
     requires { length bytes.now ≡ slot_length }
-    ensures kept { HoldsMore names.old names.new }
+    ensures committed { HoldsMore names.old names.new }
     ensures here { OnOk result (OfEntry bytes.now (λ e. number < 2 ^ 32 → Holds names.new directory (fnv1a e.name) number)) }
 {
     let Some(slot) = decode_tree_slot(bytes) else {

@@ -32,7 +32,7 @@ pub(crate) fn remove_slot<P: Pages>(
     requires within { place ≤ shorter.length }
     requires fits { shorter.length + 1 < 2 ^ 32 }
     ensures finds { OnlyFinds (P.state pages.old) (P.state pages.new) }
-    ensures asked { (P.state pages.new).asked ≤ (P.state pages.old).asked + 2 }
+    ensures issued { (P.state pages.new).issued ≤ (P.state pages.old).issued + 2 }
     ensures power { OnOk result (KeepsPower (P.state pages.old) (P.state pages.new)) }
     ensures change { IfOk result (λ change. IsChange change (P.state pages.old).page_bytes 2) }
     ensures only { IfOk result (λ change. IsOnlyOf change directory) }
@@ -61,7 +61,7 @@ fn shorten<P: Pages>(
     requires within { place ≤ shorter.length }
     requires fits { shorter.length + 1 < 2 ^ 32 }
     ensures finds { OnlyFinds (P.state pages.old) (P.state pages.new) }
-    ensures asked { (P.state pages.new).asked ≤ (P.state pages.old).asked + 2 }
+    ensures issued { (P.state pages.new).issued ≤ (P.state pages.old).issued + 2 }
     ensures power { OnOk result (KeepsPower (P.state pages.old) (P.state pages.new)) }
     ensures change { IfOk result (λ change. IsChange change (P.state pages.old).page_bytes 2) }
     ensures cuts { IfOk result (λ change. change.cuts.items ≡ []) }
@@ -116,7 +116,7 @@ fn fill<P: Pages>(
     requires within { place < shorter.length }
     requires fits { shorter.length + 1 < 2 ^ 32 }
     ensures finds { OnlyFinds (P.state pages.old) (P.state pages.new) }
-    ensures asked { (P.state pages.new).asked ≤ (P.state pages.old).asked + 2 }
+    ensures issued { (P.state pages.new).issued ≤ (P.state pages.old).issued + 2 }
     ensures power { OnOk result (KeepsPower (P.state pages.old) (P.state pages.new)) }
     ensures change { IfOk result (λ change. IsChange change (P.state pages.old).page_bytes 2) }
     ensures cuts { IfOk result (λ change. change.cuts.items ≡ []) }
@@ -148,9 +148,9 @@ fn slot_bytes<P: Pages>(
 ) -> Result<[u8; SLOT_BYTES], PageFault>
     requires { IsSizedBy (option_copied earlier) (P.state pages.old).page_bytes }
     ensures finds { OnlyFinds (P.state pages.old) (P.state pages.new) }
-    ensures asked { (P.state pages.new).asked ≤ (P.state pages.old).asked + 1 }
+    ensures issued { (P.state pages.new).issued ≤ (P.state pages.old).issued + 1 }
     ensures power { OnOk result (KeepsPower (P.state pages.old) (P.state pages.new)) }
-    ensures told { OfPages (later earlier.entry (P.state pages.old)) (λ z old. IfOk result (IsSlotBytes z old directory number)) }
+    ensures reported { OfPages (later earlier.entry (P.state pages.old)) (λ z old. IfOk result (IsSlotBytes z old directory number)) }
     ensures why { IfErr result (SaysWhy (P.state pages.old) (P.state pages.new)) }
     ensures fault { OfSlotAt (later earlier.entry (P.state pages.old)) directory number (IfErr result (MayLack (P.state pages.old) (P.state pages.new))) }
 {

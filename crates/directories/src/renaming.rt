@@ -1,21 +1,20 @@
 // The move of a name.
-ghost use Rattle.std.specs.Prelude.{◌≡◌, ◌≢◌, ◌≤◌, ◌+◌, ◌/◌, ℕ, OnOk, IfOk, IfErr, option_copied};
+ghost use Rattle.std.specs.Prelude.{◌≢◌, ◌≤◌, ◌+◌, ◌/◌, ℕ, OnOk, IfOk, IfErr, option_copied};
 ghost use Rattle.std.specs.FinMap as map;
 ghost use Rattle.page_tags.specs.SlotEntry.{entry_of};
 ghost use Rattle.flash_tree.specs.Slots.{IsTreeSlot};
 ghost use Rattle.volume_terms.specs.Sizes.{page_slots};
 ghost use Rattle.pages.specs.Afterwards.{IsSizedBy};
 ghost use Rattle.pages.specs.Changes.{IsChange, IsOnlyOf};
-ghost use Rattle.pages.specs.Faults.{SaysWhyChanging};
+ghost use Rattle.pages.specs.Faults.{SaysWhyChanging, LooksUp};
 ghost use Rattle.pages.specs.Maps.{PageMap, changed};
 ghost use Rattle.pages.specs.State.{OnlyFinds, KeepsPower};
 ghost use Rattle.directories.specs.Directories.{IsNamed};
 ghost use Rattle.directories.specs.Faults.{MayLackRoom, MayLackRoomIn};
-ghost use Rattle.directories.specs.Named.{AsksHeld, AsksBoth};
-ghost use Rattle.directories.specs.SlotLists.{IsMoved, IsPut, IsWithout, RewritesHeld};
+ghost use Rattle.directories.specs.Named.{IssuesHeld, IssuesBoth};
 ghost use Rattle.directories.specs.Writes.{HasKey, KeepsPages, KeepsKey, PushesSlot};
 ghost use Rattle.directories.specs.Stores.{later, OfSlotted, OfObject};
-ghost use Rattle.directories.specs.Changing.{IfMade, with_slot, with_moved, OfNamed, OfPut, OfRoute, Becomes, Ends, EndsAfter, WritesNew, PutsIn};
+ghost use Rattle.directories.specs.Changing.{IfMade, OfNamed, OfPut, OfRoute, Becomes, Ends, EndsAfter, WritesNew, PutsIn, MovesName, ChangesBoth, TakesOut, PutsName};
 ghost use Rattle.pages.specs.Sound.{OfSound};
 
 use crate::head::{DirectoryHead, head_after};
@@ -39,17 +38,12 @@ pub fn rename_within<P: Pages>(
     moment: u64,
 ) -> Result<Option<Change>, PageFault>
     requires { IsTreeSlot (entry_of to.now) }
-    ensures finds { OnlyFinds (P.state pages.old) (P.state pages.new) }
-    ensures asked { AsksBoth (AsksHeld names.now directory to.now.name.now) (AsksHeld names.now directory from.now) (P.state pages.old) (P.state pages.new) }
-    ensures power { OnOk result (KeepsPower (P.state pages.old) (P.state pages.new)) }
+    ensures looks { LooksUp SaysWhyChanging (P.state pages.old) (P.state pages.new) result }
+    ensures issued { IssuesBoth (IssuesHeld names.now directory to.now.name.now) (IssuesHeld names.now directory from.now) (P.state pages.old) (P.state pages.new) }
     ensures change { IfMade result (λ change. IsChange change (P.state pages.old).page_bytes 3) }
     ensures others { (o c : ℕ) → o ≢ directory → IfMade result (KeepsKey (P.state pages.old).present o c) }
     ensures named { OfNamed names.now (P.state pages.old) directory (λ d. IfOk result (IsNamed d.entries from.now)) }
-    ensures moves { OfNamed names.now (P.state pages.old) directory (λ d. IfMade result (Becomes d moment (with_moved d.entries from.now to.now))) }
-    ensures besides { OfNamed names.now (P.state pages.old) directory (λ d. Ends d → IfMade result (EndsAfter d (with_moved d.entries from.now to.now))) }
-    ensures slot { OfNamed names.now (P.state pages.old) directory (λ d. IfMade result (WritesNew d (map.len (with_moved d.entries from.now to.now)))) }
-    ensures slots { IfMade result (RewritesHeld names.now (P.state pages.old) directory (IsMoved from.now (entry_of to.now))) }
-    ensures why { IfErr result (SaysWhyChanging (P.state pages.new)) }
+    ensures moves { OfNamed names.now (P.state pages.old) directory (λ d. IfMade result (MovesName d moment from.now to.now)) }
     ensures fault { OfNamed names.now (P.state pages.old) directory (λ d. IfErr result (MayLackRoomIn (map.remove d.entries from.now) (P.state pages.new))) }
 {
     let sought = seek(names, pages, directory, to.name)?;
@@ -84,20 +78,12 @@ pub fn rename_between<P: Pages>(
 ) -> Result<Option<Change>, PageFault>
     requires apart { route.source ≢ route.target }
     requires valid { IsTreeSlot (entry_of to.now) }
-    ensures finds { OnlyFinds (P.state pages.old) (P.state pages.new) }
-    ensures asked { AsksBoth (AsksHeld names.now route.target to.now.name.now) (AsksHeld names.now route.source from.now) (P.state pages.old) (P.state pages.new) }
-    ensures power { OnOk result (KeepsPower (P.state pages.old) (P.state pages.new)) }
-    ensures change { IfMade result (λ change. IsChange change (P.state pages.old).page_bytes 4) }
-    ensures others { (o c : ℕ) → o ≢ route.source → o ≢ route.target → IfMade result (KeepsKey (P.state pages.old).present o c) }
+    ensures looks { LooksUp SaysWhyChanging (P.state pages.old) (P.state pages.new) result }
+    ensures issued { IssuesBoth (IssuesHeld names.now route.target to.now.name.now) (IssuesHeld names.now route.source from.now) (P.state pages.old) (P.state pages.new) }
+    ensures change { IfMade result (ChangesBoth (P.state pages.old) route) }
     ensures named { OfNamed names.now (P.state pages.old) route.source (λ d. IfOk result (IsNamed d.entries from.now)) }
-    ensures takes { OfNamed names.now (P.state pages.old) route.source (λ d. IfMade result (Becomes d moment (map.remove d.entries from.now))) }
-    ensures gives { OfNamed names.now (P.state pages.old) route.target (λ d. IfMade result (Becomes d moment (with_slot d.entries to.now))) }
-    ensures source_besides { OfNamed names.now (P.state pages.old) route.source (λ d. Ends d → IfMade result (EndsAfter d (map.remove d.entries from.now))) }
-    ensures target_besides { OfNamed names.now (P.state pages.old) route.target (λ d. Ends d → IfMade result (EndsAfter d (with_slot d.entries to.now))) }
-    ensures slot { OfNamed names.now (P.state pages.old) route.target (λ d. IfMade result (WritesNew d (map.len (with_slot d.entries to.now)))) }
-    ensures source_slots { IfMade result (RewritesHeld names.now (P.state pages.old) route.source (IsWithout from.now)) }
-    ensures target_slots { IfMade result (RewritesHeld names.now (P.state pages.old) route.target (IsPut (entry_of to.now))) }
-    ensures why { IfErr result (SaysWhyChanging (P.state pages.new)) }
+    ensures takes { OfNamed names.now (P.state pages.old) route.source (λ d. IfMade result (TakesOut d moment from.now)) }
+    ensures gives { OfNamed names.now (P.state pages.old) route.target (λ d. IfMade result (PutsName d moment to.now)) }
     ensures fault { OfRoute names.now (P.state pages.old) route (λ entries. IfErr result (MayLackRoomIn entries (P.state pages.new))) }
 {
     let sought = seek(names, pages, route.target, to.name)?;
@@ -125,7 +111,7 @@ fn put_at<P: Pages>(
     requires sized { IsSizedBy (option_copied earlier) (P.state pages.old).page_bytes }
     requires valid { IsTreeSlot (entry_of slot.now) }
     ensures finds { OnlyFinds (P.state pages.old) (P.state pages.new) }
-    ensures asked { (P.state pages.new).asked ≤ (P.state pages.old).asked + 2 }
+    ensures issued { (P.state pages.new).issued ≤ (P.state pages.old).issued + 2 }
     ensures power { OnOk result (KeepsPower (P.state pages.old) (P.state pages.new)) }
     ensures change { IfOk result (λ change. IsChange change (P.state pages.old).page_bytes 2) }
     ensures only { IfOk result (λ change. IsOnlyOf change directory) }
@@ -168,7 +154,7 @@ fn push_slot<P: Pages>(
     requires sized { IsSizedBy (option_copied earlier) (P.state pages.old).page_bytes }
     requires valid { IsTreeSlot (entry_of slot.now) }
     ensures finds { OnlyFinds (P.state pages.old) (P.state pages.new) }
-    ensures asked { (P.state pages.new).asked ≤ (P.state pages.old).asked + 1 }
+    ensures issued { (P.state pages.new).issued ≤ (P.state pages.old).issued + 1 }
     ensures power { OnOk result (KeepsPower (P.state pages.old) (P.state pages.new)) }
     ensures change { IfOk result (λ change. IsChange change (P.state pages.old).page_bytes 2) }
     ensures only { IfOk result (λ change. IsOnlyOf change directory) }

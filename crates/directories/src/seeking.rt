@@ -4,7 +4,7 @@ ghost use Rattle.page_tags.specs.Slots.{Entry};
 ghost use Rattle.posix_profile.specs.State.{Entries};
 ghost use Rattle.pages.specs.Faults.{MayLack, SaysWhy};
 ghost use Rattle.pages.specs.State.{OnlyFinds, KeepsPower};
-ghost use Rattle.directories.specs.Named.{AsksHeld, FindsHeld, StandsAt, IsFoundAt, TellsSought, IsHeld, IsSoughtIn};
+ghost use Rattle.directories.specs.Named.{IssuesHeld, FindsHeld, StandsAt, IsFoundAt, ReportsSought, IsHeld, IsSoughtIn};
 ghost use Rattle.directories.specs.Stores.{OfSlots, OfSlotted};
 ghost use Rattle.directories.specs.Changing.{OfDir};
 ghost use Rattle.pages.specs.Sound.{OfSound};
@@ -33,7 +33,7 @@ impl Sought {
     }
 }
 
-/// Looks for a name in the first slots of a directory that an index has under its hash. One page is asked for each.
+/// Looks for a name in the first slots of a directory that an index has under its hash. One page is looked up each.
 pub(crate) fn search_held<P: Pages>(
     names: &NameIndex,
     pages: &mut P,
@@ -42,10 +42,10 @@ pub(crate) fn search_held<P: Pages>(
     name: &[u8],
 ) -> Result<Option<Located>, PageFault>
     ensures finds { OnlyFinds (P.state pages.old) (P.state pages.new) }
-    ensures asked { AsksHeld names.now directory name.now (P.state pages.old).asked (P.state pages.new).asked }
+    ensures issued { IssuesHeld names.now directory name.now (P.state pages.old).issued (P.state pages.new).issued }
     ensures power { OnOk result (KeepsPower (P.state pages.old) (P.state pages.new)) }
     ensures within { IfOk result (λ found. IfSome found (λ it. it.place < length)) }
-    ensures told { OfSlots (P.state pages.old) directory (λ _ at. IfOk result (FindsHeld (IsHeld names.now directory name.now) at length name.now)) }
+    ensures reported { OfSlots (P.state pages.old) directory (λ _ at. IfOk result (FindsHeld (IsHeld names.now directory name.now) at length name.now)) }
     ensures why { IfErr result (SaysWhy (P.state pages.old) (P.state pages.new)) }
     ensures fault { OfSlotted (P.state pages.old) directory length (IfErr result (MayLack (P.state pages.old) (P.state pages.new))) }
 {
@@ -74,10 +74,10 @@ pub(crate) fn seek<P: Pages>(
     name: &[u8],
 ) -> Result<Sought, PageFault>
     ensures finds { OnlyFinds (P.state pages.old) (P.state pages.new) }
-    ensures asked { AsksHeld names.now directory name.now ((P.state pages.old).asked + 1) (P.state pages.new).asked }
+    ensures issued { IssuesHeld names.now directory name.now ((P.state pages.old).issued + 1) (P.state pages.new).issued }
     ensures power { OnOk result (KeepsPower (P.state pages.old) (P.state pages.new)) }
     ensures within { IfOk result (λ sought. IfSome sought.found (λ it. it.place < sought.head.length)) }
-    ensures told { OfSound (P.state pages.old) (λ z. IfOk result (TellsSought names.now z (P.state pages.old) directory name.now)) }
+    ensures reported { OfSound (P.state pages.old) (λ z. IfOk result (ReportsSought names.now z (P.state pages.old) directory name.now)) }
     ensures sought { IsSoughtIn names.now (P.state pages.old) directory name.now result }
     ensures why { IfErr result (SaysWhy (P.state pages.old) (P.state pages.new)) }
     ensures fault { OfDir (P.state pages.old) directory (λ d. IfErr result (MayLack (P.state pages.old) (P.state pages.new))) }

@@ -2,14 +2,13 @@
 ghost use Rattle.std.specs.Prelude.{◌≡◌, ◌+◌, None, OnOk, IfOk, IfErr, IfNone};
 ghost use Rattle.std.specs.FinMap as map;
 ghost use Rattle.pages.specs.Changes.{IsChange, IsOnlyOf};
-ghost use Rattle.pages.specs.Faults.{MayLackMemory, SaysWhyMaking};
+ghost use Rattle.pages.specs.Faults.{MayLackMemory, SaysWhyMaking, LooksUp};
 ghost use Rattle.pages.specs.State.{OnlyFinds, KeepsPower};
 ghost use Rattle.directories.specs.Directories.{IsNamed};
-ghost use Rattle.directories.specs.Named.{AsksHeld, TellsHeldChange};
-ghost use Rattle.directories.specs.SlotLists.{IsWithout, RewritesHeld};
+ghost use Rattle.directories.specs.Named.{IssuesHeld, ReportsHeldChange};
 ghost use Rattle.directories.specs.Taking.{IsMovedTo};
 ghost use Rattle.directories.specs.Writes.{HasKey};
-ghost use Rattle.directories.specs.Changing.{IfMade, IfTaken, OfDir, OfNamed, Becomes, Ends, EndsAfter, TakesFrom};
+ghost use Rattle.directories.specs.Changing.{IfMade, IfTaken, OfDir, OfNamed, Becomes, Ends, EndsAfter, TakesFrom, TakesOut};
 ghost use Rattle.pages.specs.Sound.{OfSound};
 
 use crate::head::DirectoryHead;
@@ -57,7 +56,7 @@ pub(crate) fn take_name<P: Pages>(
     moment: u64,
 ) -> Result<Option<Taken>, PageFault>
     ensures finds { OnlyFinds (P.state pages.old) (P.state pages.new) }
-    ensures asked { AsksHeld names.now directory name.now ((P.state pages.old).asked + 3) (P.state pages.new).asked }
+    ensures issued { IssuesHeld names.now directory name.now ((P.state pages.old).issued + 3) (P.state pages.new).issued }
     ensures power { OnOk result (KeepsPower (P.state pages.old) (P.state pages.new)) }
     ensures change { IfTaken result (λ change. IsChange change (P.state pages.old).page_bytes 2) }
     ensures only { IfTaken result (λ change. IsOnlyOf change directory) }
@@ -66,7 +65,7 @@ pub(crate) fn take_name<P: Pages>(
     ensures takes { OfNamed names.now (P.state pages.old) directory (λ d. IfMade result (TakesFrom d name.now)) }
     ensures removes { OfNamed names.now (P.state pages.old) directory (λ d. IfTaken result (Becomes d moment (map.remove d.entries name.now))) }
     ensures besides { OfNamed names.now (P.state pages.old) directory (λ d. Ends d → IfTaken result (EndsAfter d (map.remove d.entries name.now))) }
-    ensures told { OfSound (P.state pages.old) (λ z. IfOk result (TellsHeldChange names.now z (P.state pages.old) directory name.now)) }
+    ensures reported { OfSound (P.state pages.old) (λ z. IfOk result (ReportsHeldChange names.now z (P.state pages.old) directory name.now)) }
     ensures why { IfErr result (SaysWhyMaking (P.state pages.new)) }
     ensures fault { OfDir (P.state pages.old) directory (λ d. IfErr result (MayLackMemory (P.state pages.new))) }
 {
@@ -99,17 +98,13 @@ pub fn remove<P: Pages>(
     name: &[u8],
     moment: u64,
 ) -> Result<Option<Change>, PageFault>
-    ensures finds { OnlyFinds (P.state pages.old) (P.state pages.new) }
-    ensures asked { AsksHeld names.now directory name.now ((P.state pages.old).asked + 3) (P.state pages.new).asked }
-    ensures power { OnOk result (KeepsPower (P.state pages.old) (P.state pages.new)) }
+    ensures looks { LooksUp SaysWhyMaking (P.state pages.old) (P.state pages.new) result }
+    ensures issued { IssuesHeld names.now directory name.now ((P.state pages.old).issued + 3) (P.state pages.new).issued }
     ensures change { IfMade result (λ change. IsChange change (P.state pages.old).page_bytes 2) }
     ensures only { IfMade result (λ change. IsOnlyOf change directory) }
     ensures named { OfNamed names.now (P.state pages.old) directory (λ d. IfOk result (IsNamed d.entries name.now)) }
-    ensures removes { OfNamed names.now (P.state pages.old) directory (λ d. IfMade result (Becomes d moment (map.remove d.entries name.now))) }
-    ensures besides { OfNamed names.now (P.state pages.old) directory (λ d. Ends d → IfMade result (EndsAfter d (map.remove d.entries name.now))) }
-    ensures told { OfSound (P.state pages.old) (λ z. IfOk result (TellsHeldChange names.now z (P.state pages.old) directory name.now)) }
-    ensures slots { IfMade result (RewritesHeld names.now (P.state pages.old) directory (IsWithout name.now)) }
-    ensures why { IfErr result (SaysWhyMaking (P.state pages.new)) }
+    ensures removes { OfNamed names.now (P.state pages.old) directory (λ d. IfMade result (TakesOut d moment name.now)) }
+    ensures reported { OfSound (P.state pages.old) (λ z. IfOk result (ReportsHeldChange names.now z (P.state pages.old) directory name.now)) }
     ensures fault { OfDir (P.state pages.old) directory (λ d. IfErr result (MayLackMemory (P.state pages.new))) }
 {
     match take_name(alloc, names, pages, directory, name, moment)? {

@@ -39,7 +39,7 @@ fn page_with<P: Pages>(
     requires sized { IsSizedBy (option_copied earlier) (P.state pages.old).page_bytes }
     requires room { slot_length * count ≤ (P.state pages.old).page_bytes }
     ensures finds { OnlyFinds (P.state pages.old) (P.state pages.new) }
-    ensures asked { (P.state pages.new).asked ≤ (P.state pages.old).asked + 1 }
+    ensures issued { (P.state pages.new).issued ≤ (P.state pages.old).issued + 1 }
     ensures power { OnOk result (KeepsPower (P.state pages.old) (P.state pages.new)) }
     ensures size { IfOk result (λ page. length page.items ≡ (P.state pages.old).page_bytes) }
     ensures page { (P.state pages.old).sound ≡ true → IfOk result (λ page. HasFirstSlots (later earlier.entry (P.state pages.old)) key count page.items) }
@@ -68,7 +68,7 @@ pub(crate) fn slot_page<P: Pages>(
     requires valid { IsTreeSlot (entry_of slot.now) }
     requires within { writing.number < writing.afterwards }
     ensures finds { OnlyFinds (P.state pages.old) (P.state pages.new) }
-    ensures asked { (P.state pages.new).asked ≤ (P.state pages.old).asked + 1 }
+    ensures issued { (P.state pages.new).issued ≤ (P.state pages.old).issued + 1 }
     ensures power { OnOk result (KeepsPower (P.state pages.old) (P.state pages.new)) }
     ensures sized { IfOk result (IsSlotsPage directory (P.state pages.old).page_bytes) }
     ensures page { OfPages (later earlier.entry (P.state pages.old)) (λ z old. IfOk result (IsSlotPage z old directory writing (entry_of slot.now))) }
@@ -103,7 +103,7 @@ pub(crate) fn write<P: Pages>(
     requires valid { IsTreeSlot (entry_of slot.now) }
     requires within { writing.number < writing.afterwards }
     ensures finds { OnlyFinds (P.state pages.old) (P.state pages.new) }
-    ensures asked { (P.state pages.new).asked ≤ (P.state pages.old).asked + 1 }
+    ensures issued { (P.state pages.new).issued ≤ (P.state pages.old).issued + 1 }
     ensures power { OnOk result (KeepsPower (P.state pages.old) (P.state pages.new)) }
     ensures change { IfOk result (λ change. IsChange change (P.state pages.old).page_bytes 2) }
     ensures cuts { IfOk result (λ change. change.cuts.items ≡ []) }

@@ -15,11 +15,11 @@ use Rattle.exerciser.specs.Seen.{IsSeen}
 use Rattle.exerciser.specs.declared.seen.Seen.{Seen}
 use Rattle.exerciser.specs.declared.seen.Seen.TheVariants as seens
 use Rattle.exerciser.specs.Causes.{IsAnswered, CountsCalls, HasCause, HasTree, MountsAs, WhyNotBegun, WhyUncounted, WhyUndone, WhyUnseen, uncut}
-use Rattle.exerciser.specs.Lines.{IsTold}
+use Rattle.exerciser.specs.Lines.{IsStated}
 use Rattle.exerciser.specs.declared.fault.CutFault.{CutFault}
 use Rattle.exerciser.specs.declared.fault.CutFault.TheVariants as faults
 
--- a session that is not counted is not mounted and unmounted
+-- a session that is not in the count is not mounted and unmounted
 not_counted : (first last : Device) (session : Session) (calls : ℕ) (end : SessionEnd) (fault : CutFault) → IsEnded session end first last → CountsCalls end calls (Err fault)
     → WhyUncounted first session fault
 not_counted first last session calls end faults.NoMemory ended counts = tt
@@ -33,15 +33,6 @@ pub uncounted : (first last : Device) (session : Session) (calls : ℕ) (end : S
     → IfErr result (WhyUncounted first session)
 uncounted first last session calls end (Ok count) ended counts = tt
 uncounted first last session calls end (Err fault) ended counts = not_counted first last session calls end fault ended counts
-
--- so no call of it is taken
-pub not_drawn : (first : Device) (session : Session) (fault : CutFault) → WhyUncounted first (uncut session) fault → WhyUndone first session fault
-not_drawn first session faults.NoMemory why = tt
-not_drawn first session (faults.Mount fault) why = why
-not_drawn first session faults.Unmount why = why
-not_drawn first session faults.Unread why = absurd why
-not_drawn first session faults.Torn why = why
-not_drawn first session faults.Write why = why
 
 -- memory was refused
 pub no_memory : (first : Device) (session : Session) (fault : CutFault) → fault ≡ faults.NoMemory → WhyUndone first session fault
@@ -57,36 +48,36 @@ not_seen first last session now end faults.Torn like ended why = why
 not_seen first last session now end faults.Write like ended why = why
 
 -- a tree was not read of a volume that was mounted
-pub not_told : (device : Device) (fault : CutFault) → HasTree device → IsOfReading fault → WhyUnseen device fault
-not_told device faults.NoMemory tree of = tt
-not_told device (faults.Mount fault) tree of = of
-not_told device faults.Unmount tree of = of
-not_told device faults.Unread tree of = tree
-not_told device faults.Torn tree of = of
-not_told device faults.Write tree of = of
+pub not_reported : (device : Device) (fault : CutFault) → HasTree device → IsOfReading fault → WhyUnseen device fault
+not_reported device faults.NoMemory tree of = tt
+not_reported device (faults.Mount fault) tree of = of
+not_reported device faults.Unmount tree of = of
+not_reported device faults.Unread tree of = tree
+not_reported device faults.Torn tree of = of
+not_reported device faults.Write tree of = of
 
-pub fails_telling : (device : Device) (result : Result Seen CutFault) → HasTree device → IfErr result IsOfReading → IfErr result (WhyUnseen device)
-fails_telling device (Ok seen) tree of = tt
-fails_telling device (Err fault) tree of = not_told device fault tree of
+pub fails_reporting : (device : Device) (result : Result Seen CutFault) → HasTree device → IfErr result IsOfReading → IfErr result (WhyUnseen device)
+fails_reporting device (Ok seen) tree of = tt
+fails_reporting device (Err fault) tree of = not_reported device fault tree of
 
-pub begins_untold : (device : Device) (fault : CutFault) → HasTree device → IsOfReading fault → WhyNotBegun device fault
-begins_untold device faults.NoMemory tree of = tt
-begins_untold device (faults.Mount fault) tree of = absurd of
-begins_untold device faults.Unmount tree of = of
-begins_untold device faults.Unread tree of = tree
-begins_untold device faults.Torn tree of = of
-begins_untold device faults.Write tree of = of
+pub begins_unreported : (device : Device) (fault : CutFault) → HasTree device → IsOfReading fault → WhyNotBegun device fault
+begins_unreported device faults.NoMemory tree of = tt
+begins_unreported device (faults.Mount fault) tree of = absurd of
+begins_unreported device faults.Unmount tree of = of
+begins_unreported device faults.Unread tree of = tree
+begins_unreported device faults.Torn tree of = of
+begins_unreported device faults.Write tree of = of
 
 -- a mount that has this fault is seen as that
-pub seen_as : (tree : PlainView) (commands : List Stamped) (told : List Reply) (fault : MountFault) (result : Result Seen CutFault) → IfOk result (λ seen. (seen ≡ seens.Mount fault) × (fault ≢ mounts.NoMemory))
-    → IfOk result (IsSeen tree commands told)
-seen_as tree commands told fault (Ok seen) is = subst (IsSeen tree commands told) (sym is.0) tt
-seen_as tree commands told fault (Err other) is = tt
+pub seen_as : (tree : PlainView) (commands : List Stamped) (reported : List Reply) (fault : MountFault) (result : Result Seen CutFault) → IfOk result (λ seen. (seen ≡ seens.Mount fault) × (fault ≢ mounts.NoMemory))
+    → IfOk result (IsSeen tree commands reported)
+seen_as tree commands reported fault (Ok seen) is = subst (IsSeen tree commands reported) (sym is.0) tt
+seen_as tree commands reported fault (Err other) is = tt
 
-pub seen_failed : (device : Device) (tree : PlainView) (commands : List Stamped) (told : List Reply) (fault : MountFault) (result : Result Seen CutFault) → IsAnswered device fault
-    → IfOk result (λ seen. (seen ≡ seens.Mount fault) × (fault ≢ mounts.NoMemory)) → IfOk result (MountsAs device tree commands told)
-seen_failed device tree commands told fault (Ok seen) why is = subst (MountsAs device tree commands told) (sym is.0) (is.1, why)
-seen_failed device tree commands told fault (Err other) why is = tt
+pub seen_failed : (device : Device) (tree : PlainView) (commands : List Stamped) (reported : List Reply) (fault : MountFault) (result : Result Seen CutFault) → IsAnswered device fault
+    → IfOk result (λ seen. (seen ≡ seens.Mount fault) × (fault ≢ mounts.NoMemory)) → IfOk result (MountsAs device tree commands reported)
+seen_failed device tree commands reported fault (Ok seen) why is = subst (MountsAs device tree commands reported) (sym is.0) (is.1, why)
+seen_failed device tree commands reported fault (Err other) why is = tt
 
 pub fails_reading : (device : Device) (result : Result Seen CutFault) → IfErr result (λ e. e ≡ faults.NoMemory) → IfErr result (WhyUnseen device)
 fails_reading device (Ok seen) is = tt
@@ -121,14 +112,14 @@ not_begun first faults.Torn why = absurd why
 not_begun first faults.Write why = absurd why
 
 -- the writer failed
-pub not_written : (first : Device) (old new : Option (List ℕ)) (text : List ℕ) (fault : CutFault) → IsTold old new text (Err fault) → HasCause first fault
-not_written first old new text faults.NoMemory told = tt
-not_written first old new text (faults.Mount fault) told = absurd told
-not_written first old new text faults.Unmount told = tt
-not_written first old new text faults.Unread told = tt
-not_written first old new text faults.Torn told = tt
-not_written first old new text faults.Write told = tt
+pub not_written : (first : Device) (old new : Option (List ℕ)) (text : List ℕ) (fault : CutFault) → IsStated old new text (Err fault) → HasCause first fault
+not_written first old new text faults.NoMemory reported = tt
+not_written first old new text (faults.Mount fault) reported = absurd reported
+not_written first old new text faults.Unmount reported = tt
+not_written first old new text faults.Unread reported = tt
+not_written first old new text faults.Torn reported = tt
+not_written first old new text faults.Write reported = tt
 
 -- a tree is torn
-pub not_kept : (first : Device) (fault : CutFault) → fault ≡ faults.Torn → HasCause first fault
-not_kept first fault is = subst (λ f. HasCause first f) (sym is) tt
+pub not_committed : (first : Device) (fault : CutFault) → fault ≡ faults.Torn → HasCause first fault
+not_committed first fault is = subst (λ f. HasCause first f) (sym is) tt

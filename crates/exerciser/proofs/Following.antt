@@ -17,19 +17,19 @@ use Rattle.posix_profile.specs.Names.{prune, settle}
 use Rattle.posix_profile.specs.laws.Prune.{prune_same}
 use Rattle.posix_profile.specs.laws.Sound.{IsSound}
 use Rattle.std.specs.FinMap as map
-use Rattle.exerciser.specs.Keeping.{after_told, after_all_told, shown_after, Leaves, IsLeast, IsKept, IsTreeShown}
+use Rattle.exerciser.specs.Keeping.{after_reported, after_all_reported, shown_after, Leaves, IsLeast, IsDurable, IsTreeShown}
 
 after_suc : (z : Sizes) (read_only : Bool) (s : State) (commands : List Stamped) (replies : List Reply) (k : ℕ) (command : Stamped) (reply : Reply)
     → slice_get commands k ≡ Some command → slice_get replies k ≡ Some reply
-    → after_all_told z read_only s commands (take (suc k) replies) ≡ after_told z read_only (after_all_told z read_only s commands (take k replies)) command reply
-after_suc z read_only s [] [] k command reply asked told = cc
-after_suc z read_only s [] (r ∷ replies) k command reply asked told = cc
-after_suc z read_only s (c ∷ commands) [] k command reply asked told = cc
-after_suc z read_only s (c ∷ commands) (r ∷ replies) zero command reply asked told =
+    → after_all_reported z read_only s commands (take (suc k) replies) ≡ after_reported z read_only (after_all_reported z read_only s commands (take k replies)) command reply
+after_suc z read_only s [] [] k command reply issued reported = cc
+after_suc z read_only s [] (r ∷ replies) k command reply issued reported = cc
+after_suc z read_only s (c ∷ commands) [] k command reply issued reported = cc
+after_suc z read_only s (c ∷ commands) (r ∷ replies) zero command reply issued reported =
     let command_is : c ≡ command = cc in
     let reply_is : r ≡ reply = cc in
-    λ i. after_told z read_only s (command_is i) (reply_is i)
-after_suc z read_only s (c ∷ commands) (r ∷ replies) (suc k) command reply asked told = after_suc z read_only (after_told z read_only s c r) commands replies k command reply asked told
+    λ i. after_reported z read_only s (command_is i) (reply_is i)
+after_suc z read_only s (c ∷ commands) (r ∷ replies) (suc k) command reply issued reported = after_suc z read_only (after_reported z read_only s c r) commands replies k command reply issued reported
 
 pub not_both : (b : Bool) → b ≡ false → b ≡ true → ⊥
 not_both b off on = cc
@@ -37,16 +37,13 @@ not_both b off on = cc
 -- one command more
 pub after_next : (z : Sizes) (read_only : Bool) (s : State) (commands : List Stamped) (replies : List Reply) (k : ℕ) (command : Stamped) (reply : Reply)
     → slice_get commands k ≡ Some command → slice_get replies k ≡ Some reply
-    → after_all_told z read_only s commands (take (k + 1) replies) ≡ after_told z read_only (after_all_told z read_only s commands (take k replies)) command reply
-after_next z read_only s commands replies k command reply asked told = simp unary_clauses (after_suc z read_only s commands replies k command reply asked told)
+    → after_all_reported z read_only s commands (take (k + 1) replies) ≡ after_reported z read_only (after_all_reported z read_only s commands (take k replies)) command reply
+after_next z read_only s commands replies k command reply issued reported = simp unary_clauses (after_suc z read_only s commands replies k command reply issued reported)
 
 module _ (before : PlainView) (commands : List Stamped) (replies : List Reply) (IsSuch : Objects → Type 0) where
   -- it may not leave what is such after fewer commands
   abbrev pub NoneBelow : ℕ → Type 0
   NoneBelow n = (k : ℕ) → k < n → Leaves before commands replies IsSuch k → ⊥
-
-  pub none_uncovered : (n : ℕ) → ((k : ℕ) → Covers commands replies k → n ≤ k) → NoneBelow n
-  none_uncovered n least k few leaves = omega (arith, few, least k leaves.covers)
 
   pub none_next : (n : ℕ) → (IsSuch (shown_after before commands replies n) → ⊥) → NoneBelow n → NoneBelow (n + 1)
   none_next n other none k few leaves = elim (cases_eq k n) [
@@ -64,7 +61,7 @@ module _ (before : PlainView) (commands : List Stamped) (replies : List Reply) (
   )
 
   pub none_found : (n : ℕ) → ((k : ℕ) → k ≤ length commands → k ≤ length replies → k < n) → NoneBelow n → IsLeast before commands replies IsSuch None
-  none_found n all none k leaves = none k (all k leaves.asked leaves.answered) leaves
+  none_found n all none k leaves = none k (all k leaves.issued leaves.answered) leaves
 
 -- what a mount shows of a sound state without descriptors is its objects
 pub bare_settled : (z : Sizes) (s : State) → IsSound z s → s.handles ≡ map.empty → (settle s).objects ≡ s.objects
@@ -73,7 +70,7 @@ bare_settled z s sound bare = ap (λ (t : State). t.objects) (ap prune (λ i. re
 module _ (before : PlainView) (commands : List Stamped) (replies : List Reply) (list : TreeList) (z : Sizes) (objects : Objects) (tree : IsTree z objects) (listed : Lists list objects) where
   -- what leaves the objects leaves what is listed of them
   leaves_listed : (k : ℕ) → Leaves before commands replies (λ x. x ≡ objects) k → Leaves before commands replies (Lists list) k
-  leaves_listed k leaves = record { covers = leaves.covers; asked = leaves.asked; answered = leaves.answered; such = subst (Lists list) (sym leaves.such) listed }
+  leaves_listed k leaves = record { covers = leaves.covers; issued = leaves.issued; answered = leaves.answered; such = subst (Lists list) (sym leaves.such) listed }
 
   -- what is the least for a list is the least for the tree that it is read of
   pub least_listed : (found : Option ℕ) → IsLeast before commands replies (Lists list) found → IfSome found (λ k. IsTree before.sizes (shown_after before commands replies k))
@@ -81,7 +78,7 @@ module _ (before : PlainView) (commands : List Stamped) (replies : List Reply) (
   least_listed (Some k) least shows = (
     record {
       covers = least.0.covers;
-      asked = least.0.asked;
+      issued = least.0.issued;
       answered = least.0.answered;
       such = same_read before.sizes z (shown_after before commands replies k) objects shows tree (list_map item_of list.entries.items) least.0.such listed;
     },
@@ -92,9 +89,9 @@ module _ (before : PlainView) (commands : List Stamped) (replies : List Reply) (
 module _ {V : Type 0} (shows : V → Sizes → Bool → State → Type 0) (sound : (v : V) (z : Sizes) (read_only : Bool) (s : State) → shows v z read_only s → IsSound z s)
     (old : V) (list : TreeList) (listed : ListsShown shows old list) where
   -- so it is for each state that is shown
-  pub kept_listed : (before : PlainView) (commands : List Stamped) (replies : List Reply) (found : Option ℕ) → IsLeast before commands replies (Lists list) found
-      → IfSome found (λ k. IsTree before.sizes (shown_after before commands replies k)) → IsKept shows old before commands replies found
-  kept_listed before commands replies found least trees = λ z read_only s shown bare.
+  pub committed_listed : (before : PlainView) (commands : List Stamped) (replies : List Reply) (found : Option ℕ) → IsLeast before commands replies (Lists list) found
+      → IfSome found (λ k. IsTree before.sizes (shown_after before commands replies k)) → IsDurable shows old before commands replies found
+  committed_listed before commands replies found least trees = λ z read_only s shown bare.
       subst (λ objects. IsLeast before commands replies (λ x. x ≡ objects) found) (sym (bare_settled z s (sound old z read_only s shown) bare))
       (least_listed before commands replies list z s.objects (state_tree z s (sound old z read_only s shown) bare) (listed z read_only s shown) found least trees)
 

@@ -23,7 +23,7 @@ use Rattle.powercut.specs.Living.{HasSame}
 use Rattle.powercut.specs.laws.SameFlash.{answers_same, same_back, same_on}
 use Rattle.powercut.specs.laws.SameSummaries.{consistent_same}
 use Rattle.exerciser.specs.Causes.{HasTree, IsTornOn, IsTreeOn, MountsAs, ShowsFlash}
-use Rattle.exerciser.specs.Keeping.{IsKept, IsLeast, IsTreeShown}
+use Rattle.exerciser.specs.Keeping.{IsDurable, IsLeast, IsTreeShown}
 use Rattle.exerciser.specs.Seen.{tree_in}
 use Rattle.exerciser.specs.declared.seen.Seen.{Seen}
 use Rattle.exerciser.specs.declared.seen.Seen.TheVariants as seens
@@ -70,23 +70,23 @@ module _ {P V : Type 0} (state : P → PagesState) (over : V → PageVolume P) (
   has_tree truth = let m = on truth in (m.spare, m.objects, m.answers)
 
   -- a session that may not leave what is shown may not leave the tree that lies on the device
-  pub torn_on : (before : PlainView) (commands : List Stamped) (told : List Reply) → IsKept (λ v. ShowsState state (over v)) v before commands told None → IsTornOn d before commands told
-  torn_on before commands told kept = λ truth.
+  pub torn_on : (before : PlainView) (commands : List Stamped) (reported : List Reply) → IsDurable (λ v. ShowsState state (over v)) v before commands reported None → IsTornOn d before commands reported
+  torn_on before commands reported committed = λ truth.
       let m = on truth in (
         m.spare,
         m.objects,
         m.answers,
-        subst (λ objects. IsLeast before commands told (λ x. x ≡ objects) None) (bare_settled m.sizes (at_mount m.objects) m.shown.2.sound refl) (kept m.sizes m.read_only (at_mount m.objects) m.shown refl),
+        subst (λ objects. IsLeast before commands reported (λ x. x ≡ objects) None) (bare_settled m.sizes (at_mount m.objects) m.shown.2.sound refl) (committed m.sizes m.read_only (at_mount m.objects) m.shown refl),
       )
 
-  -- and so does one that is made of what it tells
+  -- and so does one that is made of what it reports
   pub made_on : (list : TreeList) → ListsShown (λ v. ShowsState state (over v)) v list → (tree : PlainView) → IsMadeOf list tree → IsTreeOn d tree
   made_on list listed tree made = tree_on tree (made_shown (λ v. ShowsState state (over v)) (λ v z read_only s shown. shown.2.sound) v list listed tree made)
 
 -- what is seen by commands is seen by a mount
-pub seen_on : (d : Device) (before : PlainView) (commands : List Stamped) (told : List Reply) (seen : Seen) → IfSome (tree_in seen) (IsTreeOn d) → (seen ≡ seens.Torn None → IsTornOn d before commands told)
-    → ((fault : MountFault) → seen ≡ seens.Mount fault → ⊥) → MountsAs d before commands told seen
-seen_on d before commands told (seens.Kept count tree) on torn mounted = on
-seen_on d before commands told (seens.Torn (Some tree)) on torn mounted = on
-seen_on d before commands told (seens.Torn None) on torn mounted = torn refl
-seen_on d before commands told (seens.Mount fault) on torn mounted = absurd (mounted fault refl)
+pub seen_on : (d : Device) (before : PlainView) (commands : List Stamped) (reported : List Reply) (seen : Seen) → IfSome (tree_in seen) (IsTreeOn d) → (seen ≡ seens.Torn None → IsTornOn d before commands reported)
+    → ((fault : MountFault) → seen ≡ seens.Mount fault → ⊥) → MountsAs d before commands reported seen
+seen_on d before commands reported (seens.Committed count tree) on torn mounted = on
+seen_on d before commands reported (seens.Torn (Some tree)) on torn mounted = on
+seen_on d before commands reported (seens.Torn None) on torn mounted = torn refl
+seen_on d before commands reported (seens.Mount fault) on torn mounted = absurd (mounted fault refl)

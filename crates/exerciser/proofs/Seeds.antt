@@ -51,11 +51,11 @@ module _ (x : Exercise) (before pages : ℕ) (old : Stream) (was now : Session) 
 -- a random call is among those that there are
 pub drawn_from : (first : Device) (session : Session) (count calls word : ℕ) (result : Result ℕ CutFault) → IsCountOf first session count → calls ≡ max count 1 → IfOk result (λ operation. operation ≡ operation_of calls word)
     → IfOk result (IsDrawnAmong first session word)
-drawn_from first session count calls word (Ok operation) counted is random = (count, counted, random ∙ ap (λ n. operation_of n word) is)
-drawn_from first session count calls word (Err fault) counted is random = tt
+drawn_from first session count calls word (Ok operation) totaled is random = (count, totaled, random ∙ ap (λ n. operation_of n word) is)
+drawn_from first session count calls word (Err fault) totaled is random = tt
 
--- what is counted of a session is its calls
+-- what is in the count of a session is its calls
 pub counts : (end : SessionEnd) (calls : ℕ) (last first : Device) (session : Session) (result : Result ℕ CutFault) → IsEnded session end first last → calls ≡ calls_since first last
     → CountsCalls end calls result → IfOk result (IsCountOf first session)
-counts end calls last first session (Ok count) ended is counted = record { last = last; end = end; ended = ended; counted = subst (λ n. CountsCalls end n (Ok count)) is counted }
-counts end calls last first session (Err fault) ended is counted = tt
+counts end calls last first session (Ok count) ended is totaled = record { last = last; end = end; ended = ended; totaled = subst (λ n. CountsCalls end n (Ok count)) is totaled }
+counts end calls last first session (Err fault) ended is totaled = tt

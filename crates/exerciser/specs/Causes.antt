@@ -49,12 +49,12 @@ IsTornOn device before commands answered =
 -- The tree that is seen is the one on the device; where it cannot be made again the one on the device is torn; and a mount that fails has
 -- its reason, and was not refused memory.
 abbrev pub MountsAs : Device → PlainView → List Stamped → List Reply → Seen → Type 0
-MountsAs device before commands answered (seens.Kept count tree) = IsTreeOn device tree
+MountsAs device before commands answered (seens.Committed count tree) = IsTreeOn device tree
 MountsAs device before commands answered (seens.Torn (Some tree)) = IsTreeOn device tree
 MountsAs device before commands answered (seens.Torn None) = IsTornOn device before commands answered
 MountsAs device before commands answered (seens.Mount fault) = (fault ≢ mounts.NoMemory) × IsAnswered device fault
 
--- How a session that is not cut is counted: by its calls exactly where it was mounted and unmounted; NoMemory where its mount was
+-- How the calls of a session that is not cut are numbered: by its calls exactly where it was mounted and unmounted; NoMemory where its mount was
 -- refused memory; else Unmount.
 abbrev pub CountsCalls : SessionEnd → (calls : ℕ) → Result ℕ CutFault → Type 0
 CountsCalls end calls (Ok count) = (count ≡ calls) × (end.mounted ≡ Ok tt) × (end.unmounted ≡ Some replies.Done)
@@ -90,7 +90,7 @@ pub record IsUnread (first : Device) (session : Session) : Type 0 where
   pub ended : IsEnded now end first last
   pub tree : HasTree last
 
--- Why the calls of a session were not counted: memory was refused, or it is not mounted and unmounted.
+-- Why there is no number of the calls of a session: memory was refused, or it is not mounted and unmounted.
 abbrev pub WhyUncounted : Device → Session → CutFault → Type 0
 WhyUncounted first session faults.NoMemory = Unit {0}
 WhyUncounted first session (faults.Mount fault) = ⊥

@@ -20,7 +20,7 @@ use Rattle.exerciser.specs.declared.fault.CutFault.TheVariants as faults
 use Rattle.exerciser.specs.declared.finding.Finding.TheVariants as findings
 use Rattle.exerciser.specs.declared.seen.Seen.{Seen}
 
--- what is asked for: so many sessions of these commands in turn on the device, with calls and fates that the seed draws
+-- what is wanted: so many sessions of these commands in turn on the device, with calls and fates that the seed draws
 pub record Exercise : Type 0 where
   pub first : Device
   pub seed : ℕ
@@ -43,21 +43,21 @@ pub record IsCutSession (x : Exercise) (before : ℕ) (first last : Device) : Ty
 
 -- The text is the lines of so many sessions, from the first on, which left this device, and this is the tree that lies on it: each keeps,
 -- of the tree before it, the first commands that its line counts, as it answered them; and no fewer.
-unfoldable pub AreKept : Exercise → (sessions : ℕ) → (last : Device) → (tree : PlainView) → List ℕ → Type 0
-AreKept x zero last tree text = (last ≡ x.first) × (text ≡ [])
-AreKept x (suc before) last tree text =
-    (lines : List ℕ) × (first : Device) × (old : PlainView) × (count : ℕ) × AreKept x before first old lines × IsTreeOn first old × (done : IsCutSession x before first last)
-    × IsLeast old x.commands done.end.replies.items (IsShownOf tree) (Some count) × IsTreeOn last tree × (text ≡ lines ++ session_line (suc before) done.operation (findings.Kept count) (length x.commands))
+unfoldable pub AreCommitted : Exercise → (sessions : ℕ) → (last : Device) → (tree : PlainView) → List ℕ → Type 0
+AreCommitted x zero last tree text = (last ≡ x.first) × (text ≡ [])
+AreCommitted x (suc before) last tree text =
+    (lines : List ℕ) × (first : Device) × (old : PlainView) × (count : ℕ) × AreCommitted x before first old lines × IsTreeOn first old × (done : IsCutSession x before first last)
+    × IsLeast old x.commands done.end.replies.items (IsShownOf tree) (Some count) × IsTreeOn last tree × (text ≡ lines ++ session_line (suc before) done.operation (findings.Committed count) (length x.commands))
 
--- the lines of sessions that kept a tree, and of one after them, of which this is seen
-pub record AreKeptBefore (x : Exercise) (seen : Seen) (text : List ℕ) : Type 0 where
+-- the lines of sessions that held a tree, and of one after them, of which this is seen
+pub record AreCommittedBefore (x : Exercise) (seen : Seen) (text : List ℕ) : Type 0 where
   pub before : ℕ
   pub lines : List ℕ
   pub first : Device
   pub last : Device
   pub tree : PlainView
   pub few : before < x.sessions
-  pub kept : AreKept x before first tree lines
+  pub committed : AreCommitted x before first tree lines
   pub on : IsTreeOn first tree
   pub done : IsCutSession x before first last
   pub is_seen : IsSeen tree x.commands done.end.replies.items seen
@@ -70,7 +70,7 @@ pub record IsAsked (x : Exercise) (session : Session) : Type 0 where
   pub failures_are : session.failures.items ≡ []
   pub unmounts : session.unmount ≡ true
 
--- Why the session after so many was not told of: memory was refused; a mount of the first device failed; the session is not mounted and
+-- Why the session after so many was not reported of: memory was refused; a mount of the first device failed; the session is not mounted and
 -- unmounted where it is not cut; or a tree was not read, of a volume that was mounted, before the first session or after this one.
 abbrev pub WhyStopped : Exercise → (before : ℕ) → (last : Device) → CutFault → Type 0
 WhyStopped x before last faults.NoMemory = Unit {0}
@@ -80,21 +80,21 @@ WhyStopped x before last faults.Unread = ((before ≡ 0) × HasTree last) ⊎ ((
 WhyStopped x before last faults.Torn = ⊥
 WhyStopped x before last faults.Write = ⊥
 
--- The lines of fewer sessions, all of which kept a tree, are out; none where the first tree was not read. The fault has its cause.
+-- The lines of fewer sessions, all of which held a tree, are out; none where the first tree was not read. The fault has its cause.
 pub record IsStopped (x : Exercise) (fault : CutFault) (old new : Option (List ℕ)) : Type 0 where
   pub before : ℕ
   pub text : List ℕ
   pub last : Device
   pub tree : PlainView
   pub few : before < x.sessions ⊎ (before ≡ 0)
-  pub kept : AreKept x before last tree text
-  pub told : Appends old new text
+  pub committed : AreCommitted x before last tree text
+  pub reported : Appends old new text
   pub why : WhyStopped x before last fault
 
--- What is told of sessions: where all is well a line for each, which says that a tree is kept. Where a tree is torn its line comes
--- last. Where the writer failed the last line may be told in part.
+-- What is reported of sessions: where all is well a line for each, which says that a tree is held. Where a tree is torn its line comes
+-- last. Where the writer failed the last line may be written in part.
 abbrev pub Cuts : Exercise → Option (List ℕ) → Option (List ℕ) → Result (Unit {0}) CutFault → Type 0
-Cuts x old new (Ok done) = (last : Device) × (tree : PlainView) × (text : List ℕ) × AreKept x x.sessions last tree text × Appends old new text
-Cuts x old new (Err faults.Torn) = (seen : Seen) × (text : List ℕ) × IsTorn seen × AreKeptBefore x seen text × Appends old new text
-Cuts x old new (Err faults.Write) = (seen : Seen) × (text : List ℕ) × AreKeptBefore x seen text × AppendsPart old new text
+Cuts x old new (Ok done) = (last : Device) × (tree : PlainView) × (text : List ℕ) × AreCommitted x x.sessions last tree text × Appends old new text
+Cuts x old new (Err faults.Torn) = (seen : Seen) × (text : List ℕ) × IsTorn seen × AreCommittedBefore x seen text × Appends old new text
+Cuts x old new (Err faults.Write) = (seen : Seen) × (text : List ℕ) × AreCommittedBefore x seen text × AppendsPart old new text
 Cuts x old new (Err fault) = IsStopped x fault old new

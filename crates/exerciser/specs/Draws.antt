@@ -35,7 +35,7 @@ pub record IsCountOf (first : Device) (session : Session) (calls : ℕ) : Type 0
   pub last : Device
   pub end : SessionEnd
   pub ended : IsEnded session end first last
-  pub counted : CountsCalls end (calls_since first last) (Ok calls)
+  pub totaled : CountsCalls end (calls_since first last) (Ok calls)
 
 -- the word draws this call, among those that the session makes on the device
 abbrev pub IsDrawnAmong : Device → Session → (word operation : ℕ) → Type 0

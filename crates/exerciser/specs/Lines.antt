@@ -1,4 +1,4 @@
--- The lines that are told of sessions.
+-- The lines that are reported of sessions.
 use Rattle.std.specs.Prelude.{ℕ, List, [], ◌∷◌, ◌++◌, Option, Result, Ok, Err, codes}
 use Rattle.std.specs.Io.KnownBytes.{Appends}
 use Rattle.line_shell.specs.Replies.{newline, numbers_text}
@@ -18,9 +18,9 @@ mount_name mounts.NotAVolume = codes "NotAVolume"
 mount_name (mounts.Newer format) = codes "Newer"
 mount_name mounts.Damaged = codes "Damaged"
 
--- what was found, of so many commands: ` kept K of N`, ` torn`, or ` mount` and the fault's name
+-- what was found, of so many commands: ` held K of N`, ` torn`, or ` mount` and the fault's name
 abbrev pub finding_text : Finding → ℕ → List ℕ
-finding_text (findings.Kept count) commands = (codes " kept" ++ numbers_text (count ∷ [])) ++ (codes " of" ++ numbers_text (commands ∷ []))
+finding_text (findings.Committed count) commands = (codes " kept" ++ numbers_text (count ∷ [])) ++ (codes " of" ++ numbers_text (commands ∷ []))
 finding_text findings.Torn commands = codes " torn"
 finding_text (findings.Mount fault) commands = codes " mount " ++ mount_name fault
 
@@ -30,7 +30,7 @@ session_line number operation finding commands =
     (codes "session" ++ numbers_text (number ∷ [])) ++ ((codes " op" ++ numbers_text (operation ∷ [])) ++ (finding_text finding commands ++ (newline ∷ [])))
 
 -- the text is out, unless the writer failed
-abbrev pub IsTold : Option (List ℕ) → Option (List ℕ) → List ℕ → Result (Unit {0}) CutFault → Type 0
-IsTold old new text (Ok done) = Appends old new text
-IsTold old new text (Err faults.Write) = AppendsPart old new text
-IsTold old new text (Err fault) = ⊥
+abbrev pub IsStated : Option (List ℕ) → Option (List ℕ) → List ℕ → Result (Unit {0}) CutFault → Type 0
+IsStated old new text (Ok done) = Appends old new text
+IsStated old new text (Err faults.Write) = AppendsPart old new text
+IsStated old new text (Err fault) = ⊥

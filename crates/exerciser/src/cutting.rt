@@ -16,8 +16,8 @@ ghost use Rattle.exerciser.specs.declared.seen.Seen.TheVariants as seens;
 use crate::drawing::draw;
 use crate::fault::CutFault;
 use crate::looking::{Standing, begin, count_calls, live_once, look};
+use crate::reporting::tell;
 use crate::seen::Seen;
-use crate::telling::tell;
 use nand_model::{MemNand, Nand};
 use posix_profile::Stamped;
 use powercut::{Session, SessionEnd};
@@ -26,7 +26,7 @@ use rand_pcg::Lcg128Xsl64;
 use std::alloc::Global;
 use std::io::Write;
 
-/// Sets where a session is cut that makes so many calls where it is not, and tells the call. Where memory is refused nothing
+/// Sets where a session is cut that makes so many calls where it is not, and returns the call. Where memory is refused nothing
 /// is taken.
 fn set_fuse(
     alloc: Global,
@@ -108,17 +108,17 @@ fn exercise(
 /// Where the sessions go on after this, if they do.
 fn go_on(device: MemNand, seen: Seen) -> Result<Standing, CutFault>
     ensures device { IfOk result (λ standing. standing.device ≡ device) }
-    ensures kept { IfOk result (λ standing. (count : ℕ) × (seen ≡ seens.Kept count standing.tree)) }
+    ensures committed { IfOk result (λ standing. (count : ℕ) × (seen ≡ seens.Committed count standing.tree)) }
     ensures torn { IfErr result (λ e. IsTorn seen × (e ≡ faults.Torn)) }
 {
     match seen {
-        Seen::Kept(_, tree) => Ok(Standing { device, tree }),
+        Seen::Committed(_, tree) => Ok(Standing { device, tree }),
         Seen::Torn(_) | Seen::Mount(_) => Err(CutFault::Torn),
     }
 }
 
 /// Does so many sessions of these commands in turn on the device, each cut at a call of the device that is random by the
-/// seed, with random fates, and tells of each on a line what the mount after it finds. The first session without a tree that
+/// seed, with random fates, and writes of each on a line what the mount after it finds. The first session without a tree that
 /// it may leave is the last. The same seed gives the same lines.
 pub fn cut<W: Write>(
     alloc: Global,
@@ -128,7 +128,7 @@ pub fn cut<W: Write>(
     sessions: u32,
     writer: &mut W,
 ) -> Result<(), CutFault>
-    ensures tells { Cuts (record { first = device nand; seed = seed; commands = script.items; sessions = sessions }) (W.contents writer.old) (W.contents writer.new) result }
+    ensures reports { Cuts (record { first = device nand; seed = seed; commands = script.items; sessions = sessions }) (W.contents writer.old) (W.contents writer.new) result }
     ensures fault { IfErr result (HasCause (device nand)) }
 {
     let commands = script.len() as u64;

@@ -8,7 +8,7 @@ use posix_calls::MountFault;
 #[derive(Clone, Copy, Debug, PartialEq, Eq)]
 pub enum Finding {
     /// The tree after so many commands of the session.
-    Kept(u64),
+    Committed(u64),
     /// A tree that the session may not leave.
     Torn,
     /// No volume.

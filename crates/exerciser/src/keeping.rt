@@ -1,9 +1,9 @@
-// The commands that a cut session kept.
+// The commands that a cut session held.
 ghost use Rattle.std.specs.Prelude.{◌≡◌, ◌≤◌, ℕ, length, take, IfOk, IfSome, OnOk, OnErr};
 ghost use Rattle.posix_profile.specs.Losses.{is_synced, Covers};
 ghost use Rattle.posix_profile.specs.WellFormed.{IsTree};
 ghost use Rattle.plain_volume.specs.Lists.{Lists};
-ghost use Rattle.exerciser.specs.Keeping.{after_told, after_all_told, shown_after, IsLeast, IsKept};
+ghost use Rattle.exerciser.specs.Keeping.{after_reported, after_all_reported, shown_after, IsLeast, IsDurable};
 
 use plain_volume::{Answers, PlainTree, TreeFault, TreeList};
 use posix_profile::{Command, Errno, Reply, Stamped};
@@ -41,7 +41,7 @@ fn covered(script: &[Stamped], replies: &[Reply]) -> usize
 fn follow(tree: &mut PlainTree, stamped: &Stamped, reply: &Reply) -> Result<(), AllocError>
     ensures sizes { tree.new.sizes ≡ tree.old.sizes }
     ensures read_only { tree.new.read_only ≡ tree.old.read_only }
-    ensures state { OnOk result (tree.new.state ≡ after_told tree.old.sizes tree.old.read_only tree.old.state stamped.now reply.now) }
+    ensures state { OnOk result (tree.new.state ≡ after_reported tree.old.sizes tree.old.read_only tree.old.state stamped.now reply.now) }
     ensures memory { OnErr result (tree.new.state ≡ tree.old.state) }
 {
     match reply {
@@ -60,11 +60,11 @@ fn follow_first(
     replies: &[Reply],
     count: usize,
 ) -> Result<(), AllocError>
-    requires asked { count ≤ length script.now }
+    requires issued { count ≤ length script.now }
     requires answered { count ≤ length replies.now }
     ensures sizes { tree.new.sizes ≡ tree.old.sizes }
     ensures read_only { tree.new.read_only ≡ tree.old.read_only }
-    ensures state { OnOk result (tree.new.state ≡ after_all_told tree.old.sizes tree.old.read_only tree.old.state script.now (take count replies.now)) }
+    ensures state { OnOk result (tree.new.state ≡ after_all_reported tree.old.sizes tree.old.read_only tree.old.state script.now (take count replies.now)) }
 {
     for place in 0..count {
         follow(tree, &script[place], &replies[place])?;
@@ -74,7 +74,7 @@ fn follow_first(
 
 /// The least number of commands of a session that was answered so after which the list is read of what a mount shows: from those
 /// that a done sync covers to those that were answered. `before` is the tree before the session. None where there is no such number.
-pub(crate) fn least_kept(
+pub(crate) fn least_committed(
     before: &PlainTree,
     script: &[Stamped],
     replies: &[Reply],
@@ -102,10 +102,10 @@ pub(crate) fn least_kept(
 }
 
 /// The least number of commands of a session after which its tree is that of the volume: from those that a done sync covers
-/// to those that were begun. `before` is the tree before the session, and `end` how the session ended that was asked these
+/// to those that were begun. `before` is the tree before the session, and `end` how the session ended of these
 /// commands; those answered ENOMEM, EIO or EROFS change nothing. None where there is no such number. The volume, which needs a free
 /// descriptor, is read by its commands and not changed.
-pub fn kept<V: Answers>(
+pub fn committed<V: Answers>(
     alloc: Global,
     before: &PlainTree,
     script: &[Stamped],
@@ -115,8 +115,8 @@ pub fn kept<V: Answers>(
     ensures covers { IfOk result (λ found. IfSome found (λ k. Covers script.now end.now.replies.items k)) }
     ensures begun { IfOk result (λ found. IfSome found (λ k. k ≤ length end.now.replies.items)) }
     ensures within { IfOk result (λ found. IfSome found (λ k. k ≤ length script.now)) }
-    ensures least { IfOk result (IsKept V.shows volume.old before.now script.now end.now.replies.items) }
+    ensures least { IfOk result (IsDurable V.shows volume.old before.now script.now end.now.replies.items) }
 {
     let list = TreeList::read(alloc, volume)?;
-    least_kept(before, script, &end.replies, &list)
+    least_committed(before, script, &end.replies, &list)
 }

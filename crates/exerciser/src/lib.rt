@@ -7,15 +7,15 @@ mod fault;
 mod finding;
 mod keeping;
 mod looking;
+mod reporting;
 mod seen;
 mod sizes;
-mod telling;
 
 pub use cutting::cut;
 pub use drawing::draw;
 pub use fault::CutFault;
 pub use finding::{Finding, mount_fault_name};
-pub use keeping::kept;
+pub use keeping::committed;
 pub use looking::compare;
+pub use reporting::tell;
 pub use seen::Seen;
-pub use telling::tell;

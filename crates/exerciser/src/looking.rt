@@ -13,13 +13,13 @@ ghost use Rattle.exerciser.specs.Faults.{IsOfReading};
 ghost use Rattle.page_store.specs.Checked.{HasTrueFlash};
 ghost use Rattle.exerciser.specs.Causes.{IsAnswered, CountsCalls, IsTreeOn, MountsAs, ShowsFlash, WhyNotBegun, WhyUncounted, WhyUnseen};
 ghost use Rattle.exerciser.specs.Draws.{IsCountOf};
-ghost use Rattle.exerciser.specs.Keeping.{IsKept, IsLeast, IsTreeShown};
+ghost use Rattle.exerciser.specs.Keeping.{IsDurable, IsLeast, IsTreeShown};
 ghost use Rattle.exerciser.specs.Seen.{IsSeen, tree_in};
 ghost use Rattle.exerciser.specs.declared.fault.CutFault.TheVariants as faults;
 ghost use Rattle.exerciser.specs.declared.seen.Seen.TheVariants as seens;
 
 use crate::fault::CutFault;
-use crate::keeping::least_kept;
+use crate::keeping::least_committed;
 use crate::seen::Seen;
 use crate::sizes::sizes_with;
 use nand_model::{Geometry, MemNand, Nand};
@@ -37,41 +37,41 @@ pub(crate) struct Standing {
     pub(crate) tree: PlainTree,
 }
 
-/// What commands tell of a volume: its sizes, and its tree.
+/// What commands report on a volume: its sizes, and its tree.
 #[derive(Drop)]
-struct Told {
+struct Reported {
     sizes: VolumeSizes,
     list: TreeList,
 }
 
-/// Reads what a mounted volume on a device of these sizes tells.
+/// Reads what a mounted volume on a device of these sizes reports.
 #[tactic(auto, using(crate::proofs::Sessions::of_tree_is_reading))]
-fn read<V: Answers>(alloc: Global, geometry: Geometry, volume: &mut V) -> Result<Told, CutFault>
-    ensures sizes { IfOk result (λ told. IsSizes (sizes_of told.sizes)) }
-    ensures list { IfOk result (λ told. ListsShown V.shows volume.old told.list) }
+fn read<V: Answers>(alloc: Global, geometry: Geometry, volume: &mut V) -> Result<Reported, CutFault>
+    ensures sizes { IfOk result (λ reported. IsSizes (sizes_of reported.sizes)) }
+    ensures list { IfOk result (λ reported. ListsShown V.shows volume.old reported.list) }
     ensures fault { IfErr result IsOfReading }
 {
     let list = TreeList::read(alloc, volume)?;
-    let asked = Stamped {
+    let issued = Stamped {
         moment: 0,
         command: Command::Space,
     };
-    let Reply::SpaceInfo(space) = volume.answer(&asked) else {
+    let Reply::SpaceInfo(space) = volume.answer(&issued) else {
         return Err(CutFault::Unread);
     };
     match sizes_with(geometry, space.total) {
-        Some(sizes) => Ok(Told { sizes, list }),
+        Some(sizes) => Ok(Reported { sizes, list }),
         None => Err(CutFault::Unread),
     }
 }
 
-/// The tree that is told; none where it cannot be made again.
-fn made_of(alloc: Global, told: &Told) -> Result<Option<PlainTree>, CutFault>
-    requires { IsSizes (sizes_of told.now.sizes) }
-    ensures made { IfOk result (λ made. IfSome made (IsMadeOf told.now.list)) }
+/// The tree that is reported; none where it cannot be made again.
+fn made_of(alloc: Global, reported: &Reported) -> Result<Option<PlainTree>, CutFault>
+    requires { IsSizes (sizes_of reported.now.sizes) }
+    ensures made { IfOk result (λ made. IfSome made (IsMadeOf reported.now.list)) }
     ensures fault { IfErr result IsOfReading }
 {
-    match PlainTree::made_of(alloc, told.sizes, &told.list) {
+    match PlainTree::made_of(alloc, reported.sizes, &reported.list) {
         Ok(tree) => Ok(Some(tree)),
         Err(TreeFault::NoMemory) => Err(CutFault::NoMemory),
         Err(_) => Ok(None),
@@ -99,8 +99,8 @@ pub(crate) fn begin(alloc: Global, nand: MemNand) -> Result<Standing, CutFault>
     let copy = nand.copy()?;
     match mount(alloc, copy) {
         Ok(mut volume) => {
-            let told = read(alloc, nand.geometry(), &mut volume)?;
-            match made_of(alloc, &told)? {
+            let reported = read(alloc, nand.geometry(), &mut volume)?;
+            match made_of(alloc, &reported)? {
                 Some(tree) => Ok(Standing { device: nand, tree }),
                 None => Err(CutFault::Unread),
             }
@@ -109,7 +109,7 @@ pub(crate) fn begin(alloc: Global, nand: MemNand) -> Result<Standing, CutFault>
     }
 }
 
-/// Does a session on the device, and tells how it ended.
+/// Does a session on the device, and returns how it ended.
 pub(crate) fn live_once(
     alloc: Global,
     nand: MemNand,
@@ -138,14 +138,14 @@ fn calls_of(end: &SessionEnd, calls: u64) -> Result<u64, CutFault>
 /// How many calls of a device a session makes that is not cut, up to the end of its unmount.
 pub(crate) fn count_calls(alloc: Global, nand: &MemNand, session: &Session) -> Result<u64, CutFault>
     requires { is_some session.now.fuse ≡ false }
-    ensures counted { IfOk result (IsCountOf (device nand.now) session.now) }
+    ensures totaled { IfOk result (IsCountOf (device nand.now) session.now) }
     ensures fault { IfErr result (WhyUncounted (device nand.now) session.now) }
 {
     let (last, end) = live_once(alloc, nand.copy()?, session)?;
     calls_of(&end, last.calls())
 }
 
-/// What is seen of a session that left what this list tells, of which this tree was made, or none.
+/// What is seen of a session that left what this list reports, of which this tree was made, or none.
 #[tactic(auto, using(crate::proofs::Sessions::of_tree_is_reading))]
 fn judge(
     before: &PlainTree,
@@ -161,9 +161,9 @@ fn judge(
     ensures mounted { IfOk result (λ seen. (fault : MountFault) → seen ≡ seens.Mount fault → ⊥) }
     ensures fault { IfErr result IsOfReading }
 {
-    let found = least_kept(before, script, replies, list)?;
+    let found = least_committed(before, script, replies, list)?;
     match (found, made) {
-        (Some(count), Some(tree)) => Ok(Seen::Kept(count, tree)),
+        (Some(count), Some(tree)) => Ok(Seen::Committed(count, tree)),
         (Some(_), None) => Err(CutFault::Unread),
         (None, made) => Ok(Seen::Torn(made)),
     }
@@ -181,13 +181,13 @@ pub fn compare<V: Answers>(
 ) -> Result<Seen, CutFault>
     ensures seen { IfOk result (IsSeen before.now script.now end.now.replies.items) }
     ensures tree { IfOk result (λ seen. IfSome (tree_in seen) (IsTreeShown V.shows volume.old)) }
-    ensures torn { IfOk result (λ seen. seen ≡ seens.Torn None → IsKept V.shows volume.old before.now script.now end.now.replies.items None) }
+    ensures torn { IfOk result (λ seen. seen ≡ seens.Torn None → IsDurable V.shows volume.old before.now script.now end.now.replies.items None) }
     ensures mounted { IfOk result (λ seen. (fault : MountFault) → seen ≡ seens.Mount fault → ⊥) }
     ensures fault { IfErr result IsOfReading }
 {
-    let told = read(alloc, geometry, volume)?;
-    let made = made_of(alloc, &told)?;
-    judge(before, script, &end.replies, &told.list, made)
+    let reported = read(alloc, geometry, volume)?;
+    let made = made_of(alloc, &reported)?;
+    judge(before, script, &end.replies, &reported.list, made)
 }
 
 /// What is seen where a mount has this fault.

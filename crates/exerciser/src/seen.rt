@@ -10,20 +10,20 @@ use posix_calls::MountFault;
 #[derive(Drop)]
 pub enum Seen {
     /// The tree after so many commands of the session: this one.
-    Kept(u64, PlainTree),
-    /// A tree that the session may not leave: this one; or one that is told as no tree that can be made again.
+    Committed(u64, PlainTree),
+    /// A tree that the session may not leave: this one; or one that is reported as no tree that can be made again.
     Torn(Option<PlainTree>),
     /// No volume.
     Mount(MountFault),
 }
 
 impl Seen {
-    /// What a line tells of it.
+    /// What a line reports on it.
     pub fn finding(&self) -> Finding
         ensures { result ≡ finding_of self.now }
     {
         match self {
-            Seen::Kept(count, _) => Finding::Kept(*count),
+            Seen::Committed(count, _) => Finding::Committed(*count),
             Seen::Torn(_) => Finding::Torn,
             Seen::Mount(fault) => Finding::Mount(*fault),
         }

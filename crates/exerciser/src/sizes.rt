@@ -1,4 +1,4 @@
-// The sizes of a volume, from what it tells of its space.
+// The sizes of a volume, from what it reports on its space.
 ghost use Rattle.std.specs.Prelude.{◌≡◌, ◌≤◌, ◌+◌, ℕ, IfSome, IfNone};
 ghost use Rattle.flash_tree.specs.Mount.{sizes_of};
 ghost use Rattle.volume_terms.specs.Sizes.{IsSizes, capacity};

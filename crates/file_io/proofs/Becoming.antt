@@ -22,7 +22,7 @@ pub record IsFresh (d o : ℕ) (m : PageMap) (new bits : List ℕ) (k : ℕ) : T
   pub holds : HoldsChunk d new k page
 
 -- a chunk that stays as it was
-pub record IsKept (d o : ℕ) (old m : PageMap) (all new was bits : List ℕ) (k : ℕ) : Type 0 where
+pub record IsCommittedKey (d o : ℕ) (old m : PageMap) (all new was bits : List ℕ) (k : ℕ) : Type 0 where
   pub page : m o (1 + k) ≡ old o (1 + k)
   pub set : is_present bits (1 + k) ≡ is_present was (1 + k)
   pub same : (j : ℕ) → j < d → k * d + j < length new → get_or new (k * d + j) 0 ≡ get_or all (k * d + j) 0
@@ -36,7 +36,7 @@ pub record IsGone (d o : ℕ) (m : PageMap) (new bits : List ℕ) (k : ℕ) : Ty
 
 module _ (p : PagesState) (z : Sizes) (o before moment : ℕ) (all new : List ℕ) (f : FileIn p z o before all) (d : ℕ) (size : d ≡ z.page_bytes) (some : 1 ≤ d)
     (m : PageMap) (head : Fields) (there : m o 0 ≡ Some (header_bytes head)) (valid : IsHeader d head) (kind : head.kind ≡ kinds.File) (when : head.moment ≡ moment) (long : head.length ≡ length new)
-    (chunks : (k : ℕ) → IsFresh d o m new head.bits k ⊎ IsKept d o p.present m all new f.reads.fields.bits head.bits k ⊎ IsGone d o m new head.bits k) where
+    (chunks : (k : ℕ) → IsFresh d o m new head.bits k ⊎ IsCommittedKey d o p.present m all new f.reads.fields.bits head.bits k ⊎ IsGone d o m new head.bits k) where
   -- a byte of a chunk
   new_byte : (k j : ℕ) → j < d → k * d + j < length new → ByteIn m o head.bits k j (get_or new (k * d + j) 0)
   new_byte k j less within = elim (chunks k) [

@@ -57,7 +57,7 @@ pub among_chunks : (d len : ℕ) (bits : List ℕ) (first n c : ℕ) → c ≡ 0
 among_chunks d len bits first n c is (inl tail) = omega (arith, is, tail.chunk)
 among_chunks d len bits first n c is (inr among) = omega (arith, is, among.from)
 
--- how many pages were asked for before the first chunk
+-- how many pages were looked up before the first chunk
 pub asked_tail : (d off len old got : ℕ) → got ≤ old + 1 → (off / d ≤ len / d → got ≡ old) → got ≤ old + min 1 (off - len)
 asked_tail d off len old got most none = elim (cases_lt len off) [
   | inl past ↦ omega (arith, most, past)

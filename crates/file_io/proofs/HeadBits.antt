@@ -7,7 +7,7 @@ use Rattle.std.proofs.lemmas.List.{drop_all, length-replicate, length-take-le}
 use Rattle.std.proofs.lemmas.Nat.Bits.{bit_at-zero}
 use Rattle.volume_terms.specs.laws.List.{zero_at}
 use Rattle.page_tags.specs.HeaderFields.{file_fields}
-use Rattle.page_tags.specs.Headers.{Fields, IsHeader, MayBeSet, greatest_told, is_present}
+use Rattle.page_tags.specs.Headers.{Fields, IsHeader, MayBeSet, greatest_recorded, is_present}
 use Rattle.page_tags.specs.declared.header.ObjectKind.TheVariants as kinds
 
 -- of bits that are all zero none is set
@@ -43,7 +43,7 @@ bits_written page bits least room =
 pub in_format_2 : (d : ℕ) (f : Fields) → IsHeader d f → f.kind ≡ kinds.File → IsHeader d (file_fields f.length f.moment f.bits)
 in_format_2 d f valid kind = record {
   spare = omega arith;
-  length_fits = subst (λ k. f.length ≤ greatest_told d k) kind valid.length_fits;
+  length_fits = subst (λ k. f.length ≤ greatest_recorded d k) kind valid.length_fits;
   moment = valid.moment;
   no_moment = λ no'. absurd cc;
   room = valid.room;

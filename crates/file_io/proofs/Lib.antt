@@ -6,7 +6,7 @@ pub mod ChunkPages
 pub mod PageLists
 pub mod Becoming
 pub mod Filling
-pub mod KeptPages
+pub mod CommittedPages
 pub mod WriteChunks
 pub mod WholeWrites
 pub mod Resized

@@ -121,9 +121,9 @@ read_all off count end all is some =
     let same : min (end - off) (length (drop off all)) ≡ min count (length (drop off all)) = omega (arith, length-drop off all, is, some) in
     sym (take_min (end - off) (drop off all)) ∙ ap (λ n. take n (drop off all)) same ∙ take_min count (drop off all)
 
--- no more is asked for than the chunks of the range
+-- no more is looked up than the chunks of the range
 pub asked_for : (d size off count len end first got now : ℕ) → d ≡ size → end ≡ min len (off + count) → off < end → now ≤ first + got → got ≤ (end - 1) / d + 1 - off / d
     → now ≤ first + chunks_over size off (min count (len - off))
-asked_for d size off count len end first got now same is some asked few =
+asked_for d size off count len end first got now same is some issued few =
     subst (λ k. now ≤ first + chunks_over k off (min count (len - off))) same
-    (omega (arith, asked, few, chunks_of d off end (min count (len - off)) some (omega (arith, is, some))))
+    (omega (arith, issued, few, chunks_of d off end (min count (len - off)) some (omega (arith, is, some))))

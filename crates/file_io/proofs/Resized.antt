@@ -25,14 +25,14 @@ use Rattle.file_io.proofs.WriteChunks.{resize_chunks}
 use Rattle.file_io.proofs.Written.{length-resized, grown_at}
 
 -- one cut from a chunk on
-pub one_cut : (o kept chunks : ℕ) → kept < chunks → (x : Cut) → x.object ≡ o → x.from ≡ 1 + kept → CutsFrom o kept chunks (x ∷ [])
-one_cut o kept chunks more x object from = record {
+pub one_cut : (o committed chunks : ℕ) → committed < chunks → (x : Cut) → x.object ≡ o → x.from ≡ 1 + committed → CutsFrom o committed chunks (x ∷ [])
+one_cut o committed chunks more x object from = record {
   only = λ p c i is. only p c i is.cut is.there is.object is.chunk;
   all = λ c less past. (0, record { cut = x; there = refl; object = object; chunk = omega (arith, from, past) });
   few = omega arith;
 }
   where
-    only : (p c i : ℕ) (y : Cut) → slice_get (x ∷ []) i ≡ Some y → y.object ≡ p → y.from ≤ c → (p ≡ o) × (1 + kept ≤ c) × (kept < chunks)
+    only : (p c i : ℕ) (y : Cut) → slice_get (x ∷ []) i ≡ Some y → y.object ≡ p → y.from ≤ c → (p ≡ o) × (1 + committed ≤ c) × (committed < chunks)
     only p c zero y there is past =
         let one : x ≡ y = cc in
         let at : x.from ≤ c = subst (λ (w : Cut). w.from ≤ c) (sym one) past in

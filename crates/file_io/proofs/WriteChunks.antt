@@ -12,7 +12,7 @@ use Rattle.pages.specs.State.{PagesState}
 use Rattle.flash_tree.specs.declared.place.FreshPage.{FreshPage}
 use Rattle.file_io.specs.Files.{FileIn}
 use Rattle.file_io.specs.Chunks.{AreOf, HoldChunks, IsTail, IsAmong, IsWritten}
-use Rattle.file_io.proofs.Becoming.{IsFresh, IsKept, IsGone}
+use Rattle.file_io.proofs.Becoming.{IsFresh, IsCommittedKey, IsGone}
 use Rattle.file_io.proofs.ChunkPages.{begins_within}
 use Rattle.file_io.proofs.Filling.{chunk_below}
 use Rattle.file_io.proofs.PageLists.{page_of, none_of}
@@ -92,8 +92,8 @@ module _ (p : PagesState) (z : Sizes) (o before : ℕ) (all : List ℕ) (f : Fil
       ]
     ]
 
-    kept : (k : ℕ) → (IsWritten d len was (off / d) ((off + length bytes - 1) / d + 1) (1 + k) → ⊥) → IsKept d o p.present (with_pages pages m) all (written all off bytes) f.reads.fields.bits bits k
-    kept k none = record {
+    committed : (k : ℕ) → (IsWritten d len was (off / d) ((off + length bytes - 1) / d + 1) (1 + k) → ⊥) → IsCommittedKey d o p.present (with_pages pages m) all (written all off bytes) f.reads.fields.bits bits k
+    committed k none = record {
       page = none_of o IsOne pages of m (1 + k) (λ is. none (into (1 + k) (omega arith) is)) ∙ same (1 + k);
       set = others k (outside k none) ∙ ap (λ (xs : List ℕ). is_present xs (1 + k)) was_is;
       same = λ j less within. elim (outside k none) [
@@ -108,12 +108,12 @@ module _ (p : PagesState) (z : Sizes) (o before : ℕ) (all : List ℕ) (f : Fil
 
     -- a chunk after the write
     pub write_chunks : (k : ℕ) → IsFresh d o (with_pages pages m) (written all off bytes) bits k
-        ⊎ IsKept d o p.present (with_pages pages m) all (written all off bytes) f.reads.fields.bits bits k ⊎ IsGone d o (with_pages pages m) (written all off bytes) bits k
+        ⊎ IsCommittedKey d o p.present (with_pages pages m) all (written all off bytes) f.reads.fields.bits bits k ⊎ IsGone d o (with_pages pages m) (written all off bytes) bits k
     write_chunks k = elim (written_or_not d len was (off / d) ((off + length bytes - 1) / d + 1) (1 + k)) [
       | inl is ↦
           let at = page_of o IsOne pages of m (1 + k) (onto (1 + k) is) in
           inl (record { set = set_bit k is; page = at.1.0.bytes.items; there = at.1.3; holds = hold at.0 k at.1.0 at.1.1 at.1.2 })
-      | inr none ↦ inr (inl (kept k none))
+      | inr none ↦ inr (inl (committed k none))
     ]
 
   module _ (n limit whole : ℕ) (low : whole * d < n + d) (high : n ≤ whole * d) (grows : length all < n → limit ≡ whole) (cuts : n ≤ length all → limit ≡ 0)
@@ -128,8 +128,8 @@ module _ (p : PagesState) (z : Sizes) (o before : ℕ) (all : List ℕ) (f : Fil
       | inr less ↦ absurd (omega (arith, cuts less, tail.before))
     ]
 
-    kept_within : (k : ℕ) → k < whole → (IsTail d len was limit (1 + k) → ⊥) → IsKept d o p.present (with_pages pages m) all (resized all n) f.reads.fields.bits bits k
-    kept_within k within none = record {
+    committed_within : (k : ℕ) → k < whole → (IsTail d len was limit (1 + k) → ⊥) → IsCommittedKey d o p.present (with_pages pages m) all (resized all n) f.reads.fields.bits bits k
+    committed_within k within none = record {
       page = none_of o IsOne pages of m (1 + k) (λ is. none (into (1 + k) (omega arith) is)) ∙ same k within;
       set = others k within ∙ ap (λ (xs : List ℕ). is_present xs (1 + k)) was_is;
       same = λ j less low_enough. resized_within all n (k * d + j) (omega (arith, low_enough, length-resized all n));
@@ -140,13 +140,13 @@ module _ (p : PagesState) (z : Sizes) (o before : ℕ) (all : List ℕ) (f : Fil
 
     -- a chunk after the change of the length
     pub resize_chunks : (k : ℕ) → IsFresh d o (with_pages pages m) (resized all n) bits k
-        ⊎ IsKept d o p.present (with_pages pages m) all (resized all n) f.reads.fields.bits bits k ⊎ IsGone d o (with_pages pages m) (resized all n) bits k
+        ⊎ IsCommittedKey d o p.present (with_pages pages m) all (resized all n) f.reads.fields.bits bits k ⊎ IsGone d o (with_pages pages m) (resized all n) bits k
     resize_chunks k = elim (tail_or_not d len was limit (1 + k)) [
       | inl is ↦
           let at = page_of o IsOne pages of m (1 + k) (onto (1 + k) is) in
           inl (record { set = others k (tail_within k is) ∙ is.there; page = at.1.0.bytes.items; there = at.1.3; holds = hold at.0 k at.1.0 at.1.1 at.1.2 })
       | inr none ↦ elim (cases_lt k whole) [
-        | inl within ↦ inr (inl (kept_within k within none))
+        | inl within ↦ inr (inl (committed_within k within none))
         | inr behind ↦
             let end : n ≤ k * d = omega (arith, high, below behind) in
             elim (past k behind) [

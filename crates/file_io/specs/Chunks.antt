@@ -1,4 +1,4 @@
--- The chunks of a file, counted from 0: chunk k of its bytes is chunk 1 + k of the object.
+-- The chunks of a file, numbered from 0: chunk k of its bytes is chunk 1 + k of the object.
 use Rattle.std.specs.Global.{Vec}
 use Rattle.std.specs.Prelude.{◌≡◌, ◌<◌, ◌≤◌, ◌⊎◌, ℕ, zero, suc, ◌+◌, ◌-◌, ◌*◌, ◌/◌, ◌%◌, true, List, ◌++◌, length, take, drop, slice_get, slice_index, Option, Some, None}
 use Rattle.page_tags.specs.Headers.{is_present}
@@ -57,7 +57,7 @@ pub record IsAmong (k n c : ℕ) : Type 0 where
   pub from : k < c
   pub to : c ≤ n
 
--- the chunk of a place, counted from 0
+-- the chunk of a place, numbered from 0
 abbrev pub first_chunk : ℕ → ℕ → ℕ
 first_chunk d off = off / d
 
@@ -94,8 +94,8 @@ pub record IsPartLast (d len c : ℕ) : Type 0 where
 
 -- A chunk of which a write of n bytes keeps a part: it goes over some of its bytes and not over others, or a file of this
 -- length, whose last chunk it is, grows past it.
-abbrev pub IsPartKept : ℕ → ℕ → ℕ → ℕ → ℕ → Type 0
-IsPartKept d len off n c = IsSplit d off (off + n) c ⊎ ((1 ≤ n) × (len < off) × IsPartLast d len c)
+abbrev pub IsPartCommitted : ℕ → ℕ → ℕ → ℕ → ℕ → Type 0
+IsPartCommitted d len off n c = IsSplit d off (off + n) c ⊎ ((1 ≤ n) × (len < off) × IsPartLast d len c)
 
 -- the chunks of which a write into the chunks from k on has made pages when it comes to chunk n
 abbrev pub IsWritten : ℕ → ℕ → List ℕ → ℕ → ℕ → ℕ → Type 0

@@ -7,7 +7,7 @@ use Rattle.volume_terms.specs.Sizes.{Sizes}
 use Rattle.pages.specs.Maps.{PageMap, has}
 use Rattle.pages.specs.State.{PagesState}
 use Rattle.flash_tree.specs.declared.place.FreshPage.{FreshPage}
-use Rattle.file_io.specs.Chunks.{IsAmong, IsPartKept, IsPartLast}
+use Rattle.file_io.specs.Chunks.{IsAmong, IsPartCommitted, IsPartLast}
 
 -- the object is this file, in a sound store with pages of this size
 pub record FileIn (p : PagesState) (z : Sizes) (o moment : ℕ) (bytes : List ℕ) : Type 0 where
@@ -35,12 +35,12 @@ abbrev pub HasLastPage : PagesState → ℕ → Fields → Type 0
 HasLastPage p o f = HasPages p.present o f.bits (IsPartLast p.page_bytes f.length)
 
 -- each chunk that the header names, and of which a write of n bytes from a place on keeps a part, has a page
-abbrev pub HasKeptPages : PagesState → ℕ → Fields → ℕ → ℕ → Type 0
-HasKeptPages p o f off n = HasPages p.present o f.bits (IsPartKept p.page_bytes f.length off n)
+abbrev pub HasCommittedPages : PagesState → ℕ → Fields → ℕ → ℕ → Type 0
+HasCommittedPages p o f off n = HasPages p.present o f.bits (IsPartCommitted p.page_bytes f.length off n)
 
 -- the object has the header of a file, and the pages of which such a write keeps a part
 abbrev pub HasForWrite : PagesState → ℕ → ℕ → ℕ → Type 0
-HasForWrite p o off n = (h : HasFileHeader p o) × HasKeptPages p o h.fields off n
+HasForWrite p o off n = (h : HasFileHeader p o) × HasCommittedPages p o h.fields off n
 
 -- the object has the header of a file, and if it is to grow to this length, the page of its last chunk
 abbrev pub HasForLength : PagesState → ℕ → ℕ → Type 0

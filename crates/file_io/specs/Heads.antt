@@ -1,4 +1,4 @@
--- What is told of the header of a file.
+-- What is reported of the header of a file.
 use Rattle.std.specs.Prelude.{◌≡◌, ◌<◌, ◌+◌, ◌/◌, ℕ, true, List, Some, drop}
 use Rattle.page_tags.specs.HeaderFields.{file_fields}
 use Rattle.page_tags.specs.Headers.{Fields, is_present}

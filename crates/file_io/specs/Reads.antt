@@ -18,10 +18,10 @@ HasRead bytes off old new count = take count new ≡ take (length old) (drop off
 abbrev pub filled : {p : PagesState} {z : Sizes} {o moment : ℕ} {bytes : List ℕ} → FileIn p z o moment bytes → ℕ → ℕ → ℕ → List ℕ → List ℕ
 filled {z = z} {bytes = bytes} f k off end buffer = overwritten buffer (part_from z.page_bytes k off - off) (part_of z.page_bytes k off end bytes)
 
--- at most the page of chunk c was asked for, and none where it has none
-abbrev pub AsksForPage : PagesState → PagesState → ℕ → ℕ → Type 0
-AsksForPage old new o c = new.asked ≤ old.asked + one_page (old.present o c)
+-- at most the page of chunk c was wanted for, and none where it has none
+abbrev pub IssuesForPage : PagesState → PagesState → ℕ → ℕ → Type 0
+IssuesForPage old new o c = new.issued ≤ old.issued + one_page (old.present o c)
 
--- at most those pages were asked for that the chunks have over which n bytes from a place on extend
-abbrev pub AsksForPages : PagesState → PagesState → ℕ → ℕ → ℕ → Type 0
-AsksForPages old new o off n = new.asked ≤ old.asked + count_pages old.present o (1 + off / old.page_bytes) (chunks_over old.page_bytes off n)
+-- at most those pages were looked up that the chunks have over which n bytes from a place on extend
+abbrev pub IssuesForPages : PagesState → PagesState → ℕ → ℕ → ℕ → Type 0
+IssuesForPages old new o off n = new.issued ≤ old.issued + count_pages old.present o (1 + off / old.page_bytes) (chunks_over old.page_bytes off n)

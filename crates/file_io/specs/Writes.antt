@@ -52,6 +52,6 @@ AreFewOver p off n pages = length pages + off / p.page_bytes ≤ (off + n - 1) /
 abbrev pub with_parts : ℕ → ℕ → ℕ → ℕ → ℕ → ℕ
 with_parts d len off n count = count + min 1 (off - len) + min 1 (off % d) + min 1 ((off + n) % d)
 
--- at most the header and these pages were asked for, by a write of n bytes from a place on into the file
-abbrev pub AsksForWrite : {p : PagesState} {z : Sizes} {o before : ℕ} {all : List ℕ} → FileIn p z o before all → PagesState → ℕ → ℕ → Type 0
-AsksForWrite {p = p} {z = z} {all = all} f new off n = new.asked ≤ with_parts z.page_bytes (length all) off n (p.asked + 1)
+-- at most the header and these pages were looked up, by a write of n bytes from a place on into the file
+abbrev pub IssuesForWrite : {p : PagesState} {z : Sizes} {o before : ℕ} {all : List ℕ} → FileIn p z o before all → PagesState → ℕ → ℕ → Type 0
+IssuesForWrite {p = p} {z = z} {all = all} f new off n = new.issued ≤ with_parts z.page_bytes (length all) off n (p.issued + 1)

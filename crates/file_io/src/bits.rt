@@ -1,4 +1,4 @@
-// The presence bits of a range of chunks, counted from 0.
+// The presence bits of a range of chunks, numbered from 0.
 ghost use Rattle.std.specs.Prelude.{◌≡◌, ◌<◌, ◌≤◌, ◌+◌, ◌-◌, ◌*◌, ◌^◌, ◌⊎◌, ℕ, true, false, length, drop};
 ghost use Rattle.page_tags.specs.Headers.{is_present};
 

@@ -1,4 +1,4 @@
-// The chunks of a file, counted from 0, as they are before a change.
+// The chunks of a file, numbered from 0, as they are before a change.
 ghost use Rattle.std.specs.Prelude.{◌≡◌, ◌<◌, ◌≤◌, ◌+◌, ◌-◌, ◌*◌, ◌/◌, ◌^◌, ℕ, true, IfOk, OnOk, IfErr, length, slice_index};
 ghost use Rattle.page_tags.specs.Headers.{is_present};
 ghost use Rattle.pages.specs.Changes.{AreSized};
@@ -33,9 +33,9 @@ pub(crate) fn chunk_bytes<P: Pages>(
 ) -> Result<Vec<u8>, PageFault>
     requires { index < 2 ^ 32 }
     ensures finds { OnlyFinds (P.state pages.old) (P.state pages.new) }
-    ensures asked { (P.state pages.new).asked ≤ (P.state pages.old).asked + 1 }
+    ensures issued { (P.state pages.new).issued ≤ (P.state pages.old).issued + 1 }
     ensures power { OnOk result (KeepsPower (P.state pages.old) (P.state pages.new)) }
-    ensures told { (P.state pages.old).sound ≡ true → OnOk result (HasChunkPage (P.state pages.old) object head.now index) }
+    ensures reported { (P.state pages.old).sound ≡ true → OnOk result (HasChunkPage (P.state pages.old) object head.now index) }
     ensures size { IfOk result (λ bytes. length bytes.items ≡ (P.state pages.old).page_bytes) }
     ensures holds { OfHead (P.state pages.old) object head.now (λ all. IfOk result (HoldsChunkIn (P.state pages.old) all index)) }
     ensures why { IfErr result (SaysWhyMaking (P.state pages.new)) }
@@ -69,10 +69,10 @@ pub(crate) fn tail_pages<P: Pages>(
 ) -> Result<Vec<FreshPage>, PageFault>
     requires { head.now.length < 2 ^ 32 }
     ensures finds { OnlyFinds (P.state pages.old) (P.state pages.new) }
-    ensures asked { (P.state pages.new).asked ≤ (P.state pages.old).asked + 1 }
+    ensures issued { (P.state pages.new).issued ≤ (P.state pages.old).issued + 1 }
     ensures power { OnOk result (KeepsPower (P.state pages.old) (P.state pages.new)) }
-    ensures unasked { before ≤ head.now.length / (P.state pages.old).page_bytes → (P.state pages.new).asked ≡ (P.state pages.old).asked }
-    ensures told { (P.state pages.old).sound ≡ true → OnOk result (HasTailPage (P.state pages.old) object head.now before) }
+    ensures unasked { before ≤ head.now.length / (P.state pages.old).page_bytes → (P.state pages.new).issued ≡ (P.state pages.old).issued }
+    ensures reported { (P.state pages.old).sound ≡ true → OnOk result (HasTailPage (P.state pages.old) object head.now before) }
     ensures of { IfOk result (λ fresh. AreOf object (IsTail (P.state pages.old).page_bytes head.now.length (bits_in head.now) before) fresh.items) }
     ensures few { IfOk result (λ fresh. length fresh.items ≤ 1) }
     ensures sized { IfOk result (λ fresh. AreSized fresh.items (P.state pages.old).page_bytes) }

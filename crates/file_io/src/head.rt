@@ -42,14 +42,14 @@ fn decode_file(page: &[u8]) -> Result<Header<'_>, PageFault>
     Ok(header)
 }
 
-/// The length of a file and the moment of its last change. Its header is asked for.
+/// The length of a file and the moment of its last change. Its header is looked up.
 pub fn read_info<P: Pages>(pages: &mut P, object: u64) -> Result<FileInfo, PageFault>
     ensures finds { OnlyFinds (P.state pages.old) (P.state pages.new) }
-    ensures asked { (P.state pages.new).asked ≤ (P.state pages.old).asked + 1 }
+    ensures issued { (P.state pages.new).issued ≤ (P.state pages.old).issued + 1 }
     ensures power { OnOk result (KeepsPower (P.state pages.old) (P.state pages.new)) }
     ensures length { OfFile (P.state pages.old) object (λ z moment all f. IfOk result (λ info. info.length ≡ length all)) }
     ensures moment { OfFile (P.state pages.old) object (λ z moment all f. IfOk result (λ info. info.moment ≡ moment)) }
-    ensures told { (P.state pages.old).sound ≡ true → OnOk result (HasFileHeader (P.state pages.old) object) }
+    ensures reported { (P.state pages.old).sound ≡ true → OnOk result (HasFileHeader (P.state pages.old) object) }
     ensures why { IfErr result (SaysWhy (P.state pages.old) (P.state pages.new)) }
     ensures fault { OfFile (P.state pages.old) object (λ z moment all f. IfErr result (MayLack (P.state pages.old) (P.state pages.new))) }
 {
@@ -68,12 +68,12 @@ pub(crate) fn read_head<P: Pages>(
     object: u64,
 ) -> Result<FileHead, PageFault>
     ensures finds { OnlyFinds (P.state pages.old) (P.state pages.new) }
-    ensures asked { (P.state pages.new).asked ≤ (P.state pages.old).asked + 1 }
+    ensures issued { (P.state pages.new).issued ≤ (P.state pages.old).issued + 1 }
     ensures power { OnOk result (KeepsPower (P.state pages.old) (P.state pages.new)) }
     ensures head { OfFile (P.state pages.old) object (λ z moment all f. IfOk result (λ head. IsHeadOf head f.reads.fields)) }
     ensures size { IfOk result (λ head. length head.page.items ≡ (P.state pages.old).page_bytes) }
     ensures valid { IfOk result (λ head. IsHeader (P.state pages.old).page_bytes (head_fields head)) }
-    ensures told { (P.state pages.old).sound ≡ true → IfOk result (SaysHead (P.state pages.old) object) }
+    ensures reported { (P.state pages.old).sound ≡ true → IfOk result (SaysHead (P.state pages.old) object) }
     ensures why { IfErr result (SaysWhyMaking (P.state pages.new)) }
     ensures fault { OfFile (P.state pages.old) object (λ z moment all f. IfErr result (MayLackMemory (P.state pages.new))) }
 {

@@ -4,7 +4,7 @@ ghost use Rattle.pages.specs.State.{OnlyFinds, KeepsPower};
 ghost use Rattle.file_io.specs.Files.{OfFileOnly};
 ghost use Rattle.file_io.specs.Chunks.{chunks_over};
 ghost use Rattle.pages.specs.Faults.{MayLack};
-ghost use Rattle.file_io.specs.Reads.{AsksForPage, AsksForPages, HasRead, filled, read_count};
+ghost use Rattle.file_io.specs.Reads.{IssuesForPage, IssuesForPages, HasRead, filled, read_count};
 
 use crate::overwriting::{clear, overwrite};
 use flash_tree::Key;
@@ -25,9 +25,9 @@ fn read_part<P: Pages>(
     requires begins { index * (P.state pages.old).page_bytes < end }
     requires ends { offset < index * (P.state pages.old).page_bytes + (P.state pages.old).page_bytes }
     ensures finds { OnlyFinds (P.state pages.old) (P.state pages.new) }
-    ensures asked { (P.state pages.new).asked ≤ (P.state pages.old).asked + 1 }
+    ensures issued { (P.state pages.new).issued ≤ (P.state pages.old).issued + 1 }
     ensures power { OnOk result (KeepsPower (P.state pages.old) (P.state pages.new)) }
-    ensures holes { (P.state pages.old).sound ≡ true → AsksForPage (P.state pages.old) (P.state pages.new) object (1 + index) }
+    ensures holes { (P.state pages.old).sound ≡ true → IssuesForPage (P.state pages.old) (P.state pages.new) object (1 + index) }
     ensures size { length buffer.new ≡ length buffer.old }
     ensures rest { drop (end - offset) buffer.new ≡ drop (end - offset) buffer.old }
     ensures part { OfFileOnly (P.state pages.old) object (λ z moment all f. end ≤ length all
@@ -57,7 +57,7 @@ fn read_part<P: Pages>(
 /// returns how many. A chunk without a page reads as zeros. What lies past them in the buffer stays; after a fault the buffer may hold
 /// anything.
 ///
-/// Each chunk of the range is looked for, and the header is not. No page is asked for a hole.
+/// Each chunk of the range is looked for, and the header is not. No page is looked up for a hole.
 pub fn read_at<P: Pages>(
     pages: &mut P,
     object: u64,
@@ -71,8 +71,8 @@ pub fn read_at<P: Pages>(
     ensures count { IfOk result (λ count. count ≡ read_count buffer.old len offset) }
     ensures rest { IfOk result (λ count. drop count buffer.new ≡ drop count buffer.old) }
     ensures read { OfFileOnly (P.state pages.old) object (λ z moment all f. len ≡ length all → IfOk result (HasRead all offset buffer.old buffer.new)) }
-    ensures asked { (P.state pages.new).asked ≤ (P.state pages.old).asked + chunks_over (P.state pages.old).page_bytes offset (read_count buffer.old len offset) }
-    ensures holes { (P.state pages.old).sound ≡ true → AsksForPages (P.state pages.old) (P.state pages.new) object offset (read_count buffer.old len offset) }
+    ensures issued { (P.state pages.new).issued ≤ (P.state pages.old).issued + chunks_over (P.state pages.old).page_bytes offset (read_count buffer.old len offset) }
+    ensures holes { (P.state pages.old).sound ≡ true → IssuesForPages (P.state pages.old) (P.state pages.new) object offset (read_count buffer.old len offset) }
     ensures fault { IfErr result (MayLack (P.state pages.old) (P.state pages.new)) }
 {
     let page_bytes = u64::from(pages.page_bytes());

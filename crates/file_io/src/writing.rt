@@ -1,15 +1,15 @@
 // The writing of a file.
-ghost use Rattle.std.specs.Prelude.{◌≡◌, ◌≢◌, ◌<◌, ◌≤◌, ◌+◌, ◌-◌, ◌*◌, ◌/◌, ◌%◌, ◌^◌, ◌⊎◌, ℕ, [], true, IfOk, IfErr, OnOk, length, min};
-ghost use Rattle.page_tags.specs.Headers.{greatest_told};
+ghost use Rattle.std.specs.Prelude.{◌≡◌, ◌<◌, ◌≤◌, ◌+◌, ◌-◌, ◌*◌, ◌/◌, ◌^◌, ℕ, true, IfOk, IfErr, OnOk, length, min};
+ghost use Rattle.page_tags.specs.Headers.{greatest_recorded};
 ghost use Rattle.page_tags.specs.declared.header.ObjectKind.TheVariants as kinds;
 ghost use Rattle.posix_profile.specs.Changes.{written};
 ghost use Rattle.pages.specs.Changes.{AreSized, IsNothing, IsOnlyOf};
 ghost use Rattle.pages.specs.State.{OnlyFinds, KeepsPower};
-ghost use Rattle.file_io.specs.Files.{HasForWrite, HasKeptPages, OfFile};
+ghost use Rattle.file_io.specs.Files.{HasForWrite, HasCommittedPages, OfFile};
 ghost use Rattle.file_io.specs.Heads.{HasChunkPage, OfHead, head_fields};
 ghost use Rattle.file_io.specs.Chunks.{AreOf, HoldChunksIn, HoldsChunkIn, IfNoneStays, IfPartStays};
-ghost use Rattle.pages.specs.Faults.{MayLackMemory, SaysWhyMaking};
-ghost use Rattle.file_io.specs.Writes.{AreFewOver, AsksForWrite, HasNoHeader, IfHeaderStays, IsChangeIn, IsWrittenBy, MakesWritten, with_parts};
+ghost use Rattle.pages.specs.Faults.{MayLackMemory, SaysWhyMaking, LooksUp};
+ghost use Rattle.file_io.specs.Writes.{AreFewOver, IssuesForWrite, HasNoHeader, IfHeaderStays, IsChangeIn, IsWrittenBy, MakesWritten, with_parts};
 
 use crate::bits::{has_all, mark_in};
 use crate::chunk::{chunk_bytes, tail_pages};
@@ -21,7 +21,7 @@ use pages::{Change, PageFault, Pages, filled_page};
 use std::alloc::Global;
 
 /// The bytes of a chunk when `bytes` were written into the file from `offset` on. A chunk that is written whole is not
-/// asked for.
+/// looked up.
 fn written_bytes<P: Pages>(
     alloc: Global,
     pages: &mut P,
@@ -36,10 +36,10 @@ fn written_bytes<P: Pages>(
     requires begins { index * (P.state pages.old).page_bytes < offset + length bytes.now }
     requires ends { offset < index * (P.state pages.old).page_bytes + (P.state pages.old).page_bytes }
     ensures finds { OnlyFinds (P.state pages.old) (P.state pages.new) }
-    ensures asked { (P.state pages.new).asked ≤ (P.state pages.old).asked + 1 }
+    ensures issued { (P.state pages.new).issued ≤ (P.state pages.old).issued + 1 }
     ensures power { OnOk result (KeepsPower (P.state pages.old) (P.state pages.new)) }
-    ensures unasked { IfNoneStays (P.state pages.old) index offset (length bytes.now) ((P.state pages.new).asked ≡ (P.state pages.old).asked) }
-    ensures told { IfPartStays (P.state pages.old) index offset (length bytes.now) (OnOk result (HasChunkPage (P.state pages.old) object head.now index)) }
+    ensures unasked { IfNoneStays (P.state pages.old) index offset (length bytes.now) ((P.state pages.new).issued ≡ (P.state pages.old).issued) }
+    ensures reported { IfPartStays (P.state pages.old) index offset (length bytes.now) (OnOk result (HasChunkPage (P.state pages.old) object head.now index)) }
     ensures size { IfOk result (λ page. length page.items ≡ (P.state pages.old).page_bytes) }
     ensures holds { OfHead (P.state pages.old) object head.now (λ all.
         IfOk result (HoldsChunkIn (P.state pages.old) (written all offset bytes.now) index)) }
@@ -74,9 +74,9 @@ fn written_pages<P: Pages>(
     requires small { offset + length bytes.now < 2 ^ 32 }
     requires short { head.now.length < 2 ^ 32 }
     ensures finds { OnlyFinds (P.state pages.old) (P.state pages.new) }
-    ensures asked { (P.state pages.new).asked ≤ with_parts (P.state pages.old).page_bytes head.now.length offset (length bytes.now) (P.state pages.old).asked }
+    ensures issued { (P.state pages.new).issued ≤ with_parts (P.state pages.old).page_bytes head.now.length offset (length bytes.now) (P.state pages.old).issued }
     ensures power { OnOk result (KeepsPower (P.state pages.old) (P.state pages.new)) }
-    ensures told { (P.state pages.old).sound ≡ true → OnOk result (HasKeptPages (P.state pages.old) object (head_fields head.now) offset (length bytes.now)) }
+    ensures reported { (P.state pages.old).sound ≡ true → OnOk result (HasCommittedPages (P.state pages.old) object (head_fields head.now) offset (length bytes.now)) }
     ensures of { IfOk result (λ fresh. AreOf object (IsWrittenBy (P.state pages.old) head.now offset (length bytes.now)) fresh.items) }
     ensures few { IfOk result (λ fresh. AreFewOver (P.state pages.old) offset (length bytes.now) fresh.items) }
     ensures sized { IfOk result (λ fresh. AreSized fresh.items (P.state pages.old).page_bytes) }
@@ -103,7 +103,7 @@ fn written_pages<P: Pages>(
 /// change nothing.
 ///
 /// It has the pages of the chunks that are written into, that of the last chunk where the file grows past it, and the
-/// header if that says something else than before. Asked for are the header, and of these chunks those of which a part
+/// header if that says something else than before. Looked up are the header, and of these chunks those of which a part
 /// stays.
 pub fn write_at<P: Pages>(
     alloc: Global,
@@ -113,9 +113,8 @@ pub fn write_at<P: Pages>(
     bytes: &[u8],
     moment: u64,
 ) -> Result<Change, PageFault>
-    requires { offset + length bytes.now ≤ greatest_told (P.state pages.old).page_bytes kinds.File }
-    ensures finds { OnlyFinds (P.state pages.old) (P.state pages.new) }
-    ensures power { OnOk result (KeepsPower (P.state pages.old) (P.state pages.new)) }
+    requires { offset + length bytes.now ≤ greatest_recorded (P.state pages.old).page_bytes kinds.File }
+    ensures looks { LooksUp SaysWhyMaking (P.state pages.old) (P.state pages.new) result }
     ensures writes { OfFile (P.state pages.old) object (λ z before all f. 1 ≤ length bytes.now → IfOk result (MakesWritten f offset bytes.now moment)) }
     ensures same { length bytes.now ≡ 0
         → IfOk result IsNothing }
@@ -124,9 +123,8 @@ pub fn write_at<P: Pages>(
         → IfOk result (IsChangeIn (P.state pages.old) (chunks + 3)) }
     ensures quiet { OfFile (P.state pages.old) object (λ z before all f.
         IfHeaderStays f moment offset (length bytes.now) (IfOk result (HasNoHeader object))) }
-    ensures asked { OfFile (P.state pages.old) object (λ z before all f. AsksForWrite f (P.state pages.new) offset (length bytes.now)) }
-    ensures told { (P.state pages.old).sound ≡ true → OnOk result (HasForWrite (P.state pages.old) object offset (length bytes.now)) }
-    ensures why { IfErr result (SaysWhyMaking (P.state pages.new)) }
+    ensures issued { OfFile (P.state pages.old) object (λ z before all f. IssuesForWrite f (P.state pages.new) offset (length bytes.now)) }
+    ensures reported { (P.state pages.old).sound ≡ true → OnOk result (HasForWrite (P.state pages.old) object offset (length bytes.now)) }
     ensures fault { OfFile (P.state pages.old) object (λ z before all f. IfErr result (MayLackMemory (P.state pages.new))) }
 {
     let head = read_head(alloc, pages, object)?;

@@ -3,7 +3,7 @@ use Rattle.std.proofs.Common.{◌≡◌, ◌<◌, ◌≤◌, ◌+◌, ◌-◌, �
 use borrow.Rule.Slice.PartMut.{put_mid}
 use Rattle.std.proofs.lemmas.List.{get_or-map, length-map}
 use Rattle.std.proofs.lemmas.Slice.{take-put_mid, drop-put_mid}
-use Rattle.salvage.specs.declared.told.SalvagedName.{SalvagedName}
+use Rattle.salvage.specs.declared.reported.SalvagedName.{SalvagedName}
 use Rattle.flash_c.specs.Filling.{names_bytes}
 use Rattle.flash_c.specs.Salvaged.{entry_bytes, listing_bytes, object_bytes}
 use Rattle.flash_c.proofs.NameBytes as named

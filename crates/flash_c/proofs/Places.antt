@@ -23,9 +23,9 @@ module _ (serves : Session → Stamped → Reply → Session → Type 0) (old se
   }
 
   -- the session of a full slot was lent, and wrote
-  pub written_in : (asked : PlacedWrite) (result number : ℤ) → result ≡ number → IsWrittenAt serves lent asked result left → WritesAtIn serves old asked number (with_session seen left)
-  written_in asked result number is does = record {
+  pub written_in : (issued : PlacedWrite) (result number : ℤ) → result ≡ number → IsWrittenAt serves lent issued result left → WritesAtIn serves old issued number (with_session seen left)
+  written_in issued result number is does = record {
     full = ap (λ (s : Slot). s.full) same;
-    written = λ _. subst (λ (n : ℤ). IsWrittenAt serves old.session asked n left) is (subst (λ (s : Session). IsWrittenAt serves s asked result left) its_session does);
+    written = λ _. subst (λ (n : ℤ). IsWrittenAt serves old.session issued n left) is (subst (λ (s : Session). IsWrittenAt serves s issued result left) its_session does);
     empty = λ none. (let two : true ≡ false = sym full ∙ none in absurd cc);
   }

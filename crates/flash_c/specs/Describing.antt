@@ -25,7 +25,7 @@ stat_reply (Err error) = replies.Error error
 
 -- the number and the struct are those of a Stat that reports what is reported of the descriptor
 abbrev pub IsFstat : {S : Type 0} → (S → ℕ → Result Info Errno → Type 0) → S → Describing → Type 0
-IsFstat describes s d = (told : Result Info Errno) × describes s d.fd told × (d.number ≡ info_number (stat_reply told)) × (d.after ≡ info_filled d.before (stat_reply told))
+IsFstat describes s d = (reported : Result Info Errno) × describes s d.fd reported × (d.number ≡ info_number (stat_reply reported)) × (d.after ≡ info_filled d.before (stat_reply reported))
 
 -- A question for a descriptor, in a slot: it changes nothing of the session of a full one. An empty one returns EINVAL, and nothing changes.
 pub record DescribesIn (describes : Session → ℕ → Result Info Errno → Type 0) (old : Slot) (d : Describing) (new : Slot) : Type 0 where

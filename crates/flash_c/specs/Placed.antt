@@ -34,7 +34,7 @@ pub record PlacedRead : Type 0 where
 abbrev pub placed_read : (fd : ℕ) → (offset : ℤ) → (before : List ℕ) → (number : ℤ) → (after : List ℕ) → PlacedRead
 placed_read fd offset before number after = record { place = record { fd = fd; offset = offset }; before = before; number = number; after = after }
 
--- what a write at a place is asked for
+-- what a write at a place is to do
 pub record PlacedWrite : Type 0 where
   pub moment : ℕ
   pub place : Place
@@ -46,7 +46,7 @@ placed_write moment fd offset bytes = record { moment = moment; place = record {
 
 -- a seek of a descriptor, and the number of its reply
 abbrev pub Seeks : {S : Type 0} → (S → Stamped → Reply → S → Type 0) → S → Place × Whence → ℤ → S → Type 0
-Seeks serves old asked number new = (reply : Reply) × serves old (at 0 (commands.Seek asked.0.fd asked.0.offset asked.1)) reply new × (number ≡ count_number reply)
+Seeks serves old issued number new = (reply : Reply) × serves old (at 0 (commands.Seek issued.0.fd issued.0.offset issued.1)) reply new × (number ≡ count_number reply)
 
 -- a seek by nothing from where the descriptor is, which returns its offset
 abbrev pub here : ℕ → Place × Whence
@@ -56,12 +56,12 @@ here fd = (record { fd = fd; offset = pos 0 }, origins.Cur)
 abbrev pub to : Place → Place × Whence
 to place = (place, origins.Set)
 
--- A descriptor's offset was asked for and set: Ok is what it was. Err is the number of the error of a seek, which is the last.
+-- A descriptor's offset was read and set: Ok is what it was. Err is the number of the error of a seek, which is the last.
 pub data GoesTo {S : Type 0} (serves : S → Stamped → Reply → S → Type 0) (old : S) (place : Place) : Result ℤ ℤ → S → Type 0 where
-  there : {was now : ℤ} {asked new : S} → Seeks serves old (here place.fd) was asked → pos 0 ≤ℤ was → Seeks serves asked (to place) now new
+  there : {was now : ℤ} {issued new : S} → Seeks serves old (here place.fd) was issued → pos 0 ≤ℤ was → Seeks serves issued (to place) now new
       → pos 0 ≤ℤ now → GoesTo serves old place (Ok was) new
   not_asked : {number : ℤ} {new : S} → Seeks serves old (here place.fd) number new → number <ℤ pos 0 → GoesTo serves old place (Err number) new
-  not_set : {was number : ℤ} {asked new : S} → Seeks serves old (here place.fd) was asked → pos 0 ≤ℤ was → Seeks serves asked (to place) number new
+  not_set : {was number : ℤ} {issued new : S} → Seeks serves old (here place.fd) was issued → pos 0 ≤ℤ was → Seeks serves issued (to place) number new
       → number <ℤ pos 0 → GoesTo serves old place (Err number) new
 
 -- The descriptor's offset was set back: the number is that of the visit, or of the error of the seek.
@@ -73,7 +73,7 @@ GoesBack serves old visit result new = (back : ℤ) × Seeks serves old (to (rec
 abbrev pub ReadsNone : {S : Type 0} → (S → Stamped → Reply → S → Type 0) → S → ℕ → ℤ → S → Type 0
 ReadsNone serves old fd number new = (left : List ℕ) × IsRead serves old (record { fd = fd; before = []; number = number; after = left }) new
 
--- A read at a place: a read of no bytes tests the descriptor, its offset is asked for and set, the bytes are read, and its offset is set
+-- A read at a place: a read of no bytes tests the descriptor, its offset is read and set, the bytes are read, and its offset is set
 -- back. What returns an error before the read is the last, and the buffer stays.
 pub data IsReadAt {S : Type 0} (serves : S → Stamped → Reply → S → Type 0) (old : S) (r : PlacedRead) (new : S) : Type 0 where
   refused : ReadsNone serves old r.place.fd r.number new → r.number <ℤ pos 0 → r.after ≡ r.before → IsReadAt serves old r new
@@ -83,17 +83,17 @@ pub data IsReadAt {S : Type 0} (serves : S → Stamped → Reply → S → Type 
       → IsRead serves there (record { fd = r.place.fd; before = r.before; number = number; after = r.after }) left
       → GoesBack serves left (record { fd = r.place.fd; was = was; number = number }) r.number new → IsReadAt serves old r new
 
--- A write at a place: a write of no bytes tests the descriptor, its offset is asked for and set, the bytes are written, and its offset is
+-- A write at a place: a write of no bytes tests the descriptor, its offset is read and set, the bytes are written, and its offset is
 -- set back. What returns an error before the write is the last.
-pub data IsWrittenAt {S : Type 0} (serves : S → Stamped → Reply → S → Type 0) (old : S) (asked : PlacedWrite) (result : ℤ) (new : S) : Type 0 where
-  refused : IsWritten serves (record { moment = asked.moment; fd = asked.place.fd; bytes = [] }) old result new → result <ℤ pos 0
-      → IsWrittenAt serves old asked result new
-  not_there : {none : ℤ} {tried : S} → IsWritten serves (record { moment = asked.moment; fd = asked.place.fd; bytes = [] }) old none tried → pos 0 ≤ℤ none
-      → GoesTo serves tried asked.place (Err result) new → IsWrittenAt serves old asked result new
-  done : {none was number : ℤ} {tried there left : S} → IsWritten serves (record { moment = asked.moment; fd = asked.place.fd; bytes = [] }) old none tried
-      → pos 0 ≤ℤ none → GoesTo serves tried asked.place (Ok was) there
-      → IsWritten serves (record { moment = asked.moment; fd = asked.place.fd; bytes = asked.bytes }) there number left
-      → GoesBack serves left (record { fd = asked.place.fd; was = was; number = number }) result new → IsWrittenAt serves old asked result new
+pub data IsWrittenAt {S : Type 0} (serves : S → Stamped → Reply → S → Type 0) (old : S) (issued : PlacedWrite) (result : ℤ) (new : S) : Type 0 where
+  refused : IsWritten serves (record { moment = issued.moment; fd = issued.place.fd; bytes = [] }) old result new → result <ℤ pos 0
+      → IsWrittenAt serves old issued result new
+  not_there : {none : ℤ} {tried : S} → IsWritten serves (record { moment = issued.moment; fd = issued.place.fd; bytes = [] }) old none tried → pos 0 ≤ℤ none
+      → GoesTo serves tried issued.place (Err result) new → IsWrittenAt serves old issued result new
+  done : {none was number : ℤ} {tried there left : S} → IsWritten serves (record { moment = issued.moment; fd = issued.place.fd; bytes = [] }) old none tried
+      → pos 0 ≤ℤ none → GoesTo serves tried issued.place (Ok was) there
+      → IsWritten serves (record { moment = issued.moment; fd = issued.place.fd; bytes = issued.bytes }) there number left
+      → GoesBack serves left (record { fd = issued.place.fd; was = was; number = number }) result new → IsWrittenAt serves old issued result new
 
 -- A read at a place, in a slot: that of the session of a full one, which stays full. An empty one returns EINVAL, and nothing changes.
 pub record ReadsAtIn (serves : Session → Stamped → Reply → Session → Type 0) (old : Slot) (r : PlacedRead) (new : Slot) : Type 0 where
@@ -102,7 +102,7 @@ pub record ReadsAtIn (serves : Session → Stamped → Reply → Session → Typ
   pub empty : old.full ≡ false → (r.number ≡ error_number errors.EINVAL) × (r.after ≡ r.before) × (new ≡ old)
 
 -- A write at a place, in a slot: that of the session of a full one, which stays full. An empty one returns EINVAL, and stays.
-pub record WritesAtIn (serves : Session → Stamped → Reply → Session → Type 0) (old : Slot) (asked : PlacedWrite) (result : ℤ) (new : Slot) : Type 0 where
+pub record WritesAtIn (serves : Session → Stamped → Reply → Session → Type 0) (old : Slot) (issued : PlacedWrite) (result : ℤ) (new : Slot) : Type 0 where
   pub full : new.full ≡ old.full
-  pub written : old.full ≡ true → IsWrittenAt serves old.session asked result new.session
+  pub written : old.full ≡ true → IsWrittenAt serves old.session issued result new.session
   pub empty : old.full ≡ false → (result ≡ error_number errors.EINVAL) × (new ≡ old)

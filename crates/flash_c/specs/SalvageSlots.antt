@@ -50,30 +50,30 @@ pub record OpensSlot (old : SalvageSlot) (number : ℤ) (new : SalvageSlot) : Ty
   pub at_most_0 : number ≤ℤ pos 0
   pub busy : old.full ≡ true → number ≡ error_number errors.EBUSY
 
--- A question to the salvage in a slot: of a full slot it is asked, and the slot stays full. An empty slot returns EINVAL, and all stays.
-pub record AsksIn (Asks : PagesState → PagesState → Type 0) (Stays : Type 0) (old : SalvageSlot) (number : ℤ) (new : SalvageSlot) : Type 0 where
+-- A question to the salvage in a slot: of a full slot it is called, and the slot stays full. An empty slot returns EINVAL, and all stays.
+pub record IssuesIn (Issues : PagesState → PagesState → Type 0) (Stays : Type 0) (old : SalvageSlot) (number : ℤ) (new : SalvageSlot) : Type 0 where
   pub full : new.full ≡ old.full
-  pub asked : old.full ≡ true → Asks (state old.session.salvage) (state new.session.salvage)
+  pub issued : old.full ≡ true → Issues (state old.session.salvage) (state new.session.salvage)
   pub empty : old.full ≡ false → (number ≡ error_number errors.EINVAL) × Stays × (new ≡ old)
 
 -- a stat in a slot
 abbrev pub StatsIn : SalvageSlot → ObjectStat → SalvageSlot → Type 0
-StatsIn old s new = AsksIn (IsObjectStat s) (s.after ≡ s.before) old s.number new
+StatsIn old s new = IssuesIn (IsObjectStat s) (s.after ≡ s.before) old s.number new
 
 -- a list in a slot
 abbrev pub ListsIn : SalvageSlot → ObjectList → SalvageSlot → Type 0
-ListsIn old l new = AsksIn (IsObjectList l) (l.after ≡ l.before) old l.number new
+ListsIn old l new = IssuesIn (IsObjectList l) (l.after ≡ l.before) old l.number new
 
 -- a read in a slot
 abbrev pub ReadsIn : SalvageSlot → ObjectRead → SalvageSlot → Type 0
-ReadsIn old r new = AsksIn (IsObjectRead r) (r.after ≡ r.before) old r.number new
+ReadsIn old r new = IssuesIn (IsObjectRead r) (r.after ≡ r.before) old r.number new
 
 -- a question for the objects that no directory names, in a slot
 abbrev pub OrphansIn : SalvageSlot → OrphanList → SalvageSlot → Type 0
-OrphansIn old o new = AsksIn (IsOrphanList o) (o.after ≡ o.before) old o.number new
+OrphansIn old o new = IssuesIn (IsOrphanList o) (o.after ≡ o.before) old o.number new
 
 -- A question for the pages that are lost, in a slot: it changes nothing of the salvage in a full one. An empty one returns EINVAL, and all stays.
 pub record LostIn (old : SalvageSlot) (l : LostList) (new : SalvageSlot) : Type 0 where
   pub full : new.full ≡ old.full
-  pub asked : old.full ≡ true → IsLostList (lost_in old.session.salvage) l × (new.session ≡ old.session)
+  pub issued : old.full ≡ true → IsLostList (lost_in old.session.salvage) l × (new.session ≡ old.session)
   pub empty : old.full ≡ false → (l.number ≡ error_number errors.EINVAL) × (l.after ≡ l.before) × (new ≡ old)

@@ -5,8 +5,8 @@ use Rattle.page_tags.specs.declared.header.ObjectKind.{ObjectKind}
 use Rattle.page_tags.specs.declared.header.ObjectKind.TheVariants as kinds
 use Rattle.posix_profile.specs.declared.reply.Errno.TheVariants as errors
 use Rattle.salvage.specs.declared.fault.SalvageFault.{SalvageFault}
-use Rattle.salvage.specs.declared.told.ObjectInfo.{ObjectInfo}
-use Rattle.salvage.specs.declared.told.SalvagedName.{SalvagedName}
+use Rattle.salvage.specs.declared.reported.ObjectInfo.{ObjectInfo}
+use Rattle.salvage.specs.declared.reported.SalvagedName.{SalvagedName}
 use Rattle.surviving_pages.specs.declared.survivors.LostPlace.{LostPlace}
 use Rattle.flash_c.specs.Filling.{names_bytes}
 use Rattle.flash_c.specs.Numbers.{error_number, salvage_number, signed}

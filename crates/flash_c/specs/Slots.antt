@@ -26,9 +26,9 @@ abbrev pub IsCounted : (Session → Stamped → Reply → Session → Type 0) �
 IsCounted serves old command result new = (reply : Reply) × Replied serves old command reply new × (result ≡ count_number reply)
 
 -- A write in a slot: the session of a full slot writes, and the slot stays full. An empty slot returns EINVAL, and stays.
-pub record WritesIn (serves : Session → Stamped → Reply → Session → Type 0) (old : Slot) (asked : Writing) (result : ℤ) (new : Slot) : Type 0 where
+pub record WritesIn (serves : Session → Stamped → Reply → Session → Type 0) (old : Slot) (issued : Writing) (result : ℤ) (new : Slot) : Type 0 where
   pub full : new.full ≡ old.full
-  pub written : old.full ≡ true → IsWritten serves asked old.session result new.session
+  pub written : old.full ≡ true → IsWritten serves issued old.session result new.session
   pub empty : old.full ≡ false → (result ≡ error_number errors.EINVAL) × (new ≡ old)
 
 -- A question on the session of a slot: 1 is yes, 0 no. It changes nothing. An empty slot returns EINVAL.

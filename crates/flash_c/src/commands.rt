@@ -11,7 +11,7 @@ use crate::serve::Serve;
 use crate::session::{Session, count, done};
 use crate::slot::Slot;
 use crate::writing::write;
-use posix_calls::{Asked, Errno, Request};
+use posix_calls::{Errno, Request, StampedRequest};
 
 /// Does a command that only succeeds or fails in the session of a slot.
 fn done_in(slot: &mut Slot, moment: u64, request: Request<'_>) -> i32
@@ -20,7 +20,7 @@ fn done_in(slot: &mut Slot, moment: u64, request: Request<'_>) -> i32
     if !slot.is_full() {
         return error_number(Errno::EINVAL);
     }
-    done(slot.session(), &Asked { moment, request })
+    done(slot.session(), &StampedRequest { moment, request })
 }
 
 /// Does a command that counts in the session of a slot.
@@ -30,7 +30,7 @@ fn count_in(slot: &mut Slot, moment: u64, request: Request<'_>) -> i64
     if !slot.is_full() {
         return i64::from(error_number(Errno::EINVAL));
     }
-    count(slot.session(), &Asked { moment, request })
+    count(slot.session(), &StampedRequest { moment, request })
 }
 
 /// Opens a path and returns the descriptor. The flags are a sum: 1 to read, 2 to write, 4 to create, 8 for a new file alone,
@@ -63,7 +63,7 @@ pub extern "C" fn flash_write(slot: &mut Slot, fd: u32, bytes: &[u8], moment: u6
     write(slot.session(), moment, fd, bytes)
 }
 
-/// Sets the descriptor's offset, counted from the start of the file (0), from the offset (1) or from the end (2 and above), and
+/// Sets the descriptor's offset, from the start of the file (0), from the offset (1) or from the end (2 and above), and
 /// returns it.
 #[unsafe(no_mangle)]
 pub extern "C" fn flash_seek(slot: &mut Slot, fd: u32, offset: i64, from: u32) -> i64

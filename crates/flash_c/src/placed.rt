@@ -7,14 +7,14 @@ use crate::serve::Serve;
 use crate::session::{Session, count, read};
 use crate::slot::Slot;
 use crate::writing::write;
-use posix_calls::{Asked, Errno, Request, Whence};
+use posix_calls::{Errno, Request, StampedRequest, Whence};
 
 /// Moves the offset of a descriptor and returns it.
 fn seek<S: Serve>(session: &mut S, fd: u32, offset: i64, whence: Whence) -> i64
     ensures { Seeks S.serves session.old ((record { fd = fd; offset = offset }), whence) result session.new }
 {
     let request = Request::Seek { fd, offset, whence };
-    count(session, &Asked { moment: 0, request })
+    count(session, &StampedRequest { moment: 0, request })
 }
 
 /// Sets the offset of a descriptor, and returns what it was.

@@ -37,12 +37,12 @@ fn object_kind_number(kind: ObjectKind) -> u64
 /// Puts what the header of an object says in the struct.
 pub(crate) fn put_object(
     info: &mut FlashSalvaged,
-    told: Result<Option<ObjectInfo>, SalvageFault>,
+    reported: Result<Option<ObjectInfo>, SalvageFault>,
 ) -> i32
-    ensures number { result ≡ info_number told }
-    ensures info { info.new ≡ info_filled info.old told }
+    ensures number { result ≡ info_number reported }
+    ensures info { info.new ≡ info_filled info.old reported }
 {
-    match told {
+    match reported {
         Ok(Some(said)) => {
             *info = FlashSalvaged {
                 kind: object_kind_number(said.kind),

@@ -13,7 +13,7 @@ ghost use Rattle.posix_calls.specs.Describing.{IsDescribed};
 use nand_model::{Nand, TrustedNand};
 use page_store::FlashPages;
 use pages::Pages;
-use posix_calls::{Asked, Errno, Info, Reply, Volume};
+use posix_calls::{Errno, Info, Reply, StampedRequest, Volume};
 
 /// What serves commands.
 pub(crate) trait Serve {
@@ -23,8 +23,8 @@ pub(crate) trait Serve {
     /// What is reported of a descriptor.
     ghost describes: { Self → ℕ → Result Info Errno → Type 0 };
 
-    fn serve(&mut self, asked: &Asked<'_>) -> Reply
-        ensures { serves self.old (stamped_of asked.now) result self.new };
+    fn serve(&mut self, issued: &StampedRequest<'_>) -> Reply
+        ensures { serves self.old (stamped_of issued.now) result self.new };
 
     /// Reads at a descriptor's offset into a buffer.
     fn read_into(&mut self, fd: u32, buffer: &mut [u8]) -> Result<usize, Errno>
@@ -43,8 +43,8 @@ impl<N: Nand> Serve for Volume<N> {
 
     ghost describes = { λ v. IsDescribed ⟦<FlashPages<TrustedNand<N>> as Pages>⟧.state (over_pages v) };
 
-    fn serve(&mut self, asked: &Asked<'_>) -> Reply {
-        self.ask(asked)
+    fn serve(&mut self, issued: &StampedRequest<'_>) -> Reply {
+        self.ask(issued)
     }
 
     fn read_into(&mut self, fd: u32, buffer: &mut [u8]) -> Result<usize, Errno> {

@@ -13,7 +13,7 @@ use crate::serve::Serve;
 use nand_model::TrustedNand;
 use page_store::FlashPages;
 use port_nand::{FilePort, PortDevice};
-use posix_calls::{Asked, Errno, Info, Reply, Request, Volume};
+use posix_calls::{Errno, Info, Reply, Request, StampedRequest, Volume};
 
 /// A device behind the port of a file.
 pub(crate) type FileNand = PortDevice<FilePort>;
@@ -32,8 +32,8 @@ impl Serve for Session {
 
     ghost describes = { λ session. ⟦<Volume<FileNand> as Serve>⟧.describes session.volume };
 
-    fn serve(&mut self, asked: &Asked<'_>) -> Reply {
-        self.volume.serve(asked)
+    fn serve(&mut self, issued: &StampedRequest<'_>) -> Reply {
+        self.volume.serve(issued)
     }
 
     fn read_into(&mut self, fd: u32, buffer: &mut [u8]) -> Result<usize, Errno> {
@@ -46,17 +46,17 @@ impl Serve for Session {
 }
 
 /// Does a command that only succeeds or fails.
-pub(crate) fn done<S: Serve>(session: &mut S, asked: &Asked<'_>) -> i32
-    ensures { (reply : Reply) × S.serves session.old (stamped_of asked.now) reply session.new × (result ≡ done_number reply) }
+pub(crate) fn done<S: Serve>(session: &mut S, issued: &StampedRequest<'_>) -> i32
+    ensures { (reply : Reply) × S.serves session.old (stamped_of issued.now) reply session.new × (result ≡ done_number reply) }
 {
-    done_number(&session.serve(asked))
+    done_number(&session.serve(issued))
 }
 
 /// Does a command that counts.
-pub(crate) fn count<S: Serve>(session: &mut S, asked: &Asked<'_>) -> i64
-    ensures { (reply : Reply) × S.serves session.old (stamped_of asked.now) reply session.new × (result ≡ count_number reply) }
+pub(crate) fn count<S: Serve>(session: &mut S, issued: &StampedRequest<'_>) -> i64
+    ensures { (reply : Reply) × S.serves session.old (stamped_of issued.now) reply session.new × (result ≡ count_number reply) }
 {
-    count_number(&session.serve(asked))
+    count_number(&session.serve(issued))
 }
 
 /// Reads at a descriptor's offset into the buffer.
@@ -74,14 +74,14 @@ pub(crate) fn stat<S: Serve>(session: &mut S, path: &[u8], info: &mut FlashInfo)
     ensures { IsStat S.serves session.old (record { path = path.now; before = info.old; number = result; after = info.new }) session.new }
 {
     let request = Request::Stat { path };
-    put_info(info, &session.serve(&Asked { moment: 0, request }))
+    put_info(info, &session.serve(&StampedRequest { moment: 0, request }))
 }
 
 /// The reply of a Stat that reports this.
-fn stat_reply(told: Result<Info, Errno>) -> Reply
-    ensures { result ≡ stat_reply told }
+fn stat_reply(reported: Result<Info, Errno>) -> Reply
+    ensures { result ≡ stat_reply reported }
 {
-    match told {
+    match reported {
         Ok(info) => Reply::Info(info),
         Err(error) => Reply::Error(error),
     }
@@ -99,7 +99,10 @@ pub(crate) fn list<S: Serve>(session: &mut S, path: &[u8], buffer: &mut [u8]) ->
     ensures { IsListed S.serves session.old (listing_of path.now buffer.old result buffer.new) session.new }
 {
     let request = Request::List { path };
-    put_names(buffer, &session.serve(&Asked { moment: 0, request }))
+    put_names(
+        buffer,
+        &session.serve(&StampedRequest { moment: 0, request }),
+    )
 }
 
 /// Reports the room of the volume in the struct.
@@ -107,5 +110,8 @@ pub(crate) fn space<S: Serve>(session: &mut S, space: &mut FlashSpace) -> i32
     ensures { IsRoom S.serves session.old (record { before = space.old; number = result; after = space.new }) session.new }
 {
     let request = Request::Space;
-    put_space(space, &session.serve(&Asked { moment: 0, request }))
+    put_space(
+        space,
+        &session.serve(&StampedRequest { moment: 0, request }),
+    )
 }

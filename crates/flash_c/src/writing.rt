@@ -5,7 +5,7 @@ ghost use Rattle.flash_c.specs.Sessions.{write_number, IsWritten};
 
 use crate::numbers::{count_number, signed};
 use crate::serve::Serve;
-use posix_calls::{Asked, Reply, Request};
+use posix_calls::{Reply, Request, StampedRequest};
 
 /// How many bytes were written, or the error where none were.
 fn write_number(done: usize, reply: &Reply) -> i64
@@ -37,7 +37,7 @@ pub(crate) fn write<S: Serve>(session: &mut S, moment: u64, fd: u32, bytes: &[u8
     'writes: loop {
         let rest = &bytes[done..];
         let request = Request::Write { fd, bytes: rest };
-        let reply = session.serve(&Asked { moment, request });
+        let reply = session.serve(&StampedRequest { moment, request });
         match goes_on(&reply, rest.len()) {
             Some(count) => done += count,
             None => return write_number(done, &reply),

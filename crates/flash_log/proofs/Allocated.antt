@@ -2,8 +2,8 @@
 use Rattle.std.proofs.Common.{◌≡◌, ◌≤◌, ℕ, true, Some, Result, Ok, Err, sym, ap, ◌∙◌, arith}
 use Rattle.nand_model.specs.Calls.{Device, Lasts}
 use Rattle.block_state.specs.Table.{Table}
-use Rattle.chunk_index.specs.Kept.{HoldsNone}
-use Rattle.chunk_index.specs.Maps.{kept_pages, kept_in}
+use Rattle.chunk_index.specs.Committed.{HoldsNone}
+use Rattle.chunk_index.specs.Maps.{committed_pages, count_committed_in}
 use Rattle.chunk_index.specs.declared.index.Index.{Index}
 use Rattle.transactions.specs.Checking.{log_of}
 use Rattle.transactions.specs.Handing.{HandsOut}
@@ -17,11 +17,11 @@ use Rattle.flash_log.specs.declared.take.TakeFault.{TakeFault}
 use Rattle.flash_log.specs.laws.Erased.{erased_here}
 use Rattle.flash_log.specs.laws.FreeBlocks.{free_still}
 use Rattle.flash_log.specs.laws.Keeping.{same_here, keeps_passes}
-use Rattle.flash_log.specs.laws.KeptPages.{kept_where, data_where}
-use Rattle.flash_log.specs.laws.Moves.{are_held, stands_still, stands_kept}
-use Rattle.flash_log.specs.laws.Steps.{step_kept}
+use Rattle.flash_log.specs.laws.CommittedPages.{committed_where, data_where}
+use Rattle.flash_log.specs.laws.Moves.{are_held, stands_still, stands_committed}
+use Rattle.flash_log.specs.laws.Steps.{step_committed}
 
-module _ (spare : ℕ) (d0 d1 : Device) (t u : Table) (x : Index) (law : (b : ℕ) → kept_in x b ≡ 0 → HoldsNone (kept_pages x) b)
+module _ (spare : ℕ) (d0 d1 : Device) (t u : Table) (x : Index) (law : (b : ℕ) → count_committed_in x b ≡ 0 → HoldsNone (committed_pages x) b)
     (lasts : Lasts d0 d1) (ready : IsReady d1 u) (numbers : HandsOut d0 d1 t u) (passes : Passes d0 d1 t u) (stands : Stands spare d0 t x) where
   keeps : KeepsCounts d0 d1 t u
   keeps = keeps_passes d0 d1 t t u (same_here t) lasts ready numbers (λ is. is) (erased_here d0 t) passes
@@ -34,35 +34,35 @@ module _ (spare : ℕ) (d0 d1 : Device) (t u : Table) (x : Index) (law : (b : �
 
   -- a block was taken
   module _ (b : ℕ) (takes : Takes b d1 t u) where
-    none_kept : (u.entry b).kept ≡ 0
-    none_kept = passes.kept b ∙ takes.unkept
+    none_committed : (u.entry b).committed ≡ 0
+    none_committed = passes.committed b ∙ takes.uncommitted
 
-    written : (o : ℕ) → u.open_block ≡ Some o → (u.entry o).kept ≤ (u.entry o).next
+    written : (o : ℕ) → u.open_block ≡ Some o → (u.entry o).committed ≤ (u.entry o).next
     written o is =
         let both : Some b ≡ Some o = sym takes.open_block ∙ is in
         let same : b ≡ o = cc in
-        let none : (u.entry o).kept ≡ (u.entry b).kept = ap (λ k. (u.entry k).kept) (sym same) in
-        let zero_there = none_kept in
+        let none : (u.entry o).committed ≡ (u.entry b).committed = ap (λ k. (u.entry k).committed) (sym same) in
+        let zero_there = none_committed in
         omega (arith, none, zero_there)
 
     stands_taken : Stands spare d1 u x
-    stands_taken = stands_still spare d0 d1 t u x held keeps stands written (λ honest power. kept_where d0.flash d1.flash t (passes.newest honest))
+    stands_taken = stands_still spare d0 d1 t u x held keeps stands written (λ honest power. committed_where d0.flash d1.flash t (passes.newest honest))
 
     free_where_taken : KeepsFree spare d0 d1 x x
-    free_where_taken = free_still spare d0 d1 t u x held keeps stands stands_taken.tables (λ honest. kept_where d0.flash d1.flash t (passes.newest honest))
+    free_where_taken = free_still spare d0 d1 t u x held keeps stands stands_taken.tables (λ honest. committed_where d0.flash d1.flash t (passes.newest honest))
 
     pub step_taken : Step spare (log_of d0 t) (log_of d1 u) x x
-    step_taken = step_kept spare d0 d1 t u x held keeps stands stands_taken stored passes.found free_where_taken
+    step_taken = step_committed spare d0 d1 t u x held keeps stands stands_taken stored passes.found free_where_taken
 
   -- none was
   stands_none : TakesNone t u → Stands spare d1 u x
-  stands_none none = stands_kept spare d0 d1 t u x held keeps stands none.open_block (λ honest power. kept_where d0.flash d1.flash t (passes.newest honest))
+  stands_none none = stands_committed spare d0 d1 t u x held keeps stands none.open_block (λ honest power. committed_where d0.flash d1.flash t (passes.newest honest))
 
   free_where_none : TakesNone t u → KeepsFree spare d0 d1 x x
-  free_where_none none = free_still spare d0 d1 t u x held keeps stands (stands_none none).tables (λ honest. kept_where d0.flash d1.flash t (passes.newest honest))
+  free_where_none none = free_still spare d0 d1 t u x held keeps stands (stands_none none).tables (λ honest. committed_where d0.flash d1.flash t (passes.newest honest))
 
   pub step_untaken : TakesNone t u → Step spare (log_of d0 t) (log_of d1 u) x x
-  step_untaken none = step_kept spare d0 d1 t u x held keeps stands (stands_none none) stored passes.found (free_where_none none)
+  step_untaken none = step_committed spare d0 d1 t u x held keeps stands (stands_none none) stored passes.found (free_where_none none)
 
   -- whether one was or not
   pub step_tried : (result : Result ℕ TakeFault) → TakeEnds spare d1 t u result → Step spare (log_of d0 t) (log_of d1 u) x x

@@ -9,11 +9,11 @@ use Rattle.flash_tree.specs.Numbering.{AreBelow}
 use Rattle.flash_tree.specs.laws.Newest.{stays_on}
 use Rattle.flash_tree.specs.laws.Place.{had_power}
 use Rattle.block_state.specs.declared.blocks.BlockEntry.{BlockEntry}
-use Rattle.block_state.specs.Kept.{bad_count, unkept_count, SameCounts}
-use Rattle.block_state.specs.laws.Kept.{mark_bad, mark_unkept, same_bad_count, same_unkept_count}
+use Rattle.block_state.specs.Committed.{bad_count, uncommitted_count, SameCounts}
+use Rattle.block_state.specs.laws.Committed.{mark_bad, mark_uncommitted, same_bad_count, same_uncommitted_count}
 use Rattle.block_state.specs.Table.{Table, Sets}
 use Rattle.chunk_index.specs.declared.index.Index.{Index}
-use Rattle.chunk_index.specs.Maps.{kept_pages}
+use Rattle.chunk_index.specs.Maps.{committed_pages}
 use Rattle.transactions.specs.Checking.{LogState, log_of}
 use Rattle.transactions.specs.Handing.{HandsNumbers, HandsOut}
 use Rattle.transactions.specs.laws.Handing.{below_greater, hands_nothing}
@@ -43,13 +43,13 @@ numbers_on a b c t u v before after first then = record {
   written = written;
 } where
   written : a.honest ≡ true → AreBelow a.flash t.next_group t.next_seq → (more : ℕ) → c.changes ≡ a.changes + more → AreBelow c.flash (t.next_group + more) (t.next_seq + more)
-  written honest is more counted = elim (cases_Bool b.gone) [
-    | inl gone ↦ rw (after.gone gone) (first.written honest is more (ap (λ (d : Device). d.changes) (sym (after.gone gone)) ∙ counted))
+  written honest is more totaled = elim (cases_Bool b.gone) [
+    | inl gone ↦ rw (after.gone gone) (first.written honest is more (ap (λ (d : Device). d.changes) (sym (after.gone gone)) ∙ totaled))
     | inr power ↦
         let still : b.honest ≡ true = before.honest ∙ honest in
         let rest : c.changes ≡ b.changes + (c.changes - b.changes) = omega (arith, after.changes) in
         below_greater c.flash (u.next_group + (c.changes - b.changes)) (u.next_seq + (c.changes - b.changes)) _ _
-        (omega (arith, first.groups honest power, counted, after.changes)) (omega (arith, first.seqs, counted, after.changes))
+        (omega (arith, first.groups honest power, totaled, after.changes)) (omega (arith, first.seqs, totaled, after.changes))
         (then.written still (first.below honest is) (c.changes - b.changes) rest)
   ]
 
@@ -59,15 +59,15 @@ keeps_on a b c first then = record {
   ready = then.ready;
   numbers = numbers_on a.device b.device c.device a.table b.table c.table first.lasts then.lasts first.numbers then.numbers;
   geometry = then.geometry ∙ first.geometry;
-  kept = λ k. then.kept k ∙ first.kept k;
-  unkept = then.unkept ∙ first.unkept;
+  committed = λ k. then.committed k ∙ first.committed k;
+  uncommitted = then.uncommitted ∙ first.uncommitted;
   limits = λ is. then.limits (first.limits is);
   newest = λ honest o k s other newest some.
       let stays = first.newest honest o k s other newest some in
       stays_on a.device.flash b.device.flash c.device.flash o k s stays
-      (then.newest (first.lasts.honest ∙ honest) o k s other stays.newest (let same = first.kept s.block in omega (arith, same, some)));
+      (then.newest (first.lasts.honest ∙ honest) o k s other stays.newest (let same = first.committed s.block in omega (arith, same, some)));
   summaries = λ honest right. then.summaries (first.lasts.honest ∙ honest) (first.summaries honest right);
-  found = λ honest. found_on a.device b.device c.device a.table b.table first.kept
+  found = λ honest. found_on a.device b.device c.device a.table b.table first.committed
       (λ o k s other newest some. (s, (first.newest honest o k s other newest some).newest, refl)) (first.found honest) (then.found (first.lasts.honest ∙ honest));
   erased = erased_on a.device b.device c.device a.table b.table c.table first.lasts.honest first.erased then.erased;
 }
@@ -88,8 +88,8 @@ keeps_taken d e t u lasts ready hands passes = record {
   ready = ready;
   numbers = hands.numbers;
   geometry = passes.geometry;
-  kept = passes.kept;
-  unkept = passes.unkept;
+  committed = passes.committed;
+  uncommitted = passes.uncommitted;
   limits = λ (groups, seqs). (let same = passes.next_group in omega (arith, same, groups), passes.limit seqs);
   newest = λ honest o k s other newest some. passes.newest honest o k s newest some;
   summaries = hands.truth.summaries;
@@ -104,8 +104,8 @@ keeps_here d t ready numbers = record {
   ready = ready;
   numbers = numbers;
   geometry = refl;
-  kept = λ b. refl;
-  unkept = refl;
+  committed = λ b. refl;
+  uncommitted = refl;
   limits = λ is. is;
   newest = λ honest o k s other newest some. record { newest = newest; page = refl };
   summaries = λ honest right. right;
@@ -115,12 +115,12 @@ keeps_here d t ready numbers = record {
 
 -- ---- a mark
 
-module _ (v : ℕ) (d e : Device) (t u : Table) (result : Result (Unit {0}) Gone) (within : v < t.geometry.blocks) (good : (t.entry v).bad ≡ false) (none : (t.entry v).kept ≡ 0)
+module _ (v : ℕ) (d e : Device) (t u : Table) (result : Result (Unit {0}) Gone) (within : v < t.geometry.blocks) (good : (t.entry v).bad ≡ false) (none : (t.entry v).committed ≡ 0)
     (marks : Marks v d e result) (notes : NotesMark v e.flash t u) where
-  pub marked_kept : (b : ℕ) → (u.entry b).kept ≡ (t.entry b).kept
-  marked_kept b = elim (cases_eq b v) [
-    | inl is ↦ ap (λ k. (u.entry k).kept) is ∙ ap (λ (x : BlockEntry). x.kept) notes.sets.here ∙ ap (λ k. (t.entry k).kept) (sym is)
-    | inr ne ↦ ap (λ (x : BlockEntry). x.kept) (notes.sets.others b ne)
+  pub marked_committed : (b : ℕ) → (u.entry b).committed ≡ (t.entry b).committed
+  marked_committed b = elim (cases_eq b v) [
+    | inl is ↦ ap (λ k. (u.entry k).committed) is ∙ ap (λ (x : BlockEntry). x.committed) notes.sets.here ∙ ap (λ k. (t.entry k).committed) (sym is)
+    | inr ne ↦ ap (λ (x : BlockEntry). x.committed) (notes.sets.others b ne)
   ]
 
   set_bad : e.flash.bad v ≡ true → Sets v (record (t.entry v) { bad = true }) t u
@@ -137,7 +137,7 @@ module _ (v : ℕ) (d e : Device) (t u : Table) (result : Result (Unit {0}) Gone
       | inl at ↦ ap (λ k. (u.entry k).bad) at ∙ ap (λ (x : BlockEntry). x.bad) notes.sets.here ∙ is ∙ sym good ∙ ap (λ k. (t.entry k).bad) (sym at)
       | inr ne ↦ ap (λ (x : BlockEntry). x.bad) (notes.sets.others b ne)
     ];
-    kept = marked_kept;
+    committed = marked_committed;
     geometry = notes.sets.geometry;
   }
 
@@ -152,16 +152,16 @@ module _ (v : ℕ) (d e : Device) (t u : Table) (result : Result (Unit {0}) Gone
     | inr is ↦ let same : bad_count u ≡ bad_count t = same_bad_count t u (same_marks is) in omega (arith, same)
   ]
 
-  pub marked_unkept : unkept_count u + bad_count u ≡ unkept_count t + bad_count t
-  marked_unkept = elim (cases_Bool (e.flash.bad v)) [
+  pub marked_uncommitted : uncommitted_count u + bad_count u ≡ uncommitted_count t + bad_count t
+  marked_uncommitted = elim (cases_Bool (e.flash.bad v)) [
     | inl is ↦
         let more : bad_count u ≡ bad_count t + 1 = one_more is in
-        let less : unkept_count t ≡ unkept_count u + 1 = mark_unkept t u v (set_bad is) within good none in
+        let less : uncommitted_count t ≡ uncommitted_count u + 1 = mark_uncommitted t u v (set_bad is) within good none in
         omega (arith, more, less)
     | inr is ↦
         let bad : bad_count u ≡ bad_count t = same_bad_count t u (same_marks is) in
-        let unkept : unkept_count u ≡ unkept_count t = same_unkept_count t u (same_marks is) in
-        omega (arith, bad, unkept)
+        let uncommitted : uncommitted_count u ≡ uncommitted_count t = same_uncommitted_count t u (same_marks is) in
+        omega (arith, bad, uncommitted)
   ]
 
   pub keeps_marked : IsReady e u → HandsOut d e t u → (d.honest ≡ true → KeepsElsewhere v d.flash e.flash) → KeepsPages (log_of d t) (log_of e u)
@@ -170,10 +170,10 @@ module _ (v : ℕ) (d e : Device) (t u : Table) (result : Result (Unit {0}) Gone
     ready = ready;
     numbers = hands.numbers;
     geometry = notes.sets.geometry;
-    kept = marked_kept;
-    unkept = marked_unkept;
+    committed = marked_committed;
+    uncommitted = marked_uncommitted;
     limits = λ (groups, seqs). (let same = notes.sets.next_group in omega (arith, same, groups), let same = notes.next_seq in omega (arith, same, seqs));
-    newest = λ honest o k s other newest some. elsewhere honest o k s newest (λ is. let zero_there : (t.entry s.block).kept ≡ 0 = ap (λ b. (t.entry b).kept) is ∙ none in omega (arith, zero_there, some));
+    newest = λ honest o k s other newest some. elsewhere honest o k s newest (λ is. let zero_there : (t.entry s.block).committed ≡ 0 = ap (λ b. (t.entry b).committed) is ∙ none in omega (arith, zero_there, some));
     summaries = hands.truth.summaries;
     found = found_marked v d e t result none marks;
     erased = erased_marked v d e t u result (λ bad. let two : true ≡ false = sym bad ∙ good in absurd cc) marks notes;
@@ -205,9 +205,9 @@ module _ (spare : ℕ) (x : Index) (d e : Device) (t u : Table) (held : AreHeld 
     lasts = keeps.lasts;
     ready = keeps.ready;
     geometry = keeps.geometry;
-    kept = keeps.kept;
+    committed = keeps.committed;
     rises = keeps.numbers.groups_rise;
-    unkept = keeps.unkept;
+    uncommitted = keeps.uncommitted;
     limits = keeps.limits;
     newest = keeps.newest;
     written = λ o is. let two : None ≡ Some o = sym closed ∙ is in absurd cc;
@@ -215,7 +215,7 @@ module _ (spare : ℕ) (x : Index) (d e : Device) (t u : Table) (held : AreHeld 
   }
 
   pub seals_from : (IsExact d x → StaysChecked (log_of d t) (log_of e u))
-      → (d.honest ≡ true → (s : ℕ) (objects : Objects) → ShowsExactly d.geometry d.flash (kept_pages x) s objects → ShowsExactly e.geometry e.flash (kept_pages x) s objects)
+      → (d.honest ≡ true → (s : ℕ) (objects : Objects) → ShowsExactly d.geometry d.flash (committed_pages x) s objects → ShowsExactly e.geometry e.flash (committed_pages x) s objects)
       → Seals spare x (log_of d t) (log_of e u)
   seals_from checked shows = record {
     keeps = keeps;

@@ -8,10 +8,10 @@ use Rattle.transactions.specs.Marking.{NotesMark}
 use Rattle.transactions.specs.Opening.{MayLose}
 use Rattle.transactions.specs.Ready.{IsReady}
 
--- a good block without a kept page is free where none is open
-pub free_closed : (t u : Table) (b : ℕ) → u ≡ record t { open_block = None } → (t.entry b).bad ≡ false → (t.entry b).kept ≡ 0 → is_free u b ≡ true
+-- a good block without a committed page is free where none is open
+pub free_closed : (t u : Table) (b : ℕ) → u ≡ record t { open_block = None } → (t.entry b).bad ≡ false → (t.entry b).committed ≡ 0 → is_free u b ≡ true
 free_closed t u b is good none =
-    ap (λ (x : Table). is_free x b) is ∙ ap (λ x. not x && (nat_eq (t.entry b).kept 0 && true)) good ∙ ap (λ n. nat_eq n 0 && true) none
+    ap (λ (x : Table). is_free x b) is ∙ ap (λ x. not x && (nat_eq (t.entry b).committed 0 && true)) good ∙ ap (λ n. nat_eq n 0 && true) none
 
 -- the table with the block closed and noted
 abbrev pub noted : ℕ → Table → Table

@@ -6,9 +6,9 @@ use Rattle.std.proofs.lemmas.Slice.{take-put_mid}
 use borrow.Rule.Slice.PartMut.{put_mid}
 use Rattle.flash_tree.specs.declared.place.Key.{Key}
 use Rattle.page_tags.specs.Checks.{check_slot}
-use Rattle.chunk_index.specs.declared.form.KeptKey.{KeptKey}
-use Rattle.chunk_index.specs.Kept.{IsListOf, last_key}
-use Rattle.chunk_index.specs.Maps.{KeptMap}
+use Rattle.chunk_index.specs.declared.form.CommittedKey.{CommittedKey}
+use Rattle.chunk_index.specs.Committed.{IsListOf, last_key}
+use Rattle.chunk_index.specs.Maps.{CommittedMap}
 use Rattle.flash_log.specs.CheckpointListing.{check_entries}
 
 -- a part that is written in place keeps the length
@@ -24,16 +24,16 @@ rows_more f a (suc n) =
     ∙ ap (λ k. (f a ++ flat_map f (range_with_len (a + 1) n)) ++ f k) (omega arith)
 
 -- The first k parts of a page of a checkpoint are written, and the key of the last entry before the next part is known.
-pub record WritesParts (m : KeptMap) (count first k : ℕ) (last : Option Key) (old new : List ℕ) : Type 0 where
+pub record WritesParts (m : CommittedMap) (count first k : ℕ) (last : Option Key) (old new : List ℕ) : Type 0 where
   pub size : length new ≡ length old
-  pub key : (ks : List KeptKey) → IsListOf m ks → last ≡ last_key ks (first + k - 1)
-  pub parts : (ks : List KeptKey) → IsListOf m ks → count ≡ length ks → take (32 * k) new ≡ flat_map (check_slot (check_entries ks)) (range_with_len first k)
+  pub key : (ks : List CommittedKey) → IsListOf m ks → last ≡ last_key ks (first + k - 1)
+  pub parts : (ks : List CommittedKey) → IsListOf m ks → count ≡ length ks → take (32 * k) new ≡ flat_map (check_slot (check_entries ks)) (range_with_len first k)
 
 -- one part more
 pub writes_more :
-    (m : KeptMap) (count first k n : ℕ) (last next : Option Key) (old page part : List ℕ) → n ≡ 32 → 32 * k + 32 ≤ length page → length part ≡ 32 → WritesParts m count first k last old page
-    → ((ks : List KeptKey) → IsListOf m ks → count ≡ length ks → last ≡ last_key ks (first + k - 1) → part ≡ check_slot (check_entries ks) (first + k))
-    → ((ks : List KeptKey) → IsListOf m ks → last ≡ last_key ks (first + k - 1) → next ≡ last_key ks (first + k)) → WritesParts m count first (k + 1) next old (put_mid (32 * k) n page part)
+    (m : CommittedMap) (count first k n : ℕ) (last next : Option Key) (old page part : List ℕ) → n ≡ 32 → 32 * k + 32 ≤ length page → length part ≡ 32 → WritesParts m count first k last old page
+    → ((ks : List CommittedKey) → IsListOf m ks → count ≡ length ks → last ≡ last_key ks (first + k - 1) → part ≡ check_slot (check_entries ks) (first + k))
+    → ((ks : List CommittedKey) → IsListOf m ks → last ≡ last_key ks (first + k - 1) → next ≡ last_key ks (first + k)) → WritesParts m count first (k + 1) next old (put_mid (32 * k) n page part)
 writes_more m count first k n last next old page part is room len was writes goes = record {
   size = length-put_mid (32 * k) n page part (omega (arith, room, is)) (omega (arith, len, is)) ∙ was.size;
   key = λ ks list. let here_k : first + k ≡ first + (k + 1) - 1 = omega arith in goes ks list (was.key ks list) ∙ ap (last_key ks) here_k;

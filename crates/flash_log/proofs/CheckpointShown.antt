@@ -13,7 +13,7 @@ use Rattle.flash_tree.specs.Tree.{NewestMap, HasHeader, ReadsAs, InFootprint, Ke
 use Rattle.flash_tree.specs.laws.Newest.{one_newest, has_newest_stays}
 use Rattle.flash_tree.specs.laws.OneTree.{one_header}
 use Rattle.flash_tree.specs.laws.Tree.{footprint_law}
-use Rattle.chunk_index.specs.Maps.{KeptMap}
+use Rattle.chunk_index.specs.Maps.{CommittedMap}
 use Rattle.flash_log.specs.CheckpointKeeping.{ShowsExactly}
 
 -- what is read has a header
@@ -21,7 +21,7 @@ shown_header : (z : Sizes) (m : NewestMap) (o : ℕ) (x : Object) → ReadsAs z 
 shown_header z m o (File moment bytes) r = (r.fields, r.has)
 shown_header z m o (Dir moment entries) r = (r.fields, r.has)
 
-module _ (g : Geometry) (old new : Flash) (m : KeptMap) (spare : ℕ) (objects : Objects) (exact : ShowsExactly g old m spare objects)
+module _ (g : Geometry) (old new : Flash) (m : CommittedMap) (spare : ℕ) (objects : Objects) (exact : ShowsExactly g old m spare objects)
     (stays : (o k : ℕ) (s : Spot) → InFootprint (sizes_of g spare) (HasNewest old) objects o k → IsNewest old o k s → StaysNewest old new o k s) where
   abbrev z : Sizes
   z = sizes_of g spare

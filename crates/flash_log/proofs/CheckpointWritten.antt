@@ -13,8 +13,8 @@ use Rattle.flash_tree.specs.Checkpoints.{Checkpoint, check_group, check_tag, IsW
 use Rattle.flash_tree.specs.Groups.{Group, AllThere}
 use Rattle.flash_tree.specs.Slots.{check_object}
 use Rattle.flash_tree.specs.Truth.{KeepsSummaries}
-use Rattle.block_state.specs.Kept.{bad_count, unkept_count, SameCounts}
-use Rattle.block_state.specs.laws.Kept.{same_bad_count, same_unkept_count}
+use Rattle.block_state.specs.Committed.{bad_count, uncommitted_count, SameCounts}
+use Rattle.block_state.specs.laws.Committed.{same_bad_count, same_uncommitted_count}
 use Rattle.block_state.specs.Table.{Table}
 use Rattle.transactions.specs.declared.source.PageName.{PageName}
 use Rattle.transactions.specs.declared.source.PageSource.{Ghosts}
@@ -30,11 +30,11 @@ use Rattle.flash_log.specs.Passing.{KeepsFound}
 use Rattle.flash_log.specs.laws.Found.{found_after, found_others}
 use Rattle.flash_log.specs.laws.Keeping.{limits_ends, same_ends}
 use Rattle.flash_log.specs.CheckpointKeeping.{KeepsPages}
-use Rattle.flash_log.specs.CheckpointListing.{kept_keys, check_entry}
+use Rattle.flash_log.specs.CheckpointListing.{committed_keys, check_entry}
 use Rattle.flash_log.specs.CheckpointSource.{CanList, index_entries}
 use Rattle.flash_log.specs.CheckpointWriting.{Leaves, MayMark, ReadsSuspects}
 use Rattle.flash_log.specs.declared.checkpoint_source.Checks.{Checks}
-use Rattle.chunk_index.specs.Maps.{kept_pages}
+use Rattle.chunk_index.specs.Maps.{committed_pages}
 use Rattle.flash_log.specs.laws.Erased.{erased_noted, erased_written}
 use Rattle.flash_log.proofs.CheckNames.{other_object, trees_stay}
 use Rattle.flash_log.proofs.CheckpointNoting.{noted, ready_noted}
@@ -42,7 +42,7 @@ use Rattle.flash_log.proofs.CheckpointNoting.{noted, ready_noted}
 -- so many entries take as many pages as the source has
 pub same_size : (checks : Checks) (g : Geometry) (n : ℕ) → CanList checks g n → checks.pages ≡ ceiling (32 * (1 + length (index_entries checks.index.now))) g.bytes
 same_size checks g n list =
-    list.pages ∙ ap (λ k. ceiling (32 * (1 + k)) g.bytes) (list.entries ∙ sym (length-map (kept_keys (kept_pages checks.index.now)) check_entry))
+    list.pages ∙ ap (λ k. ceiling (32 * (1 + k)) g.bytes) (list.entries ∙ sym (length-map (committed_keys (committed_pages checks.index.now)) check_entry))
 
 -- ---- the group
 
@@ -76,8 +76,8 @@ module _ {T : Type 0} (pages : Ghosts T) (source : T) (d e : Device) (t u : Tabl
   pub good_now : IsReady e u → (u.entry block).bad ≡ false
   good_now after = after.marks block ∙ good_after
 
-  pub kept_now : (t.entry block).kept ≡ 0 → (u.entry block).kept ≡ 0
-  kept_now none = same.kept block ∙ none
+  pub committed_now : (t.entry block).committed ≡ 0 → (u.entry block).committed ≡ 0
+  committed_now none = same.committed block ∙ none
 
   pub none_before : t.checkpoint ≡ None
   none_before = none_waits d t block ready opened
@@ -99,18 +99,18 @@ module _ {T : Type 0} (pages : Ghosts T) (source : T) (d e : Device) (t u : Tabl
       (λ adds. found_others t d e block (pages.count source) name (pages.bytes source d.flash) ready opened honest lasts.geometry (group.writes honest) right
       (λ some. begins_other honest some) adds (other_object g name (pages.bytes source d.flash) d.flash e.flash (group.writes honest).grows (own_object honest))) result (group.groups honest block opened)
 
-  -- what is kept, as the group leaves the table
+  -- what is committed, as the group leaves the table
   pub keeps_group : IsReady e u → t.next_group < number_end → KeepsPages (log_of d t) (log_of e u)
   keeps_group after less = record {
     lasts = lasts;
     ready = after;
     numbers = group.numbers;
     geometry = same.geometry;
-    kept = same.kept;
-    unkept =
+    committed = same.committed;
+    uncommitted =
         let bad = bad_same in
-        let unkept : unkept_count u ≡ unkept_count t = same_unkept_count t u same in
-        omega (arith, bad, unkept);
+        let uncommitted : uncommitted_count u ≡ uncommitted_count t = same_uncommitted_count t u same in
+        omega (arith, bad, uncommitted);
     limits = λ is. limits_ends (pages.count source) t u result group.table less is;
     newest = λ honest o k s other newest some. trees_stay g name (pages.bytes source d.flash) d.flash e.flash (group.writes honest).grows (own_object honest) result (group.groups honest block opened) o k s other newest;
     summaries = λ honest. group.summaries honest (λ some. begins_other honest some);
@@ -142,8 +142,8 @@ module _ {T : Type 0} (pages : Ghosts T) (source : T) (d e : Device) (t u : Tabl
           written = keeps.numbers.written;
         };
         geometry = keeps.geometry;
-        kept = keeps.kept;
-        unkept = keeps.unkept;
+        committed = keeps.committed;
+        uncommitted = keeps.uncommitted;
         limits = keeps.limits;
         newest = keeps.newest;
         summaries = keeps.summaries;
@@ -153,20 +153,20 @@ module _ {T : Type 0} (pages : Ghosts T) (source : T) (d e : Device) (t u : Tabl
       })
 
   -- the block may be marked then
-  pub marks_noted : (v : Table) → v ≡ noted block u → IsReady e u → (t.entry block).kept ≡ 0 → MayMark block v
+  pub marks_noted : (v : Table) → v ≡ noted block u → IsReady e u → (t.entry block).committed ≡ 0 → MayMark block v
   marks_noted v is after none = subst (MayMark block) (sym is) (record {
     within = block_after after;
     good = good_now after;
-    unkept = kept_now none;
+    uncommitted = committed_now none;
     open_block = refl;
     first = inr refl;
   })
 
-  pub marks_group : IsReady e u → (t.entry block).kept ≡ 0 → u.open_block ≡ None → u.checkpoint ≡ t.checkpoint → MayMark block u
+  pub marks_group : IsReady e u → (t.entry block).committed ≡ 0 → u.open_block ≡ None → u.checkpoint ≡ t.checkpoint → MayMark block u
   marks_group after none closed still = record {
     within = block_after after;
     good = good_now after;
-    unkept = kept_now none;
+    uncommitted = committed_now none;
     open_block = closed;
     first = inl (still ∙ none_before);
   }

@@ -6,8 +6,8 @@ use Rattle.nand_model.specs.Calls.{Device, Erases, Marks}
 use Rattle.nand_model.specs.declared.nand.EraseFault.{EraseFault}
 use Rattle.nand_model.specs.declared.nand.EraseFault.TheVariants as erase_faults
 use Rattle.nand_model.specs.declared.nand.Gone.{Gone}
-use Rattle.block_state.specs.Kept.{bad_count}
-use Rattle.block_state.specs.laws.Kept.{mark_bad}
+use Rattle.block_state.specs.Committed.{bad_count}
+use Rattle.block_state.specs.laws.Committed.{mark_bad}
 use Rattle.block_state.specs.Table.{Table, Sets, is_free, is_open}
 use Rattle.transactions.specs.Marking.{NotesMark}
 
@@ -16,9 +16,9 @@ both false true z is = (refl, refl)
 both false false z is = absurd cc
 both true y z is = absurd cc
 
--- it is good and without a kept page
-pub was_unkept : (t : Table) (b : ℕ) → is_free t b ≡ true → ((t.entry b).bad ≡ false) × ((t.entry b).kept ≡ 0)
-was_unkept t b is = let parts = both (t.entry b).bad (nat_eq (t.entry b).kept 0) (not (is_open t.open_block b)) is in (parts.0, eqb-true (t.entry b).kept 0 parts.1)
+-- it is good and without a committed page
+pub was_uncommitted : (t : Table) (b : ℕ) → is_free t b ≡ true → ((t.entry b).bad ≡ false) × ((t.entry b).committed ≡ 0)
+was_uncommitted t b is = let parts = both (t.entry b).bad (nat_eq (t.entry b).committed 0) (not (is_open t.open_block b)) is in (parts.0, eqb-true (t.entry b).committed 0 parts.1)
 
 -- with the mark of a good block one more is bad
 pub one_more : (b : ℕ) (flash : Flash) (t t' : Table) → b < t.geometry.blocks → (t.entry b).bad ≡ false → flash.bad b ≡ true → NotesMark b flash t t' → bad_count t' ≡ bad_count t + 1
@@ -38,7 +38,7 @@ erase_costs b old new result does = elim (cases_Bool old.gone) [
   | inr power ↦ let one = does.changes power in omega (arith, one)
 ]
 
--- an erase that failed was counted as a failure
+-- an erase that failed was in the count as a failure
 pub erase_fails : (b : ℕ) (old new : Device) → Erases b old new (Err erase_faults.Failed) → old.failures + 1 ≤ new.failures
 erase_fails b old new does = let failed = does.ends.failures in omega (arith, failed)
 

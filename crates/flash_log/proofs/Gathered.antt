@@ -3,8 +3,8 @@ use Rattle.std.proofs.Common.{◌≡◌, ◌<◌, ◌≤◌, ℕ, ◌+◌, ◌*�
 use Rattle.std.proofs.lemmas.Result.{on_ok_weaker}
 use Rattle.nand_model.specs.Calls.{Lasts}
 use Rattle.nand_model.specs.declared.geometry.Geometry.{Geometry}
-use Rattle.block_state.specs.Kept.{bad_count, unkept_count, free_count}
-use Rattle.block_state.specs.laws.Kept.{free_where_held}
+use Rattle.block_state.specs.Committed.{bad_count, uncommitted_count, free_count}
+use Rattle.block_state.specs.laws.Committed.{free_where_held}
 use Rattle.chunk_index.specs.declared.index.Index.{Index}
 use Rattle.transactions.specs.Checking.{LogState}
 use Rattle.flash_log.specs.Bills.{Bill, Pays, bill_of}
@@ -23,12 +23,12 @@ use Rattle.flash_log.proofs.RoomTaken.{fits_open}
 -- ---- costs
 
 -- the bill of a move into the open block, with an erase more for each failure
-abbrev open_bill : (kept : ℕ) → LogState → Result (Option Moved) MoveFault → Bill
-open_bill kept b r = bill_of b (most_open kept r) 0 (left_unanswered r)
+abbrev open_bill : (committed : ℕ) → LogState → Result (Option Moved) MoveFault → Bill
+open_bill committed b r = bill_of b (most_open committed r) 0 (left_unanswered r)
 
-module _ (kept : ℕ) (b e : LogState) (r : Result (Option Moved) MoveFault) (rises : bad_count b.table ≤ bad_count e.table) (pays : PaysOpen kept b e r) where
-  counted : b.device.failures + left_unanswered r ≤ e.device.failures
-  counted = let marks = pays.marks in omega (arith, marks, rises)
+module _ (committed : ℕ) (b e : LogState) (r : Result (Option Moved) MoveFault) (rises : bad_count b.table ≤ bad_count e.table) (pays : PaysOpen committed b e r) where
+  totaled : b.device.failures + left_unanswered r ≤ e.device.failures
+  totaled = let marks = pays.marks in omega (arith, marks, rises)
 
   abbrev p : ℕ
   p = b.device.geometry.pages
@@ -36,16 +36,16 @@ module _ (kept : ℕ) (b e : LogState) (r : Result (Option Moved) MoveFault) (ri
   split : (n : ℕ) → (p + 2) * n ≡ (p + 1) * n + n
   split n = omega arith
 
-  pub pays_each : Pays (open_bill kept b r) b e r
+  pub pays_each : Pays (open_bill committed b r) b e r
   pays_each =
       let costs = pays.costs in
       let one = split (b.device.failures + left_unanswered r) in
       let two = split e.device.failures in
-      let more = counted in
+      let more = totaled in
       record { costs = omega (arith, costs, one, two, more); marks = pays.marks; answers = pays.answers; reads = pays.reads }
 
   -- a failure has an erase to spare
-  pub pays_spare : bad_count b.table < bad_count e.table → most_open kept r ≡ 0 → left_unanswered r ≡ 0 → e.device.changes + (p + 2) * b.device.failures + 1 ≤ b.device.changes + (p + 2) * e.device.failures
+  pub pays_spare : bad_count b.table < bad_count e.table → most_open committed r ≡ 0 → left_unanswered r ≡ 0 → e.device.changes + (p + 2) * b.device.failures + 1 ≤ b.device.changes + (p + 2) * e.device.failures
   pays_spare more none answered =
       let costs = pays.costs in
       let marks = pays.marks in
@@ -58,38 +58,38 @@ same_each : (a b : LogState) → Lasts a.device b.device → b.device.geometry.p
 same_each a b lasts = ap (λ (g : Geometry). g.pages + 2) lasts.geometry
 
 -- the next block and the move into it
-pub pays_both : (kept count : ℕ) (a b e : LogState) (moved : Moved) → Lasts a.device b.device → bad_count b.table ≤ bad_count e.table → (next : PaysNext (kept + count) a b (Ok (tt {0}))) → PaysOpen kept b e (Ok (Some moved))
-    → Pays {E = MoveFault} (bill_of a (kept + next.size + 1) 0 (left_unanswered (Ok (Some moved)))) a e (Ok (Some moved))
-pays_both kept count a b e moved lasts rises next wrote =
-    pays_on (kept + next.size + 1) 0 (bill_of a (next.size + 1) 0 0) (open_bill kept b (Ok (Some moved))) a b e (tt {0}) (Ok (Some moved)) (same_each a b lasts)
-    (enough (a.device.geometry.pages + 2) next.size) refl next.pays (pays_each kept b e (Ok (Some moved)) rises wrote) where
-      enough : (each size : ℕ) → size + 1 + kept ≤ kept + size + 1 + each * 0
+pub pays_both : (committed count : ℕ) (a b e : LogState) (moved : Moved) → Lasts a.device b.device → bad_count b.table ≤ bad_count e.table → (next : PaysNext (committed + count) a b (Ok (tt {0}))) → PaysOpen committed b e (Ok (Some moved))
+    → Pays {E = MoveFault} (bill_of a (committed + next.size + 1) 0 (left_unanswered (Ok (Some moved)))) a e (Ok (Some moved))
+pays_both committed count a b e moved lasts rises next wrote =
+    pays_on (committed + next.size + 1) 0 (bill_of a (next.size + 1) 0 0) (open_bill committed b (Ok (Some moved))) a b e (tt {0}) (Ok (Some moved)) (same_each a b lasts)
+    (enough (a.device.geometry.pages + 2) next.size) refl next.pays (pays_each committed b e (Ok (Some moved)) rises wrote) where
+      enough : (each size : ℕ) → size + 1 + committed ≤ committed + size + 1 + each * 0
       enough each size = omega arith
 
 -- where the copy is trusted
-pub pays_trusted : (kept count : ℕ) (a b e : LogState) → Lasts a.device b.device → bad_count b.table ≤ bad_count e.table → PaysNext (kept + count) a b (Ok (tt {0})) → PaysOpen kept b e (Ok (Some places.Trusted))
-    → PaysGathering kept count a e (Ok (tt {0}))
-pays_trusted kept count a b e lasts rises next wrote =
-    let both = pays_both kept count a b e places.Trusted lasts rises next wrote in
+pub pays_trusted : (committed count : ℕ) (a b e : LogState) → Lasts a.device b.device → bad_count b.table ≤ bad_count e.table → PaysNext (committed + count) a b (Ok (tt {0})) → PaysOpen committed b e (Ok (Some places.Trusted))
+    → PaysGathering committed count a e (Ok (tt {0}))
+pays_trusted committed count a b e lasts rises next wrote =
+    let both = pays_both committed count a b e places.Trusted lasts rises next wrote in
     record { size = next.size; most = next.most; fits = next.fits; pays = record { costs = both.costs; marks = both.marks; answers = both.answers; reads = both.reads } }
 
 -- where it is not its block is retired
-pub pays_suspect : (w kept count : ℕ) (a b e f : LogState) (result : Result (Unit {0}) MoveFault) → Lasts a.device b.device → Lasts b.device e.device → bad_count b.table ≤ bad_count e.table
-    → PaysNext (kept + count) a b (Ok (tt {0})) → PaysOpen kept b e (Ok (Some (places.Suspect w))) → Pays (bill_of e (e.device.geometry.pages + 2) 1 0) e f result → PaysGathering kept count a f result
-pays_suspect w kept count a b e f result lasts later rises next wrote retired =
-    let both = pays_both kept count a b e (places.Suspect w) lasts rises next wrote in
+pub pays_suspect : (w committed count : ℕ) (a b e f : LogState) (result : Result (Unit {0}) MoveFault) → Lasts a.device b.device → Lasts b.device e.device → bad_count b.table ≤ bad_count e.table
+    → PaysNext (committed + count) a b (Ok (tt {0})) → PaysOpen committed b e (Ok (Some (places.Suspect w))) → Pays (bill_of e (e.device.geometry.pages + 2) 1 0) e f result → PaysGathering committed count a f result
+pays_suspect w committed count a b e f result lasts later rises next wrote retired =
+    let both = pays_both committed count a b e (places.Suspect w) lasts rises next wrote in
     let pages : e.device.geometry.pages + 2 ≡ a.device.geometry.pages + 2 = same_each b e later ∙ same_each a b lasts in
-    let all = pays_on (kept + next.size + 1) 0 (bill_of a (kept + next.size + 1) 0 1) (bill_of e (e.device.geometry.pages + 2) 1 0) a e f (Some (places.Suspect w)) result pages
-    (enough a.device.geometry.pages e.device.geometry.pages (kept + next.size + 1) (ap (λ (g : Geometry). g.pages) (later.geometry ∙ lasts.geometry))) refl both retired in
+    let all = pays_on (committed + next.size + 1) 0 (bill_of a (committed + next.size + 1) 0 1) (bill_of e (e.device.geometry.pages + 2) 1 0) a e f (Some (places.Suspect w)) result pages
+    (enough a.device.geometry.pages e.device.geometry.pages (committed + next.size + 1) (ap (λ (g : Geometry). g.pages) (later.geometry ∙ lasts.geometry))) refl both retired in
     record { size = next.size; most = next.most; fits = next.fits; pays = all } where
       enough : (m n k : ℕ) → n ≡ m → k + (n + 2) ≤ k + (m + 2) * 1
       enough m n k is = omega (arith, is)
 
 -- where the open block was marked all is written into another
-pub pays_again : (kept count : ℕ) (a b e f : LogState) (result : Result (Unit {0}) MoveFault) → Lasts a.device b.device → Lasts b.device e.device → bad_count b.table < bad_count e.table
-    → PaysNext (kept + count) a b (Ok (tt {0})) → PaysOpen kept b e (Ok None) → Pays (bill_of e (kept + 1) 0 0) e f result → PaysGathering kept count a f result
-pays_again kept count a b e f result lasts later more next wrote then =
-    let spared = pays_spare kept b e (Ok None) (omega (arith, more)) wrote more refl refl in
+pub pays_again : (committed count : ℕ) (a b e f : LogState) (result : Result (Unit {0}) MoveFault) → Lasts a.device b.device → Lasts b.device e.device → bad_count b.table < bad_count e.table
+    → PaysNext (committed + count) a b (Ok (tt {0})) → PaysOpen committed b e (Ok None) → Pays (bill_of e (committed + 1) 0 0) e f result → PaysGathering committed count a f result
+pays_again committed count a b e f result lasts later more next wrote then =
+    let spared = pays_spare committed b e (Ok None) (omega (arith, more)) wrote more refl refl in
     let first = next.pays.costs in
     let last = then.costs in
     let pages : b.device.geometry.pages ≡ a.device.geometry.pages = ap (λ (g : Geometry). g.pages) lasts.geometry in
@@ -119,39 +119,39 @@ pays_again kept count a b e f result lasts later more next wrote then =
     }
 
 -- where it failed otherwise
-pub pays_short : (kept count : ℕ) (a b e : LogState) (fault fault' : MoveFault) → Lasts a.device b.device → bad_count b.table ≤ bad_count e.table → PaysNext (kept + count) a b (Ok (tt {0})) → PaysOpen kept b e (Err fault)
-    → PaysGathering kept count a e (Err fault')
-pays_short kept count a b e fault fault' lasts rises next wrote =
-    let each = pays_each kept b e (Err fault) rises wrote in
-    let all = pays_on {T = Unit {0}} {E = MoveFault} (kept + next.size + 1) 0 (bill_of a (next.size + 1) 0 0) (open_bill kept b (Err fault)) a b e (tt {0}) (Err fault) (same_each a b lasts)
+pub pays_short : (committed count : ℕ) (a b e : LogState) (fault fault' : MoveFault) → Lasts a.device b.device → bad_count b.table ≤ bad_count e.table → PaysNext (committed + count) a b (Ok (tt {0})) → PaysOpen committed b e (Err fault)
+    → PaysGathering committed count a e (Err fault')
+pays_short committed count a b e fault fault' lasts rises next wrote =
+    let each = pays_each committed b e (Err fault) rises wrote in
+    let all = pays_on {T = Unit {0}} {E = MoveFault} (committed + next.size + 1) 0 (bill_of a (next.size + 1) 0 0) (open_bill committed b (Err fault)) a b e (tt {0}) (Err fault) (same_each a b lasts)
     (enough (a.device.geometry.pages + 2) next.size) refl next.pays each in
     record { size = next.size; most = next.most; fits = next.fits; pays = record { costs = all.costs; marks = all.marks; answers = tt; reads = all.reads } } where
-      enough : (each size : ℕ) → size + 1 + kept ≤ kept + size + 1 + each * 0
+      enough : (each size : ℕ) → size + 1 + committed ≤ committed + size + 1 + each * 0
       enough each size = omega arith
 
 -- ---- ends
 
 -- the copies are trusted
-pub gathered_behind : (v count spare : ℕ) (b e : LogState) (y : Index) → 1 ≤ (b.table.entry v).kept → LiesBehind v count b e → bad_count e.table ≤ spare → Stands spare e.device e.table y → e.device.gone ≡ false
+pub gathered_behind : (v count spare : ℕ) (b e : LogState) (y : Index) → 1 ≤ (b.table.entry v).committed → LiesBehind v count b e → bad_count e.table ≤ spare → Stands spare e.device e.table y → e.device.gone ≡ false
     → IsGathered count spare e
 gathered_behind v count spare b e y some lies few stands power =
     let there = lies.lies.there in
-    let same : free_count e.table ≡ unkept_count e.table = free_where_held e.table lies.block lies.open_block (omega (arith, there, some)) in
-    record { fits = lies.fits; few = few; free = omega (arith, same, stands.tables.unkept); power = power }
+    let same : free_count e.table ≡ uncommitted_count e.table = free_where_held e.table lies.block lies.open_block (omega (arith, there, some)) in
+    record { fits = lies.fits; few = few; free = omega (arith, same, stands.tables.uncommitted); power = power }
 
 -- their block is retired
-pub gathered_retired : (v w kept count spare : ℕ) (b e f : LogState) (result : Result (Unit {0}) MoveFault) → kept ≡ (b.table.entry v).kept → 1 ≤ kept → LiesIn v w b.table e.table → kept + count ≤ f.table.geometry.pages
+pub gathered_retired : (v w committed count spare : ℕ) (b e f : LogState) (result : Result (Unit {0}) MoveFault) → committed ≡ (b.table.entry v).committed → 1 ≤ committed → LiesIn v w b.table e.table → committed + count ≤ f.table.geometry.pages
     → RetireEnds w spare f.device e.table f.table result → GatherEnds count spare f result
-gathered_retired v w kept count spare b e f (Ok done) is some lies few (out, power) =
+gathered_retired v w committed count spare b e f (Ok done) is some lies few (out, power) =
     let there = lies.there in
     let away = out.moved (omega (arith, there, is, some)) in
     let next = away.1.next in
-    record { fits = fits_open count away.0 kept f.table away.1.open_block (omega (arith, next, there, is)) few; few = out.few; free = out.free; power = power }
-gathered_retired v w kept count spare b e f (Err fault) is some lies few why = why
+    record { fits = fits_open count away.0 committed f.table away.1.open_block (omega (arith, next, there, is)) few; few = out.few; free = out.free; power = power }
+gathered_retired v w committed count spare b e f (Err fault) is some lies few why = why
 
 -- they were moved into another block
-pub gathered_again : (v kept count spare : ℕ) (e f : LogState) (result : Result (Unit {0}) MoveFault) → (e.table.entry v).kept ≡ kept → kept + count ≤ f.table.geometry.pages → CollectEnds v spare f.device e.table f.table result
+pub gathered_again : (v committed count spare : ℕ) (e f : LogState) (result : Result (Unit {0}) MoveFault) → (e.table.entry v).committed ≡ committed → committed + count ≤ f.table.geometry.pages → CollectEnds v spare f.device e.table f.table result
     → GatherEnds count spare f result
-gathered_again v kept count spare e f (Ok done) is few (all, power) =
-    record { fits = fits_open count all.opened.0 kept f.table all.opened.1 (all.opened.2 ∙ is) few; few = all.few; free = all.free; power = power }
-gathered_again v kept count spare e f (Err fault) is few why = why
+gathered_again v committed count spare e f (Ok done) is few (all, power) =
+    record { fits = fits_open count all.opened.0 committed f.table all.opened.1 (all.opened.2 ∙ is) few; few = all.few; free = all.free; power = power }
+gathered_again v committed count spare e f (Err fault) is few why = why

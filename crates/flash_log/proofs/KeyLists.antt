@@ -1,44 +1,44 @@
--- The list of all kept keys.
+-- The list of all committed keys.
 use Rattle.std.proofs.Common.{◌≡◌, ℕ, zero, suc, ◌<◌, ◌^◌, List, [], ◌∷◌, ◌++◌, slice_get, Option, Some, None, refl, sym, ap, subst, ◌∙◌, arith, inl, inr}
 use Rattle.std.specs.Option.{option_map_or}
 use Rattle.std.proofs.lemmas.Bool.{cases_lt}
-use Rattle.chunk_index.specs.declared.form.KeptPage.{KeptPage}
-use Rattle.chunk_index.specs.declared.form.KeptKey.{KeptKey}
-use Rattle.chunk_index.specs.Kept.{KeyRises, IsListOf}
+use Rattle.chunk_index.specs.declared.form.CommittedPage.{CommittedPage}
+use Rattle.chunk_index.specs.declared.form.CommittedKey.{CommittedKey}
+use Rattle.chunk_index.specs.Committed.{KeyRises, IsListOf}
 use Rattle.chunk_index.specs.laws.Following.{Before}
-use Rattle.chunk_index.specs.Maps.{KeptMap}
-use Rattle.flash_log.specs.CheckpointListing.{key_at, chunk_keys, object_keys, key_end, kept_keys}
+use Rattle.chunk_index.specs.Maps.{CommittedMap}
+use Rattle.flash_log.specs.CheckpointListing.{key_at, chunk_keys, object_keys, key_end, committed_keys}
 
 -- ---- lists of keys
 
 -- each key of the list comes after a key
-abbrev After : KeptKey → List KeptKey → Type 0
-After k ks = (i : ℕ) (l : KeptKey) → slice_get ks i ≡ Some l → Before k l
+abbrev After : CommittedKey → List CommittedKey → Type 0
+After k ks = (i : ℕ) (l : CommittedKey) → slice_get ks i ≡ Some l → Before k l
 
 -- what holds of each of two lists holds of both, one after the other
-each_append : (P : KeptKey → Type 0) (xs ys : List KeptKey) → ((i : ℕ) (k : KeptKey) → slice_get xs i ≡ Some k → P k) → ((i : ℕ) (k : KeptKey) → slice_get ys i ≡ Some k → P k)
-    → (i : ℕ) (k : KeptKey) → slice_get (xs ++ ys) i ≡ Some k → P k
+each_append : (P : CommittedKey → Type 0) (xs ys : List CommittedKey) → ((i : ℕ) (k : CommittedKey) → slice_get xs i ≡ Some k → P k) → ((i : ℕ) (k : CommittedKey) → slice_get ys i ≡ Some k → P k)
+    → (i : ℕ) (k : CommittedKey) → slice_get (xs ++ ys) i ≡ Some k → P k
 each_append P [] ys one two i k is = two i k is
 each_append P (x ∷ xs) ys one two zero k is = one 0 k is
 each_append P (x ∷ xs) ys one two (suc i) k is = each_append P xs ys (λ j l at. one (suc j) l at) two i k is
 
 -- the key stands in the list
-abbrev StandsIn : KeptKey → List KeptKey → Type 0
+abbrev StandsIn : CommittedKey → List CommittedKey → Type 0
 StandsIn k ks = (i : ℕ) × (slice_get ks i ≡ Some k)
 
-stands_left : (k : KeptKey) (xs ys : List KeptKey) → StandsIn k xs → StandsIn k (xs ++ ys)
+stands_left : (k : CommittedKey) (xs ys : List CommittedKey) → StandsIn k xs → StandsIn k (xs ++ ys)
 stands_left k [] ys (i, is) = absurd cc
 stands_left k (x ∷ xs) ys (zero, is) = (0, is)
 stands_left k (x ∷ xs) ys (suc i, is) = let rest = stands_left k xs ys (i, is) in (suc rest.0, rest.1)
 
-stands_right : (k : KeptKey) (xs ys : List KeptKey) → StandsIn k ys → StandsIn k (xs ++ ys)
+stands_right : (k : CommittedKey) (xs ys : List CommittedKey) → StandsIn k ys → StandsIn k (xs ++ ys)
 stands_right k [] ys s = s
 stands_right k (x ∷ xs) ys s = let rest = stands_right k xs ys s in (suc rest.0, rest.1)
 
-rising_tail : (k : KeptKey) (ks : List KeptKey) → KeyRises (k ∷ ks) → KeyRises ks
+rising_tail : (k : CommittedKey) (ks : List CommittedKey) → KeyRises (k ∷ ks) → KeyRises ks
 rising_tail k ks rise i j a b lt at_i at_j = rise (suc i) (suc j) a b (omega (arith, lt)) at_i at_j
 
-rising_cons : (k : KeptKey) (ks : List KeptKey) → After k ks → KeyRises ks → KeyRises (k ∷ ks)
+rising_cons : (k : CommittedKey) (ks : List CommittedKey) → After k ks → KeyRises ks → KeyRises (k ∷ ks)
 rising_cons k ks after rise zero zero a b lt at_i at_j = absurd (omega (arith, lt))
 rising_cons k ks after rise zero (suc j) a b lt at_i at_j = let same : k ≡ a = cc in subst (λ x. Before x b) same (after j b at_j)
 rising_cons k ks after rise (suc i) zero a b lt at_i at_j = absurd (omega (arith, lt))
@@ -47,7 +47,7 @@ rising_cons k ks after rise (suc i) (suc j) a b lt at_i at_j = rise i j a b (ome
 rising_none : KeyRises []
 rising_none i j a b lt at_i at_j = absurd cc
 
-rising_append : (xs ys : List KeptKey) → KeyRises xs → KeyRises ys → ((i : ℕ) (k : KeptKey) → slice_get xs i ≡ Some k → After k ys) → KeyRises (xs ++ ys)
+rising_append : (xs ys : List CommittedKey) → KeyRises xs → KeyRises ys → ((i : ℕ) (k : CommittedKey) → slice_get xs i ≡ Some k → After k ys) → KeyRises (xs ++ ys)
 rising_append [] ys one two between = two
 rising_append (x ∷ xs) ys one two between =
     rising_cons x (xs ++ ys) (each_append (Before x) xs ys (λ i l at. one 0 (suc i) x l (omega arith) refl at) (between 0 x refl))
@@ -55,39 +55,39 @@ rising_append (x ∷ xs) ys one two between =
 
 -- ---- the keys of an object
 
-module _ (m : KeptMap) where
-  -- the key of an object's chunk, with its kept page
-  record IsKeyOf (o c : ℕ) (k : KeptKey) : Type 0 where
+module _ (m : CommittedMap) where
+  -- the key of an object's chunk, with its committed page
+  record IsKeyOf (o c : ℕ) (k : CommittedKey) : Type 0 where
     object : k.key.object ≡ o
     chunk_is : k.key.chunk ≡ c
     page : m o c ≡ Some k.at
 
-  abbrev key_with : ℕ → ℕ → KeptPage → KeptKey
+  abbrev key_with : ℕ → ℕ → CommittedPage → CommittedKey
   key_with o c p = record { key = record { object = o; chunk = c }; at = p }
 
-  is_key : (o c i : ℕ) (k : KeptKey) → slice_get (key_at m o c) i ≡ Some k → IsKeyOf o c k
+  is_key : (o c i : ℕ) (k : CommittedKey) → slice_get (key_at m o c) i ≡ Some k → IsKeyOf o c k
   is_key o c i k is = go (m o c) refl i is where
-    go : (p : Option KeptPage) → m o c ≡ p → (i : ℕ) → slice_get (option_map_or (λ (q : KeptPage). key_with o c q ∷ []) p []) i ≡ Some k → IsKeyOf o c k
+    go : (p : Option CommittedPage) → m o c ≡ p → (i : ℕ) → slice_get (option_map_or (λ (q : CommittedPage). key_with o c q ∷ []) p []) i ≡ Some k → IsKeyOf o c k
     go None none i at = absurd cc
     go (Some p) some zero at = let same : key_with o c p ≡ k = cc in subst (IsKeyOf o c) same (record { object = refl; chunk_is = refl; page = some })
     go (Some p) some (suc i) at = absurd cc
 
   one_rises : (o c : ℕ) → KeyRises (key_at m o c)
   one_rises o c = go (m o c) where
-    go : (p : Option KeptPage) → KeyRises (option_map_or (λ (q : KeptPage). key_with o c q ∷ []) p [])
+    go : (p : Option CommittedPage) → KeyRises (option_map_or (λ (q : CommittedPage). key_with o c q ∷ []) p [])
     go None = rising_none
     go (Some p) = rising_cons (key_with o c p) [] (λ i l at. absurd cc) rising_none
 
-  stands_key : (o c : ℕ) (p : KeptPage) → m o c ≡ Some p → StandsIn (key_with o c p) (key_at m o c)
-  stands_key o c p is = (0, ap (λ q. slice_get (option_map_or (λ (r : KeptPage). key_with o c r ∷ []) q []) 0) is)
+  stands_key : (o c : ℕ) (p : CommittedPage) → m o c ≡ Some p → StandsIn (key_with o c p) (key_at m o c)
+  stands_key o c p is = (0, ap (λ q. slice_get (option_map_or (λ (r : CommittedPage). key_with o c r ∷ []) q []) 0) is)
 
-  -- a kept key of an object, of a chunk below n
-  record IsOfObject (o n : ℕ) (k : KeptKey) : Type 0 where
+  -- a committed key of an object, of a chunk below n
+  record IsOfObject (o n : ℕ) (k : CommittedKey) : Type 0 where
     object : k.key.object ≡ o
     below : k.key.chunk < n
     page : m o k.key.chunk ≡ Some k.at
 
-  each_chunk : (o n i : ℕ) (k : KeptKey) → slice_get (chunk_keys m o n) i ≡ Some k → IsOfObject o n k
+  each_chunk : (o n i : ℕ) (k : CommittedKey) → slice_get (chunk_keys m o n) i ≡ Some k → IsOfObject o n k
   each_chunk o zero i k is = absurd cc
   each_chunk o (suc n) i k is = each_append (IsOfObject o (suc n)) (chunk_keys m o n) (key_at m o n)
       (λ j l at. let was = each_chunk o n j l at in record { object = was.object; below = omega (arith, was.below); page = was.page })
@@ -101,7 +101,7 @@ module _ (m : KeptMap) where
       let two = is_key o n j l at' in
       inr (one.object ∙ sym two.object, omega (arith, one.below, two.chunk_is)))
 
-  stands_chunk : (o c n : ℕ) (p : KeptPage) → c < n → m o c ≡ Some p → StandsIn (key_with o c p) (chunk_keys m o n)
+  stands_chunk : (o c n : ℕ) (p : CommittedPage) → c < n → m o c ≡ Some p → StandsIn (key_with o c p) (chunk_keys m o n)
   stands_chunk o c zero p lt is = absurd (omega (arith, lt))
   stands_chunk o c (suc n) p lt is = elim (cases_lt c n) [
     | inl less ↦ stands_left (key_with o c p) (chunk_keys m o n) (key_at m o n) (stands_chunk o c n p less is)
@@ -112,11 +112,11 @@ module _ (m : KeptMap) where
 
   -- ---- the keys of all objects
 
-  record IsOfAll (n o : ℕ) (k : KeptKey) : Type 0 where
+  record IsOfAll (n o : ℕ) (k : CommittedKey) : Type 0 where
     object : k.key.object < o
     page : m k.key.object k.key.chunk ≡ Some k.at
 
-  each_object : (n o i : ℕ) (k : KeptKey) → slice_get (object_keys m n o) i ≡ Some k → IsOfAll n o k
+  each_object : (n o i : ℕ) (k : CommittedKey) → slice_get (object_keys m n o) i ≡ Some k → IsOfAll n o k
   each_object n zero i k is = absurd cc
   each_object n (suc o) i k is = each_append (IsOfAll n (suc o)) (object_keys m n o) (chunk_keys m o n)
       (λ j l at. let was = each_object n o j l at in record { object = omega (arith, was.object); page = was.page })
@@ -130,7 +130,7 @@ module _ (m : KeptMap) where
       let two = each_chunk o n j l at' in
       inl (omega (arith, one.object, two.object)))
 
-  stands_object : (n o c k : ℕ) (p : KeptPage) → o < k → c < n → m o c ≡ Some p → StandsIn (key_with o c p) (object_keys m n k)
+  stands_object : (n o c k : ℕ) (p : CommittedPage) → o < k → c < n → m o c ≡ Some p → StandsIn (key_with o c p) (object_keys m n k)
   stands_object n o c zero p lt below is = absurd (omega (arith, lt))
   stands_object n o c (suc k) p lt below is = elim (cases_lt o k) [
     | inl less ↦ stands_left (key_with o c p) (object_keys m n k) (chunk_keys m k n) (stands_object n o c k p less below is)
@@ -143,9 +143,9 @@ below_end : (n : ℕ) → n < 2 ^ 64 → n < key_end
 unfolding key_end
 below_end n lt = lt
 
--- the list has each kept key with its page, and no other, in rising order, where their numbers are of 64 bits
-pub lists_keys : (m : KeptMap) → ((o c : ℕ) (p : KeptPage) → m o c ≡ Some p → (o < 2 ^ 64) × (c < 2 ^ 64)) → IsListOf m (kept_keys m)
-unfolding kept_keys
+-- the list has each committed key with its page, and no other, in rising order, where their numbers are of 64 bits
+pub lists_keys : (m : CommittedMap) → ((o c : ℕ) (p : CommittedPage) → m o c ≡ Some p → (o < 2 ^ 64) × (c < 2 ^ 64)) → IsListOf m (committed_keys m)
+unfolding committed_keys
 lists_keys m small = record {
   each = λ i k at. (each_object m key_end key_end i k at).page;
   all = λ o c p is. let lt = small o c p is in stands_object m key_end o c key_end p (below_end o lt.0) (below_end c lt.1) is;

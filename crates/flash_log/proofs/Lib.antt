@@ -1,9 +1,9 @@
 pub mod Free
 pub mod Turning
-pub mod KeptPages
+pub mod CommittedPages
 pub mod Keeping
 pub mod Writing
-pub mod Told
+pub mod Reported
 pub mod Moves
 pub mod Listing
 pub mod Marked

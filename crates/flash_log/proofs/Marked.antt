@@ -6,30 +6,30 @@ use Rattle.nand_model.specs.Calls.{Device, Marks}
 use Rattle.nand_model.specs.declared.nand.Gone.{Gone}
 use Rattle.flash_tree.specs.Keeping.{KeepsElsewhere}
 use Rattle.block_state.specs.declared.blocks.BlockEntry.{BlockEntry}
-use Rattle.block_state.specs.Kept.{bad_count, unkept_count, SameCounts}
+use Rattle.block_state.specs.Committed.{bad_count, uncommitted_count, SameCounts}
 use Rattle.block_state.specs.Table.{Table, Sets}
-use Rattle.block_state.specs.laws.Kept.{mark_bad, mark_unkept, same_bad_count}
+use Rattle.block_state.specs.laws.Committed.{mark_bad, mark_uncommitted, same_bad_count}
 use Rattle.transactions.specs.Handing.{HandsOut}
 use Rattle.transactions.specs.Marking.{NotesMark}
 use Rattle.transactions.specs.Ready.{IsReady}
-use Rattle.flash_log.specs.Copying.{KeepsCounts, KeepsKeptAt, KeepsDataAt}
+use Rattle.flash_log.specs.Copying.{KeepsCounts, KeepsCommittedAt, KeepsDataAt}
 use Rattle.flash_log.specs.Erased.{KeepsErased}
 use Rattle.flash_log.specs.Standing.{IsWithinLimits}
 use Rattle.flash_log.specs.laws.Erased.{erased_marked}
 use Rattle.flash_log.specs.laws.Keeping.{keeps_same}
-use Rattle.flash_log.specs.laws.KeptPages.{kept_where, data_where}
+use Rattle.flash_log.specs.laws.CommittedPages.{committed_where, data_where}
 
 -- the entries after a mark, but for the mark, are those before it
-pub marked_entry : (v : ℕ) (flash : Flash) (t u : Table) → NotesMark v flash t u → (b : ℕ) → ((u.entry b).kept ≡ (t.entry b).kept) × ((u.entry b).next ≡ (t.entry b).next)
+pub marked_entry : (v : ℕ) (flash : Flash) (t u : Table) → NotesMark v flash t u → (b : ℕ) → ((u.entry b).committed ≡ (t.entry b).committed) × ((u.entry b).next ≡ (t.entry b).next)
 marked_entry v flash t u notes b = elim (cases_eq b v) [
   | inl e ↦ (
-    ap (λ k. (u.entry k).kept) e ∙ ap (λ (x : BlockEntry). x.kept) notes.sets.here ∙ ap (λ k. (t.entry k).kept) (sym e),
+    ap (λ k. (u.entry k).committed) e ∙ ap (λ (x : BlockEntry). x.committed) notes.sets.here ∙ ap (λ k. (t.entry k).committed) (sym e),
     ap (λ k. (u.entry k).next) e ∙ ap (λ (x : BlockEntry). x.next) notes.sets.here ∙ ap (λ k. (t.entry k).next) (sym e),
   )
-  | inr ne ↦ (ap (λ (x : BlockEntry). x.kept) (notes.sets.others b ne), ap (λ (x : BlockEntry). x.next) (notes.sets.others b ne))
+  | inr ne ↦ (ap (λ (x : BlockEntry). x.committed) (notes.sets.others b ne), ap (λ (x : BlockEntry). x.next) (notes.sets.others b ne))
 ]
 
-module _ (v : ℕ) (d0 d1 : Device) (t u : Table) (result : Result (Unit {0}) Gone) (within : v < t.geometry.blocks) (none : (t.entry v).kept ≡ 0)
+module _ (v : ℕ) (d0 d1 : Device) (t u : Table) (result : Result (Unit {0}) Gone) (within : v < t.geometry.blocks) (none : (t.entry v).committed ≡ 0)
     (marks : Marks v d0 d1 result) (notes : NotesMark v d1.flash t u) where
   here : (u.entry v).bad ≡ d1.flash.bad v
   here = ap (λ (x : BlockEntry). x.bad) notes.sets.here
@@ -40,11 +40,11 @@ module _ (v : ℕ) (d0 d1 : Device) (t u : Table) (result : Result (Unit {0}) Go
       | inl e ↦ ap (λ k. (u.entry k).bad) e ∙ same ∙ ap (λ k. (t.entry k).bad) (sym e)
       | inr ne ↦ ap (λ (x : BlockEntry). x.bad) (notes.sets.others b ne)
     ];
-    kept = λ b. (marked_entry v d1.flash t u notes b).0;
+    committed = λ b. (marked_entry v d1.flash t u notes b).0;
     geometry = notes.sets.geometry;
   }
 
-  -- a mark of a block without a kept page
+  -- a mark of a block without a committed page
   pub keeps_marked : IsReady d0 t → IsReady d1 u → HandsOut d0 d1 t u → KeepsCounts d0 d1 t u
   keeps_marked was ready numbers = go (cases_Bool (t.entry v).bad) (cases_Bool (d1.flash.bad v)) where
     erased : KeepsErased d0 d1 t u
@@ -62,22 +62,22 @@ module _ (v : ℕ) (d0 d1 : Device) (t u : Table) (result : Result (Unit {0}) Go
           next_group = notes.sets.next_group;
         } in
         let more : bad_count u ≡ bad_count t + 1 = mark_bad t u v sets within good in
-        let less : unkept_count t ≡ unkept_count u + 1 = mark_unkept t u v sets within good none in
+        let less : uncommitted_count t ≡ uncommitted_count u + 1 = mark_uncommitted t u v sets within good none in
         record {
           lasts = marks.lasts;
           ready = ready;
           numbers = numbers;
           geometry = notes.sets.geometry;
-          kept = λ b. (marked_entry v d1.flash t u notes b).0;
+          committed = λ b. (marked_entry v d1.flash t u notes b).0;
           marks = λ b bad. elim (cases_eq b v) [
             | inl e ↦ ap (λ k. (u.entry k).bad) e ∙ here ∙ is
             | inr ne ↦ ap (λ (x : BlockEntry). x.bad) (notes.sets.others b ne) ∙ bad
           ];
           marked = λ b bad. elim (cases_eq b v) [
-            | inl e ↦ inr (ap (λ k. (t.entry k).kept) e ∙ none)
+            | inl e ↦ inr (ap (λ k. (t.entry k).committed) e ∙ none)
             | inr ne ↦ inl (sym (ap (λ (x : BlockEntry). x.bad) (notes.sets.others b ne)) ∙ bad)
           ];
-          unkept = omega (arith, more, less);
+          uncommitted = omega (arith, more, less);
           rises = omega (arith, more);
           limits = limits;
           erased = erased;
@@ -107,14 +107,14 @@ module _ (v : ℕ) (d0 d1 : Device) (t u : Table) (result : Result (Unit {0}) Go
         omega (arith, more)
     go (inr good) (inr is) = same_as (marked_same (here ∙ is ∙ sym good))
 
-  -- what is kept stays so
-  pub kept_marked : d0.honest ≡ true → KeepsElsewhere v d0.flash d1.flash → KeepsKeptAt t d0.flash d1.flash × KeepsDataAt t d0.flash d1.flash
-  kept_marked honest keeps = (
-    kept_where d0.flash d1.flash t (λ o c s newest some. keeps o c s newest (λ e. let zero_there : (t.entry s.block).kept ≡ 0 = ap (λ b. (t.entry b).kept) e ∙ none in omega (arith, zero_there, some))),
-    data_where d0.flash d1.flash t (λ o c s newest some. keeps o c s newest (λ e. let zero_there : (t.entry s.block).kept ≡ 0 = ap (λ b. (t.entry b).kept) e ∙ none in omega (arith, zero_there, some))),
+  -- what is committed stays so
+  pub committed_marked : d0.honest ≡ true → KeepsElsewhere v d0.flash d1.flash → KeepsCommittedAt t d0.flash d1.flash × KeepsDataAt t d0.flash d1.flash
+  committed_marked honest keeps = (
+    committed_where d0.flash d1.flash t (λ o c s newest some. keeps o c s newest (λ e. let zero_there : (t.entry s.block).committed ≡ 0 = ap (λ b. (t.entry b).committed) e ∙ none in omega (arith, zero_there, some))),
+    data_where d0.flash d1.flash t (λ o c s newest some. keeps o c s newest (λ e. let zero_there : (t.entry s.block).committed ≡ 0 = ap (λ b. (t.entry b).committed) e ∙ none in omega (arith, zero_there, some))),
   )
 
-  pub written_marked : ((o : ℕ) → t.open_block ≡ Some o → (t.entry o).kept ≤ (t.entry o).next) → (o : ℕ) → u.open_block ≡ Some o → (u.entry o).kept ≤ (u.entry o).next
+  pub written_marked : ((o : ℕ) → t.open_block ≡ Some o → (t.entry o).committed ≤ (t.entry o).next) → (o : ℕ) → u.open_block ≡ Some o → (u.entry o).committed ≤ (u.entry o).next
   written_marked written o is =
       let same = marked_entry v d1.flash t u notes o in
       let was = written o (sym notes.open_block ∙ is) in

@@ -9,12 +9,12 @@ use Rattle.nand_model.specs.Calls.{Device}
 use Rattle.page_tags.specs.Tags.{tag_bytes}
 use Rattle.nand_model.specs.declared.geometry.Geometry.{Geometry}
 use Rattle.block_state.specs.Counting.{how_many, sum_below}
-use Rattle.block_state.specs.Kept.{bad_count, unkept_count, kept_count, is_unkept}
+use Rattle.block_state.specs.Committed.{bad_count, uncommitted_count, committed_count, is_uncommitted}
 use Rattle.block_state.specs.Table.{Table, is_bad}
 use Rattle.block_state.specs.laws.Counting.{sum_below-changed, sum_below-zero, sum_below-balanced, counts_same, counts_swap}
-use Rattle.block_state.specs.laws.Kept.{unkept_if, kept_if, unkept_same}
+use Rattle.block_state.specs.laws.Committed.{uncommitted_if, committed_if, uncommitted_same}
 use Rattle.chunk_index.specs.declared.index.Index.{Index}
-use Rattle.chunk_index.specs.Maps.{kept_pages, CountsAgree}
+use Rattle.chunk_index.specs.Maps.{committed_pages, CountsAgree}
 use Rattle.flash_tree.specs.Newest.{IsNewest}
 use Rattle.flash_tree.specs.Numbering.{AreBelow}
 use Rattle.flash_tree.specs.ErasedBlocks.{BeginsErased}
@@ -25,19 +25,19 @@ use Rattle.transactions.specs.declared.source.PageName.{PageName}
 use Rattle.flash_tree.specs.Slots.{check_object}
 use Rattle.transactions.specs.declared.copies.CopyOf.{CopyOf}
 use Rattle.flash_log.specs.Copying.{KeepsCounts, KeepsDataAt, MayBeCopied, AreWritten, IsCopyOf, IsTarget, OpenAfter, copy_in, place_of}
-use Rattle.flash_log.specs.Lists.{IsListed, kept_by}
+use Rattle.flash_log.specs.Lists.{IsListed, committed_by}
 use Rattle.flash_log.specs.Bills.{Pays, PaysTarget, PaysWriting, bill_of}
 use Rattle.flash_log.specs.declared.fault.MoveFault.{MoveFault}
 use Rattle.flash_log.specs.declared.moving.Moved.{Moved}
-use Rattle.flash_log.specs.Moving.{MovesOut, IsKeptIn, LiesIn, LiesOpen, IsLeft}
+use Rattle.flash_log.specs.Moving.{MovesOut, IsCommittedPageIn, LiesIn, LiesOpen, IsLeft}
 use Rattle.flash_log.specs.Refreshing.{FillsAnew}
-use Rattle.flash_log.specs.Standing.{IsKeptAt, MayLie, AreHeld, Stands, KeepsFree}
+use Rattle.flash_log.specs.Standing.{IsCommittedAt, MayLie, AreHeld, Stands, KeepsFree}
 use Rattle.flash_log.specs.Steps.{Step}
-use Rattle.flash_log.specs.Telling.{Tells}
-use Rattle.flash_log.specs.laws.Steps.{moves_kept_out}
+use Rattle.flash_log.specs.Reporting.{Reports}
+use Rattle.flash_log.specs.laws.Steps.{moves_committed_out}
 use Rattle.transactions.specs.Checking.{log_of}
 use Rattle.flash_log.specs.declared.copying.Target.{Target}
-use Rattle.flash_log.proofs.KeptPages.{listed_or_not, name_is}
+use Rattle.flash_log.proofs.CommittedPages.{listed_or_not, name_is}
 use Rattle.flash_log.specs.Passing.{KeepsFound}
 use Rattle.flash_log.specs.Erased.{KeepsErased, KnowsErased}
 use Rattle.flash_log.specs.Gathering.{LiesBehind}
@@ -48,7 +48,7 @@ use Rattle.flash_log.specs.laws.Erased.{LeavesBlank, knows_as, leads_as}
 use Rattle.flash_log.specs.laws.Found.{findable_moved, findable_still}
 use Rattle.flash_log.specs.laws.FreeBlocks.{free_where_stands}
 use Rattle.flash_tree.specs.laws.Place.{had_power}
-use Rattle.flash_log.specs.laws.Moves.{same_kept_sum, may_lie_later, same_data}
+use Rattle.flash_log.specs.laws.Moves.{same_committed_sum, may_lie_later, same_data}
 
 -- ---- counts
 
@@ -63,7 +63,7 @@ sum_at b n k lt =
 
 -- ---- what may be copied
 
-name_eta : (t : Table) (x : CopyOf) (n : ℕ) → MayLie t x.name.key.object x.name.key.chunk (kept_by x) → IsPageName t.next_group x.name
+name_eta : (t : Table) (x : CopyOf) (n : ℕ) → MayLie t x.name.key.object x.name.key.chunk (committed_by x) → IsPageName t.next_group x.name
 name_eta t x n may = record { object = may.name.object; chunk = may.name.chunk; version = may.name.version }
 
 pub may_be_copied : (spare v : ℕ) (d : Device) (t : Table) (x : Index) (copies : List CopyOf) → IsReady d t → Stands spare d t x → IsListed v t x copies → MayBeCopied d t copies
@@ -72,7 +72,7 @@ may_be_copied spare v d t x copies ready stands listed =
     let count = listed.count in
     let some = listed.some in
     let most : t.geometry.pages ≤ 256 = t.geometry.most_pages in
-    let each : (i : ℕ) (y : CopyOf) → slice_get copies i ≡ Some y → MayLie t y.name.key.object y.name.key.chunk (kept_by y) = λ i y at. stands.tables.within y.name.key.object y.name.key.chunk (kept_by y) (listed.lists.kept i y at) in
+    let each : (i : ℕ) (y : CopyOf) → slice_get copies i ≡ Some y → MayLie t y.name.key.object y.name.key.chunk (committed_by y) = λ i y at. stands.tables.within y.name.key.object y.name.key.chunk (committed_by y) (listed.lists.committed i y at) in
     record {
       can = record {
         some = omega (arith, count, some);
@@ -86,33 +86,33 @@ may_be_copied spare v d t x copies ready stands listed =
             subst (IsPageName t.next_group) (sym (name_is copies i there.0 there.1)) (name_eta t there.0 i (each i there.0 there.1));
       };
       few = subst (λ (g : Geometry). length copies ≤ g.pages) ready.geometry (omega (arith, count, fits));
-      held = λ i y at. let here : (t.entry y.block).kept ≡ (t.entry v).kept = ap (λ b. (t.entry b).kept) (listed.lists.here i y at) in omega (arith, here, some);
+      held = λ i y at. let here : (t.entry y.block).committed ≡ (t.entry v).committed = ap (λ b. (t.entry b).committed) (listed.lists.here i y at) in omega (arith, here, some);
       once = listed.lists.once;
-      newest = λ honest power i y at. stands.newest honest power y.name.key.object y.name.key.chunk (kept_by y) (listed.lists.kept i y at);
+      newest = λ honest power i y at. stands.newest honest power y.name.key.object y.name.key.chunk (committed_by y) (listed.lists.committed i y at);
       ordinary = λ honest i lt.
           let there = slice_get_there copies i lt in
           let y : CopyOf = there.0 in
           subst (λ (n : PageName). n.key.object ≢ check_object) (sym (name_is copies i y there.1))
-          (stands.ordinary honest y.name.key.object y.name.key.chunk (kept_by y) (listed.lists.kept i y there.1));
+          (stands.ordinary honest y.name.key.object y.name.key.chunk (committed_by y) (listed.lists.committed i y there.1));
     }
 
--- ---- where the copies are told
+-- ---- where the copies are reported
 
 module _ (spare v : ℕ) (target : Target) (d0 d1 : Device) (t0 t1 t2 : Table) (x y : Index) (copies : List CopyOf) (listed : IsListed v t0 x copies) (held : AreHeld t0 x)
     (keeps : KeepsCounts d0 d1 t0 t1) (stands : Stands spare d0 t0 x) (is : IsTarget (length copies) target t0 t1)
-    (tells : Tells v (length copies) (place_of target) copies x y t1 t2) (agree : CountsAgree t2 y)
+    (reports : Reports v (length copies) (place_of target) copies x y t1 t2) (agree : CountsAgree t2 y)
     (newest : d0.honest ≡ true → d1.gone ≡ false → AreWritten (place_of target) copies t0 d0.flash d1.flash) where
   pub apart : v ≢ target.block
-  apart e = let same : (t0.entry v).kept ≡ (t0.entry target.block).kept = ap (λ b. (t0.entry b).kept) e in omega (arith, same, listed.some, is.unkept)
+  apart e = let same : (t0.entry v).committed ≡ (t0.entry target.block).committed = ap (λ b. (t0.entry b).committed) e in omega (arith, same, listed.some, is.uncommitted)
 
-  now_none : (t2.entry v).kept ≡ 0
-  now_none = omega (arith, tells.counts.here, keeps.kept v, listed.count)
+  now_none : (t2.entry v).committed ≡ 0
+  now_none = omega (arith, reports.counts.here, keeps.committed v, listed.count)
 
-  now_kept : (t2.entry target.block).kept ≡ (t0.entry v).kept
-  now_kept = let before = keeps.kept target.block in omega (arith, tells.counts.there, before, is.unkept, listed.count)
+  now_committed : (t2.entry target.block).committed ≡ (t0.entry v).committed
+  now_committed = let before = keeps.committed target.block in omega (arith, reports.counts.there, before, is.uncommitted, listed.count)
 
-  kept_elsewhere : (b : ℕ) → b ≢ v → b ≢ target.block → (t2.entry b).kept ≡ (t0.entry b).kept
-  kept_elsewhere b nv nw = tells.counts.elsewhere b nv nw ∙ keeps.kept b
+  committed_elsewhere : (b : ℕ) → b ≢ v → b ≢ target.block → (t2.entry b).committed ≡ (t0.entry b).committed
+  committed_elsewhere b nv nw = reports.counts.elsewhere b nv nw ∙ keeps.committed b
 
   still_good : (t1.entry v).bad ≡ false
   still_good = elim (cases_Bool (t1.entry v).bad) [
@@ -123,72 +123,72 @@ module _ (spare v : ℕ) (target : Target) (d0 d1 : Device) (t0 t1 t2 : Table) (
     ]
   ]
 
-  -- a key that is told of a copy is its
-  told : (o c i : ℕ) (z : CopyOf) → slice_get copies i ≡ Some z → IsCopyOf z o c → kept_pages y o c ≡ Some (copy_in (place_of target) i z)
-  told o c i z at of = sym (ap (λ q. kept_pages y q c) of.0) ∙ ap (kept_pages y z.name.key.object) (sym of.1) ∙ tells.index.kept_here i z (slice_get_within copies i z at) at
+  -- a key that is reported of a copy is its
+  reported : (o c i : ℕ) (z : CopyOf) → slice_get copies i ≡ Some z → IsCopyOf z o c → committed_pages y o c ≡ Some (copy_in (place_of target) i z)
+  reported o c i z at of = sym (ap (λ q. committed_pages y q c) of.0) ∙ ap (committed_pages y z.name.key.object) (sym of.1) ∙ reports.index.committed_here i z (slice_get_within copies i z at) at
 
   pub same_bads : bad_count t2 ≡ bad_count t1
-  same_bads = ap (λ (g : Geometry). how_many (is_bad t2) g.blocks) tells.counts.geometry ∙ counts_same (is_bad t2) (is_bad t1) t1.geometry.blocks (λ b lt. tells.counts.bad b)
+  same_bads = ap (λ (g : Geometry). how_many (is_bad t2) g.blocks) reports.counts.geometry ∙ counts_same (is_bad t2) (is_bad t1) t1.geometry.blocks (λ b lt. reports.counts.bad b)
 
-  same_unkepts : unkept_count t2 ≡ unkept_count t1
-  same_unkepts = ap (λ (g : Geometry). how_many (is_unkept t2) g.blocks) tells.counts.geometry
-      ∙ sym (counts_swap (is_unkept t1) (is_unkept t2) v target.block t1.geometry.blocks
+  same_uncommitteds : uncommitted_count t2 ≡ uncommitted_count t1
+  same_uncommitteds = ap (λ (g : Geometry). how_many (is_uncommitted t2) g.blocks) reports.counts.geometry
+      ∙ sym (counts_swap (is_uncommitted t1) (is_uncommitted t2) v target.block t1.geometry.blocks
       (subst (λ (g : Geometry). v < g.blocks) (sym keeps.geometry) listed.within) (subst (λ (g : Geometry). target.block < g.blocks) (sym keeps.geometry) is.within)
-      (unkept_if t1 target.block is.good (keeps.kept target.block ∙ is.unkept))
-      (kept_if t2 target.block (let now = now_kept in omega (arith, now, listed.some)))
-      (kept_if t1 v (let same = keeps.kept v in omega (arith, same, listed.some)))
-      (unkept_if t2 v (tells.counts.bad v ∙ still_good) now_none)
-      (λ b nv nw. unkept_same t1 t2 b (tells.counts.bad b) (tells.counts.elsewhere b nv nw)))
+      (uncommitted_if t1 target.block is.good (keeps.committed target.block ∙ is.uncommitted))
+      (committed_if t2 target.block (let now = now_committed in omega (arith, now, listed.some)))
+      (committed_if t1 v (let same = keeps.committed v in omega (arith, same, listed.some)))
+      (uncommitted_if t2 v (reports.counts.bad v ∙ still_good) now_none)
+      (λ b nv nw. uncommitted_same t1 t2 b (reports.counts.bad b) (reports.counts.elsewhere b nv nw)))
 
-  balance : (b : ℕ) → (t2.entry b).kept + (if b == v then length copies else 0) ≡ (t1.entry b).kept + (if b == target.block then length copies else 0)
+  balance : (b : ℕ) → (t2.entry b).committed + (if b == v then length copies else 0) ≡ (t1.entry b).committed + (if b == target.block then length copies else 0)
   balance b = elim (cases_eq b v) [
     | inl e ↦
         let here : (if b == v then length copies else 0) ≡ length copies = grind (arith, nat_tests, e) in
         let there : (if b == target.block then length copies else 0) ≡ 0 = go (λ f. apart (sym e ∙ f)) in
-        let old : (t1.entry b).kept ≡ (t1.entry v).kept = ap (λ k. (t1.entry k).kept) e in
-        let new : (t2.entry b).kept ≡ (t2.entry v).kept = ap (λ k. (t2.entry k).kept) e in
-        omega (arith, here, there, old, new, tells.counts.here)
+        let old : (t1.entry b).committed ≡ (t1.entry v).committed = ap (λ k. (t1.entry k).committed) e in
+        let new : (t2.entry b).committed ≡ (t2.entry v).committed = ap (λ k. (t2.entry k).committed) e in
+        omega (arith, here, there, old, new, reports.counts.here)
     | inr nv ↦ elim (cases_eq b target.block) [
       | inl e ↦
           let here : (if b == v then length copies else 0) ≡ 0 = grind (arith, nat_tests, nv) in
           let there : (if b == target.block then length copies else 0) ≡ length copies = grind (arith, nat_tests, e) in
-          let old : (t1.entry b).kept ≡ (t1.entry target.block).kept = ap (λ k. (t1.entry k).kept) e in
-          let new : (t2.entry b).kept ≡ (t2.entry target.block).kept = ap (λ k. (t2.entry k).kept) e in
-          omega (arith, here, there, old, new, tells.counts.there)
+          let old : (t1.entry b).committed ≡ (t1.entry target.block).committed = ap (λ k. (t1.entry k).committed) e in
+          let new : (t2.entry b).committed ≡ (t2.entry target.block).committed = ap (λ k. (t2.entry k).committed) e in
+          omega (arith, here, there, old, new, reports.counts.there)
       | inr nw ↦
           let here : (if b == v then length copies else 0) ≡ 0 = grind (arith, nat_tests, nv) in
           let there : (if b == target.block then length copies else 0) ≡ 0 = grind (arith, nat_tests, nw) in
-          let same = tells.counts.elsewhere b nv nw in
+          let same = reports.counts.elsewhere b nv nw in
           omega (arith, here, there, same)
     ]
   ] where
     go : (b ≡ target.block → ⊥) → (if b == target.block then length copies else 0) ≡ 0
     go ne = grind (arith, nat_tests, ne)
 
-  same_keeps : kept_count t2 ≡ kept_count t0
+  same_keeps : committed_count t2 ≡ committed_count t0
   same_keeps =
       let n : ℕ = t1.geometry.blocks in
-      let size : kept_count t2 ≡ sum_below (λ b. (t2.entry b).kept) n = ap (λ (g : Geometry). sum_below (λ b. (t2.entry b).kept) g.blocks) tells.counts.geometry in
-      let both = sum_below-balanced (λ b. (t2.entry b).kept) (λ b. if b == v then length copies else 0) (λ b. (t1.entry b).kept) (λ b. if b == target.block then length copies else 0) n (λ b lt. balance b) in
+      let size : committed_count t2 ≡ sum_below (λ b. (t2.entry b).committed) n = ap (λ (g : Geometry). sum_below (λ b. (t2.entry b).committed) g.blocks) reports.counts.geometry in
+      let both = sum_below-balanced (λ b. (t2.entry b).committed) (λ b. if b == v then length copies else 0) (λ b. (t1.entry b).committed) (λ b. if b == target.block then length copies else 0) n (λ b lt. balance b) in
       let one = sum_at v n (length copies) (subst (λ (g : Geometry). v < g.blocks) (sym keeps.geometry) listed.within) in
       let two = sum_at target.block n (length copies) (subst (λ (g : Geometry). target.block < g.blocks) (sym keeps.geometry) is.within) in
-      let before = same_kept_sum t0 t1 keeps.geometry keeps.kept in
+      let before = same_committed_sum t0 t1 keeps.geometry keeps.committed in
       omega (arith, size, both, one, two, before)
 
-  open_is : (o : ℕ) → t2.open_block ≡ Some o → (t2.entry o).kept ≤ (t2.entry o).next
+  open_is : (o : ℕ) → t2.open_block ≡ Some o → (t2.entry o).committed ≤ (t2.entry o).next
   open_is o opened = go target.suspect is.open_block where
-    go : (s : Bool) → OpenAfter target.block (target.first + length copies) s t1 → (t2.entry o).kept ≤ (t2.entry o).next
-    go true closed = let two : None ≡ Some o = sym closed ∙ sym tells.counts.open_block ∙ opened in absurd cc
+    go : (s : Bool) → OpenAfter target.block (target.first + length copies) s t1 → (t2.entry o).committed ≤ (t2.entry o).next
+    go true closed = let two : None ≡ Some o = sym closed ∙ sym reports.counts.open_block ∙ opened in absurd cc
     go false (at, next) =
-        let both : Some target.block ≡ Some o = sym at ∙ sym tells.counts.open_block ∙ opened in
+        let both : Some target.block ≡ Some o = sym at ∙ sym reports.counts.open_block ∙ opened in
         let same : target.block ≡ o = cc in
-        let here : (t2.entry target.block).next ≡ target.first + length copies = tells.counts.next target.block ∙ next in
-        let now = now_kept in
-        subst (λ b. (t2.entry b).kept ≤ (t2.entry b).next) same (omega (arith, now, here, listed.count))
+        let here : (t2.entry target.block).next ≡ target.first + length copies = reports.counts.next target.block ∙ next in
+        let now = now_committed in
+        subst (λ b. (t2.entry b).committed ≤ (t2.entry b).next) same (omega (arith, now, here, listed.count))
 
   -- once pages were copied no block may have a checkpoint
   pub none_noted : t2.checkpoint ≡ None
-  none_noted = tells.counts.checkpoint ∙ is.checkpoint
+  none_noted = reports.counts.checkpoint ∙ is.checkpoint
 
   stands_moved : IsReady d1 t1 → Stands spare d1 t2 y
   stands_moved ready = record {
@@ -196,21 +196,21 @@ module _ (spare v : ℕ) (target : Target) (d0 d1 : Device) (t0 t1 t2 : Table) (
       counts = agree;
       within = λ o c p at. elim (listed_or_not copies o c) [
         | inl (i, z, there, of) ↦
-            let both : Some p ≡ Some (copy_in (place_of target) i z) = sym at ∙ told o c i z there of in
+            let both : Some p ≡ Some (copy_in (place_of target) i z) = sym at ∙ reported o c i z there of in
             let same : p ≡ copy_in (place_of target) i z = cc in
             let lt : i < length copies = slice_get_within copies i z there in
             let fits = stands.tables.fits v in
-            let was = stands.tables.within z.name.key.object z.name.key.chunk (kept_by z) (listed.lists.kept i z there) in
+            let was = stands.tables.within z.name.key.object z.name.key.chunk (committed_by z) (listed.lists.committed i z there) in
             let page : target.first + i < t0.geometry.pages = let room = is.fits in omega (arith, lt, room) in
             let may : MayLie t0 z.name.key.object z.name.key.chunk (copy_in (place_of target) i z) = record { block = is.within; page = page; name = was.name } in
             subst (MayLie t2 o c) (sym same) (subst (λ q. MayLie t2 q c (copy_in (place_of target) i z)) of.0 (subst (λ l. MayLie t2 z.name.key.object l (copy_in (place_of target) i z)) of.1
-            (may_lie_later t0 t2 _ _ _ (tells.counts.geometry ∙ keeps.geometry) (let group = tells.counts.next_group in omega (arith, group, keeps.numbers.numbers.groups_rise)) may)))
-        | inr none ↦ may_lie_later t0 t2 o c p (tells.counts.geometry ∙ keeps.geometry) (let group = tells.counts.next_group in omega (arith, group, keeps.numbers.numbers.groups_rise))
-            (stands.tables.within o c p (sym (tells.index.kept_elsewhere o c (λ j z lt there of. none j z there of)) ∙ at))
+            (may_lie_later t0 t2 _ _ _ (reports.counts.geometry ∙ keeps.geometry) (let group = reports.counts.next_group in omega (arith, group, keeps.numbers.numbers.groups_rise)) may)))
+        | inr none ↦ may_lie_later t0 t2 o c p (reports.counts.geometry ∙ keeps.geometry) (let group = reports.counts.next_group in omega (arith, group, keeps.numbers.numbers.groups_rise))
+            (stands.tables.within o c p (sym (reports.index.committed_elsewhere o c (λ j z lt there of. none j z there of)) ∙ at))
       ];
-      fits = λ b. subst (λ (g : Geometry). (t2.entry b).kept ≤ g.pages) (sym (tells.counts.geometry ∙ keeps.geometry)) (fits_then b);
+      fits = λ b. subst (λ (g : Geometry). (t2.entry b).committed ≤ g.pages) (sym (reports.counts.geometry ∙ keeps.geometry)) (fits_then b);
       written = open_is;
-      unkept = let unkept = same_unkepts in let bad = same_bads in omega (arith, unkept, bad, keeps.unkept, stands.tables.unkept);
+      uncommitted = let uncommitted = same_uncommitteds in let bad = same_bads in omega (arith, uncommitted, bad, keeps.uncommitted, stands.tables.uncommitted);
       apart = λ k noted. let two : None ≡ Some k = sym none_noted ∙ noted in absurd cc;
     };
     newest = λ honest power o c p at.
@@ -218,31 +218,31 @@ module _ (spare v : ℕ) (target : Target) (d0 d1 : Device) (t0 t1 t2 : Table) (
         let all = (newest was power).made in
         elim (listed_or_not copies o c) [
           | inl (i, z, there, of) ↦
-              let both : Some p ≡ Some (copy_in (place_of target) i z) = sym at ∙ told o c i z there of in
+              let both : Some p ≡ Some (copy_in (place_of target) i z) = sym at ∙ reported o c i z there of in
               let same : p ≡ copy_in (place_of target) i z = cc in
-              subst (IsKeptAt d1.flash o c) (sym same) (subst (λ q. IsKeptAt d1.flash q c (copy_in (place_of target) i z)) of.0
-              (subst (λ l. IsKeptAt d1.flash z.name.key.object l (copy_in (place_of target) i z)) of.1 (all.copied i z there)))
+              subst (IsCommittedAt d1.flash o c) (sym same) (subst (λ q. IsCommittedAt d1.flash q c (copy_in (place_of target) i z)) of.0
+              (subst (λ l. IsCommittedAt d1.flash z.name.key.object l (copy_in (place_of target) i z)) of.1 (all.copied i z there)))
           | inr none ↦
-              let before : kept_pages x o c ≡ Some p = sym (tells.index.kept_elsewhere o c (λ j z lt there of. none j z there of)) ∙ at in
+              let before : committed_pages x o c ≡ Some p = sym (reports.index.committed_elsewhere o c (λ j z lt there of. none j z there of)) ∙ at in
               all.others o c p (held o c p before) none (stands.newest was (had_power d0 d1 keeps.lasts power) o c p before)
         ];
     ordinary = λ honest o c p at.
         let was = stands.ordinary (sym keeps.lasts.honest ∙ honest) in
         elim (listed_or_not copies o c) [
-          | inl (i, z, there, of) ↦ subst (λ q. q ≢ check_object) of.0 (was z.name.key.object z.name.key.chunk (kept_by z) (listed.lists.kept i z there))
-          | inr none ↦ was o c p (sym (tells.index.kept_elsewhere o c (λ j z lt there of. none j z there of)) ∙ at)
+          | inl (i, z, there, of) ↦ subst (λ q. q ≢ check_object) of.0 (was z.name.key.object z.name.key.chunk (committed_by z) (listed.lists.committed i z there))
+          | inr none ↦ was o c p (sym (reports.index.committed_elsewhere o c (λ j z lt there of. none j z there of)) ∙ at)
         ];
     limits = let now = keeps.limits stands.limits in (
-      let group = tells.counts.next_group in omega (arith, group, now.0),
-      let seq = tells.counts.next_seq in omega (arith, seq, now.1),
+      let group = reports.counts.next_group in omega (arith, group, now.0),
+      let seq = reports.counts.next_seq in omega (arith, seq, now.1),
     );
   } where
-    fits_then : (b : ℕ) → (t2.entry b).kept ≤ t0.geometry.pages
+    fits_then : (b : ℕ) → (t2.entry b).committed ≤ t0.geometry.pages
     fits_then b = elim (cases_eq b v) [
-      | inl e ↦ let here : (t2.entry b).kept ≡ (t2.entry v).kept = ap (λ k. (t2.entry k).kept) e in let none = now_none in omega (arith, here, none)
+      | inl e ↦ let here : (t2.entry b).committed ≡ (t2.entry v).committed = ap (λ k. (t2.entry k).committed) e in let none = now_none in omega (arith, here, none)
       | inr nv ↦ elim (cases_eq b target.block) [
-        | inl e ↦ let here : (t2.entry b).kept ≡ (t2.entry target.block).kept = ap (λ k. (t2.entry k).kept) e in let now = now_kept in let fits = stands.tables.fits v in omega (arith, here, now, fits)
-        | inr nw ↦ let same = kept_elsewhere b nv nw in let fits = stands.tables.fits b in omega (arith, same, fits)
+        | inl e ↦ let here : (t2.entry b).committed ≡ (t2.entry target.block).committed = ap (λ k. (t2.entry k).committed) e in let now = now_committed in let fits = stands.tables.fits v in omega (arith, here, now, fits)
+        | inr nw ↦ let same = committed_elsewhere b nv nw in let fits = stands.tables.fits b in omega (arith, same, fits)
       ]
     ]
 
@@ -252,16 +252,16 @@ module _ (spare v : ℕ) (target : Target) (d0 d1 : Device) (t0 t1 t2 : Table) (
         let z : CopyOf = record { block = p.block; page = p.page; name = record { key = record { object = o; chunk = c }; version = p.version } } in
         let there = listed.lists.all o c p at here in
         let lt : there.0 < length copies = slice_get_within copies there.0 z there.1 in
-        record { at = copy_in (place_of target) there.0 z; is = tells.index.kept_here there.0 z lt there.1; version = refl; present = tells.index.present_here there.0 z lt there.1 };
-    kept = λ o c none. tells.index.kept_elsewhere o c (λ j z lt there of. none (in_v o c j z there of));
-    present = λ o c none. tells.index.present_elsewhere o c (λ j z lt there of. none (in_v o c j z there of));
-    prepared = tells.index.prepared;
-    ready = tells.index.ready;
+        record { at = copy_in (place_of target) there.0 z; is = reports.index.committed_here there.0 z lt there.1; version = refl; present = reports.index.present_here there.0 z lt there.1 };
+    committed = λ o c none. reports.index.committed_elsewhere o c (λ j z lt there of. none (in_v o c j z there of));
+    present = λ o c none. reports.index.present_elsewhere o c (λ j z lt there of. none (in_v o c j z there of));
+    prepared = reports.index.prepared;
+    ready = reports.index.ready;
   } where
-    in_v : (o c j : ℕ) (z : CopyOf) → slice_get copies j ≡ Some z → IsCopyOf z o c → IsKeptIn v x o c
+    in_v : (o c j : ℕ) (z : CopyOf) → slice_get copies j ≡ Some z → IsCopyOf z o c → IsCommittedPageIn v x o c
     in_v o c j z there of = (
-      kept_by z,
-      sym (ap (λ q. kept_pages x q c) of.0) ∙ ap (kept_pages x z.name.key.object) (sym of.1) ∙ listed.lists.kept j z there,
+      committed_by z,
+      sym (ap (λ q. committed_pages x q c) of.0) ∙ ap (committed_pages x z.name.key.object) (sym of.1) ∙ listed.lists.committed j z there,
       listed.lists.here j z there,
     )
 
@@ -271,21 +271,21 @@ module _ (spare v : ℕ) (target : Target) (d0 d1 : Device) (t0 t1 t2 : Table) (
     | inl (i, z, there, of) ↦
         (newest honest power).numbered i z s there (subst (λ q. IsNewest d1.flash q z.name.key.chunk s) (sym of.0) (subst (λ l. IsNewest d1.flash o l s) (sym of.1) last))
     | inr apart' ↦
-        let some = held o c p (sym (tells.index.kept_elsewhere o c (λ j z lt there of. apart' j z there of)) ∙ at) in
-        let same : (t0.entry p.block).kept ≡ (t0.entry b).kept = ap (λ k. (t0.entry k).kept) here in
+        let some = held o c p (sym (reports.index.committed_elsewhere o c (λ j z lt there of. apart' j z there of)) ∙ at) in
+        let same : (t0.entry p.block).committed ≡ (t0.entry b).committed = ap (λ k. (t0.entry k).committed) here in
         absurd (omega (arith, some, same, none))
   ]
 
   -- the table is ready still, since only counts changed
-  ready_told : IsReady d1 t1 → IsReady d1 t2
-  ready_told ready = record {
-    geometry = tells.counts.geometry ∙ ready.geometry;
-    marks = λ b. tells.counts.bad b ∙ ready.marks b;
+  ready_reported : IsReady d1 t1 → IsReady d1 t2
+  ready_reported ready = record {
+    geometry = reports.counts.geometry ∙ ready.geometry;
+    marks = λ b. reports.counts.bad b ∙ ready.marks b;
     open_block = λ o opened.
-        let was = ready.open_block o (sym tells.counts.open_block ∙ opened) in
-        let next = tells.counts.next o in
-        let seq = tells.counts.seq o in
-        let next_seq = tells.counts.next_seq in
+        let was = ready.open_block o (sym reports.counts.open_block ∙ opened) in
+        let next = reports.counts.next o in
+        let seq = reports.counts.seq o in
+        let next_seq = reports.counts.next_seq in
         record {
           within = was.within;
           good = was.good;
@@ -297,27 +297,27 @@ module _ (spare v : ℕ) (target : Target) (d0 d1 : Device) (t0 t1 t2 : Table) (
               (subst (λ s. IsWrittenInOrder d1.flash o (t1.entry o).next s) (sym seq) (was.in_order honest));
         };
     waits = λ k noted. let two : None ≡ Some k = sym none_noted ∙ noted in absurd cc;
-    numbers = (let group = tells.counts.next_group in let one = ready.numbers.0 in omega (arith, group, one), let seq = tells.counts.next_seq in let one = ready.numbers.1 in omega (arith, seq, one));
-    below = λ honest. subst (λ n. AreBelow d1.flash n t2.next_seq) (sym tells.counts.next_group) (subst (λ n. AreBelow d1.flash t1.next_group n) (sym tells.counts.next_seq) (ready.below honest));
+    numbers = (let group = reports.counts.next_group in let one = ready.numbers.0 in omega (arith, group, one), let seq = reports.counts.next_seq in let one = ready.numbers.1 in omega (arith, seq, one));
+    below = λ honest. subst (λ n. AreBelow d1.flash n t2.next_seq) (sym reports.counts.next_group) (subst (λ n. AreBelow d1.flash t1.next_group n) (sym reports.counts.next_seq) (ready.below honest));
   }
 
   -- the device has power, so blocks are free by the table
   free_moved : AreHeld t2 y → d1.gone ≡ false → KeepsFree spare d0 d1 x y
-  free_moved there power honest free = free_where_stands spare d1 t2 y (ready_told keeps.ready) there (stands_moved keeps.ready) (keeps.lasts.honest ∙ honest) power
+  free_moved there power honest free = free_where_stands spare d1 t2 y (ready_reported keeps.ready) there (stands_moved keeps.ready) (keeps.lasts.honest ∙ honest) power
 
   some_copy : (x0 : CopyOf) × (slice_get copies 0 ≡ Some x0)
   some_copy = slice_get_there copies 0 (let count = listed.count in let some = listed.some in omega (arith, count, some))
 
   -- no block begins erased in which a copy was made
-  kept_erased : d0.honest ≡ true → d1.gone ≡ false → KnowsErased d1.flash t1 → (b : ℕ) → BeginsErased d1.flash b → (t1.entry b).kept ≡ 0 → (t2.entry b).kept ≡ 0
-  kept_erased honest power knows b begins none = elim (cases_eq b v) [
+  committed_erased : d0.honest ≡ true → d1.gone ≡ false → KnowsErased d1.flash t1 → (b : ℕ) → BeginsErased d1.flash b → (t1.entry b).committed ≡ 0 → (t2.entry b).committed ≡ 0
+  committed_erased honest power knows b begins none = elim (cases_eq b v) [
     | inl e ↦
-        let less = tells.counts.here in
-        let was : (t1.entry v).kept ≡ 0 = ap (λ k. (t1.entry k).kept) (sym e) ∙ none in
-        let now : (t2.entry b).kept ≡ (t2.entry v).kept = ap (λ k. (t2.entry k).kept) e in
+        let less = reports.counts.here in
+        let was : (t1.entry v).committed ≡ 0 = ap (λ k. (t1.entry k).committed) (sym e) ∙ none in
+        let now : (t2.entry b).committed ≡ (t2.entry v).committed = ap (λ k. (t2.entry k).committed) e in
         omega (arith, less, was, now)
     | inr nv ↦ elim (cases_eq b target.block) [
-      | inr nw ↦ tells.counts.elsewhere b nv nw ∙ none
+      | inr nw ↦ reports.counts.elsewhere b nv nw ∙ none
       | inl e ↦
           let x0 = some_copy in
           let at = (newest honest power).made.copied 0 x0.0 x0.1 in
@@ -340,28 +340,28 @@ module _ (spare v : ℕ) (target : Target) (d0 d1 : Device) (t0 t1 t2 : Table) (
       } where
         leaves : d0.honest ≡ true → KnowsErased d1.flash t1 → LeavesBlank d1.flash t1 t2
         leaves honest knows = record {
-          geometry = tells.counts.geometry;
-          next = tells.counts.next;
-          seq = tells.counts.seq;
-          kept = kept_erased honest power knows;
-          marks = λ b bad. tells.counts.bad b ∙ bad;
-          noted = λ c is. sym tells.counts.checkpoint ∙ is;
-          opened = λ o is. sym tells.counts.open_block ∙ is;
+          geometry = reports.counts.geometry;
+          next = reports.counts.next;
+          seq = reports.counts.seq;
+          committed = committed_erased honest power knows;
+          marks = λ b bad. reports.counts.bad b ∙ bad;
+          noted = λ c is. sym reports.counts.checkpoint ∙ is;
+          opened = λ o is. sym reports.counts.open_block ∙ is;
         }
 
   pub step_moved : AreHeld t2 y → d1.gone ≡ false → (d0.honest ≡ true → KeepsDataAt t0 d0.flash d1.flash) → (d0.honest ≡ true → KeepsFound t0 d0 d1) → Step spare (log_of d0 t0) (log_of d1 t2) x y
   step_moved there power stays found = record {
     lasts = keeps.lasts;
-    ready = ready_told keeps.ready;
+    ready = ready_reported keeps.ready;
     stands = stands_moved keeps.ready;
-    numbers = hands_same d0 d1 t0 t1 t2 tells.counts.next_group tells.counts.next_seq tells.counts.checkpoint keeps.numbers;
-    geometry = tells.counts.geometry ∙ keeps.geometry;
-    marks = λ b bad. tells.counts.bad b ∙ keeps.marks b bad;
-    kept_count = same_keeps;
-    index = moves_kept_out v x y moves_out;
+    numbers = hands_same d0 d1 t0 t1 t2 reports.counts.next_group reports.counts.next_seq reports.counts.checkpoint keeps.numbers;
+    geometry = reports.counts.geometry ∙ keeps.geometry;
+    marks = λ b bad. reports.counts.bad b ∙ keeps.marks b bad;
+    committed_count = same_keeps;
+    index = moves_committed_out v x y moves_out;
     same_data = same_data spare d0 d1 t0 t1 x held keeps stands stays;
     free = free_moved there power;
-    findable = findable_moved d0 d1 x y (moves_kept_out v x y moves_out) (findable_still spare d0 d1 t0 x held keeps.lasts stands found);
+    findable = findable_moved d0 d1 x y (moves_committed_out v x y moves_out) (findable_still spare d0 d1 t0 x held keeps.lasts stands found);
     erased = erased_moved power;
   }
 
@@ -386,15 +386,15 @@ module _ (spare v : ℕ) (target : Target) (d0 d1 : Device) (t0 t1 t2 : Table) (
       (record { costs = pays.costs; marks = omega (arith, same, marks); answers = omega (arith, same, answers); reads = pays.reads })
 
   pub is_left : IsLeft v t2
-  is_left = record { unkept = now_none; good = tells.counts.bad v ∙ still_good }
+  is_left = record { uncommitted = now_none; good = reports.counts.bad v ∙ still_good }
 
   pub lies_in : LiesIn v target.block t0 t2
-  lies_in = record { within = is.within; good = tells.counts.bad target.block ∙ is.good; was = is.unkept; there = now_kept; elsewhere = kept_elsewhere }
+  lies_in = record { within = is.within; good = reports.counts.bad target.block ∙ is.good; was = is.uncommitted; there = now_committed; elsewhere = committed_elsewhere }
 
   pub lies_open : target.first ≡ 0 → target.suspect ≡ false → LiesOpen v target.block t0 t2
   lies_open first trusted =
       let after : OpenAfter target.block (target.first + length copies) false t1 = subst (λ s. OpenAfter target.block (target.first + length copies) s t1) trusted is.open_block in
-      record { lies = lies_in; open_block = tells.counts.open_block ∙ after.0; next = let next = tells.counts.next target.block ∙ after.1 in omega (arith, next, first, listed.count) }
+      record { lies = lies_in; open_block = reports.counts.open_block ∙ after.0; next = let next = reports.counts.next target.block ∙ after.1 in omega (arith, next, first, listed.count) }
 
   -- the open block has room for so many pages behind the copies
   pub lies_behind : (count w : ℕ) → t0.open_block ≡ Some w → target.first ≡ (t0.entry w).next → HasClear (length copies + count) d0 t0 → target.suspect ≡ false → LiesBehind v count (log_of d0 t0) (log_of d1 t2)
@@ -402,16 +402,16 @@ module _ (spare v : ℕ) (target : Target) (d0 d1 : Device) (t0 t1 t2 : Table) (
       let after : OpenAfter target.block (target.first + length copies) false t1 = subst (λ s. OpenAfter target.block (target.first + length copies) s t1) trusted is.open_block in
       let both : Some clear.block ≡ Some w = sym clear.clear.open_block ∙ opened in
       let same : clear.block ≡ w = cc in
-      let next : (t2.entry target.block).next ≡ target.first + length copies = tells.counts.next target.block ∙ after.1 in
+      let next : (t2.entry target.block).next ≡ target.first + length copies = reports.counts.next target.block ∙ after.1 in
       let there : (t0.entry clear.block).next ≡ (t0.entry w).next = ap (λ k. (t0.entry k).next) same in
-      let geometry = ap (λ (g : Geometry). g.pages) (tells.counts.geometry ∙ keeps.geometry) in
+      let geometry = ap (λ (g : Geometry). g.pages) (reports.counts.geometry ∙ keeps.geometry) in
       let room = clear.fits in
       record {
         block = target.block;
-        open_block = tells.counts.open_block ∙ after.0;
+        open_block = reports.counts.open_block ∙ after.0;
         lies = lies_in;
-        fits = fits_open count target.block (target.first + length copies) t2 (tells.counts.open_block ∙ after.0) next (omega (arith, first, there, geometry, room));
+        fits = fits_open count target.block (target.first + length copies) t2 (reports.counts.open_block ∙ after.0) next (omega (arith, first, there, geometry, room));
       }
 
   pub is_closed : target.suspect ≡ true → t2.open_block ≡ None
-  is_closed suspect = tells.counts.open_block ∙ subst (λ s. OpenAfter target.block (target.first + length copies) s t1) suspect is.open_block
+  is_closed suspect = reports.counts.open_block ∙ subst (λ s. OpenAfter target.block (target.first + length copies) s t1) suspect is.open_block

@@ -5,7 +5,7 @@ use Rattle.volume_terms.specs.Rounding.{ceiling}
 use Rattle.nand_model.specs.Calls.{Device, Lasts}
 use Rattle.nand_model.specs.Counts.{Costs, ReadsFew, unfinished}
 use Rattle.nand_model.specs.declared.geometry.Geometry.{Geometry}
-use Rattle.block_state.specs.Kept.{bad_count}
+use Rattle.block_state.specs.Committed.{bad_count}
 use Rattle.block_state.specs.Table.{Table}
 use Rattle.transactions.specs.Checking.{LogState}
 use Rattle.transactions.specs.Ready.{IsOpenOn, IsReady}
@@ -120,7 +120,7 @@ was_written w b d e t u ready is lasts passes takes = record {
       omega (arith, seq, own, next);
   own = λ honest l x has.
       let was : d.honest ≡ true = sym lasts.honest ∙ honest in
-      (opened.in_order was).own l x (passes.tags was w.block l x is.kept has) ∙ sym is.seq;
+      (opened.in_order was).own l x (passes.tags was w.block l x is.committed has) ∙ sym is.seq;
 } where
   opened : IsOpenOn d t w.block
   opened = ready.open_block w.block is.open_block
@@ -140,9 +140,9 @@ pub begins_written : (w : WrittenBlock) (count : ℕ) (a b c : LogState) (r : Re
 begins_written w count a b c r opened lasts passes writes is k worth (room, number) honest same =
     let both : Some w.block ≡ Some k = sym opened.open_block ∙ worth.open_block in
     let here : w.block ≡ k = cc in
-    let kept : (b.table.entry w.block).kept ≡ (a.table.entry k).kept = passes.kept w.block ∙ ap (λ n. (a.table.entry n).kept) here in
-    let later = subst (λ (g : Geometry). ceiling (32 * (1 + (b.table.entry w.block).kept)) g.bytes + count ≤ g.pages) (sym passes.geometry)
-    (subst (λ n. ceiling (32 * (1 + n)) a.table.geometry.bytes + count ≤ a.table.geometry.pages) (sym kept) room) in
+    let committed : (b.table.entry w.block).committed ≡ (a.table.entry k).committed = passes.committed w.block ∙ ap (λ n. (a.table.entry n).committed) here in
+    let later = subst (λ (g : Geometry). ceiling (32 * (1 + (b.table.entry w.block).committed)) g.bytes + count ≤ g.pages) (sym passes.geometry)
+    (subst (λ n. ceiling (32 * (1 + n)) a.table.geometry.bytes + count ≤ a.table.geometry.pages) (sym committed) room) in
     let group = passes.next_group in
     let begins = writes (lasts.honest ∙ honest) (later, omega (arith, number, group)) is in
     record {

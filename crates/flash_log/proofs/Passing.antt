@@ -13,25 +13,25 @@ use Rattle.flash_tree.specs.laws.Fading.{fades_erase, fades_mark, loses_fading}
 use Rattle.flash_tree.specs.laws.Newest.{has_before, stays_on}
 use Rattle.nand_model.specs.laws.Changes.{shrinks-erase}
 use Rattle.block_state.specs.declared.blocks.BlockEntry.{BlockEntry}
-use Rattle.block_state.specs.Kept.{bad_count, unkept_count, SameCounts}
-use Rattle.block_state.specs.laws.Kept.{mark_bad, mark_unkept, same_bad_count, same_unkept_count}
+use Rattle.block_state.specs.Committed.{bad_count, uncommitted_count, SameCounts}
+use Rattle.block_state.specs.laws.Committed.{mark_bad, mark_uncommitted, same_bad_count, same_uncommitted_count}
 use Rattle.block_state.specs.Table.{Table, Sets}
 use Rattle.transactions.specs.Marking.{NotesMark}
 use Rattle.transactions.specs.Opening.{Opens}
 use Rattle.flash_tree.specs.Numbering.{AreBelow}
 use Rattle.flash_log.specs.Erased.{KeepsErased}
-use Rattle.flash_log.specs.Passing.{GainsNoTag, KeepsFound, KeepsKept, Passes}
+use Rattle.flash_log.specs.Passing.{GainsNoTag, KeepsFound, KeepsCommitted, Passes}
 use Rattle.flash_log.specs.Taking.{Takes, TakesNone}
 use Rattle.flash_log.specs.laws.Erased.{erased_as, erased_on, leaves_closed}
-use Rattle.flash_log.specs.laws.Found.{found_erased, found_here, found_marked, found_on, places_kept}
+use Rattle.flash_log.specs.laws.Found.{found_erased, found_here, found_marked, found_on, places_committed}
 
--- a block without a kept page has none that is kept
-keeps_kept : (b : ℕ) (t : Table) (old new : Flash) → (t.entry b).kept ≡ 0 → KeepsElsewhere b old new → KeepsKept t old new
-keeps_kept b t old new none keeps o c s newest some =
-    keeps o c s newest (λ is. let here : (t.entry s.block).kept ≡ 0 = ap (λ n. (t.entry n).kept) is ∙ none in absurd (omega (arith, here, some)))
+-- a block without a committed page has none that is committed
+keeps_committed : (b : ℕ) (t : Table) (old new : Flash) → (t.entry b).committed ≡ 0 → KeepsElsewhere b old new → KeepsCommitted t old new
+keeps_committed b t old new none keeps o c s newest some =
+    keeps o c s newest (λ is. let here : (t.entry s.block).committed ≡ 0 = ap (λ n. (t.entry n).committed) is ∙ none in absurd (omega (arith, here, some)))
 
 -- nor does it gain a tag
-gains_none : (b : ℕ) (t : Table) (old new : Flash) → (t.entry b).kept ≡ 0 → Fades b old new → GainsNoTag t old new
+gains_none : (b : ℕ) (t : Table) (old new : Flash) → (t.entry b).committed ≡ 0 → Fades b old new → GainsNoTag t old new
 gains_none b t old new none fades k l u some has = has_before b old new (loses_fading b old new fades) k l u has
 
 -- one change and then another
@@ -40,36 +40,36 @@ passes_on a b c t u v lasts first then = record {
   geometry = then.geometry ∙ first.geometry;
   next_group = then.next_group ∙ first.next_group;
   limit = λ le. then.limit (first.limit le);
-  kept = λ k. then.kept k ∙ first.kept k;
+  committed = λ k. then.committed k ∙ first.committed k;
   marks_stay = λ k is. then.marks_stay k (first.marks_stay k is);
-  marked = λ k is. elim (then.marked k is) [ inl was ↦ first.marked k was | inr none ↦ inr (sym (first.kept k) ∙ none) ];
+  marked = λ k is. elim (then.marked k is) [ inl was ↦ first.marked k was | inr none ↦ inr (sym (first.committed k) ∙ none) ];
   failures = omega (arith, first.failures, then.failures);
-  unkept = then.unkept ∙ first.unkept;
+  uncommitted = then.uncommitted ∙ first.uncommitted;
   newest = λ honest o c' s newest some.
       let stays = first.newest honest o c' s newest some in
       stays_on a.flash b.flash c.flash o c' s stays
-      (then.newest (lasts.honest ∙ honest) o c' s stays.newest (subst (λ n. 1 ≤ n) (sym (first.kept s.block)) some));
-  tags = λ honest k l x some has. first.tags honest k l x some (then.tags (lasts.honest ∙ honest) k l x (subst (λ n. 1 ≤ n) (sym (first.kept k)) some) has);
-  found = λ honest. found_on a b c t u first.kept (places_kept t a.flash b.flash (first.newest honest)) (first.found honest) (then.found (lasts.honest ∙ honest));
+      (then.newest (lasts.honest ∙ honest) o c' s stays.newest (subst (λ n. 1 ≤ n) (sym (first.committed s.block)) some));
+  tags = λ honest k l x some has. first.tags honest k l x some (then.tags (lasts.honest ∙ honest) k l x (subst (λ n. 1 ≤ n) (sym (first.committed k)) some) has);
+  found = λ honest. found_on a b c t u first.committed (places_committed t a.flash b.flash (first.newest honest)) (first.found honest) (then.found (lasts.honest ∙ honest));
   erased = erased_on a b c t u v lasts.honest first.erased then.erased;
 }
 
 -- where marks and counts are the same
 pub passes_same : (old new : Device) (t t' : Table) → SameCounts t t' → t'.next_group ≡ t.next_group → (t.next_seq ≤ 2 ^ 62 → t'.next_seq ≤ 2 ^ 62)
-    → old.failures ≤ new.failures → (old.honest ≡ true → KeepsKept t old.flash new.flash) → (old.honest ≡ true → GainsNoTag t old.flash new.flash)
+    → old.failures ≤ new.failures → (old.honest ≡ true → KeepsCommitted t old.flash new.flash) → (old.honest ≡ true → GainsNoTag t old.flash new.flash)
     → (old.honest ≡ true → KeepsFound t old new) → KeepsErased old new t t' → Passes old new t t'
 passes_same old new t t' same group limit failures newest tags found erased =
     let bad : bad_count t' ≡ bad_count t = same_bad_count t t' same in
-    let unkept : unkept_count t' ≡ unkept_count t = same_unkept_count t t' same in
+    let uncommitted : uncommitted_count t' ≡ uncommitted_count t = same_uncommitted_count t t' same in
     record {
       geometry = same.geometry;
       next_group = group;
       limit = limit;
-      kept = same.kept;
+      committed = same.committed;
       marks_stay = λ b is. same.bad b ∙ is;
       marked = λ b is. inl (sym (same.bad b) ∙ is);
       failures = omega (arith, bad, failures);
-      unkept = omega (arith, bad, unkept);
+      uncommitted = omega (arith, bad, uncommitted);
       newest = newest;
       tags = tags;
       found = found;
@@ -80,7 +80,7 @@ passes_same old new t t' same group limit failures newest tags found erased =
 pub passes_closed : (d : Device) (t t' : Table) → t' ≡ record t { open_block = None } → Passes d d t t'
 passes_closed d t t' is =
     passes_same d d t t'
-    (record { bad = λ b. ap (λ (x : Table). (x.entry b).bad) is; kept = λ b. ap (λ (x : Table). (x.entry b).kept) is; geometry = ap (λ (x : Table). x.geometry) is })
+    (record { bad = λ b. ap (λ (x : Table). (x.entry b).bad) is; committed = λ b. ap (λ (x : Table). (x.entry b).committed) is; geometry = ap (λ (x : Table). x.geometry) is })
     (ap (λ (x : Table). x.next_group) is)
     (λ le. let seq = ap (λ (x : Table). x.next_seq) is in omega (arith, seq, le))
     (omega arith)
@@ -89,16 +89,16 @@ passes_closed d t t' is =
     (λ _. found_here t d)
     (erased_as d t t' (leaves_closed d.flash t t' (ap (λ (x : Table). x.entry) is) (ap (λ (x : Table). x.geometry) is) (ap (λ (x : Table). x.checkpoint) is) (ap (λ (x : Table). x.open_block) is)))
 
--- an erase of a block without a kept page
-pub passes_erased : (b : ℕ) (old new : Device) (t t' : Table) (result : Result (Unit {0}) EraseFault) → t' ≡ t → (t.entry b).kept ≡ 0 → Erases b old new result
+-- an erase of a block without a committed page
+pub passes_erased : (b : ℕ) (old new : Device) (t t' : Table) (result : Result (Unit {0}) EraseFault) → t' ≡ t → (t.entry b).committed ≡ 0 → Erases b old new result
     → (old.honest ≡ true → KeepsElsewhere b old.flash new.flash) → KeepsErased old new t t' → Passes old new t t'
 passes_erased b old new t t' result is none erases keeps erased =
     passes_same old new t t'
-    (record { bad = λ k. ap (λ (x : Table). (x.entry k).bad) is; kept = λ k. ap (λ (x : Table). (x.entry k).kept) is; geometry = ap (λ (x : Table). x.geometry) is })
+    (record { bad = λ k. ap (λ (x : Table). (x.entry k).bad) is; committed = λ k. ap (λ (x : Table). (x.entry k).committed) is; geometry = ap (λ (x : Table). x.geometry) is })
     (ap (λ (x : Table). x.next_group) is)
     (λ le. let seq = ap (λ (x : Table). x.next_seq) is in omega (arith, seq, le))
     erases.lasts.failures
-    (λ honest. keeps_kept b t old.flash new.flash none (keeps honest))
+    (λ honest. keeps_committed b t old.flash new.flash none (keeps honest))
     (λ honest. gains_none b t old.flash new.flash none (fades_erase b old.flash new.flash (shrinks-erase b old new result honest erases)))
     (found_erased b old new t result none erases)
     erased
@@ -110,15 +110,15 @@ same_opened b t t' opens = record {
     | inl e ↦ ap (λ n. (t'.entry n).bad) e ∙ ap (λ (x : BlockEntry). x.bad) opens.sets.here ∙ ap (λ n. (t.entry n).bad) (sym e)
     | inr ne ↦ ap (λ (x : BlockEntry). x.bad) (opens.sets.others k ne)
   ];
-  kept = λ k. elim (cases_eq k b) [
-    | inl e ↦ ap (λ n. (t'.entry n).kept) e ∙ ap (λ (x : BlockEntry). x.kept) opens.sets.here ∙ ap (λ n. (t.entry n).kept) (sym e)
-    | inr ne ↦ ap (λ (x : BlockEntry). x.kept) (opens.sets.others k ne)
+  committed = λ k. elim (cases_eq k b) [
+    | inl e ↦ ap (λ n. (t'.entry n).committed) e ∙ ap (λ (x : BlockEntry). x.committed) opens.sets.here ∙ ap (λ n. (t.entry n).committed) (sym e)
+    | inr ne ↦ ap (λ (x : BlockEntry). x.committed) (opens.sets.others k ne)
   ];
   geometry = opens.sets.geometry;
 }
 
--- and nothing that is kept, once it is erased
-pub passes_opened : (b : ℕ) (old new : Device) (t t' : Table) (result : Result (Unit {0}) EraseFault) → t.next_seq < 2 ^ 62 → (t.entry b).kept ≡ 0 → Erases b old new result
+-- and nothing that is committed, once it is erased
+pub passes_opened : (b : ℕ) (old new : Device) (t t' : Table) (result : Result (Unit {0}) EraseFault) → t.next_seq < 2 ^ 62 → (t.entry b).committed ≡ 0 → Erases b old new result
     → (old.honest ≡ true → KeepsElsewhere b old.flash new.flash) → Opens b t t' → KeepsErased old new t t' → Passes old new t t'
 passes_opened b old new t t' result less none erases keeps opens erased =
     passes_same old new t t'
@@ -126,33 +126,33 @@ passes_opened b old new t t' result less none erases keeps opens erased =
     opens.sets.next_group
     (λ _. let seq = opens.next_seq in omega (arith, seq, less))
     erases.lasts.failures
-    (λ honest. keeps_kept b t old.flash new.flash none (keeps honest))
+    (λ honest. keeps_committed b t old.flash new.flash none (keeps honest))
     (λ honest. gains_none b t old.flash new.flash none (fades_erase b old.flash new.flash (shrinks-erase b old new result honest erases)))
     (found_erased b old new t result none erases)
     erased
 
--- a mark of a block without a kept page, after a failure of it
-pub passes_marked : (b : ℕ) (old mid new : Device) (t t' : Table) (result : Result (Unit {0}) Gone) → b < t.geometry.blocks → (t.entry b).bad ≡ false → (t.entry b).kept ≡ 0
+-- a mark of a block without a committed page, after a failure of it
+pub passes_marked : (b : ℕ) (old mid new : Device) (t t' : Table) (result : Result (Unit {0}) Gone) → b < t.geometry.blocks → (t.entry b).bad ≡ false → (t.entry b).committed ≡ 0
     → Lasts old mid → old.failures + 1 ≤ mid.failures → (old.honest ≡ true → KeepsElsewhere b old.flash mid.flash) → (old.honest ≡ true → GainsNoTag t old.flash mid.flash)
     → (old.honest ≡ true → KeepsFound t old mid)
     → Marks b mid new result → (mid.honest ≡ true → KeepsElsewhere b mid.flash new.flash) → NotesMark b new.flash t t' → KeepsErased old new t t' → Passes old new t t'
 passes_marked b old mid new t t' result within good none lasts failed erased gained before marks marked notes tracked = go (cases_Bool (new.flash.bad b)) where
-  newest : old.honest ≡ true → KeepsKept t old.flash new.flash
+  newest : old.honest ≡ true → KeepsCommitted t old.flash new.flash
   newest honest o c s is some =
-      let stays = keeps_kept b t old.flash mid.flash none (erased honest) o c s is some in
-      stays_on old.flash mid.flash new.flash o c s stays (keeps_kept b t mid.flash new.flash none (marked (lasts.honest ∙ honest)) o c s stays.newest some)
+      let stays = keeps_committed b t old.flash mid.flash none (erased honest) o c s is some in
+      stays_on old.flash mid.flash new.flash o c s stays (keeps_committed b t mid.flash new.flash none (marked (lasts.honest ∙ honest)) o c s stays.newest some)
 
   found : old.honest ≡ true → KeepsFound t old new
-  found honest = found_on old mid new t t (λ k. refl) (places_kept t old.flash mid.flash (keeps_kept b t old.flash mid.flash none (erased honest))) (before honest)
+  found honest = found_on old mid new t t (λ k. refl) (places_committed t old.flash mid.flash (keeps_committed b t old.flash mid.flash none (erased honest))) (before honest)
       (found_marked b mid new t result none marks (lasts.honest ∙ honest))
 
   tags : old.honest ≡ true → GainsNoTag t old.flash new.flash
   tags honest k l u some has = gained honest k l u some (gains_none b t mid.flash new.flash none (fades_mark b mid new result (lasts.honest ∙ honest) marks) k l u some has)
 
-  kept : (k : ℕ) → (t'.entry k).kept ≡ (t.entry k).kept
-  kept k = elim (cases_eq k b) [
-    | inl e ↦ ap (λ n. (t'.entry n).kept) e ∙ ap (λ (x : BlockEntry). x.kept) notes.sets.here ∙ ap (λ n. (t.entry n).kept) (sym e)
-    | inr ne ↦ ap (λ (x : BlockEntry). x.kept) (notes.sets.others k ne)
+  committed : (k : ℕ) → (t'.entry k).committed ≡ (t.entry k).committed
+  committed k = elim (cases_eq k b) [
+    | inl e ↦ ap (λ n. (t'.entry n).committed) e ∙ ap (λ (x : BlockEntry). x.committed) notes.sets.here ∙ ap (λ n. (t.entry n).committed) (sym e)
+    | inr ne ↦ ap (λ (x : BlockEntry). x.committed) (notes.sets.others k ne)
   ]
 
   here : (t'.entry b).bad ≡ new.flash.bad b
@@ -171,22 +171,22 @@ passes_marked b old mid new t t' result within good none lasts failed erased gai
         next_group = notes.sets.next_group;
       } in
       let more : bad_count t' ≡ bad_count t + 1 = mark_bad t t' b sets within good in
-      let less : unkept_count t ≡ unkept_count t' + 1 = mark_unkept t t' b sets within good none in
+      let less : uncommitted_count t ≡ uncommitted_count t' + 1 = mark_uncommitted t t' b sets within good none in
       record {
         geometry = notes.sets.geometry;
         next_group = notes.sets.next_group;
         limit = λ le. let seq = notes.next_seq in omega (arith, seq, le);
-        kept = kept;
+        committed = committed;
         marks_stay = λ k was. elim (cases_eq k b) [
           | inl e ↦ ap (λ n. (t'.entry n).bad) e ∙ here ∙ is
           | inr ne ↦ elsewhere k ne ∙ was
         ];
         marked = λ k now. elim (cases_eq k b) [
-          | inl e ↦ inr (ap (λ n. (t.entry n).kept) e ∙ none)
+          | inl e ↦ inr (ap (λ n. (t.entry n).committed) e ∙ none)
           | inr ne ↦ inl (sym (elsewhere k ne) ∙ now)
         ];
         failures = omega (arith, more, failed, marks.lasts.failures);
-        unkept = omega (arith, more, less);
+        uncommitted = omega (arith, more, less);
         newest = newest;
         tags = tags;
         found = found;
@@ -202,7 +202,7 @@ passes_marked b old mid new t t' result within good none lasts failed erased gai
           | inl e ↦ ap (λ n. (t'.entry n).bad) e ∙ here ∙ is ∙ sym good ∙ ap (λ n. (t.entry n).bad) (sym e)
           | inr ne ↦ elsewhere k ne
         ];
-        kept = kept;
+        committed = committed;
         geometry = notes.sets.geometry;
       })
       notes.sets.next_group
@@ -225,7 +225,7 @@ takes_from b old mid new t u v passes none takes = record {
     | inr good ↦ good
     | inl bad ↦ let two : true ≡ false = sym (passes.marks_stay b bad) ∙ takes.good in absurd cc
   ];
-  unkept = sym (passes.kept b) ∙ takes.unkept;
+  uncommitted = sym (passes.committed b) ∙ takes.uncommitted;
   open_block = takes.open_block;
   next = takes.next;
   seq = takes.seq ∙ none.next_seq;
@@ -234,5 +234,5 @@ takes_from b old mid new t u v passes none takes = record {
 }
 
 -- an erase
-pub gains_erased : (b : ℕ) (old new : Device) (t : Table) (result : Result (Unit {0}) EraseFault) → (t.entry b).kept ≡ 0 → Erases b old new result → old.honest ≡ true → GainsNoTag t old.flash new.flash
+pub gains_erased : (b : ℕ) (old new : Device) (t : Table) (result : Result (Unit {0}) EraseFault) → (t.entry b).committed ≡ 0 → Erases b old new result → old.honest ≡ true → GainsNoTag t old.flash new.flash
 gains_erased b old new t result none erases honest = gains_none b t old.flash new.flash none (fades_erase b old.flash new.flash (shrinks-erase b old new result honest erases))

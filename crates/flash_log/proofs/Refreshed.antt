@@ -6,7 +6,7 @@ use Rattle.flash_tree.specs.Keeping.{KeepsElsewhere}
 use Rattle.flash_tree.specs.Newest.{Spot}
 use Rattle.flash_tree.specs.laws.Newest.{one_spot}
 use Rattle.flash_tree.specs.laws.Place.{had_power}
-use Rattle.block_state.specs.Kept.{bad_count}
+use Rattle.block_state.specs.Committed.{bad_count}
 use Rattle.block_state.specs.Table.{Table}
 use Rattle.chunk_index.specs.declared.index.Index.{Index}
 use Rattle.transactions.specs.Checking.{LogState, log_of}
@@ -17,13 +17,13 @@ use Rattle.flash_log.specs.RoomMaking.{CollectEnds}
 use Rattle.flash_log.specs.Standing.{AreHeld, Stands}
 use Rattle.flash_log.specs.Steps.{Step}
 use Rattle.flash_log.specs.declared.fault.MoveFault.{MoveFault}
-use Rattle.flash_log.specs.laws.KeptPages.{spot_of}
+use Rattle.flash_log.specs.laws.CommittedPages.{spot_of}
 
 -- nothing is committed in the block
-pub anew_none : (v : ℕ) (a b : LogState) (y : Index) → AreHeld b.table y → (b.table.entry v).kept ≡ 0 → IsWrittenAnew v a b y
+pub anew_none : (v : ℕ) (a b : LogState) (y : Index) → AreHeld b.table y → (b.table.entry v).committed ≡ 0 → IsWrittenAnew v a b y
 anew_none v a b y held none honest power o c p s at here last =
     let some = held o c p at in
-    let same : (b.table.entry p.block).kept ≡ (b.table.entry v).kept = ap (λ k. (b.table.entry k).kept) here in
+    let same : (b.table.entry p.block).committed ≡ (b.table.entry v).committed = ap (λ k. (b.table.entry k).committed) here in
     absurd (omega (arith, some, same, none))
 
 -- nothing was done
@@ -31,7 +31,7 @@ pub fills_none : (a : LogState) (x : Index) → AreHeld a.table x → FillsAnew 
 fills_none a x held v none = anew_none v a a x held none
 
 -- a step left nothing in the block, and others followed
-pub anew_after : (spare v : ℕ) (a b c : LogState) (x y z : Index) → Step spare a b x y → (b.table.entry v).kept ≡ 0 → FillsAnew b c z → IsWrittenAnew v a c z
+pub anew_after : (spare v : ℕ) (a b c : LogState) (x y z : Index) → Step spare a b x y → (b.table.entry v).committed ≡ 0 → FillsAnew b c z → IsWrittenAnew v a c z
 anew_after spare v a b c x y z step none fills honest power o k p s at here last =
     let above = fills v none (step.lasts.honest ∙ honest) power o k p s at here last in
     omega (arith, above, step.numbers.numbers.groups_rise)
@@ -41,7 +41,7 @@ pub fills_closed : (d e : Device) (t u s : Table) (y : Index) → u ≡ record t
 fills_closed d e t u s y is fills = subst (λ (k : Table). FillsAnew (log_of d k) (log_of e s) y) is fills
 
 -- a block in which nothing is committed was marked
-pub fills_marked : (spare v : ℕ) (d1 d2 d3 : Device) (t1 t2 t3 : Table) (y : Index) → Lasts d1 d2 → Lasts d2 d3 → Stands spare d2 t2 y → AreHeld t2 y → (t2.entry v).kept ≡ 0
+pub fills_marked : (spare v : ℕ) (d1 d2 d3 : Device) (t1 t2 t3 : Table) (y : Index) → Lasts d1 d2 → Lasts d2 d3 → Stands spare d2 t2 y → AreHeld t2 y → (t2.entry v).committed ≡ 0
     → (d2.honest ≡ true → KeepsElsewhere v d2.flash d3.flash) → FillsAnew (log_of d1 t1) (log_of d2 t2) y → FillsAnew (log_of d1 t1) (log_of d3 t3) y
 fills_marked spare v d1 d2 d3 t1 t2 t3 y first then stands held empty keeps fills b none honest power o c p s at here last =
     let was : d2.honest ≡ true = first.honest ∙ honest in
@@ -51,15 +51,15 @@ fills_marked spare v d1 d2 d3 t1 t2 t3 y first then stands held empty keeps fill
     let same : spot_of p k.tag ≡ s = one_spot d3.flash o c (spot_of p k.tag) s stays.newest last in
     subst (λ (z : Spot). t1.next_group ≤ z.tag.group) same (fills b none honest on o c p (spot_of p k.tag) at here k.newest) where
       apart : p.block ≢ v
-      apart e = let some = held o c p at in let same : (t2.entry p.block).kept ≡ (t2.entry v).kept = ap (λ n. (t2.entry n).kept) e in omega (arith, some, same, empty)
+      apart e = let some = held o c p at in let same : (t2.entry p.block).committed ≡ (t2.entry v).committed = ap (λ n. (t2.entry n).committed) e in omega (arith, some, same, empty)
 
 -- the pages of a block were moved into another, and this was emptied then
-pub fills_next : (spare v w : ℕ) (a b c : LogState) (x y z : Index) → Step spare a b x y → 1 ≤ (a.table.entry v).kept → LiesIn v w a.table b.table → AreHeld c.table z → (c.table.entry w).kept ≡ 0
+pub fills_next : (spare v w : ℕ) (a b c : LogState) (x y z : Index) → Step spare a b x y → 1 ≤ (a.table.entry v).committed → LiesIn v w a.table b.table → AreHeld c.table z → (c.table.entry w).committed ≡ 0
     → FillsAnew b c z → FillsAnew a c z
 fills_next spare v w a b c x y z step some lies held empty fills k none = elim (cases_eq k v) [
-  | inl e ↦ let same : (a.table.entry k).kept ≡ (a.table.entry v).kept = ap (λ n. (a.table.entry n).kept) e in absurd (omega (arith, same, some, none))
+  | inl e ↦ let same : (a.table.entry k).committed ≡ (a.table.entry v).committed = ap (λ n. (a.table.entry n).committed) e in absurd (omega (arith, same, some, none))
   | inr nv ↦ elim (cases_eq k w) [
-    | inl e ↦ anew_none k a c z held (ap (λ n. (c.table.entry n).kept) e ∙ empty)
+    | inl e ↦ anew_none k a c z held (ap (λ n. (c.table.entry n).committed) e ∙ empty)
     | inr nw ↦ anew_after spare k a b c x y z step (lies.elsewhere k nv nw ∙ none) fills
   ]
 ]
@@ -72,11 +72,3 @@ anew_idle spare v d t x ready stands held (inr bad) = λ honest power o c p s at
     let there = sym k.newest.holds.block ∙ here in
     let two : true ≡ false = sym bad ∙ ready.marks v ∙ ap d.flash.bad (sym there) ∙ k.newest.holds.whole.good in
     absurd cc
-
-pub idle_refreshed : (v spare : ℕ) (a : LogState) → MovesNothing v a.table → bad_count a.table ≤ spare → IsRefreshed v spare a a
-idle_refreshed v spare a idle few = record { moved = inl idle; few = few; free = λ free. free }
-
--- the block was collected
-pub collected_refreshed : (v spare : ℕ) (a b : LogState) (result : Result (Unit {0}) MoveFault) → CollectEnds v spare b.device a.table b.table result → RefreshEnds v spare a b result
-collected_refreshed v spare a b (Ok done) (is, power) = record { moved = inr (is.left, power); few = is.few; free = λ _. is.free }
-collected_refreshed v spare a b (Err fault) why = why

@@ -3,9 +3,9 @@ use Rattle.std.proofs.Common.{◌≡◌, ◌≤◌, ℕ, ◌+◌, ◌-◌, ◌*�
 use Rattle.std.specs.Option.{option_map_or}
 use Rattle.std.proofs.lemmas.Bool.{cases_lt}
 use Rattle.nand_model.specs.Calls.{Device}
-use Rattle.block_state.specs.Kept.{bad_count, unkept_count, free_count, IsScarce}
+use Rattle.block_state.specs.Committed.{bad_count, uncommitted_count, free_count, IsScarce}
 use Rattle.block_state.specs.Table.{Table, IsFewest, room}
-use Rattle.block_state.specs.laws.Kept.{free_where_unkept}
+use Rattle.block_state.specs.laws.Committed.{free_where_uncommitted}
 use Rattle.nand_model.specs.Counts.{ReadsFew, unfinished}
 use Rattle.transactions.specs.Checking.{LogState}
 use Rattle.flash_log.specs.Moving.{AnswersFailures}
@@ -21,8 +21,8 @@ use Rattle.flash_log.specs.declared.room_fault.RoomFault.{RoomFault}
 -- where the next block is opened as many are free as have to be
 pub free_next : (spare count : ℕ) (d : Device) (t u : Table) → KeepsHeld t u → HasClear count d u → HasMore t spare → HasFreeBlocks u spare
 free_next spare count d t u keeps opened more =
-    let one : unkept_count u ≡ free_count u + 1 = free_where_unkept u opened.block opened.clear.open_block opened.clear.within opened.clear.good opened.clear.unkept in
-    let same = keeps.unkept in omega (arith, one, same, more)
+    let one : uncommitted_count u ≡ free_count u + 1 = free_where_uncommitted u opened.block opened.clear.open_block opened.clear.within opened.clear.good opened.clear.uncommitted in
+    let same = keeps.uncommitted in omega (arith, one, same, more)
 
 -- what it costs, where the next block is opened or not
 pub pays_next : (spare count : ℕ) (old new : LogState) (next : Result (Unit {0}) MoveFault) (result : Result (Unit {0}) RoomFault) → bad_count old.table ≤ spare → HasMore old.table spare
@@ -39,7 +39,7 @@ pays_next spare count old new next result few more opened answers reads =
 pub pays_nothing : (spare : ℕ) (log : LogState) (result : Result (Unit {0}) RoomFault) → PaysRoom spare log log result
 pays_nothing spare log result = record {
   pays = pays_none _ _ log result;
-  fewest = λ scarce v is. none ((log.table.entry v).kept + summary_size log.device.geometry + 1);
+  fewest = λ scarce v is. none ((log.table.entry v).committed + summary_size log.device.geometry + 1);
   takes = λ _. none (summary_size log.device.geometry + 1);
 } where
   none : (changes : ℕ) → CostsUpTo changes log.device log.device
@@ -47,13 +47,13 @@ pays_nothing spare log result = record {
 
 -- where no block is to be taken, the collection of the block with the fewest committed pages
 pub pays_collected : (spare v count : ℕ) (old new : LogState) (gathered : Result (Unit {0}) MoveFault) (result : Result (Unit {0}) RoomFault) → IsFewest old.table old.table.geometry.blocks v → (HasMore old.table spare → ⊥)
-    → PaysGathering (old.table.entry v).kept count old new gathered → OnOk result (AnswersFailures 0 0 old.device new.device old.table new.table) → ReadsFew (unfinished result) old.device new.device
+    → PaysGathering (old.table.entry v).committed count old new gathered → OnOk result (AnswersFailures 0 0 old.device new.device old.table new.table) → ReadsFew (unfinished result) old.device new.device
     → PaysRoom spare old new result
 pays_collected spare v count old new gathered result fewest none pays answers reads =
     let costs = pays.pays.costs in
     record {
       pays = record { costs = omega (arith, costs, pays.fits); marks = pays.pays.marks; answers = answers; reads = reads };
-      fewest = λ scarce w is. let few : (old.table.entry v).kept ≤ (old.table.entry w).kept = fewest.least w is.within is.good is.some in omega (arith, few, costs, pays.most);
+      fewest = λ scarce w is. let few : (old.table.entry v).committed ≤ (old.table.entry w).committed = fewest.least w is.within is.good is.some in omega (arith, few, costs, pays.most);
       takes = λ more. absurd (none more);
     }
 
@@ -67,9 +67,9 @@ fits_open count w n t is next le =
 pub fits_clear : (count : ℕ) (d : Device) (t : Table) → HasClear count d t → FitsOpen count t
 fits_clear count d t opened = fits_open count opened.block (t.entry opened.block).next t opened.clear.open_block refl opened.fits
 
--- where no block without a kept page is to be taken
+-- where no block without a committed page is to be taken
 pub scarce_unless : (spare : ℕ) (t : Table) → (HasMore t spare → ⊥) → IsScarce t spare
-scarce_unless spare t none = elim (cases_lt (1 + spare) (unkept_count t + bad_count t)) [
+scarce_unless spare t none = elim (cases_lt (1 + spare) (uncommitted_count t + bad_count t)) [
   | inl more ↦ absurd (none more)
   | inr few ↦ omega (arith, few)
 ]

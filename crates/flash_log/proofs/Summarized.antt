@@ -16,11 +16,11 @@ use Rattle.flash_tree.specs.Summarizing.{AddsSummary, IsFindable, ListsKey}
 use Rattle.flash_tree.specs.laws.Findable.{summary_key}
 use Rattle.flash_tree.specs.laws.Newest.{stays_on}
 use Rattle.block_state.specs.declared.blocks.BlockEntry.{BlockEntry}
-use Rattle.block_state.specs.Kept.{bad_count}
-use Rattle.block_state.specs.laws.Kept.{same_bad_count}
+use Rattle.block_state.specs.Committed.{bad_count}
+use Rattle.block_state.specs.laws.Committed.{same_bad_count}
 use Rattle.block_state.specs.Table.{Table}
 use Rattle.chunk_index.specs.declared.index.Index.{Index}
-use Rattle.chunk_index.specs.Maps.{kept_pages}
+use Rattle.chunk_index.specs.Maps.{committed_pages}
 use Rattle.transactions.specs.Checking.{LogState, WritesGroup, log_of}
 use Rattle.transactions.specs.Groups.{AddsPages, OkTable, TableEnds, next_group}
 use Rattle.transactions.specs.Handing.{HandsOut}
@@ -33,7 +33,7 @@ use Rattle.transactions.specs.declared.group.GroupFault.TheVariants as groups
 use Rattle.flash_log.specs.CheckpointKeeping.{KeepsObjects}
 use Rattle.flash_log.specs.Copying.{IsFresh, KeepsCounts}
 use Rattle.flash_log.specs.Passing.{KeepsFound}
-use Rattle.flash_log.specs.Standing.{AreHeld, IsKept, KeepsFindable, Stands}
+use Rattle.flash_log.specs.Standing.{AreHeld, IsCommittedKey, KeepsFindable, Stands}
 use Rattle.flash_log.specs.Steps.{Step}
 use Rattle.flash_log.specs.SummaryMaking.{CostsAMark, HasClear, IsEmptyBlock, KeepsListed, IsListOf, MarkingEnds, PaysSummary, Summarizes, SummaryEnds, summary_of}
 use Rattle.flash_log.specs.SummarySource.{CanSummarize, summary_name, summary_size, source_page}
@@ -45,12 +45,12 @@ use Rattle.flash_log.specs.contracts.summary_source.SummarySourcePageSource.TheI
 use Rattle.flash_log.specs.declared.summary_source.SummarySource.{SummarySource}
 use Rattle.flash_log.specs.laws.Erased.{erased_marked, erased_written}
 use Rattle.flash_log.specs.laws.Keeping.{bad_rises, keeps_on, keeps_same, limits_ends, same_ends}
-use Rattle.flash_log.specs.laws.KeptPages.{spot_of}
-use Rattle.flash_log.specs.laws.Moves.{lies_apart, same_kept_sum}
-use Rattle.flash_log.specs.laws.Steps.{moves_kept_none}
+use Rattle.flash_log.specs.laws.CommittedPages.{spot_of}
+use Rattle.flash_log.specs.laws.Moves.{lies_apart, same_committed_sum}
+use Rattle.flash_log.specs.laws.Steps.{moves_committed_none}
 use Rattle.flash_log.specs.laws.SummarySource.{written_whole}
 use Rattle.flash_log.proofs.CheckNames.{trees_before, trees_stay}
-use Rattle.flash_log.proofs.CheckpointKeeping.{marked_kept, marked_unkept}
+use Rattle.flash_log.proofs.CheckpointKeeping.{marked_committed, marked_uncommitted}
 use Rattle.flash_log.proofs.Writing.{clear_fresh, costs_failed}
 use Rattle.flash_log.proofs.IndexStays.{LeavesIndex, stands_left, data_left, free_left}
 
@@ -139,7 +139,7 @@ empty_still count w d t u result fresh table =
     record {
       within = subst (λ (g : Geometry). w < g.blocks) (sym same.geometry) fresh.within;
       good = same.bad w ∙ fresh.good;
-      unkept = same.kept w ∙ fresh.unkept;
+      uncommitted = same.committed w ∙ fresh.uncommitted;
     }
 
 -- a fresh block has room for the pages of a block
@@ -163,7 +163,7 @@ ends_written source w d e t u placed fresh less lasts group takes power count sp
           within = empty.within;
           open_block = opened;
           good = empty.good;
-          unkept = empty.unkept;
+          uncommitted = empty.uncommitted;
           older = λ honest o c s other holds.
               let was : d.honest ≡ true = sym lasts.honest ∙ honest in
               let before = trees_before (next_group t source.pages w) (summary_name t.next_group) (source_page source) d.flash e.flash (group.writes was).grows (λ i lt. refl)
@@ -200,29 +200,29 @@ module _ (w : ℕ) (d e : Device) (t u : Table) (result : Result (Unit {0}) Gone
     ready = ready;
     numbers = numbers;
     geometry = notes.sets.geometry;
-    kept = marked_kept w d e t u result empty.within empty.good empty.unkept marks notes;
+    committed = marked_committed w d e t u result empty.within empty.good empty.uncommitted marks notes;
     marks = marked_stay;
     marked = λ b is. elim (cases_eq b w) [
-      | inl here ↦ inr (ap (λ k. (t.entry k).kept) here ∙ empty.unkept)
+      | inl here ↦ inr (ap (λ k. (t.entry k).committed) here ∙ empty.uncommitted)
       | inr ne ↦ inl (sym (others b ne) ∙ is)
     ];
-    unkept = marked_unkept w d e t u result empty.within empty.good empty.unkept marks notes;
+    uncommitted = marked_uncommitted w d e t u result empty.within empty.good empty.uncommitted marks notes;
     rises = bad_rises t u notes.sets.geometry marked_stay;
     limits = λ (group, seq). (let same = notes.sets.next_group in omega (arith, same, group), let same = notes.next_seq in omega (arith, same, seq));
     erased = erased_marked w d e t u result (λ bad. absurd (good_before bad)) marks notes;
   }
 
-module _ (s : Summary) (w : ℕ) (d e f : Device) (t u v : Table) (unkept : (t.entry w).kept ≡ 0) (first : Summarizes s (log_of d t) (log_of e u))
+module _ (s : Summary) (w : ℕ) (d e f : Device) (t u v : Table) (uncommitted : (t.entry w).committed ≡ 0) (first : Summarizes s (log_of d t) (log_of e u))
     (marks : KeepsCounts e f u v) (elsewhere : e.honest ≡ true → KeepsElsewhere w e.flash f.flash) (found : e.honest ≡ true → KeepsFound u e f)
     (closed : v.open_block ≡ None) where
   later : d.honest ≡ true → e.honest ≡ true
   later honest = first.keeps.lasts.honest ∙ honest
 
-  kept_here : (p : Spot) → 1 ≤ (t.entry p.block).kept → 1 ≤ (u.entry p.block).kept
-  kept_here p some = let same = first.keeps.kept p.block in omega (arith, same, some)
+  committed_here : (p : Spot) → 1 ≤ (t.entry p.block).committed → 1 ≤ (u.entry p.block).committed
+  committed_here p some = let same = first.keeps.committed p.block in omega (arith, same, some)
 
-  apart : (p : Spot) → 1 ≤ (t.entry p.block).kept → p.block ≢ w
-  apart p some is = let none : (t.entry p.block).kept ≡ 0 = ap (λ b. (t.entry b).kept) is ∙ unkept in absurd (omega (arith, none, some))
+  apart : (p : Spot) → 1 ≤ (t.entry p.block).committed → p.block ≢ w
+  apart p some is = let none : (t.entry p.block).committed ≡ 0 = ap (λ b. (t.entry b).committed) is ∙ uncommitted in absurd (omega (arith, none, some))
 
   pub mark_summarizes : Summarizes s (log_of d t) (log_of f v)
   mark_summarizes = record {
@@ -232,7 +232,7 @@ module _ (s : Summary) (w : ℕ) (d e f : Device) (t u v : Table) (unkept : (t.e
         stays_on d.flash e.flash f.flash o c p stays (elsewhere (later honest) o c p stays.newest (apart p some));
     found = λ honest right o c p newest some lists is.
         let stays = first.newest honest o c p (is.ordinary o c (refl, refl)) newest some in
-        (found (later honest)).keys (first.keeps.numbers.truth.summaries honest right) o c p stays.newest (kept_here p some) (first.found honest right o c p newest some lists is);
+        (found (later honest)).keys (first.keeps.numbers.truth.summaries honest right) o c p stays.newest (committed_here p some) (first.found honest right o c p newest some lists is);
     open_block = λ o is. let two : None ≡ Some o = sym closed ∙ is in absurd cc;
   }
 
@@ -305,12 +305,12 @@ ends_marked count spare a b c (Err faults.Gone) same less (gone, more) = gone
 -- ---- so the log keeps what each call keeps
 
 module _ (spare : ℕ) (x : Index) (s : Summary) (w : ℕ) (d f : Device) (t v : Table) (held : AreHeld t x) (stands : Stands spare d t x) (fresh : IsFresh w d t)
-    (does : Summarizes s (log_of d t) (log_of f v)) (lists : d.honest ≡ true → (o c : ℕ) → IsKept (kept_pages x) o c → ListsKey d.flash s o c) where
-  written : (o : ℕ) → v.open_block ≡ Some o → (v.entry o).kept ≤ (v.entry o).next
+    (does : Summarizes s (log_of d t) (log_of f v)) (lists : d.honest ≡ true → (o c : ℕ) → IsCommittedKey (committed_pages x) o c → ListsKey d.flash s o c) where
+  written : (o : ℕ) → v.open_block ≡ Some o → (v.entry o).committed ≤ (v.entry o).next
   written o is =
       let both : Some w ≡ Some o = sym fresh.open_block ∙ does.open_block o is in
       let same : w ≡ o = cc in
-      let none : (v.entry o).kept ≡ 0 = does.keeps.kept o ∙ ap (λ b. (t.entry b).kept) (sym same) ∙ fresh.unkept in
+      let none : (v.entry o).committed ≡ 0 = does.keeps.committed o ∙ ap (λ b. (t.entry b).committed) (sym same) ∙ fresh.uncommitted in
       omega (arith, none)
 
   leaves : LeavesIndex d f t v
@@ -318,13 +318,13 @@ module _ (spare : ℕ) (x : Index) (s : Summary) (w : ℕ) (d f : Device) (t v :
     lasts = does.keeps.lasts;
     ready = does.keeps.ready;
     geometry = does.keeps.geometry;
-    kept = does.keeps.kept;
+    committed = does.keeps.committed;
     rises = does.keeps.numbers.numbers.groups_rise;
-    unkept = does.keeps.unkept;
+    uncommitted = does.keeps.uncommitted;
     limits = does.keeps.limits;
     newest = does.newest;
     written = written;
-    apart = lies_apart t v does.keeps.numbers.truth.noted does.keeps.kept;
+    apart = lies_apart t v does.keeps.numbers.truth.noted does.keeps.committed;
   }
 
   findable : KeepsFindable d f x x
@@ -340,8 +340,8 @@ module _ (spare : ℕ) (x : Index) (s : Summary) (w : ℕ) (d f : Device) (t v :
     numbers = does.keeps.numbers;
     geometry = does.keeps.geometry;
     marks = does.keeps.marks;
-    kept_count = same_kept_sum t v does.keeps.geometry does.keeps.kept;
-    index = moves_kept_none x;
+    committed_count = same_committed_sum t v does.keeps.geometry does.keeps.committed;
+    index = moves_committed_none x;
     same_data = data_left spare x d f t v held stands leaves;
     free = free_left spare x d f t v held stands leaves;
     findable = findable;

@@ -15,24 +15,24 @@ use Rattle.flash_tree.specs.Summarizing.{ListsKey}
 use Rattle.flash_tree.specs.laws.Newest.{one_spot, one_tag}
 use Rattle.block_state.specs.Table.{Table}
 use Rattle.chunk_index.specs.declared.index.Index.{Index}
-use Rattle.chunk_index.specs.Maps.{kept_pages}
+use Rattle.chunk_index.specs.Maps.{committed_pages}
 use Rattle.transactions.specs.Checking.{log_of}
 use Rattle.transactions.specs.Ready.{IsReady}
 use Rattle.flash_log.specs.Copying.{IsFresh}
-use Rattle.flash_log.specs.Standing.{AreHeld, IsKept, IsKeptAt, Stands}
+use Rattle.flash_log.specs.Standing.{AreHeld, IsCommittedKey, IsCommittedAt, Stands}
 use Rattle.flash_log.specs.Steps.{Step}
 use Rattle.flash_log.specs.SummaryMaking.{ComesBefore, IsListOf, ListsEntries, Summarizes, WasWritten, entry_at, page_of, summary_of}
 use Rattle.flash_log.specs.SummarySource.{CanSummarize}
 use Rattle.flash_log.specs.declared.summary_source.SummarySource.{SummarySource}
 use Rattle.flash_log.specs.declared.summary_writing.WrittenBlock.{WrittenBlock}
-use Rattle.flash_log.specs.laws.KeptPages.{spot_of}
+use Rattle.flash_log.specs.laws.CommittedPages.{spot_of}
 use Rattle.flash_log.proofs.Summarized.{step_summarized}
 
 module _ (spare : ℕ) (x : Index) (d : Device) (t : Table) (w : ℕ) (b : WrittenBlock) (source : SummarySource) (ready : IsReady d t) (stands : Stands spare d t x) (fresh : IsFresh w d t)
-    (was : WasWritten b d t) (block : source.head.block ≡ b.block) (seq : source.head.seq ≡ b.seq) (lists : ListsEntries b.block (kept_pages x) source.entries.now)
+    (was : WasWritten b d t) (block : source.head.block ≡ b.block) (seq : source.head.seq ≡ b.seq) (lists : ListsEntries b.block (committed_pages x) source.entries.now)
     (few : length source.entries.now ≤ t.geometry.pages) (can : CanSummarize source d.geometry t.next_group) (honest : d.honest ≡ true) where
   -- the committed page of an entry is the newest of its key
-  at : (e : CheckEntry) → Contains source.entries.now e → IsKeptAt d.flash e.object e.chunk (page_of e)
+  at : (e : CheckEntry) → Contains source.entries.now e → IsCommittedAt d.flash e.object e.chunk (page_of e)
   at e listed = stands.newest honest fresh.power e.object e.chunk (page_of e) (lists.only e listed).1
 
   spot : (e : CheckEntry) → Contains source.entries.now e → Spot
@@ -108,18 +108,18 @@ module _ (spare : ℕ) (x : Index) (d : Device) (t : Table) (w : ℕ) (b : Writt
 
   -- ---- the keys
 
-  pub lists_key : (o c : ℕ) → IsKept (kept_pages x) o c → ListsKey d.flash (summary_of source t w) o c
+  pub lists_key : (o c : ℕ) → IsCommittedKey (committed_pages x) o c → ListsKey d.flash (summary_of source t w) o c
   lists_key o c (q, is) p newest here =
-      let kept = stands.newest honest fresh.power o c q is in
-      let place : p ≡ spot_of q kept.tag = one_spot d.flash o c p (spot_of q kept.tag) newest kept.newest in
+      let committed = stands.newest honest fresh.power o c q is in
+      let place : p ≡ spot_of q committed.tag = one_spot d.flash o c p (spot_of q committed.tag) newest committed.newest in
       let inside : q.block ≡ b.block = ap (λ (s : Spot). s.block) (sym place) ∙ here ∙ block in
-      let entry : entry_at o c q ≡ entry_of (spot_of q kept.tag) =
-      λ i. record { object = sym kept.newest.holds.object i; chunk = sym kept.newest.holds.chunk i; version = sym kept.version i; block = q.block; page = q.page } in
+      let entry : entry_at o c q ≡ entry_of (spot_of q committed.tag) =
+      λ i. record { object = sym committed.newest.holds.object i; chunk = sym committed.newest.holds.chunk i; version = sym committed.version i; block = q.block; page = q.page } in
       subst (λ e. Contains source.entries.now e) (entry ∙ ap entry_of (sym place)) (lists.all o c q is inside)
 
 -- so the log keeps what each call keeps, once the list is written
 pub step_listed : (spare : ℕ) (x : Index) (d f : Device) (t v : Table) (w : ℕ) (b : WrittenBlock) (source : SummarySource) → IsReady d t → Stands spare d t x → AreHeld t x → IsFresh w d t → WasWritten b d t
-    → (source.head.block ≡ b.block) × (source.head.seq ≡ b.seq) → ListsEntries b.block (kept_pages x) source.entries.now → length source.entries.now ≤ t.geometry.pages → CanSummarize source d.geometry t.next_group
+    → (source.head.block ≡ b.block) × (source.head.seq ≡ b.seq) → ListsEntries b.block (committed_pages x) source.entries.now → length source.entries.now ≤ t.geometry.pages → CanSummarize source d.geometry t.next_group
     → Summarizes (summary_of source t w) (log_of d t) (log_of f v) → Step spare (log_of d t) (log_of f v) x x
 step_listed spare x d f t v w b source ready stands held fresh was head lists few can does =
     step_summarized spare x (summary_of source t w) w d f t v held stands fresh does

@@ -11,15 +11,15 @@ use Rattle.transactions.specs.Marking.{NotesMark}
 use Rattle.transactions.specs.Opening.{MayLose, Opens}
 use Rattle.transactions.specs.Ready.{IsReady}
 use Rattle.flash_tree.specs.ErasedBlocks.{GoesFirst}
-use Rattle.flash_log.proofs.Free.{was_unkept}
+use Rattle.flash_log.proofs.Free.{was_uncommitted}
 use Rattle.flash_log.specs.Erased.{KnowsErased, LeadsErased}
 use Rattle.flash_log.specs.Passing.{Passes}
 use Rattle.flash_log.specs.Taking.{CouldBeTaken, IsItsTurn, LiesApart, NoneGoesFirst, SameTurns}
 
--- where none is open a good block without a kept page is free
-free_if : (t : Table) (b : ℕ) → t.open_block ≡ None → (t.entry b).bad ≡ false → (t.entry b).kept ≡ 0 → is_free t b ≡ true
+-- where none is open a good block without a committed page is free
+free_if : (t : Table) (b : ℕ) → t.open_block ≡ None → (t.entry b).bad ≡ false → (t.entry b).committed ≡ 0 → is_free t b ≡ true
 free_if t b closed good none =
-    ap (λ x. not x && (nat_eq (t.entry b).kept 0 && not (is_open t.open_block b))) good
+    ap (λ x. not x && (nat_eq (t.entry b).committed 0 && not (is_open t.open_block b))) good
     ∙ ap (λ x. nat_eq x 0 && not (is_open t.open_block b)) none
     ∙ ap (λ x. not (is_open x b)) closed
 
@@ -51,7 +51,7 @@ opened_in_turn b d t u ready apart closed next opens = record {
 }
   where
     free : (k : ℕ) → CouldBeTaken t u k → k ≢ b → is_free t k ≡ true
-    free k could ne = free_if t k closed (sym (ap (λ (e : BlockEntry). e.bad) (opens.sets.others k ne)) ∙ could.good) could.unkept
+    free k could ne = free_if t k closed (sym (ap (λ (e : BlockEntry). e.bad) (opens.sets.others k ne)) ∙ could.good) could.uncommitted
 
     -- a block that may have a checkpoint is good when it is opened, so there was none
     good : (c : ℕ) → t.checkpoint ≡ Some c → (u.entry c).bad ≡ false
@@ -79,7 +79,7 @@ turn_from b old mid end t u v passes later same turn = record {
     after : (k : ℕ) → CouldBeTaken t v k → CouldBeTaken u v k
     after k could = record {
       within = subst (λ (g : Geometry). k < g.blocks) (sym passes.geometry) could.within;
-      unkept = passes.kept k ∙ could.unkept;
+      uncommitted = passes.committed k ∙ could.uncommitted;
       good = could.good;
     }
 
@@ -133,14 +133,14 @@ goes_next d t b ready apart closed next knows leads = go t.checkpoint refl where
     )
     | inl inside ↦
         let was = knows.unwritten k inside begins in
-        let free = free_if t k closed (ready.marks k ∙ begins.0) was.kept in
+        let free = free_if t k closed (ready.marks k ∙ begins.0) was.committed in
         let at_once : turn_of (t.entry k) ≡ 0 = ap (λ n. if nat_eq n 0 then 0 else (t.entry k).seq) was.next in
         let older = turn.oldest k inside free in
         let here : turn_of (t.entry b) ≡ 0 = omega (arith, at_once, older) in
         let le = turn.lowest k inside free (at_once ∙ sym here) in (
           omega (arith, le, ne),
           λ l u has.
-              let le' = (knows.torn k l u begins has).lowest b (record { within = turn.within; good = (was_unkept t b turn.free).0; next = unwritten here }) in
+              let le' = (knows.torn k l u begins has).lowest b (record { within = turn.within; good = (was_uncommitted t b turn.free).0; next = unwritten here }) in
               absurd (omega (arith, le, le', ne)),
         )
   ] where

@@ -14,12 +14,12 @@ use Rattle.flash_tree.specs.Keeping.{KeepsElsewhere, KeepsNewest}
 use Rattle.flash_tree.specs.Summarizing.{NamesNot}
 use Rattle.flash_tree.specs.Truth.{KeepsSummaries}
 use Rattle.flash_tree.specs.laws.Summarizing.{tag_elsewhere}
-use Rattle.block_state.specs.Kept.{bad_count}
+use Rattle.block_state.specs.Committed.{bad_count}
 use Rattle.block_state.specs.Table.{Table}
 use Rattle.block_state.specs.declared.blocks.BlockEntry.{BlockEntry}
 use Rattle.transactions.specs.Checking.{LogState, log_of}
 use Rattle.transactions.specs.Copying.{copy_name, copy_bytes}
-use Rattle.transactions.specs.Groups.{GroupsAfter, OkTable, TableEnds, TellsGroup, WritesOpen, next_group, closed}
+use Rattle.transactions.specs.Groups.{GroupsAfter, OkTable, TableEnds, ReportsGroup, WritesOpen, next_group, closed}
 use Rattle.transactions.specs.Handing.{HandsOut}
 use Rattle.transactions.specs.Marking.{NotesMark}
 use Rattle.transactions.specs.Naming.{BeginsOther, NamesOnce}
@@ -34,7 +34,7 @@ use Rattle.transactions.specs.declared.group.Placed.{Placed}
 use Rattle.transactions.specs.declared.group.GroupFault.{GroupFault}
 use Rattle.transactions.specs.declared.group.GroupFault.TheVariants as groups
 use Rattle.flash_log.specs.Bills.{PaysOneBlock, PaysWriting}
-use Rattle.flash_log.specs.Copying.{IsClear, IsFresh, MayBeCopied, KeepsKeptAt, KeepsDataAt, AreWritten, StayOrLieApart, NewestAfterCopies, CopiesPages, CopiesEnd, OpenAfter, left_open, most_changes, most_written}
+use Rattle.flash_log.specs.Copying.{IsClear, IsFresh, MayBeCopied, KeepsCommittedAt, KeepsDataAt, AreWritten, StayOrLieApart, NewestAfterCopies, CopiesPages, CopiesEnd, OpenAfter, left_open, most_changes, most_written}
 use Rattle.flash_log.specs.Passing.{KeepsFound, Passes}
 use Rattle.flash_log.specs.Taking.{Takes, CostsATake}
 use Rattle.flash_log.specs.declared.copying.Copied.{Copied}
@@ -44,10 +44,10 @@ use Rattle.flash_log.specs.declared.fault.MoveFault.{MoveFault}
 use Rattle.flash_log.specs.laws.Costs.{costs_taken, each_more}
 use Rattle.flash_log.specs.laws.Keeping.{keeps_passes, keeps_same, limits_ends, same_closed, same_ends}
 use Rattle.flash_log.proofs.Passing.{passes_marked}
-use Rattle.flash_log.specs.laws.KeptPages.{kept_where, data_where}
+use Rattle.flash_log.specs.laws.CommittedPages.{committed_where, data_where}
 use Rattle.flash_log.specs.laws.Erased.{erased_as, erased_marked, erased_on, erased_pages, erased_written, leaves_closed}
 use Rattle.flash_log.specs.laws.Found.{found_after, found_as, found_copied}
-use Rattle.flash_log.proofs.KeptPages.{is_of_copies, are_copied, data_copied, key_is, listed_or_not, names_once, numbered_copies}
+use Rattle.flash_log.proofs.CommittedPages.{is_of_copies, are_copied, data_copied, key_is, listed_or_not, names_once, numbered_copies}
 
 module _ (copies : List CopyOf) (w : ℕ) (d0 d1 : Device) (t : Table) (fresh : IsClear w d0 t) (may : MayBeCopied d0 t copies) (honest : d0.honest ≡ true) (grows : Grows d0.flash d1.flash) where
   abbrev to : PagePlace
@@ -73,7 +73,7 @@ module _ (copies : List CopyOf) (w : ℕ) (d0 d1 : Device) (t : Table) (fresh : 
   data_by (Err groups.Gone) (inl keeps) = same keeps
   data_by (Err groups.Gone) (inr shows) = shown shows
 
-  -- however the writing of copies ends, what is kept keeps its data
+  -- however the writing of copies ends, what is committed keeps its data
   pub data_written : (r : Result Placed GroupFault) → GroupsAfter (next_group t (length copies) w) (copy_name copies) (copy_bytes copies d0.flash) d0.flash d1.flash r → KeepsDataAt t d0.flash d1.flash
   data_written r groups = data_by r (after r groups)
 
@@ -90,13 +90,13 @@ module _ (copies : List CopyOf) (w : ℕ) (d0 d1 : Device) (t : Table) (fresh : 
       → NewestAfter (next_group t (length copies) w) (copy_name copies) (copy_bytes copies d0.flash) d0.flash d1.flash r → StayOrLieApart copies t d0.flash d1
   apart_by ready bad = by where
     stay : KeepsNewest d0.flash d1.flash → StayOrLieApart copies t d0.flash d1
-    stay keeps = inl (kept_where d0.flash d1.flash t (λ o c s newest some. keeps o c s newest))
+    stay keeps = inl (committed_where d0.flash d1.flash t (λ o c s newest some. keeps o c s newest))
 
     lie : ShowsGroup (next_group t (length copies) w) (copy_name copies) (copy_bytes copies d0.flash) d0.flash d1.flash → StayOrLieApart copies t d0.flash d1
     lie shows = inr (record {
       at = to;
       within = fresh.within;
-      unkept = fresh.unkept;
+      uncommitted = fresh.uncommitted;
       good = ap (λ (f : ℕ → Bool). f w) bad ∙ sym (ready.marks w) ∙ fresh.good;
       copied = are_copied copies may.once (next_group t (length copies) w) refl d0.flash (may.newest honest fresh.power) d1.flash t to refl refl shows;
     })
@@ -109,13 +109,13 @@ module _ (copies : List CopyOf) (w : ℕ) (d0 d1 : Device) (t : Table) (fresh : 
     by (Err groups.Gone) (inl keeps) = stay keeps
     by (Err groups.Gone) (inr shows) = lie shows
 
-  -- however it ends, what is kept stays where it is, or the copies lie in the block that was fresh
+  -- however it ends, what is committed stays where it is, or the copies lie in the block that was fresh
   pub apart_written : IsReady d0 t → d1.flash.bad ≡ d0.flash.bad → (r : Result Placed GroupFault)
       → GroupsAfter (next_group t (length copies) w) (copy_name copies) (copy_bytes copies d0.flash) d0.flash d1.flash r → StayOrLieApart copies t d0.flash d1
   apart_written ready bad r groups = apart_by ready bad r (after r groups)
 
   pub keeps_failed : GroupsAfter (next_group t (length copies) w) (copy_name copies) (copy_bytes copies d0.flash) d0.flash d1.flash (Err groups.Failed) → KeepsNewest d0.flash d1.flash
-  keeps_failed counted = after (Err groups.Failed) counted
+  keeps_failed totaled = after (Err groups.Failed) totaled
 
 -- what was findable by summaries is so still
 module _ (copies : List CopyOf) (w : ℕ) (d0 d1 : Device) (t : Table) (fresh : IsClear w d0 t) (may : MayBeCopied d0 t copies) (honest : d0.honest ≡ true) (ready : IsReady d0 t)
@@ -142,12 +142,12 @@ pub passes_failed : (copies : List CopyOf) (w : ℕ) (d0 d1 d2 : Device) (t t1 t
     → IsReady d0 t → HandsOut d0 d1 t t1 → Lasts d0 d1 → d1.failures ≡ d0.failures + 1 → (d0.honest ≡ true → WritesOpen t d0.flash d1.flash)
     → (d0.honest ≡ true → GroupsAfter (next_group t (length copies) w) (copy_name copies) (copy_bytes copies d0.flash) d0.flash d1.flash (Err groups.Failed))
     → t1 ≡ closed t → Marks w d1 d2 result → (d1.honest ≡ true → KeepsElsewhere w d1.flash d2.flash) → NotesMark w d2.flash t1 t2 → Passes d0 d2 (closed t) t2
-passes_failed copies w d0 d1 d2 t t1 t2 result fresh may ready numbers lasts failed writes counted is marks marked notes =
-    passes_marked w d0 d1 d2 (closed t) t2 result fresh.within fresh.good fresh.unkept lasts (omega (arith, failed))
-    (λ honest o c s newest apart. keeps_failed copies w d0 d1 t fresh may honest (writes honest).grows (counted honest) o c s newest)
+passes_failed copies w d0 d1 d2 t t1 t2 result fresh may ready numbers lasts failed writes totaled is marks marked notes =
+    passes_marked w d0 d1 d2 (closed t) t2 result fresh.within fresh.good fresh.uncommitted lasts (omega (arith, failed))
+    (λ honest o c s newest apart. keeps_failed copies w d0 d1 t fresh may honest (writes honest).grows (totaled honest) o c s newest)
     (λ honest k l u some has. tag_elsewhere w t.next_group (t.entry w).seq d0.flash d1.flash ((writes honest).within w fresh.open_block) k l u
-    (λ here. let none : (t.entry k).kept ≡ 0 = ap (λ n. (t.entry n).kept) here ∙ fresh.unkept in absurd (omega (arith, none, some))) has)
-    (λ honest. found_as t (closed t) d0 d1 (λ k. refl) (found_written copies w d0 d1 t fresh may honest ready lasts.geometry (writes honest) (numbers.truth.summaries honest) (Err groups.Failed) (counted honest)))
+    (λ here. let none : (t.entry k).committed ≡ 0 = ap (λ n. (t.entry n).committed) here ∙ fresh.uncommitted in absurd (omega (arith, none, some))) has)
+    (λ honest. found_as t (closed t) d0 d1 (λ k. refl) (found_written copies w d0 d1 t fresh may honest ready lasts.geometry (writes honest) (numbers.truth.summaries honest) (Err groups.Failed) (totaled honest)))
     marks marked (subst (λ (x : Table). NotesMark w d2.flash x t2) is notes)
     (erased_on d0 d1 d2 (closed t) (closed t) t2 lasts.honest
     (erased_pages d0 d1 t w (length copies) (copy_name copies) (copy_bytes copies d0.flash) ready fresh.open_block lasts writes (closed t))
@@ -159,7 +159,7 @@ fresh_taken w d0 d1 t u passes ready takes power = record {
   within = subst (λ (g : Geometry). w < g.blocks) (sym passes.geometry) takes.within;
   open_block = takes.open_block;
   good = ready.marks w ∙ (ready.open_block w takes.open_block).good;
-  unkept = passes.kept w ∙ takes.unkept;
+  uncommitted = passes.committed w ∙ takes.uncommitted;
   next = takes.next;
   older = λ honest o c s ordinary holds.
       let below = takes.below honest s.block s.page s.tag (ap (λ b. d1.flash.bad b) holds.block ∙ holds.whole.good) holds.has in
@@ -170,7 +170,7 @@ fresh_taken w d0 d1 t u passes ready takes power = record {
 
 -- and clear
 pub clear_fresh : (w : ℕ) (d : Device) (t : Table) → IsFresh w d t → IsClear w d t
-clear_fresh w d t fresh = record { within = fresh.within; open_block = fresh.open_block; good = fresh.good; unkept = fresh.unkept; older = fresh.older; power = fresh.power }
+clear_fresh w d t fresh = record { within = fresh.within; open_block = fresh.open_block; good = fresh.good; uncommitted = fresh.uncommitted; older = fresh.older; power = fresh.power }
 
 -- ---- one attempt
 
@@ -192,13 +192,13 @@ module _ (copies : List CopyOf) (w : ℕ) (d0 d1 : Device) (t t1 : Table) (fresh
 
   -- and where the block was marked, or was to be
   pub pages_failed : (d2 : Device) (t2 : Table) (result : Result Copied MoveFault) → Passes d0 d2 (closed t) t2 → Lasts d1 d2 → HandsOut d1 d2 t1 t2 → IsReady d2 t2
-      → (KeepsKeptAt t d0.flash d2.flash → NewestAfterCopies copies t d0.flash d2.flash result) → CopiesPages copies (log_of d0 t) (log_of d2 t2) result
+      → (KeepsCommittedAt t d0.flash d2.flash → NewestAfterCopies copies t d0.flash d2.flash result) → CopiesPages copies (log_of d0 t) (log_of d2 t2) result
   pages_failed d2 t2 result passes marks after ready newest = record {
     keeps = keeps_passes d0 d2 t (closed t) t2 (same_closed t (closed t) refl) (lasts_on d0 d1 d2 lasts marks) ready (hands_on d0 d1 d2 t t1 t2 lasts marks numbers after)
         (limits_ends (length copies) t (closed t) (Err groups.Failed) refl less) (erased_as d0 t (closed t) (leaves_closed d0.flash t (closed t) refl refl refl refl)) passes;
     stored = λ honest. data_where d0.flash d2.flash (closed t) (passes.newest honest);
-    newest = λ honest power. newest (kept_where d0.flash d2.flash (closed t) (passes.newest honest));
-    apart = λ honest. inl (kept_where d0.flash d2.flash (closed t) (passes.newest honest));
+    newest = λ honest power. newest (committed_where d0.flash d2.flash (closed t) (passes.newest honest));
+    apart = λ honest. inl (committed_where d0.flash d2.flash (closed t) (passes.newest honest));
     found = λ honest. found_as (closed t) t d0 d2 (λ k. refl) (passes.found honest);
   }
 
@@ -266,7 +266,7 @@ module _ (pages m n u : ℕ) (a b c : Device) (lasts : Lasts a b) (take : CostsA
       let more = each_more (pages + 2) a.failures b.failures (omega arith) lasts.failures in
       omega (arith, costs, take, more, one, two, three, is, few)
 
--- the failures that were counted are no fewer than those that are unanswered, and a block that was marked had one
+-- the failures that were in the count are no fewer than those that are unanswered, and a block that was marked had one
 counts_enough : (count spare : ℕ) (b c : LogState) (r : Result Copied MoveFault) → PaysWriting count b c r → CopiesEnd count spare c.device b.table c.table r → b.device.failures + left_open r ≤ c.device.failures
     → most_written count r + 1 + b.device.failures + left_open r ≤ most_changes count r + c.device.failures
 counts_enough count spare b c (Ok (ends.Into target)) pays ends rises = omega (arith, rises)
@@ -279,13 +279,13 @@ pub pays_once : (count spare : ℕ) (a b c : LogState) (r : Result Copied MoveFa
     → bad_count b.table ≤ bad_count c.table → CopiesEnd count spare c.device b.table c.table r → PaysWriting count b c r → PaysOneBlock count a c r
 pays_once count spare a b c r lasts take same marked answered rises ends pays =
     let marks = pays.marks in
-    let counted : b.device.failures + left_open r ≤ c.device.failures = omega (arith, marks, rises) in
+    let totaled : b.device.failures + left_open r ≤ c.device.failures = omega (arith, marks, rises) in
     let costs = subst (λ (g : Geometry). Costs (most_written count r) (g.pages + 1) (left_open r) b.device c.device) lasts.geometry pays.costs in
     let reads = pays.reads in
     let changes = lasts.changes in
     let failures = lasts.failures in
     record {
-      costs = costs_once a.device.geometry.pages (most_written count r) (most_changes count r) (left_open r) a.device b.device c.device lasts take counted (counts_enough count spare b c r pays ends counted) costs;
+      costs = costs_once a.device.geometry.pages (most_written count r) (most_changes count r) (left_open r) a.device b.device c.device lasts take totaled (counts_enough count spare b c r pays ends totaled) costs;
       marks = omega (arith, marked, marks);
       answers = on_ok_weaker r (λ others. omega (arith, answered, others)) pays.answers;
       reads = omega (arith, same, reads, changes, failures);
@@ -307,13 +307,13 @@ pays_untaken count a b fault lasts take same marked =
 -- ---- ends
 
 -- the block is open still, with the pages less, or closed where the last page is suspect
-pub open_after : (count w : ℕ) (placed : Placed) (t u : Table) → t.open_block ≡ Some w → TellsGroup (next_group t count w) placed → TableEnds count t u (Ok placed) → OpenAfter placed.block (placed.first + count) placed.suspect u
-open_after count w placed t u opened told ends = go placed.suspect ends where
+pub open_after : (count w : ℕ) (placed : Placed) (t u : Table) → t.open_block ≡ Some w → ReportsGroup (next_group t count w) placed → TableEnds count t u (Ok placed) → OpenAfter placed.block (placed.first + count) placed.suspect u
+open_after count w placed t u opened reported ends = go placed.suspect ends where
   go : (suspect : Bool) → OkTable suspect count t u → OpenAfter placed.block (placed.first + count) suspect u
   go true is = ap (λ (x : Table). x.open_block) is
   go false takes =
-      let next : (u.entry placed.block).next ≡ (u.entry w).next = ap (λ k. (u.entry k).next) told.block in
-      (takes.open_block ∙ opened ∙ ap Some (sym told.block), next ∙ ap (λ (x : BlockEntry). x.next) (takes.here w opened) ∙ ap (λ n. n + count) (sym told.first))
+      let next : (u.entry placed.block).next ≡ (u.entry w).next = ap (λ k. (u.entry k).next) reported.block in
+      (takes.open_block ∙ opened ∙ ap Some (sym reported.block), next ∙ ap (λ (x : BlockEntry). x.next) (takes.here w opened) ∙ ap (λ n. n + count) (sym reported.first))
 
 -- what was written in a block before stays so
 pub begun_still : (count w : ℕ) (t u : Table) (result : Result Placed GroupFault) → TableEnds count t u result → (t.entry w).next ≤ (u.entry w).next
@@ -336,13 +336,13 @@ begun_still count w t u (Err groups.Failed) is = let same : (u.entry w).next ≡
 begun_still count w t u (Err groups.Lost) is = let same : (u.entry w).next ≡ (t.entry w).next = ap (λ (x : Table). (x.entry w).next) is in omega (arith, same)
 begun_still count w t u (Err groups.Gone) is = let same : (u.entry w).next ≡ (t.entry w).next = ap (λ (x : Table). (x.entry w).next) is in omega (arith, same)
 
-pub ends_on : (count spare : ℕ) (d : Device) (t u v : Table) (r : Result Copied MoveFault) → u.geometry ≡ t.geometry → ((b : ℕ) → (u.entry b).kept ≡ (t.entry b).kept) → bad_count t ≤ bad_count u
+pub ends_on : (count spare : ℕ) (d : Device) (t u v : Table) (r : Result Copied MoveFault) → u.geometry ≡ t.geometry → ((b : ℕ) → (u.entry b).committed ≡ (t.entry b).committed) → bad_count t ≤ bad_count u
     → CopiesEnd count spare d u v r → CopiesEnd count spare d t v r
-ends_on count spare d t u v (Ok (ends.Into target)) geometry kept rises (is, power) = (
+ends_on count spare d t u v (Ok (ends.Into target)) geometry committed rises (is, power) = (
   record {
     within = subst (λ (g : Geometry). target.block < g.blocks) geometry is.within;
     good = is.good;
-    unkept = sym (kept target.block) ∙ is.unkept;
+    uncommitted = sym (committed target.block) ∙ is.uncommitted;
     fits = subst (λ (g : Geometry). target.first + count ≤ g.pages) geometry is.fits;
     begun = is.begun;
     open_block = is.open_block;
@@ -350,5 +350,5 @@ ends_on count spare d t u v (Ok (ends.Into target)) geometry kept rises (is, pow
   },
   power,
 )
-ends_on count spare d t u v (Ok ends.Marked) geometry kept rises (closed, more, power) = (closed, omega (arith, rises, more), power)
-ends_on count spare d t u v (Err fault) geometry kept rises why = why
+ends_on count spare d t u v (Ok ends.Marked) geometry committed rises (closed, more, power) = (closed, omega (arith, rises, more), power)
+ends_on count spare d t u v (Err fault) geometry committed rises why = why

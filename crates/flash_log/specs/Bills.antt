@@ -58,11 +58,11 @@ PaysCopies count old new result = Pays (bill_of old (count + 1) 0 (unanswered re
 
 -- of what is committed in block v
 abbrev pub PaysMove : (v : ℕ) → LogState → LogState → Result Moved MoveFault → Type 0
-PaysMove v old new result = PaysCopies (old.table.entry v).kept old new result
+PaysMove v old new result = PaysCopies (old.table.entry v).committed old new result
 
 -- the same, where nothing is left unanswered
 abbrev pub PaysCollection : (v : ℕ) → LogState → LogState → Result (Unit {0}) MoveFault → Type 0
-PaysCollection v old new result = Pays (bill_of old ((old.table.entry v).kept + 1) 0 0) old new result
+PaysCollection v old new result = Pays (bill_of old ((old.table.entry v).committed + 1) 0 0) old new result
 
 -- the move of what is committed in any block
 abbrev pub PaysEmptying : LogState → LogState → Result (Option ℕ) MoveFault → Type 0

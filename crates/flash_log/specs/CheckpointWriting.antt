@@ -7,12 +7,12 @@ use Rattle.page_tags.specs.declared.check.CheckEntry.{CheckEntry}
 use Rattle.flash_tree.specs.Checkpoints.{Checkpoint, IsWhole, ListsTree}
 use Rattle.flash_tree.specs.Numbering.{AreBelow}
 use Rattle.flash_tree.specs.Slots.{check_object}
-use Rattle.block_state.specs.Kept.{bad_count}
+use Rattle.block_state.specs.Committed.{bad_count}
 use Rattle.block_state.specs.Table.{Table}
 use Rattle.chunk_index.specs.declared.index.Index.{Index}
-use Rattle.chunk_index.specs.declared.form.KeptKey.{KeptKey}
-use Rattle.chunk_index.specs.Kept.{IsListOf}
-use Rattle.chunk_index.specs.Maps.{kept_pages}
+use Rattle.chunk_index.specs.declared.form.CommittedKey.{CommittedKey}
+use Rattle.chunk_index.specs.Committed.{IsListOf}
+use Rattle.chunk_index.specs.Maps.{committed_pages}
 use Rattle.transactions.specs.Checking.{LogState}
 use Rattle.transactions.specs.Opening.{MayLose}
 use Rattle.flash_log.specs.CheckpointKeeping.{KeepsPages, StaysChecked}
@@ -23,27 +23,27 @@ use Rattle.flash_log.specs.declared.seal_fault.SealFault.TheVariants as faults
 use Rattle.flash_log.specs.declared.checkpoint_writing.Written.{Written}
 use Rattle.flash_log.specs.declared.checkpoint_writing.Written.TheVariants as writes
 
--- The open block may take the checkpoint of the kept keys: it has neither a kept nor a written page, and of an honest device no entry
+-- The open block may take the checkpoint of the committed keys: it has neither a committed nor a written page, and of an honest device no entry
 -- is of the object of checkpoints, and the block's number and that of the next group are above all.
 pub record MayTake (block : ℕ) (x : Index) (d : Device) (t : Table) : Type 0 where
   pub open_block : t.open_block ≡ Some block
   pub next : (t.entry block).next ≡ 0
-  pub unkept : (t.entry block).kept ≡ 0
+  pub uncommitted : (t.entry block).committed ≡ 0
   pub entries : All IsCheckEntry (index_entries x)
   pub rise : AllPairs IsEntryBefore (index_entries x)
   pub apart : (e : CheckEntry) → Contains (index_entries x) e → e.block ≢ block
   pub ordinary : d.honest ≡ true → (e : CheckEntry) → Contains (index_entries x) e → e.object ≢ check_object
   pub fresh : d.honest ≡ true → AreBelow d.flash t.next_group (t.entry block).seq
 
--- the entries of the kept keys list the tree of an honest device
-abbrev pub ListKept : Index → Device → Type 0
-ListKept x d = d.honest ≡ true → ListsTree d.geometry d.flash (index_entries x)
+-- the entries of the committed keys list the tree of an honest device
+abbrev pub ListCommitted : Index → Device → Type 0
+ListCommitted x d = d.honest ≡ true → ListsTree d.geometry d.flash (index_entries x)
 
--- The checkpoint of the kept keys is in the block that may have one, and of an honest device it is whole.
+-- The checkpoint of the committed keys is in the block that may have one, and of an honest device it is whole.
 pub record HasCheckpoint (x : Index) (log : LogState) : Type 0 where
   pub checkpoint : Checkpoint
-  pub keys : List KeptKey
-  pub lists : IsListOf (kept_pages x) keys
+  pub keys : List CommittedKey
+  pub lists : IsListOf (committed_pages x) keys
   pub entries : checkpoint.entries ≡ check_entries keys
   pub noted : log.table.checkpoint ≡ Some checkpoint.block
   pub whole : log.device.honest ≡ true → IsWhole log.device.geometry log.device.flash checkpoint
@@ -65,11 +65,11 @@ pub record Leaves (right : Type 0) (block : ℕ) (old new : LogState) : Type 0 w
   pub open_block : new.table.open_block ≡ None
   pub checkpoint : (c : ℕ) → new.table.checkpoint ≡ Some c → c ≡ block
 
--- A good block without a kept page, where none is open and no other may have a checkpoint.
+-- A good block without a committed page, where none is open and no other may have a checkpoint.
 pub record MayMark (block : ℕ) (t : Table) : Type 0 where
   pub within : block < t.geometry.blocks
   pub good : (t.entry block).bad ≡ false
-  pub unkept : (t.entry block).kept ≡ 0
+  pub uncommitted : (t.entry block).committed ≡ 0
   pub open_block : t.open_block ≡ None
   pub first : MayLose block t
 

@@ -3,9 +3,9 @@
 use Rattle.std.specs.Prelude.{◌≡◌, ◌≢◌, ◌⊎◌, ◌<◌, ◌≤◌, ℕ, ◌+◌, Bool, true, false, List, length, Some, None, Result, Ok, Err, slice_get, if◌then◌else◌}
 use Rattle.nand_model.specs.Flash.{Flash}
 use Rattle.nand_model.specs.Calls.{Device, Lasts}
-use Rattle.block_state.specs.Kept.{bad_count, unkept_count}
+use Rattle.block_state.specs.Committed.{bad_count, uncommitted_count}
 use Rattle.block_state.specs.Table.{Table}
-use Rattle.chunk_index.specs.declared.form.KeptPage.{KeptPage}
+use Rattle.chunk_index.specs.declared.form.CommittedPage.{CommittedPage}
 use Rattle.chunk_index.specs.declared.form.PagePlace.{PagePlace}
 use Rattle.transactions.specs.Checking.{LogState}
 use Rattle.transactions.specs.Copying.{CanCopy, copy_name}
@@ -16,26 +16,26 @@ use Rattle.flash_tree.specs.Slots.{check_object}
 use Rattle.transactions.specs.Ready.{IsReady}
 use Rattle.transactions.specs.declared.copies.CopyOf.{CopyOf}
 use Rattle.flash_log.specs.Erased.{KeepsErased}
-use Rattle.flash_log.specs.Lists.{kept_by}
+use Rattle.flash_log.specs.Lists.{committed_by}
 use Rattle.flash_log.specs.Moving.{WhyNotMoved}
 use Rattle.flash_log.specs.Passing.{KeepsFound}
-use Rattle.flash_log.specs.Standing.{IsKeptAt, HasVersion, IsWithinLimits}
+use Rattle.flash_log.specs.Standing.{IsCommittedAt, HasVersion, IsWithinLimits}
 use Rattle.flash_log.specs.declared.copying.Copied.{Copied}
 use Rattle.flash_log.specs.declared.copying.Copied.TheVariants as ends
 use Rattle.flash_log.specs.declared.copying.Target.{Target}
 use Rattle.flash_log.specs.declared.fault.MoveFault.{MoveFault}
 
--- What a step keeps that leaves the index: no block's kept count changes, no block with a kept page is marked, and no number
+-- What a step keeps that leaves the index: no block's committed count changes, no block with a committed page is marked, and no number
 -- of 2^62 is handed out. The table knows the blocks that begin erased still.
 pub record KeepsCounts (old new : Device) (t t' : Table) : Type 0 where
   pub lasts : Lasts old new
   pub ready : IsReady new t'
   pub numbers : HandsOut old new t t'
   pub geometry : t'.geometry ≡ t.geometry
-  pub kept : (b : ℕ) → (t'.entry b).kept ≡ (t.entry b).kept
+  pub committed : (b : ℕ) → (t'.entry b).committed ≡ (t.entry b).committed
   pub marks : (b : ℕ) → (t.entry b).bad ≡ true → (t'.entry b).bad ≡ true
-  pub marked : (b : ℕ) → (t'.entry b).bad ≡ true → ((t.entry b).bad ≡ true) ⊎ ((t.entry b).kept ≡ 0)
-  pub unkept : unkept_count t' + bad_count t' ≡ unkept_count t + bad_count t
+  pub marked : (b : ℕ) → (t'.entry b).bad ≡ true → ((t.entry b).bad ≡ true) ⊎ ((t.entry b).committed ≡ 0)
+  pub uncommitted : uncommitted_count t' + bad_count t' ≡ uncommitted_count t + bad_count t
   pub rises : bad_count t ≤ bad_count t'
   pub limits : IsWithinLimits t → IsWithinLimits t'
   pub erased : KeepsErased old new t t'
@@ -44,38 +44,38 @@ pub record KeepsCounts (old new : Device) (t t' : Table) : Type 0 where
 abbrev pub IsCopyOf : CopyOf → ℕ → ℕ → Type 0
 IsCopyOf x o c = (x.name.key.object ≡ o) × (x.name.key.chunk ≡ c)
 
--- a newest page in a block with kept pages stays so, in its version
-abbrev pub KeepsKeptAt : Table → Flash → Flash → Type 0
-KeepsKeptAt t old new = (o c : ℕ) (p : KeptPage) → 1 ≤ (t.entry p.block).kept → IsKeptAt old o c p → IsKeptAt new o c p
+-- a newest page in a block with committed pages stays so, in its version
+abbrev pub KeepsCommittedAt : Table → Flash → Flash → Type 0
+KeepsCommittedAt t old new = (o c : ℕ) (p : CommittedPage) → 1 ≤ (t.entry p.block).committed → IsCommittedAt old o c p → IsCommittedAt new o c p
 
 -- and whatever is newest afterwards has its data
 abbrev pub KeepsDataAt : Table → Flash → Flash → Type 0
-KeepsDataAt t old new = (o c : ℕ) (p : KeptPage) (bytes : List ℕ) → 1 ≤ (t.entry p.block).kept → IsKeptAt old o c p
+KeepsDataAt t old new = (o c : ℕ) (p : CommittedPage) (bytes : List ℕ) → 1 ≤ (t.entry p.block).committed → IsCommittedAt old o c p
     → HasVersion old o c p.version bytes → HasVersion new o c p.version bytes
 
 -- each page that is copied is the newest of its key
-abbrev pub AreKeptAt : Flash → List CopyOf → Type 0
-AreKeptAt flash copies = (i : ℕ) (x : CopyOf) → slice_get copies i ≡ Some x → IsKeptAt flash x.name.key.object x.name.key.chunk (kept_by x)
+abbrev pub AreCommittedAt : Flash → List CopyOf → Type 0
+AreCommittedAt flash copies = (i : ℕ) (x : CopyOf) → slice_get copies i ≡ Some x → IsCommittedAt flash x.name.key.object x.name.key.chunk (committed_by x)
 
--- Pages of a block that may be copied: no more than a block has pages, each in a block with kept pages, none of one key
+-- Pages of a block that may be copied: no more than a block has pages, each in a block with committed pages, none of one key
 -- with another, and of an honest device none of the object of checkpoints and, where it has power, each the newest of its key.
 pub record MayBeCopied (device : Device) (t : Table) (copies : List CopyOf) : Type 0 where
   pub can : CanCopy copies device.geometry t.next_group
   pub few : length copies ≤ device.geometry.pages
-  pub held : (i : ℕ) (x : CopyOf) → slice_get copies i ≡ Some x → 1 ≤ (t.entry x.block).kept
+  pub held : (i : ℕ) (x : CopyOf) → slice_get copies i ≡ Some x → 1 ≤ (t.entry x.block).committed
   pub once : (i j : ℕ) (x y : CopyOf) → slice_get copies i ≡ Some x → slice_get copies j ≡ Some y → x.name.key ≡ y.name.key → i ≡ j
-  pub newest : device.honest ≡ true → device.gone ≡ false → AreKeptAt device.flash copies
+  pub newest : device.honest ≡ true → device.gone ≡ false → AreCommittedAt device.flash copies
   pub ordinary : device.honest ≡ true → AreOrdinary (length copies) (copy_name copies)
 
 -- copy i lies i pages behind a place, in its version
-abbrev pub copy_in : PagePlace → ℕ → CopyOf → KeptPage
+abbrev pub copy_in : PagePlace → ℕ → CopyOf → CommittedPage
 copy_in at i x = record { block = at.block; page = at.page + i; version = x.name.version }
 
--- The copies are the newest pages of their keys, and of all other keys newest pages in blocks with kept pages stay so.
+-- The copies are the newest pages of their keys, and of all other keys newest pages in blocks with committed pages stay so.
 pub record AreCopied (at : PagePlace) (copies : List CopyOf) (t : Table) (old new : Flash) : Type 0 where
-  pub copied : (i : ℕ) (x : CopyOf) → slice_get copies i ≡ Some x → IsKeptAt new x.name.key.object x.name.key.chunk (copy_in at i x)
-  pub others : (o c : ℕ) (p : KeptPage) → 1 ≤ (t.entry p.block).kept → ((i : ℕ) (x : CopyOf) → slice_get copies i ≡ Some x → IsCopyOf x o c → ⊥)
-      → IsKeptAt old o c p → IsKeptAt new o c p
+  pub copied : (i : ℕ) (x : CopyOf) → slice_get copies i ≡ Some x → IsCommittedAt new x.name.key.object x.name.key.chunk (copy_in at i x)
+  pub others : (o c : ℕ) (p : CommittedPage) → 1 ≤ (t.entry p.block).committed → ((i : ℕ) (x : CopyOf) → slice_get copies i ≡ Some x → IsCopyOf x o c → ⊥)
+      → IsCommittedAt old o c p → IsCommittedAt new o c p
 
 -- and they are in a group whose number was not handed out before
 pub record AreWritten (at : PagePlace) (copies : List CopyOf) (t : Table) (old new : Flash) : Type 0 where
@@ -89,21 +89,21 @@ place_of target = record { block = target.block; page = target.first }
 -- what is newest on an honest device that has power, after the copies were made or not
 abbrev pub NewestAfterCopies : List CopyOf → Table → Flash → Flash → Result Copied MoveFault → Type 0
 NewestAfterCopies copies t old new (Ok (ends.Into target)) = AreWritten (place_of target) copies t old new
-NewestAfterCopies copies t old new (Ok ends.Marked) = KeepsKeptAt t old new
-NewestAfterCopies copies t old new (Err fault) = KeepsKeptAt t old new
+NewestAfterCopies copies t old new (Ok ends.Marked) = KeepsCommittedAt t old new
+NewestAfterCopies copies t old new (Err fault) = KeepsCommittedAt t old new
 
--- The copies lie in a block that is good and without a kept page.
+-- The copies lie in a block that is good and without a committed page.
 pub record LieApart (copies : List CopyOf) (t : Table) (old : Flash) (new : Device) : Type 0 where
   pub at : PagePlace
   pub within : at.block < t.geometry.blocks
-  pub unkept : (t.entry at.block).kept ≡ 0
+  pub uncommitted : (t.entry at.block).committed ≡ 0
   pub good : new.flash.bad at.block ≡ false
   pub copied : AreCopied at copies t old new.flash
 
--- What is newest wherever the copying ends, also where the power went in it: in blocks with kept pages all stays, or the
+-- What is newest wherever the copying ends, also where the power went in it: in blocks with committed pages all stays, or the
 -- copies are the newest of their keys. No third way.
 abbrev pub StayOrLieApart : List CopyOf → Table → Flash → Device → Type 0
-StayOrLieApart copies t old new = KeepsKeptAt t old new.flash ⊎ LieApart copies t old new
+StayOrLieApart copies t old new = KeepsCommittedAt t old new.flash ⊎ LieApart copies t old new
 
 -- What becomes of the log and of committed pages while listed ones are copied, wherever that ends: no count of a block changes but by
 -- marks; and on an honest device what is newest keeps its data, and stays where it is, or the copies are the newest of their keys; and
@@ -120,11 +120,11 @@ abbrev pub OpenAfter : ℕ → ℕ → Bool → Table → Type 0
 OpenAfter w count true t = t.open_block ≡ None
 OpenAfter w count false t = (t.open_block ≡ Some w) × ((t.entry w).next ≡ count)
 
--- the block of the copies was good and without a kept page, and no block may have a checkpoint any more
+-- the block of the copies was good and without a committed page, and no block may have a checkpoint any more
 pub record IsTarget (count : ℕ) (target : Target) (old new : Table) : Type 0 where
   pub within : target.block < old.geometry.blocks
   pub good : (new.entry target.block).bad ≡ false
-  pub unkept : (old.entry target.block).kept ≡ 0
+  pub uncommitted : (old.entry target.block).committed ≡ 0
   pub fits : target.first + count ≤ old.geometry.pages
   pub begun : target.first ≤ (new.entry target.block).next
   pub open_block : OpenAfter target.block (target.first + count) target.suspect new
@@ -172,7 +172,7 @@ pub record IsClear (w : ℕ) (device : Device) (t : Table) : Type 0 where
   pub within : w < t.geometry.blocks
   pub open_block : t.open_block ≡ Some w
   pub good : (t.entry w).bad ≡ false
-  pub unkept : (t.entry w).kept ≡ 0
+  pub uncommitted : (t.entry w).committed ≡ 0
   pub older : device.honest ≡ true → (o c : ℕ) (s : Spot) → o ≢ check_object → Holds device.flash o c s → s.tag.seq < (t.entry w).seq
   pub power : device.gone ≡ false
 
@@ -181,7 +181,7 @@ pub record IsFresh (w : ℕ) (device : Device) (t : Table) : Type 0 where
   pub within : w < t.geometry.blocks
   pub open_block : t.open_block ≡ Some w
   pub good : (t.entry w).bad ≡ false
-  pub unkept : (t.entry w).kept ≡ 0
+  pub uncommitted : (t.entry w).committed ≡ 0
   pub next : (t.entry w).next ≡ 0
   pub older : device.honest ≡ true → (o c : ℕ) (s : Spot) → o ≢ check_object → Holds device.flash o c s → s.tag.seq < (t.entry w).seq
   pub power : device.gone ≡ false

@@ -17,7 +17,7 @@ pub record IsBlank (t : Table) (b : ℕ) : Type 0 where
 -- as far as the table knows nothing was programmed in the block since it was erased, and no page of it is committed
 pub record IsUnwritten (t : Table) (b : ℕ) : Type 0 where
   pub next : (t.entry b).next ≡ 0
-  pub kept : (t.entry b).kept ≡ 0
+  pub committed : (t.entry b).committed ≡ 0
 
 -- the block is on the device, and none that is blank lies before it
 pub record IsFirstBlank (t : Table) (b : ℕ) : Type 0 where

@@ -1,4 +1,4 @@
--- Why kept pages were not moved, where no block was taken.
+-- Why committed pages were not moved, where no block was taken.
 use Rattle.flash_log.specs.declared.take.TakeFault.{TakeFault}
 use Rattle.flash_log.specs.declared.take.TakeFault.TheVariants as takes
 use Rattle.flash_log.specs.declared.fault.MoveFault.{MoveFault}

@@ -1,7 +1,7 @@
 -- The collection of a block into the next one, which may begin with a summary.
 -- From: this project.
 use Rattle.std.specs.Prelude.{◌≡◌, ◌<◌, ◌≤◌, ℕ, ◌+◌, false, Option, Some, None, Result, Ok, Err}
-use Rattle.block_state.specs.Kept.{bad_count}
+use Rattle.block_state.specs.Committed.{bad_count}
 use Rattle.transactions.specs.Checking.{LogState}
 use Rattle.flash_log.specs.Bills.{Pays, bill_of}
 use Rattle.flash_log.specs.Moving.{IsLeft, LiesIn, WhyNotMoved}
@@ -46,11 +46,11 @@ PaysOpen count old new result =
     Pays (record { changes = most_open count result; each = old.device.geometry.pages + 1; marks = 0; unanswered = left_unanswered result }) old new result
 
 -- What the collection of a block of so many committed pages costs: an erase, their programs and a summary, which leave room for so many more.
-pub record PaysGathering (kept count : ℕ) (old new : LogState) (result : Result (Unit {0}) MoveFault) : Type 0 where
+pub record PaysGathering (committed count : ℕ) (old new : LogState) (result : Result (Unit {0}) MoveFault) : Type 0 where
   pub size : ℕ
   pub most : size ≤ summary_size old.device.geometry
-  pub fits : size + (kept + count) ≤ old.device.geometry.pages
-  pub pays : Pays (bill_of old (kept + size + 1) 0 0) old new result
+  pub fits : size + (committed + count) ≤ old.device.geometry.pages
+  pub pays : Pays (bill_of old (committed + size + 1) 0 0) old new result
 
 -- The open block has room for so many pages. No more blocks are bad than there are to spare, and blocks enough are free.
 pub record IsGathered (count spare : ℕ) (new : LogState) : Type 0 where

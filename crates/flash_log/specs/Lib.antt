@@ -6,7 +6,7 @@ pub mod Standing
 pub mod Lists
 pub mod Moving
 pub mod Copying
-pub mod Telling
+pub mod Reporting
 pub mod Retiring
 pub mod Room
 pub mod Steps

@@ -1,8 +1,8 @@
 -- What contracts say of a log at one moment, and what its calls keep.
 -- From: this project.
-use Rattle.std.specs.Prelude.{◌≡◌, ◌≤◌, ℕ, Option}
+use Rattle.std.specs.Prelude.{◌≡◌, ◌≤◌, ℕ, Option, ◌<◌, false}
 use Rattle.nand_model.specs.declared.nand.Nand.{Ghosts}
-use Rattle.block_state.specs.Kept.{bad_count}
+use Rattle.block_state.specs.Committed.{bad_count}
 use Rattle.block_state.specs.TableOf.{table}
 use Rattle.transactions.specs.Checking.{LogState, log_of}
 use Rattle.flash_log.specs.Snapshots.{Snapshot}
@@ -34,3 +34,8 @@ terms_of log = record { spare = log.spare; first = log.origin.first }
 pub record SameTerms (old new : Terms) : Type 0 where
   pub spare : new.spare ≡ old.spare
   pub first : new.first ≡ old.first
+
+-- the block lies on the device, and is not marked
+pub record IsGoodBlock (block : ℕ) (log : LogState) : Type 0 where
+  pub within : block < log.device.geometry.blocks
+  pub good : (log.table.entry block).bad ≡ false

@@ -4,7 +4,7 @@ use Rattle.std.specs.Prelude.{◌≡◌, true, Option}
 use Rattle.flash_tree.specs.MountableFlash.{BeganMountable}
 use Rattle.flash_tree.specs.Summaries.{AreSummariesRight}
 use Rattle.chunk_index.specs.declared.index.Index.{Index}
-use Rattle.chunk_index.specs.Maps.{kept_pages}
+use Rattle.chunk_index.specs.Maps.{committed_pages}
 use Rattle.transactions.specs.Checking.{LogState}
 use Rattle.flash_log.specs.Erased.{TracksErased}
 use Rattle.flash_log.specs.Snapshots.{Snapshot, remembered_flash}
@@ -14,7 +14,7 @@ use Rattle.flash_log.specs.Standing.{AreFound}
 pub record IsMountable (log : LogState) (x : Index) : Type 0 where
   pub summaries : AreSummariesRight log.device.geometry log.device.flash
   pub erased : TracksErased log.device log.table
-  pub found : AreFound log.device.geometry log.device.flash (kept_pages x)
+  pub found : AreFound log.device.geometry log.device.flash (committed_pages x)
 
 -- of an honest device it is so, where it was so of the flash with which the log began
 abbrev pub IsMountableSince : Option Snapshot → LogState → Index → Type 0

@@ -1,4 +1,4 @@
--- Why no room was made, where kept pages were to be moved.
+-- Why no room was made, where committed pages were to be moved.
 use Rattle.flash_log.specs.declared.fault.MoveFault.{MoveFault}
 use Rattle.flash_log.specs.declared.fault.MoveFault.TheVariants as moves
 use Rattle.flash_log.specs.declared.room_fault.RoomFault.{RoomFault}

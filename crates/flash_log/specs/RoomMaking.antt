@@ -5,7 +5,7 @@ use Rattle.volume_terms.specs.Sizes.{number_end}
 use Rattle.nand_model.specs.Calls.{Device}
 use Rattle.nand_model.specs.Counts.{Costs}
 use Rattle.nand_model.specs.declared.nand.Nand.{Ghosts}
-use Rattle.block_state.specs.Kept.{bad_count, unkept_count, HasSpare, IsScarce}
+use Rattle.block_state.specs.Committed.{bad_count, uncommitted_count, HasSpare, IsScarce}
 use Rattle.block_state.specs.Table.{Table, IsFewest, room}
 use Rattle.chunk_index.specs.declared.index.Index.{Index}
 use Rattle.transactions.specs.Checking.{LogState}
@@ -20,29 +20,29 @@ use Rattle.flash_log.specs.declared.log.Log.{Log}
 use Rattle.flash_log.specs.declared.room_fault.RoomFault.{RoomFault}
 use Rattle.flash_log.specs.declared.room_fault.RoomFault.TheVariants as faults
 
--- With the kept pages spread over all blocks that are not to spare but one, each has room for so many besides.
+-- With the committed pages spread over all blocks that are not to spare but one, each has room for so many besides.
 abbrev pub LeavesRoom : Table → (spare count : ℕ) → Type 0
 LeavesRoom t spare count = (most : ℕ) × (most + count ≤ t.geometry.pages) × HasSpare t spare most
 
--- the block to be collected: the one with the fewest kept pages, which leave room for so many
+-- the block to be collected: the one with the fewest committed pages, which leave room for so many
 pub record IsVictim (count : ℕ) (t : Table) (v : ℕ) : Type 0 where
   pub fewest : IsFewest t t.geometry.blocks v
-  pub leaves : (t.entry v).kept + count ≤ t.geometry.pages
+  pub leaves : (t.entry v).committed + count ≤ t.geometry.pages
 
--- more good blocks are without a kept page than may be needed for retirements, and one for a collection
+-- more good blocks are without a committed page than may be needed for retirements, and one for a collection
 abbrev pub HasMore : Table → (spare : ℕ) → Type 0
-HasMore t spare = 1 + spare < unkept_count t + bad_count t
+HasMore t spare = 1 + spare < uncommitted_count t + bad_count t
 
--- Kept pages lie where they lay; or, where no block without a kept page can be taken, those of the block with the fewest
+-- Committed pages lie where they lay; or, where no block without a committed page can be taken, those of the block with the fewest
 -- were moved.
 abbrev pub MovesFewest : (spare : ℕ) → Table → Index → Index → Type 0
 MovesFewest spare t x x' = (x' ≡ x) ⊎ (IsScarce t spare × ((v : ℕ) × IsFewest t t.geometry.blocks v × MovesOut v x x'))
 
--- What was kept in block v lies in the open block, to which nothing else was written, and v keeps nothing, or it is that block. No more
+-- What was committed in block v lies in the open block, to which nothing else was written, and v keeps nothing, or it is that block. No more
 -- blocks are bad than there are to spare, and blocks enough are free.
 pub record IsCollected (v spare : ℕ) (old new : Table) : Type 0 where
-  pub opened : (w : ℕ) × (new.open_block ≡ Some w) × ((new.entry w).next ≡ (old.entry v).kept)
-  pub left : ((new.entry v).kept ≡ 0) ⊎ (new.open_block ≡ Some v)
+  pub opened : (w : ℕ) × (new.open_block ≡ Some w) × ((new.entry w).next ≡ (old.entry v).committed)
+  pub left : ((new.entry v).committed ≡ 0) ⊎ (new.open_block ≡ Some v)
   pub few : bad_count new ≤ spare
   pub free : HasFreeBlocks new spare
 
@@ -68,7 +68,7 @@ pub record HasRoom (count spare : ℕ) (old new : LogState) : Type 0 where
   pub free : HasFreeBlocks old.table spare → HasFreeBlocks new.table spare
   pub power : old.device.gone ≡ false → new.device.gone ≡ false
 
--- Why no room was made: too much is kept; or as with a move.
+-- Why no room was made: too much is committed; or as with a move.
 abbrev pub WhyNoRoom : (count spare : ℕ) → Device → Table → Table → RoomFault → Type 0
 WhyNoRoom count spare device old new faults.Full = LeavesRoom old spare count → ⊥
 WhyNoRoom count spare device old new faults.Worn = WhyNotMoved spare device new moves.Worn
@@ -101,5 +101,5 @@ CostsUpTo changes old new = Costs changes (old.geometry.pages + 2) 0 old new
 -- blocks are left that can be allocated; else each page that is committed in the block with the fewest is programmed besides.
 pub record PaysRoom (spare : ℕ) (old new : LogState) (result : Result (Unit {0}) RoomFault) : Type 0 where
   pub pays : Pays (bill_of old (old.device.geometry.pages + 1) 0 0) old new result
-  pub fewest : IsScarce old.table spare → (v : ℕ) → IsFewest old.table old.table.geometry.blocks v → CostsUpTo ((old.table.entry v).kept + summary_size old.device.geometry + 1) old.device new.device
+  pub fewest : IsScarce old.table spare → (v : ℕ) → IsFewest old.table old.table.geometry.blocks v → CostsUpTo ((old.table.entry v).committed + summary_size old.device.geometry + 1) old.device new.device
   pub takes : HasMore old.table spare → CostsUpTo (summary_size old.device.geometry + 1) old.device new.device

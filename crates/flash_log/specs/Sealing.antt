@@ -15,7 +15,7 @@ abbrev pub seal_fault : TakeFault → SealFault
 seal_fault takes.Worn = faults.Worn
 seal_fault takes.Gone = faults.Gone
 
--- the device has power, and the checkpoint is there; or the device counted a failure, and no block may have one
+-- the device has power, and the checkpoint is there; or the device had a failure, and no block may have one
 abbrev pub LeavesOne : Index → LogState → LogState → Type 0
 LeavesOne x old new = (new.device.gone ≡ false) × (HasCheckpoint x new ⊎ ((new.table.checkpoint ≡ None) × (old.device.failures < new.device.failures)))
 

@@ -2,10 +2,10 @@
 -- From: this project.
 use Rattle.std.specs.Prelude.{◌≡◌, ◌≤◌, ℕ, true, None, Some}
 use Rattle.nand_model.specs.Calls.{Lasts}
-use Rattle.block_state.specs.Kept.{bad_count, kept_count}
-use Rattle.chunk_index.specs.declared.form.KeptPage.{KeptPage}
+use Rattle.block_state.specs.Committed.{bad_count, committed_count}
+use Rattle.chunk_index.specs.declared.form.CommittedPage.{CommittedPage}
 use Rattle.chunk_index.specs.declared.index.Index.{Index}
-use Rattle.chunk_index.specs.Maps.{kept_pages, present, StaysPrepared, IsReadyKey}
+use Rattle.chunk_index.specs.Maps.{committed_pages, present, StaysPrepared, IsReadyKey}
 use Rattle.transactions.specs.Checking.{LogState}
 use Rattle.transactions.specs.Handing.{HandsOut}
 use Rattle.transactions.specs.Ready.{IsReady}
@@ -19,10 +19,10 @@ StaysReady old new = (o c : ℕ) → IsReadyKey old o c → IsReadyKey new o c
 
 -- Each committed page may lie elsewhere now, in its version, and what is current of its key follows. Of a key without a committed page
 -- nothing changes.
-pub record MovesKept (old new : Index) : Type 0 where
-  pub moved : (o c : ℕ) (p : KeptPage) → kept_pages old o c ≡ Some p → Follows o c p old new
-  pub kept : (o c : ℕ) → kept_pages old o c ≡ None → kept_pages new o c ≡ None
-  pub present : (o c : ℕ) → kept_pages old o c ≡ None → present new o c ≡ present old o c
+pub record MovesCommitted (old new : Index) : Type 0 where
+  pub moved : (o c : ℕ) (p : CommittedPage) → committed_pages old o c ≡ Some p → Follows o c p old new
+  pub committed : (o c : ℕ) → committed_pages old o c ≡ None → committed_pages new o c ≡ None
+  pub present : (o c : ℕ) → committed_pages old o c ≡ None → present new o c ≡ present old o c
   pub prepared : StaysPrepared old new
   pub ready : StaysReady old new
 
@@ -43,9 +43,9 @@ pub record Step (spare : ℕ) (old new : LogState) (x y : Index) : Type 0 where
   pub numbers : HandsOut old.device new.device old.table new.table
   pub geometry : new.table.geometry ≡ old.table.geometry
   pub marks : (b : ℕ) → (old.table.entry b).bad ≡ true → (new.table.entry b).bad ≡ true
-  pub kept_count : kept_count new.table ≡ kept_count old.table
-  pub index : MovesKept x y
-  pub same_data : old.device.honest ≡ true → SameData (kept_pages x) old.device.flash new.device.flash
+  pub committed_count : committed_count new.table ≡ committed_count old.table
+  pub index : MovesCommitted x y
+  pub same_data : old.device.honest ≡ true → SameData (committed_pages x) old.device.flash new.device.flash
   pub free : KeepsFree spare old.device new.device x y
   pub findable : KeepsFindable old.device new.device x y
   pub erased : KeepsErased old.device new.device old.table new.table

@@ -10,11 +10,11 @@ use Rattle.flash_tree.specs.Groups.{HasTag}
 use Rattle.flash_tree.specs.Newest.{Spot, IsNewest}
 use Rattle.flash_tree.specs.Summaries.{Summary, HasSummaryForm, IsWholeSummary, AreSummariesRight}
 use Rattle.flash_tree.specs.Summarizing.{IsFindable, ListsBlock, ListsKey}
-use Rattle.block_state.specs.Kept.{bad_count, unkept_count}
+use Rattle.block_state.specs.Committed.{bad_count, uncommitted_count}
 use Rattle.block_state.specs.Table.{Table}
-use Rattle.chunk_index.specs.declared.form.KeptKey.{KeptKey}
-use Rattle.chunk_index.specs.declared.form.KeptPage.{KeptPage}
-use Rattle.chunk_index.specs.Maps.{KeptMap}
+use Rattle.chunk_index.specs.declared.form.CommittedKey.{CommittedKey}
+use Rattle.chunk_index.specs.declared.form.CommittedPage.{CommittedPage}
+use Rattle.chunk_index.specs.Maps.{CommittedMap}
 use Rattle.transactions.specs.Checking.{LogState}
 use Rattle.transactions.specs.Groups.{next_group}
 use Rattle.flash_log.specs.Bills.{Pays, bill_of}
@@ -33,15 +33,15 @@ use Rattle.flash_log.specs.declared.summary_writing.WrittenBlock.{WrittenBlock}
 -- ---- the list
 
 -- the entry of a page that is committed of a key
-abbrev pub entry_at : (o c : ℕ) → KeptPage → CheckEntry
+abbrev pub entry_at : (o c : ℕ) → CommittedPage → CheckEntry
 entry_at o c p = record { object = o; chunk = c; version = p.version; block = p.block; page = p.page }
 
 -- that of a key with its committed page
-abbrev pub entry_of_key : KeptKey → CheckEntry
+abbrev pub entry_of_key : CommittedKey → CheckEntry
 entry_of_key k = entry_at k.key.object k.key.chunk k.at
 
 -- the committed page of an entry
-abbrev pub page_of : CheckEntry → KeptPage
+abbrev pub page_of : CheckEntry → CommittedPage
 page_of e = record { block = e.block; page = e.page; version = e.version }
 
 -- of two entries the first is of no later page, and of another key
@@ -50,9 +50,9 @@ pub record ComesBefore (e f : CheckEntry) : Type 0 where
   pub key : e.object ≡ f.object → e.chunk ≡ f.chunk → ⊥
 
 -- The list has an entry of each page that is committed in block b, in the order of the pages, and no other.
-pub record ListsEntries (b : ℕ) (m : KeptMap) (entries : List CheckEntry) : Type 0 where
+pub record ListsEntries (b : ℕ) (m : CommittedMap) (entries : List CheckEntry) : Type 0 where
   pub only : (e : CheckEntry) → Contains entries e → (e.block ≡ b) × (m e.object e.chunk ≡ Some (page_of e))
-  pub all : (o c : ℕ) (p : KeptPage) → m o c ≡ Some p → p.block ≡ b → Contains entries (entry_at o c p)
+  pub all : (o c : ℕ) (p : CommittedPage) → m o c ≡ Some p → p.block ≡ b → Contains entries (entry_at o c p)
   pub order : AllPairs ComesBefore entries
 
 -- ---- the block
@@ -61,17 +61,17 @@ pub record ListsEntries (b : ℕ) (m : KeptMap) (entries : List CheckEntry) : Ty
 pub record IsOpenWith (w : WrittenBlock) (t : Table) : Type 0 where
   pub open_block : t.open_block ≡ Some w.block
   pub seq : w.seq ≡ (t.entry w.block).seq
-  pub kept : 1 ≤ (t.entry w.block).kept
+  pub committed : 1 ≤ (t.entry w.block).committed
 
 -- The block is the open one, a fourth of it is written, and pages are committed in it.
 pub record IsWorthIt (b : ℕ) (t : Table) : Type 0 where
   pub open_block : t.open_block ≡ Some b
   pub written : t.geometry.pages / 4 ≤ (t.entry b).next
-  pub kept : 1 ≤ (t.entry b).kept
+  pub committed : 1 ≤ (t.entry b).committed
 
 -- A summary of the block leaves room for so many pages behind it in another, and a number for their group.
 abbrev pub HasRoomBehind : (b count : ℕ) → Table → Type 0
-HasRoomBehind b count t = (ceiling (32 * (1 + (t.entry b).kept)) t.geometry.bytes + count ≤ t.geometry.pages) × (t.next_group + 1 < number_end)
+HasRoomBehind b count t = (ceiling (32 * (1 + (t.entry b).committed)) t.geometry.bytes + count ≤ t.geometry.pages) × (t.next_group + 1 < number_end)
 
 -- The open block begins with a whole summary of block b, as that was allocated with this number.
 pub record BeginsSummarized (b seq : ℕ) (log : LogState) : Type 0 where
@@ -101,7 +101,7 @@ pub record IsListOf (s : Summary) (device : Device) : Type 0 where
 -- If each summary was right, each key is findable still whose newest page lies in a block with committed pages, by the table, and which the
 -- summary lists, if that page lies in the block that it is of.
 abbrev pub KeepsListed : Summary → Table → Device → Device → Type 0
-KeepsListed s t old new = AreSummariesRight old.geometry old.flash → (o c : ℕ) (p : Spot) → IsNewest old.flash o c p → 1 ≤ (t.entry p.block).kept
+KeepsListed s t old new = AreSummariesRight old.geometry old.flash → (o c : ℕ) (p : Spot) → IsNewest old.flash o c p → 1 ≤ (t.entry p.block).committed
     → ListsKey old.flash s o c → IsFindable old.geometry old.flash o c → IsFindable new.geometry new.flash o c
 
 -- What the writing of a summary leaves of a log, wherever it ends: counts, but for the mark of its block; and on an honest device the newest
@@ -116,7 +116,7 @@ pub record Summarizes (s : Summary) (old new : LogState) : Type 0 where
 pub record IsEmptyBlock (b : ℕ) (t : Table) : Type 0 where
   pub within : b < t.geometry.blocks
   pub good : (t.entry b).bad ≡ false
-  pub unkept : (t.entry b).kept ≡ 0
+  pub uncommitted : (t.entry b).committed ≡ 0
 
 -- the device counts a change at most, and no failure and no read
 pub record CostsAMark (old new : Device) : Type 0 where
@@ -165,9 +165,9 @@ pub record PaysSummary (count : ℕ) (old new : LogState) (result : Result Summa
 
 -- No count of committed pages is other, no block with some is marked, and as many good blocks are without one, or bad.
 pub record KeepsHeld (old new : Table) : Type 0 where
-  pub kept : (b : ℕ) → (new.entry b).kept ≡ (old.entry b).kept
-  pub good : (b : ℕ) → 1 ≤ (old.entry b).kept → (old.entry b).bad ≡ false → (new.entry b).bad ≡ false
-  pub unkept : unkept_count new + bad_count new ≡ unkept_count old + bad_count old
+  pub committed : (b : ℕ) → (new.entry b).committed ≡ (old.entry b).committed
+  pub good : (b : ℕ) → 1 ≤ (old.entry b).committed → (old.entry b).bad ≡ false → (new.entry b).bad ≡ false
+  pub uncommitted : uncommitted_count new + bad_count new ≡ uncommitted_count old + bad_count old
 
 -- What the next block costs: an erase and a summary, which leaves room for so many pages; and its failures.
 pub record PaysNext (count : ℕ) (old new : LogState) (result : Result (Unit {0}) MoveFault) : Type 0 where

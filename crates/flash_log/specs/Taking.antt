@@ -4,7 +4,7 @@ use Rattle.std.specs.Prelude.{◌≡◌, ◌⊎◌, ◌<◌, ◌≤◌, ℕ, ◌
 use Rattle.volume_terms.specs.Sizes.{number_end}
 use Rattle.nand_model.specs.Calls.{Device}
 use Rattle.nand_model.specs.declared.nand.Gone.{Gone}
-use Rattle.block_state.specs.Kept.{bad_count, unkept_count}
+use Rattle.block_state.specs.Committed.{bad_count, uncommitted_count}
 use Rattle.block_state.specs.Table.{Table, turn_of}
 use Rattle.flash_tree.specs.Numbering.{AreBelow}
 use Rattle.flash_log.specs.declared.take.TakeFault.{TakeFault}
@@ -12,33 +12,33 @@ use Rattle.flash_log.specs.declared.take.TakeFault.TheVariants as faults
 use Rattle.flash_log.specs.declared.take.Tried.{Tried}
 use Rattle.flash_log.specs.declared.take.Tried.TheVariants as tries
 
--- No kept page lies in the block that may have a checkpoint.
+-- No committed page lies in the block that may have a checkpoint.
 abbrev pub LiesApart : Table → Type 0
-LiesApart t = (c : ℕ) → t.checkpoint ≡ Some c → (t.entry c).kept ≡ 0
+LiesApart t = (c : ℕ) → t.checkpoint ≡ Some c → (t.entry c).committed ≡ 0
 
--- No more blocks than there are to spare are bad, and with these so many are without a kept page as may be needed for
--- retirements, and one for a collection. The block that may have a checkpoint is one of those without a kept page.
-pub record HasUnkept (t : Table) (spare : ℕ) : Type 0 where
+-- No more blocks than there are to spare are bad, and with these so many are without a committed page as may be needed for
+-- retirements, and one for a collection. The block that may have a checkpoint is one of those without a committed page.
+pub record HasUncommitted (t : Table) (spare : ℕ) : Type 0 where
   pub bad : bad_count t ≤ spare
-  pub unkept : 1 + spare ≤ unkept_count t + bad_count t
+  pub uncommitted : 1 + spare ≤ uncommitted_count t + bad_count t
   pub apart : LiesApart t
 
--- The block was good and without a kept page. It is the open one, with all its pages and the next number, which is above
+-- The block was good and without a committed page. It is the open one, with all its pages and the next number, which is above
 -- those of all tags.
 pub record Takes (block : ℕ) (device : Device) (old new : Table) : Type 0 where
   pub within : block < old.geometry.blocks
   pub good : (old.entry block).bad ≡ false
-  pub unkept : (old.entry block).kept ≡ 0
+  pub uncommitted : (old.entry block).committed ≡ 0
   pub open_block : new.open_block ≡ Some block
   pub next : (new.entry block).next ≡ 0
   pub seq : (new.entry block).seq ≡ old.next_seq
   pub next_seq : new.next_seq ≡ old.next_seq + 1
   pub below : device.honest ≡ true → AreBelow device.flash old.next_group old.next_seq
 
--- the block was without a kept page, and is good afterwards
+-- the block was without a committed page, and is good afterwards
 pub record CouldBeTaken (old new : Table) (k : ℕ) : Type 0 where
   pub within : k < old.geometry.blocks
-  pub unkept : (old.entry k).kept ≡ 0
+  pub uncommitted : (old.entry k).committed ≡ 0
   pub good : (new.entry k).bad ≡ false
 
 -- no block that may have a checkpoint could be taken: there was none, or it went bad
@@ -101,3 +101,13 @@ abbrev pub CostsATry : Device → Device → Result Tried Gone → Type 0
 CostsATry old new (Ok (tries.Taken block)) = CostsATake old new
 CostsATry old new (Ok tries.Marked) = new.changes + 2 * old.failures ≤ old.changes + 2 * new.failures
 CostsATry old new (Err gone) = CostsATake old new
+
+-- The block was taken in its turn, and no more blocks are bad than there are to spare.
+pub record IsTaken (block spare : ℕ) (old new : Table) : Type 0 where
+  pub turn : IsItsTurn block old new
+  pub bad : bad_count new ≤ spare
+
+-- what the taking of a block costs, all of it without a read
+pub record PaysTake (old new : Device) : Type 0 where
+  pub changes : CostsATake old new
+  pub reads : new.reads ≡ old.reads

@@ -1,5 +1,5 @@
 pub mod Keeping
-pub mod KeptPages
+pub mod CommittedPages
 pub mod Moves
 pub mod Turns
 pub mod Erased

@@ -1,7 +1,7 @@
 // Whether a checkpoint is due, and how long it is.
 ghost use Rattle.std.specs.Prelude.{◌≡◌, ◌<◌, ◌≤◌, ◌+◌, ◌*◌, ◌^◌, IfSome, IfNone};
 ghost use Rattle.volume_terms.specs.Rounding.{ceiling};
-ghost use Rattle.block_state.specs.Kept.{kept_count};
+ghost use Rattle.block_state.specs.Committed.{committed_count};
 ghost use Rattle.block_state.specs.TableOf.{table};
 ghost use Rattle.flash_log.specs.CheckpointDue.{IsDue, IsExtent, check_pages};
 
@@ -15,14 +15,14 @@ pub(crate) struct Extent {
     pub pages: u32,
 }
 
-/// How many keys are kept, in one pass over the blocks.
-fn kept_count(blocks: &Blocks) -> u64
-    ensures is { result ≡ kept_count (table blocks.now) }
+/// How many keys are committed, in one pass over the blocks.
+fn committed_count(blocks: &Blocks) -> u64
+    ensures is { result ≡ committed_count (table blocks.now) }
     ensures few { result ≤ 2 ^ 44 }
 {
     let mut count = 0;
     for block in 0..blocks.geometry().blocks() {
-        count += u64::from(blocks.entry(block).kept);
+        count += u64::from(blocks.entry(block).committed);
     }
     count
 }
@@ -42,7 +42,7 @@ fn measure(blocks: &Blocks) -> Option<Extent>
     ensures room { IfSome result (λ e. e.pages ≤ (table blocks.now).geometry.pages) }
     ensures none { IfNone result ((table blocks.now).geometry.pages < check_pages (table blocks.now)) }
 {
-    let entries = kept_count(blocks);
+    let entries = committed_count(blocks);
     let pages = pages_for(entries, blocks.geometry().bytes());
     if pages > u64::from(blocks.geometry().pages()) {
         return None;

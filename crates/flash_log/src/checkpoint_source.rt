@@ -10,11 +10,11 @@ use flash_tree::{CHECK_OBJECT, Key};
 use nand_model::{Geometry, Nand};
 use transactions::{LentPage, PageName, PageSource, SourceFault};
 
-/// The pages of a checkpoint of the keys that are kept. The number of their group is their version.
+/// The pages of a checkpoint of the keys that are committed. The number of their group is their version.
 #[derive(Clone, Copy)]
 pub(crate) struct Checks<'a> {
     pub index: &'a Index,
-    /// How many keys are kept.
+    /// How many keys are committed.
     pub entries: u64,
     /// The sizes of the device.
     pub geometry: Geometry,

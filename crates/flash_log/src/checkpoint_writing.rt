@@ -1,7 +1,7 @@
 // The writing of the pages of a checkpoint, and the mark of its block where a program failed.
 ghost use Rattle.std.specs.Prelude.{◌≡◌, ◌<◌, ◌≤◌, ◌+◌, ◌*◌, ℕ, false, None, Some, length, OnOk};
 ghost use Rattle.volume_terms.specs.Sizes.{number_end};
-ghost use Rattle.block_state.specs.Kept.{bad_count};
+ghost use Rattle.block_state.specs.Committed.{bad_count};
 ghost use Rattle.block_state.specs.TableOf.{table};
 ghost use Rattle.transactions.specs.Checking.{log_of};
 ghost use Rattle.nand_model.specs.Counts.{Costs};
@@ -9,7 +9,7 @@ ghost use Rattle.transactions.specs.Ready.{IsReady};
 ghost use Rattle.flash_log.specs.Moving.{AnswersFailures, MarksFailures};
 ghost use Rattle.flash_log.specs.Sealing.{IntoEnds};
 ghost use Rattle.flash_log.specs.CheckpointSource.{CanList};
-ghost use Rattle.flash_log.specs.CheckpointWriting.{ChangesAtMost, Leaves, ListKept, MarkEnds, MayMark, MayTake, WriteEnds, unanswered};
+ghost use Rattle.flash_log.specs.CheckpointWriting.{ChangesAtMost, Leaves, ListCommitted, MarkEnds, MayMark, MayTake, WriteEnds, unanswered};
 
 use crate::checkpoint_source::Checks;
 use crate::seal_fault::SealFault;
@@ -28,11 +28,11 @@ pub(crate) enum Written {
     Failed,
 }
 
-/// Closes a block, of which no page is kept, and notes that it may have a whole checkpoint.
+/// Closes a block, of which no page is committed, and notes that it may have a whole checkpoint.
 fn note(blocks: &mut Blocks, block: u32)
     requires block { block < (table blocks.old).geometry.blocks }
     requires good { ((table blocks.old).entry block).bad ≡ false }
-    requires unkept { ((table blocks.old).entry block).kept ≡ 0 }
+    requires uncommitted { ((table blocks.old).entry block).committed ≡ 0 }
     ensures { table blocks.new ≡ record (table blocks.old) { open_block = None; checkpoint = Some block } }
 {
     blocks.close();
@@ -53,7 +53,7 @@ fn write_checks<N: Nand>(
     requires size { length scratch.old ≡ (N.state device.old).geometry.bytes }
     requires list { CanList checks.now (N.state device.old).geometry (table blocks.old).next_group }
     requires take { MayTake block checks.now.index.now (N.state device.old) (table blocks.old) }
-    ensures leaves { Leaves (ListKept checks.now.index.now (N.state device.old)) block (log_of (N.state device.old) (table blocks.old)) (log_of (N.state device.new) (table blocks.new)) }
+    ensures leaves { Leaves (ListCommitted checks.now.index.now (N.state device.old)) block (log_of (N.state device.old) (table blocks.old)) (log_of (N.state device.new) (table blocks.new)) }
     ensures block { MayMark block (table blocks.new) }
     ensures counts { (bad_count (table blocks.new) ≡ bad_count (table blocks.old)) × ChangesAtMost checks.now.pages (N.state device.old) (N.state device.new) }
     ensures answers { OnOk result ((N.state device.new).failures ≡ (N.state device.old).failures + unanswered result) }
@@ -118,7 +118,7 @@ pub(crate) fn write_into<N: Nand>(
     requires size { length scratch.old ≡ (N.state device.old).geometry.bytes }
     requires list { CanList checks.now (N.state device.old).geometry (table blocks.old).next_group }
     requires take { MayTake block checks.now.index.now (N.state device.old) (table blocks.old) }
-    ensures leaves { Leaves (ListKept checks.now.index.now (N.state device.old)) block (log_of (N.state device.old) (table blocks.old)) (log_of (N.state device.new) (table blocks.new)) }
+    ensures leaves { Leaves (ListCommitted checks.now.index.now (N.state device.old)) block (log_of (N.state device.old) (table blocks.old)) (log_of (N.state device.new) (table blocks.new)) }
     ensures marks { MarksFailures 0 0 (N.state device.old) (N.state device.new) (table blocks.old) (table blocks.new) }
     ensures answers { OnOk result (AnswersFailures 0 0 (N.state device.old) (N.state device.new) (table blocks.old) (table blocks.new)) }
     ensures few { bad_count (table blocks.old) ≤ spare → OnOk result (bad_count (table blocks.new) ≤ spare) }

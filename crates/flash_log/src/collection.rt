@@ -20,7 +20,7 @@ impl<N: Nand> Log<N> {
         requires few { HasReserve self.old }
         requires block { block < (N.state self.old.device).geometry.blocks }
         requires good { ((table self.old.blocks).entry block).bad ≡ false }
-        requires some { 1 ≤ ((table self.old.blocks).entry block).kept }
+        requires some { 1 ≤ ((table self.old.blocks).entry block).committed }
         ensures terms { SameTerms (terms_of self.old) (terms_of self.new) }
         ensures step { Moves self.old self.new }
         ensures out { MovesOut block self.old.index self.new.index }
@@ -29,7 +29,7 @@ impl<N: Nand> Log<N> {
         ensures ends { CollectEnds block self.old.spare (N.state self.new.device) (table self.old.blocks) (table self.new.blocks) result }
     {
         the_counts_are_of_the_keys();
-        match self.move_kept(block)? {
+        match self.move_committed(block)? {
             Moved::Trusted => Ok(()),
             Moved::Suspect(copies) => self.retire(copies),
         }

@@ -1,13 +1,13 @@
 // The copying of listed pages into a block that is taken.
 ghost use Rattle.std.specs.Prelude.{◌≡◌, ◌<◌, ◌≤◌, ◌+◌, ℕ, length, None, OnOk};
 ghost use Rattle.volume_terms.specs.Sizes.{number_end};
-ghost use Rattle.block_state.specs.Kept.{bad_count};
+ghost use Rattle.block_state.specs.Committed.{bad_count};
 ghost use Rattle.block_state.specs.TableOf.{table};
 ghost use Rattle.transactions.specs.Checking.{log_of};
 ghost use Rattle.transactions.specs.Ready.{IsReady};
 ghost use Rattle.flash_log.specs.Bills.{PaysWriting, PaysOneBlock, PaysTarget};
 ghost use Rattle.flash_log.specs.Copying.{MayBeCopied, CopiesPages, CopiesEnd, FewBad, IsClear, StartsAt, as_copied};
-ghost use Rattle.flash_log.specs.Taking.{HasUnkept};
+ghost use Rattle.flash_log.specs.Taking.{HasUncommitted};
 
 use crate::fault::MoveFault;
 use crate::take::take_block;
@@ -80,7 +80,7 @@ fn copy_once<N: Nand>(
 ) -> Result<Copied, MoveFault>
     requires ready { IsReady (N.state device.old) (table blocks.old) }
     requires closed { (table blocks.old).open_block ≡ None }
-    requires some { HasUnkept (table blocks.old) spare }
+    requires some { HasUncommitted (table blocks.old) spare }
     requires size { length scratch.old ≡ (N.state device.old).geometry.bytes }
     requires copies { MayBeCopied (N.state device.old) (table blocks.old) copies.now }
     ensures pages { CopiesPages copies.now (log_of (N.state device.old) (table blocks.old)) (log_of (N.state device.new) (table blocks.new)) result }
@@ -106,7 +106,7 @@ pub(crate) fn copy_listed<N: Nand>(
     spare: u32,
 ) -> Result<Target, MoveFault>
     requires ready { IsReady (N.state device.old) (table blocks.old) }
-    requires some { HasUnkept (table blocks.old) spare }
+    requires some { HasUncommitted (table blocks.old) spare }
     requires size { length scratch.old ≡ (N.state device.old).geometry.bytes }
     requires copies { MayBeCopied (N.state device.old) (table blocks.old) copies.now }
     ensures pages { CopiesPages copies.now (log_of (N.state device.old) (table blocks.old)) (log_of (N.state device.new) (table blocks.new)) (as_copied result) }

@@ -1,12 +1,12 @@
-// Why kept pages were not moved.
+// Why committed pages were not moved.
 use crate::take::TakeFault;
 
-/// Why kept pages were not moved.
+/// Why committed pages were not moved.
 #[derive(Clone, Copy, Debug, PartialEq, Eq)]
 pub enum MoveFault {
     /// More blocks are bad than there are to spare, or no number is left.
     Worn,
-    /// A kept page did not read back under its name.
+    /// A committed page did not read back under its name.
     Lost,
     Gone,
 }

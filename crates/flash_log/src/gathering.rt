@@ -20,20 +20,20 @@ impl<N: Nand> Log<N> {
         requires few { HasReserve self.old }
         requires block { block < (N.state self.old.device).geometry.blocks }
         requires good { ((table self.old.blocks).entry block).bad ≡ false }
-        requires some { 1 ≤ ((table self.old.blocks).entry block).kept }
-        requires fits { ((table self.old.blocks).entry block).kept + count ≤ (table self.old.blocks).geometry.pages }
+        requires some { 1 ≤ ((table self.old.blocks).entry block).committed }
+        requires fits { ((table self.old.blocks).entry block).committed + count ≤ (table self.old.blocks).geometry.pages }
         ensures terms { SameTerms (terms_of self.old) (terms_of self.new) }
         ensures step { Moves self.old self.new }
         ensures out { MovesOut block self.old.index self.new.index }
-        ensures pays { PaysGathering ((table self.old.blocks).entry block).kept count (log_state self.old) (log_state self.new) result }
+        ensures pays { PaysGathering ((table self.old.blocks).entry block).committed count (log_state self.old) (log_state self.new) result }
         ensures ends { GatherEnds count self.old.spare (log_state self.new) result }
     {
         the_counts_are_of_the_keys();
         if self.blocks.next_group() >= NUMBER_END {
             return Err(MoveFault::Worn);
         }
-        let kept = self.blocks.entry(block).kept;
-        self.open_next(kept + count)?;
+        let committed = self.blocks.entry(block).committed;
+        self.open_next(committed + count)?;
         match self.move_behind(block)? {
             Some(Moved::Trusted) => Ok(()),
             Some(Moved::Suspect(copies)) => self.retire(copies),

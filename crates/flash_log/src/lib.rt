@@ -19,6 +19,7 @@ mod next_block;
 mod noted;
 mod origin;
 mod refresh;
+mod reporting;
 mod retirement;
 mod room;
 mod room_fault;
@@ -29,7 +30,6 @@ mod summary_parts;
 mod summary_source;
 mod summary_writing;
 mod take;
-mod telling;
 
 pub use fault::MoveFault;
 pub use law::blocks_are_taken_in_turn;

@@ -1,6 +1,6 @@
-// The move of the kept pages of a block.
+// The move of the committed pages of a block.
 ghost use Rattle.std.specs.Prelude.{◌≡◌, ◌<◌, ◌≤◌, ◌+◌, ℕ, length, false, None, Ok, OnOk};
-ghost use Rattle.block_state.specs.Kept.{bad_count};
+ghost use Rattle.block_state.specs.Committed.{bad_count};
 ghost use Rattle.block_state.specs.TableOf.{table};
 ghost use Rattle.transactions.specs.Checking.{log_of};
 ghost use Rattle.volume_terms.specs.Sizes.{number_end};
@@ -15,13 +15,13 @@ ghost use Rattle.flash_log.specs.SummaryMaking.{HasClear};
 use crate::copying::{Copied, copy_listed, write_copies};
 use crate::fault::MoveFault;
 use crate::log::Log;
-use crate::telling::tell_copies;
+use crate::reporting::report_copies;
 use block_state::Blocks;
 use chunk_index::{Index, PagePlace, the_counts_are_of_the_keys};
 use nand_model::Nand;
 use transactions::CopyOf;
 
-/// Where the kept pages of a block were moved.
+/// Where the committed pages of a block were moved.
 #[derive(Clone, Copy, Debug, PartialEq, Eq)]
 pub enum Moved {
     /// Into the block that is open now.
@@ -30,7 +30,7 @@ pub enum Moved {
     Suspect(u32),
 }
 
-/// Moves the pages that are kept in a good block, which are listed, as one group.
+/// Moves the pages that are committed in a good block, which are listed, as one group.
 fn move_listed<N: Nand>(
     device: &mut N,
     blocks: &mut Blocks,
@@ -57,7 +57,7 @@ fn move_listed<N: Nand>(
         block: target.block,
         page: target.first,
     };
-    tell_copies(index, blocks, copies, place);
+    report_copies(index, blocks, copies, place);
     let suspect = target.suspect;
     if suspect {
         return Ok(Moved::Suspect(target.block));
@@ -99,7 +99,7 @@ fn move_open<N: Nand>(
                 block: target.block,
                 page: target.first,
             };
-            tell_copies(index, blocks, copies, place);
+            report_copies(index, blocks, copies, place);
             if target.suspect {
                 return Ok(Some(Moved::Suspect(target.block)));
             }
@@ -115,15 +115,14 @@ fn move_open<N: Nand>(
 }
 
 impl<N: Nand> Log<N> {
-    ghost use Rattle.flash_log.specs.LogOf.{HasReserve, Moves, SameTerms, log_state, terms_of};
+    ghost use Rattle.flash_log.specs.LogOf.{HasReserve, Moves, SameTerms, log_state, terms_of, IsGoodBlock};
 
     /// Moves all pages that are committed in a good block into a freshly erased free block, as one group. A block in which
     /// that fails is marked, and they are written again into the next, while there are blocks to spare.
-    pub fn move_kept(&mut self, block: u32) -> Result<Moved, MoveFault>
+    pub fn move_committed(&mut self, block: u32) -> Result<Moved, MoveFault>
         requires few { HasReserve self.old }
-        requires block { block < (N.state self.old.device).geometry.blocks }
-        requires good { ((table self.old.blocks).entry block).bad ≡ false }
-        requires some { 1 ≤ ((table self.old.blocks).entry block).kept }
+        requires block { IsGoodBlock block (log_state self.old) }
+        requires some { 1 ≤ ((table self.old.blocks).entry block).committed }
         ensures terms { SameTerms (terms_of self.old) (terms_of self.new) }
         ensures step { Moves self.old self.new }
         ensures out { MovesOut block self.old.index self.new.index }
@@ -150,16 +149,16 @@ impl<N: Nand> Log<N> {
         requires few { HasReserve self.old }
         requires block { block < (N.state self.old.device).geometry.blocks }
         requires good { ((table self.old.blocks).entry block).bad ≡ false }
-        requires some { 1 ≤ ((table self.old.blocks).entry block).kept }
-        requires clear { HasClear ((table self.old.blocks).entry block).kept (N.state self.old.device) (table self.old.blocks) }
+        requires some { 1 ≤ ((table self.old.blocks).entry block).committed }
+        requires clear { HasClear ((table self.old.blocks).entry block).committed (N.state self.old.device) (table self.old.blocks) }
         requires group { (table self.old.blocks).next_group < number_end }
         ensures terms { SameTerms (terms_of self.old) (terms_of self.new) }
         ensures step { Moves self.old self.new }
         ensures out { MovesOut block self.old.index self.new.index }
-        ensures pays { PaysOpen ((table self.old.blocks).entry block).kept (log_state self.old) (log_state self.new) result }
+        ensures pays { PaysOpen ((table self.old.blocks).entry block).committed (log_state self.old) (log_state self.new) result }
         ensures few { OnOk result (HasReserve self.new) }
         ensures none { result ≡ Ok None → self.new.index ≡ self.old.index }
-        ensures ends { (count : ℕ) → HasClear (((table self.old.blocks).entry block).kept + count) (N.state self.old.device) (table self.old.blocks)
+        ensures ends { (count : ℕ) → HasClear (((table self.old.blocks).entry block).committed + count) (N.state self.old.device) (table self.old.blocks)
             → OpenEnds block count self.old.spare (log_state self.old) (log_state self.new) result }
     {
         self.room.list(&self.index, block);

@@ -1,6 +1,6 @@
 // The pages that were written into the open block, as far as they were noted: so a summary of it is made without a pass over the index.
 ghost use Rattle.std.specs.Prelude.{◌≡◌, ◌↔◌, ◌<◌, ◌≤◌, ◌+◌, ℕ, IsTrue, length, vec_capacity};
-ghost use Rattle.chunk_index.specs.Maps.{kept_in, kept_pages};
+ghost use Rattle.chunk_index.specs.Maps.{count_committed_in, committed_pages};
 ghost use Rattle.flash_log.specs.Noted.{AreRising, IsCommittedIn, LiesBehind};
 ghost use Rattle.flash_log.specs.SummaryMaking.{ListsEntries};
 
@@ -12,13 +12,13 @@ use page_tags::CheckEntry;
 
 /// Whether the page of an entry is committed in a block, by the index.
 fn is_committed(index: &Index, block: u32, entry: &CheckEntry) -> bool
-    ensures { IsTrue result ↔ IsCommittedIn block (kept_pages index.now) entry.now }
+    ensures { IsTrue result ↔ IsCommittedIn block (committed_pages index.now) entry.now }
 {
     let key = Key {
         object: entry.object,
         chunk: entry.chunk,
     };
-    match index.kept(key) {
+    match index.committed(key) {
         Some(at) => {
             entry.block == block
                 && at.block == block
@@ -30,50 +30,50 @@ fn is_committed(index: &Index, block: u32, entry: &CheckEntry) -> bool
 }
 
 /// Whether a page lies behind those of the first entries, of which the last lies behind all others.
-fn lies_behind(entries: &[CheckEntry], kept: usize, page: u32) -> bool
-    requires { kept ≤ length entries.now }
-    ensures { IsTrue result ↔ LiesBehind entries.now kept page }
+fn lies_behind(entries: &[CheckEntry], committed: usize, page: u32) -> bool
+    requires { committed ≤ length entries.now }
+    ensures { IsTrue result ↔ LiesBehind entries.now committed page }
 {
-    if kept == 0 {
+    if committed == 0 {
         return true;
     }
-    entries[kept - 1].page < page
+    entries[committed - 1].page < page
 }
 
-/// Moves an entry behind the first ones, so many as are kept, if its page is committed in the block and lies behind theirs, and returns
-/// how many are kept then.
+/// Moves an entry behind the first ones, so many as are committed, if its page is committed in the block and lies behind theirs, and returns
+/// how many are committed then.
 fn keep_entry(
     index: &Index,
     block: u32,
     entries: &mut Vec<CheckEntry>,
     at: usize,
-    kept: usize,
+    committed: usize,
 ) -> usize
     requires at { at < length entries.old.items }
-    requires kept { kept ≤ at }
+    requires committed { committed ≤ at }
     ensures most { result ≤ at + 1 }
     ensures len { length entries.new.items ≡ length entries.old.items }
     ensures capacity { vec_capacity entries.old ≤ vec_capacity entries.new }
-    ensures rising { AreRising block (kept_pages index.now) entries.old.items kept → AreRising block (kept_pages index.now) entries.new.items result }
+    ensures rising { AreRising block (committed_pages index.now) entries.old.items committed → AreRising block (committed_pages index.now) entries.new.items result }
 {
     let entry = entries[at];
-    if is_committed(index, block, &entry) && lies_behind(entries, kept, entry.page) {
-        entries[kept] = entry;
-        return kept + 1;
+    if is_committed(index, block, &entry) && lies_behind(entries, committed, entry.page) {
+        entries[committed] = entry;
+        return committed + 1;
     }
-    kept
+    committed
 }
 
 /// Keeps of entries in the order of their pages those whose page is committed in a block.
 fn keep_committed(index: &Index, block: u32, entries: &mut Vec<CheckEntry>)
-    ensures rising { AreRising block (kept_pages index.now) entries.new.items (length entries.new.items) }
+    ensures rising { AreRising block (committed_pages index.now) entries.new.items (length entries.new.items) }
     ensures capacity { vec_capacity entries.old ≤ vec_capacity entries.new }
 {
-    let mut kept = 0;
+    let mut committed = 0;
     for at in 0..entries.len() {
-        kept = keep_entry(index, block, entries, at, kept);
+        committed = keep_entry(index, block, entries, at, committed);
     }
-    entries.truncate(kept);
+    entries.truncate(committed);
 }
 
 impl MoveRoom {
@@ -141,9 +141,9 @@ impl MoveRoom {
     /// Keeps the pages that were noted and are committed in a block as entries of a summary, and returns whether these are all that are: so
     /// many are committed there.
     pub(crate) fn keep_noted(&mut self, index: &Index, block: u32, count: u32) -> bool
-        requires { count ≡ kept_in index.now block }
-        ensures lists { IsTrue result → ListsEntries block (kept_pages index.now) self.new.entries.items }
-        ensures all { IsTrue result → length self.new.entries.items ≡ kept_in index.now block }
+        requires { count ≡ count_committed_in index.now block }
+        ensures lists { IsTrue result → ListsEntries block (committed_pages index.now) self.new.entries.items }
+        ensures all { IsTrue result → length self.new.entries.items ≡ count_committed_in index.now block }
         ensures same { SameRoom self.old self.new }
     {
         a_list_as_long_as_the_count_is_whole();

@@ -29,7 +29,7 @@ impl<N: Nand> Log<N> {
     {
         the_counts_are_of_the_keys();
         let entry = self.blocks.entry(block);
-        if entry.bad || entry.kept == 0 {
+        if entry.bad || entry.committed == 0 {
             return Ok(());
         }
         self.collect(block)

@@ -11,7 +11,7 @@ ghost use Rattle.transactions.specs.Ready.{IsReady};
 ghost use Rattle.flash_log.specs.Bills.{PaysEmptying, PaysOut, PaysRetirement};
 ghost use Rattle.flash_log.specs.Moving.{MovesOut};
 ghost use Rattle.flash_log.specs.Refreshing.{FillsAnew};
-ghost use Rattle.flash_log.specs.Retiring.{EmptyEnds, MarkedEnds, OneEnds, RetireEnds, WhyNotMarked};
+ghost use Rattle.flash_log.specs.Retiring.{EmptyEnds, MarkedEnds, OneEnds, RetireEnds, WhyNotMarked, MarksAlone};
 
 use crate::fault::MoveFault;
 use crate::log::Log;
@@ -21,7 +21,7 @@ use chunk_index::the_counts_are_of_the_keys;
 use nand_model::Nand;
 use transactions::mark_block;
 
-/// Marks a block without a kept page, where no block that holds some is open besides. More bad blocks than there are to
+/// Marks a block without a committed page, where no block that holds some is open besides. More bad blocks than there are to
 /// spare are the end.
 fn mark_emptied<N: Nand>(
     device: &mut N,
@@ -51,7 +51,7 @@ fn mark_emptied<N: Nand>(
 }
 
 impl<N: Nand> Log<N> {
-    ghost use Rattle.flash_log.specs.LogOf.{HasReserve, Moves, SameTerms, log_state, terms_of};
+    ghost use Rattle.flash_log.specs.LogOf.{HasReserve, Moves, SameTerms, log_state, terms_of, IsGoodBlock};
 
     /// Moves away what is committed in a good block, if anything. Returns the block of a suspect copy.
     fn empty_block(&mut self, block: u32) -> Result<Option<u32>, MoveFault>
@@ -64,16 +64,16 @@ impl<N: Nand> Log<N> {
         ensures out { MovesOut block self.old.index self.new.index }
         ensures pays { PaysEmptying (log_state self.old) (log_state self.new) result }
         // Nothing is moved out of a block that is empty.
-        ensures nothing { ((table self.old.blocks).entry block).kept ≡ 0 → (N.state self.new.device ≡ N.state self.old.device) × (result ≡ Ok None) }
+        ensures nothing { ((table self.old.blocks).entry block).committed ≡ 0 → (N.state self.new.device ≡ N.state self.old.device) × (result ≡ Ok None) }
         // What is committed now in a block that had nothing was written in this call.
         ensures anew { OnOk result (FillsAnew (log_state self.old) (log_state self.new) self.new.index) }
         ensures ends { EmptyEnds block self.old.spare (N.state self.new.device) (table self.old.blocks) (table self.new.blocks) result }
     {
         the_counts_are_of_the_keys();
-        if self.blocks.entry(block).kept == 0 {
+        if self.blocks.entry(block).committed == 0 {
             return Ok(None);
         }
-        match self.move_kept(block)? {
+        match self.move_committed(block)? {
             Moved::Trusted => Ok(None),
             Moved::Suspect(next) => Ok(Some(next)),
         }
@@ -90,8 +90,8 @@ impl<N: Nand> Log<N> {
         ensures step { Moves self.old self.new }
         ensures out { MovesOut block self.old.index self.new.index }
         ensures pays { PaysOut (log_state self.old) (log_state self.new) result }
-        ensures empty { ((table self.old.blocks).entry block).kept ≡ 0 → ((N.state self.new.device).changes ≤ (N.state self.old.device).changes + 1) × IfOk result (λ suspect. suspect ≡ None) }
-        ensures needs_none { ((table self.old.blocks).entry block).kept ≡ 0 → IfErr result (WhyNotMarked self.old.spare (N.state self.new.device) (table self.new.blocks)) }
+        ensures empty { ((table self.old.blocks).entry block).committed ≡ 0 → ((N.state self.new.device).changes ≤ (N.state self.old.device).changes + 1) × IfOk result (λ suspect. suspect ≡ None) }
+        ensures needs_none { ((table self.old.blocks).entry block).committed ≡ 0 → IfErr result (WhyNotMarked self.old.spare (N.state self.new.device) (table self.new.blocks)) }
         // What is committed now in a block that had nothing was written in this call.
         ensures anew { OnOk result (FillsAnew (log_state self.old) (log_state self.new) self.new.index) }
         ensures ends { OneEnds block self.old.spare (N.state self.new.device) (table self.old.blocks) (table self.new.blocks) result }
@@ -114,8 +114,8 @@ impl<N: Nand> Log<N> {
         ensures step { Moves self.old self.new }
         ensures out { MovesOut block self.old.index self.new.index }
         ensures pays { PaysRetirement (log_state self.old) (log_state self.new) result }
-        ensures empty { ((table self.old.blocks).entry block).kept ≡ 0 → (N.state self.new.device).changes ≤ (N.state self.old.device).changes + 1 }
-        ensures needs_none { ((table self.old.blocks).entry block).kept ≡ 0 → IfErr result (WhyNotMarked self.old.spare (N.state self.new.device) (table self.new.blocks)) }
+        ensures empty { ((table self.old.blocks).entry block).committed ≡ 0 → (N.state self.new.device).changes ≤ (N.state self.old.device).changes + 1 }
+        ensures needs_none { ((table self.old.blocks).entry block).committed ≡ 0 → IfErr result (WhyNotMarked self.old.spare (N.state self.new.device) (table self.new.blocks)) }
         // What is committed now in a block that had nothing was written in this call.
         ensures anew { OnOk result (FillsAnew (log_state self.old) (log_state self.new) self.new.index) }
         ensures ends { RetireEnds block self.old.spare (N.state self.new.device) (table self.old.blocks) (table self.new.blocks) result }
@@ -134,16 +134,12 @@ impl<N: Nand> Log<N> {
     pub fn retire(&mut self, block: u32) -> Result<(), MoveFault>
         requires few { HasReserve self.old }
         requires none { (table self.old.blocks).checkpoint ≡ None }
-        requires block { block < (N.state self.old.device).geometry.blocks }
-        requires good { ((table self.old.blocks).entry block).bad ≡ false }
+        requires block { IsGoodBlock block (log_state self.old) }
         ensures terms { SameTerms (terms_of self.old) (terms_of self.new) }
         ensures step { Moves self.old self.new }
         ensures out { MovesOut block self.old.index self.new.index }
         ensures pays { PaysRetirement (log_state self.old) (log_state self.new) result }
-        // An empty block is marked, and nothing else is changed.
-        ensures empty { ((table self.old.blocks).entry block).kept ≡ 0 → (N.state self.new.device).changes ≤ (N.state self.old.device).changes + 1 }
-        // An empty block needs no number.
-        ensures needs_none { ((table self.old.blocks).entry block).kept ≡ 0 → IfErr result (WhyNotMarked self.old.spare (N.state self.new.device) (table self.new.blocks)) }
+        ensures empty { ((table self.old.blocks).entry block).committed ≡ 0 → MarksAlone self.old.spare (log_state self.old) (log_state self.new) result }
         // What is committed now in a block that had nothing was written in this call.
         ensures anew { OnOk result (FillsAnew (log_state self.old) (log_state self.new) self.new.index) }
         ensures ends { RetireEnds block self.old.spare (N.state self.new.device) (table self.old.blocks) (table self.new.blocks) result }

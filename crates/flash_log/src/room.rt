@@ -1,23 +1,23 @@
-// Room for the move of a block's kept pages.
+// Room for the move of a block's committed pages.
 ghost use Rattle.std.specs.Prelude.{◌≡◌, ◌≤◌, ℕ, [], length, map, vec_capacity, IfOk};
 ghost use Rattle.nand_model.specs.declared.geometry.Geometry.{Geometry};
-ghost use Rattle.chunk_index.specs.Maps.{kept_in, kept_pages};
-ghost use Rattle.flash_log.specs.Lists.{ListsKept, copy_of};
+ghost use Rattle.chunk_index.specs.Maps.{count_committed_in, committed_pages};
+ghost use Rattle.flash_log.specs.Lists.{ListsCommitted, copy_of};
 ghost use Rattle.flash_log.specs.SummaryMaking.{ListsEntries, entry_of_key};
 
 use chunk_index::{
-    Index, KeptKey, the_list_of_a_block_is_whole, the_sorted_list_of_a_block_is_whole,
+    CommittedKey, Index, the_list_of_a_block_is_whole, the_sorted_list_of_a_block_is_whole,
 };
 use nand_model::Geometry;
 use page_tags::CheckEntry;
 use std::alloc::{AllocError, Global};
 use transactions::{CopyOf, PageName};
 
-/// Room for the move of a block's kept pages: for the lists of them, and for one page. It is made once, so that no move
+/// Room for the move of a block's committed pages: for the lists of them, and for one page. It is made once, so that no move
 /// takes memory.
 #[derive(Drop)]
 pub struct MoveRoom {
-    keys: Vec<KeptKey>,
+    keys: Vec<CommittedKey>,
     /// The pages of the open block, as far as they were noted; and then those of a summary.
     pub(crate) entries: Vec<CheckEntry>,
     pub(crate) copies: Vec<CopyOf>,
@@ -41,41 +41,41 @@ impl MoveRoom {
         })
     }
 
-    /// Lists the pages that are kept in a block, for their copy.
+    /// Lists the pages that are committed in a block, for their copy.
     pub(crate) fn list(&mut self, index: &Index, block: u32)
-        requires keys { kept_in index.now block ≤ vec_capacity self.old.keys }
-        requires copies { kept_in index.now block ≤ vec_capacity self.old.copies }
-        ensures lists { ListsKept block (kept_pages index.now) self.new.copies.items }
-        ensures count { length self.new.copies.items ≡ kept_in index.now block }
+        requires keys { count_committed_in index.now block ≤ vec_capacity self.old.keys }
+        requires copies { count_committed_in index.now block ≤ vec_capacity self.old.copies }
+        ensures lists { ListsCommitted block (committed_pages index.now) self.new.copies.items }
+        ensures count { length self.new.copies.items ≡ count_committed_in index.now block }
         ensures same { SameRoom self.old self.new }
     {
         the_list_of_a_block_is_whole();
         self.keys.clear();
-        index.kept_in_block(block, &mut self.keys);
+        index.committed_in_block(block, &mut self.keys);
         copy_all(&self.keys, &mut self.copies);
     }
 
     /// Lists the pages that are committed in a block, so many of them, as entries of a summary: those that were noted, where these are
     /// all, and else by a pass over the index.
     pub(crate) fn list_entries(&mut self, index: &Index, block: u32, count: u32)
-        requires counted { count ≡ kept_in index.now block }
-        requires keys { kept_in index.now block ≤ vec_capacity self.old.keys }
-        requires entries { kept_in index.now block ≤ vec_capacity self.old.entries }
-        ensures lists { ListsEntries block (kept_pages index.now) self.new.entries.items }
-        ensures count { length self.new.entries.items ≡ kept_in index.now block }
+        requires totaled { count ≡ count_committed_in index.now block }
+        requires keys { count_committed_in index.now block ≤ vec_capacity self.old.keys }
+        requires entries { count_committed_in index.now block ≤ vec_capacity self.old.entries }
+        ensures lists { ListsEntries block (committed_pages index.now) self.new.entries.items }
+        ensures count { length self.new.entries.items ≡ count_committed_in index.now block }
         ensures same { SameRoom self.old self.new }
     {
         if self.keep_noted(index, block, count) {
             return;
         }
         the_sorted_list_of_a_block_is_whole();
-        index.kept_by_page(block, &mut self.keys);
+        index.committed_by_page(block, &mut self.keys);
         enter_all(&self.keys, &mut self.entries);
     }
 }
 
 /// Lists entries of committed pages.
-fn enter_all(keys: &[KeptKey], entries: &mut Vec<CheckEntry>)
+fn enter_all(keys: &[CommittedKey], entries: &mut Vec<CheckEntry>)
     requires { length keys.now ≤ vec_capacity entries.old }
     ensures entries { entries.new.items ≡ map entry_of_key keys.now }
     ensures capacity { vec_capacity entries.old ≤ vec_capacity entries.new }
@@ -92,21 +92,21 @@ fn enter_all(keys: &[KeptKey], entries: &mut Vec<CheckEntry>)
     }
 }
 
-/// Lists copies of kept pages, under the names of their keys.
-fn copy_all(keys: &[KeptKey], copies: &mut Vec<CopyOf>)
+/// Lists copies of committed pages, under the names of their keys.
+fn copy_all(keys: &[CommittedKey], copies: &mut Vec<CopyOf>)
     requires { length keys.now ≤ vec_capacity copies.old }
     ensures copies { copies.new.items ≡ map copy_of keys.now }
     ensures capacity { vec_capacity copies.old ≤ vec_capacity copies.new }
 {
     copies.clear();
-    for kept in keys {
+    for committed in keys {
         let name = PageName {
-            key: kept.key,
-            version: kept.at.version,
+            key: committed.key,
+            version: committed.at.version,
         };
         let _ = copies.push(CopyOf {
-            block: kept.at.block,
-            page: kept.at.page,
+            block: committed.at.block,
+            page: committed.at.page,
             name,
         });
     }

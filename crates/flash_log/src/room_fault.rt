@@ -8,11 +8,11 @@ use crate::{MoveFault, TakeFault};
 /// Why no room was made.
 #[derive(Clone, Copy, Debug, PartialEq, Eq)]
 pub enum RoomFault {
-    /// No block can be collected: more is kept than there is room for.
+    /// No block can be collected: more is committed than there is room for.
     Full,
     /// More blocks are bad than there are to spare, or no number is left.
     Worn,
-    /// A kept page did not read back under its name.
+    /// A committed page did not read back under its name.
     Lost,
     Gone,
 }

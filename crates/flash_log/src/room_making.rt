@@ -5,7 +5,7 @@ ghost use Rattle.flash_log.specs.LogOf.{HasReserve, Moves, SameTerms, log_state,
 ghost use Rattle.flash_log.specs.SummaryMaking.{BeginsNext};
 ghost use Rattle.flash_log.specs.RoomMaking.{FitsOpen, HasMore, MovesFewest, PaysRoom, RoomEnds, StaysWhole, StaysWhereFull};
 
-use crate::choice::{has_unkept, victim};
+use crate::choice::{has_uncommitted, victim};
 use crate::log::Log;
 use crate::room_fault::RoomFault;
 use chunk_index::the_counts_are_of_the_keys;
@@ -38,7 +38,7 @@ impl<N: Nand> Log<N> {
             return Err(RoomFault::Full);
         }
         the_counts_are_of_the_keys();
-        if has_unkept(&self.blocks, self.spare) {
+        if has_uncommitted(&self.blocks, self.spare) {
             self.open_next(count)?;
             return Ok(());
         }

@@ -14,7 +14,7 @@ use crate::checkpoint_source::Checks;
 use crate::checkpoint_writing::write_into;
 use crate::log::Log;
 use crate::seal_fault::SealFault;
-use chunk_index::{the_counts_add_up_to_the_kept_keys, the_counts_are_of_the_keys};
+use chunk_index::{the_counts_add_up_to_the_committed_keys, the_counts_are_of_the_keys};
 use nand_model::Nand;
 
 impl<N: Nand> Log<N> {
@@ -36,7 +36,7 @@ impl<N: Nand> Log<N> {
         ensures ends { SealEnds self.old.spare self.old.index (log_state self.old) (log_state self.new) result }
     {
         the_counts_are_of_the_keys();
-        the_counts_add_up_to_the_kept_keys();
+        the_counts_add_up_to_the_committed_keys();
         let spare = self.spare;
         let Some(extent) = due(&self.blocks, spare) else {
             return Ok(());

@@ -8,8 +8,8 @@ ghost use Rattle.transactions.specs.Sources.{IsPageName};
 ghost use Rattle.flash_log.specs.SummarySource.{AddsSummaryPages, summary_in, summary_name};
 
 use crate::summary_parts::write_parts;
-use block_summaries::SUMMARY_CHUNK;
 use flash_tree::{CHECK_OBJECT, Key};
+use mount_scan::SUMMARY_CHUNK;
 use nand_model::{Geometry, Nand};
 use page_tags::{CheckEntry, SummaryHead};
 use transactions::{LentPage, PageName, PageSource, SourceFault};

@@ -108,7 +108,7 @@ impl<N: Nand> Log<N> {
     {
         let block = self.blocks.open_block()?;
         let entry = self.blocks.entry(block);
-        if entry.kept == 0 || entry.next < self.blocks.geometry().pages() / 4 {
+        if entry.committed == 0 || entry.next < self.blocks.geometry().pages() / 4 {
             return None;
         }
         Some(WrittenBlock {
@@ -141,7 +141,7 @@ impl<N: Nand> Log<N> {
         }
         let geometry = self.blocks.geometry();
         the_counts_are_of_the_keys();
-        let committed = self.blocks.entry(written.block).kept;
+        let committed = self.blocks.entry(written.block).committed;
         self.room
             .list_entries(&self.index, written.block, committed);
         let Some(source) = SummarySource::new(

@@ -2,13 +2,13 @@
 ghost use Rattle.std.specs.Prelude.{◌≡◌, ◌<◌, ◌≤◌, ◌^◌, ℕ, None, IfOk, OnOk};
 ghost use Rattle.volume_terms.specs.Sizes.{number_end};
 ghost use Rattle.nand_model.specs.Calls.{Lasts};
-ghost use Rattle.block_state.specs.Kept.{bad_count};
+ghost use Rattle.block_state.specs.Committed.{bad_count};
 ghost use Rattle.block_state.specs.TableOf.{table};
 ghost use Rattle.transactions.specs.Handing.{HandsOut};
 ghost use Rattle.transactions.specs.Ready.{IsReady};
 ghost use Rattle.flash_log.specs.Moving.{AnswersFailures};
 ghost use Rattle.flash_log.specs.Passing.{Passes};
-ghost use Rattle.flash_log.specs.Taking.{HasUnkept, IsItsTurn, TakesTurn, TriesOne, AsManyBad, TakeEnds, CostsATry, CostsATake};
+ghost use Rattle.flash_log.specs.Taking.{HasUncommitted, IsItsTurn, TakesTurn, TriesOne, AsManyBad, TakeEnds, CostsATry, CostsATake, IsTaken, PaysTake};
 
 use block_state::Blocks;
 use nand_model::{EraseFault, Gone, Nand};
@@ -35,7 +35,7 @@ enum Tried {
 fn try_block<N: Nand>(device: &mut N, blocks: &mut Blocks) -> Result<Tried, Gone>
     requires ready { IsReady (N.state device.old) (table blocks.old) }
     requires closed { (table blocks.old).open_block ≡ None }
-    requires some { (spare : ℕ) × HasUnkept (table blocks.old) spare }
+    requires some { (spare : ℕ) × HasUncommitted (table blocks.old) spare }
     requires seq { (table blocks.old).next_seq < number_end }
     ensures lasts { Lasts (N.state device.old) (N.state device.new) }
     ensures ready { IsReady (N.state device.new) (table blocks.new) }
@@ -69,17 +69,15 @@ pub fn take_block<N: Nand>(
     spare: u32,
 ) -> Result<u32, TakeFault>
     requires ready { IsReady (N.state device.old) (table blocks.old) }
-    requires some { HasUnkept (table blocks.old) spare }
+    requires some { HasUncommitted (table blocks.old) spare }
     ensures lasts { Lasts (N.state device.old) (N.state device.new) }
     ensures ready { IsReady (N.state device.new) (table blocks.new) }
     ensures numbers { HandsOut (N.state device.old) (N.state device.new) (table blocks.old) (table blocks.new) }
     ensures passes { Passes (N.state device.old) (N.state device.new) (table blocks.old) (table blocks.new) }
     // Where a block is taken, each failure before has its mark.
     ensures answers { OnOk result (AnswersFailures 0 0 (N.state device.old) (N.state device.new) (table blocks.old) (table blocks.new)) }
-    ensures costs { CostsATake (N.state device.old) (N.state device.new) }
-    ensures reads { (N.state device.new).reads ≡ (N.state device.old).reads }
-    ensures few { OnOk result (bad_count (table blocks.new) ≤ spare) }
-    ensures turn { IfOk result (λ block. IsItsTurn block (table blocks.old) (table blocks.new)) }
+    ensures costs { PaysTake (N.state device.old) (N.state device.new) }
+    ensures turn { IfOk result (λ block. IsTaken block spare (table blocks.old) (table blocks.new)) }
     ensures ends { TakeEnds spare (N.state device.new) (table blocks.old) (table blocks.new) result }
 {
     blocks.close();

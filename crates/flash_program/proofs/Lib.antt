@@ -1,6 +1,6 @@
 pub mod Reporting
 pub mod OpenedImages
-pub mod Telling
+pub mod Stating
 pub mod CutEndings
 pub mod Early
 pub mod Stopping

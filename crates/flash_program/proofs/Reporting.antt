@@ -1,4 +1,4 @@
--- What is told of an end.
+-- What is reported of an end.
 use Rattle.std.proofs.Common.{◌≡◌, ◌⊎◌, ℕ, List, [], ◌∷◌, ◌++◌, Option, Result, Ok, Err, inl, inr, refl, codes}
 use Rattle.std.specs.Io.KnownBytes.{Appends}
 use Rattle.line_shell.specs.Replies.{newline}
@@ -12,7 +12,7 @@ pub written_part : {E : Type 0} (old new : Option (List ℕ)) (text : List ℕ) 
 written_part old new text (Ok done) wrote = inl wrote
 written_part old new text (Err fault) wrote = inr wrote
 
--- the line of a fault that no other line told
+-- the line of a fault that no other line reported
 pub line_is : (fault : ProgramFault) → (fault ≡ faults.Torn → ⊥) → error_line (Err fault) ≡ codes "fault " ++ (fault_name fault ++ (newline ∷ []))
 line_is faults.NoMemory other = refl
 line_is faults.BadGeometry other = refl

@@ -74,17 +74,17 @@ module _ {P V : Type 0} (state : P → PagesState) (inside : V → PageVolume P)
     answered (lines.Do command) old new text at (reply, is, served, moment) = called old.volume new.volume _ reply at served
     answered lines.Bad old new text at (bad, same) = subst (λ (s : Between V). Stays s.volume) (sym same) at
 
-    run : (asked : List (List ℕ)) (old new : Between V) (text : List ℕ) → Stays old.volume → Run serves asked old text new → Stays new.volume
+    run : (issued : List (List ℕ)) (old new : Between V) (text : List ℕ) → Stays old.volume → Run serves issued old text new → Stays new.volume
     unfolding Run
     run [] old new text at (none, same) = subst (λ (s : Between V). Stays s.volume) (sym same) at
-    run (line ∷ asked) old new text at (head, rest, middle, is, here, later) = run asked middle new rest (answered (line_of line) old middle head at here) later
+    run (line ∷ issued) old new text at (head, rest, middle, is, here, later) = run issued middle new rest (answered (line_of line) old middle head at here) later
 
     shell_ends : (input left before after : Option (List ℕ)) (old new : V) (ended : Result (Unit {0}) ShellFault) → Stays old → Shell serves input left before after old new ended → Stays new
-    shell_ends input left before after old new (Ok done) at shell = run _ _ _ _ at shell.told.run
-    shell_ends input left before after old new (Err faults.Read) at shell = run _ _ _ _ at shell.told.run
-    shell_ends input left before after old new (Err faults.TooLong) at shell = run _ _ _ _ at shell.told.run
-    shell_ends input left before after old new (Err faults.NoMemory) at shell = run _ _ _ _ at shell.told.run
-    shell_ends input left before after old new (Err faults.Write) at shell = answered _ _ _ _ (run _ _ _ _ at shell.told.run) shell.told.answer
+    shell_ends input left before after old new (Ok done) at shell = run _ _ _ _ at shell.reported.run
+    shell_ends input left before after old new (Err faults.Read) at shell = run _ _ _ _ at shell.reported.run
+    shell_ends input left before after old new (Err faults.TooLong) at shell = run _ _ _ _ at shell.reported.run
+    shell_ends input left before after old new (Err faults.NoMemory) at shell = run _ _ _ _ at shell.reported.run
+    shell_ends input left before after old new (Err faults.Write) at shell = answered _ _ _ _ (run _ _ _ _ at shell.reported.run) shell.reported.answer
 
     unmounts : (last : V) (device : Device) (reply : Reply) → Stays last → (u : IsUnmounted state (inside last) device reply)
         → HasEndedAt u.pages ⊎ ((is_stopped (inside last) ≡ false) × (reply ≡ replies.Done))
@@ -130,7 +130,7 @@ module _ {P V : Type 0} (state : P → PagesState) (inside : V → PageVolume P)
           let changes = reads.changes in
           let least = within.numbers.seqs next.0 greatest in
           omega (arith, seq, rose, is, changes, least)
-      not_ended (inr (inr (inr many))) = let few = within.few_bad in let kept = goes.spare in let is = spare_is in omega (arith, many, few, kept, is)
+      not_ended (inr (inr (inr many))) = let few = within.few_bad in let committed = goes.spare in let is = spare_is in omega (arith, many, few, committed, is)
 
     pub only_a_cut_stops : (before after : Device) (input left written now : Option (List ℕ)) (result : Result (Unit {0}) ProgramFault)
         → (session : Session state inside serves before input left written now after result)
@@ -140,16 +140,16 @@ module _ {P V : Type 0} (state : P → PagesState) (inside : V → PageVolume P)
         let p = state (pages_of (inside session.first)) in
         let reads = read_since before session.mounted.now p.device session.mounted.since (honest, sound.truth) in
         let here = reads.lasts.honest ∙ honest in
-        let told = session.mounted.tree here in
+        let reported = session.mounted.tree here in
         let z = volume_of p in
         let u = session.unmounted in
-        let at_first : Stays p z session.first = record { goes = goes_here p; stands = inr (session.mounted.goes_on, (at_mount told.0, told.1.volume)) } in
+        let at_first : Stays p z session.first = record { goes = goes_here p; stands = inr (session.mounted.goes_on, (at_mount reported.0, reported.1.volume)) } in
         let at_last = shell_ends p z input left written now session.first session.last session.shell at_first session.answered in
         let ends = ends_after p (state (pages_of (inside session.last))) u.pages (ends_going p (state (pages_of (inside session.last))) at_last.goes) u.ends_on in
         let same = left_as_seen u.pages after u.device_is (ends.device.honest ∙ here) in
         elim (unmounts p z session.last after session.reply at_last u) [
           | inl ended ↦
-              absurd (not_ended before p u.pages honest reads (session.mounted.next here) told.0 told.1.answers ends
+              absurd (not_ended before p u.pages honest reads (session.mounted.next here) reported.0 reported.1.answers ends
               spare tree sound.sound (subst (λ (d : Device). StaysWithin spare before d) (sym same) within) (ap (λ (d : Device). d.gone) same ∙ power) ended)
           | inr done ↦ done
         ]

@@ -26,7 +26,7 @@ use Rattle.flash_program.specs.Spaces.{CheckEnds, FormatEnds}
 use Rattle.flash_program.specs.declared.fault.ProgramFault.{ProgramFault}
 use Rattle.flash_program.specs.declared.fault.ProgramFault.TheVariants as faults
 
--- there is no file, or what its bytes hold is no image, for the reason that is told
+-- there is no file, or what its bytes hold is no image, for the reason that is reported
 abbrev pub NotOpened : {F : Type 0} → (F → Option (List ℕ)) → Option F → Result (Unit {0}) ProgramFault → Type 0
 NotOpened known None result = result ≡ Err faults.File
 NotOpened known (Some file) result = (fault : ImageFault) × (result ≡ Err (faults.Image fault)) × Explains (known file) fault
@@ -75,10 +75,10 @@ abbrev pub cut_ended : Result (Unit {0}) CutFault → Result (Unit {0}) ProgramF
 cut_ended (Ok done) = Ok done
 cut_ended (Err fault) = Err (of_cut fault)
 
--- the lines were read as a script, or the fault of that is told
+-- the lines were read as a script, or the fault of that is reported
 abbrev pub ReadsInput : Option (List ℕ) → Option (List ℕ) → Result (Vec Stamped) ProgramFault → Type 0
 ReadsInput input left (Ok script) = ReadsScript input left (Ok script)
-ReadsInput input left (Err told) = (fault : ScriptFault) × ReadsScript input left (Err fault) × (told ≡ of_script fault)
+ReadsInput input left (Err reported) = (fault : ScriptFault) × ReadsScript input left (Err fault) × (reported ≡ of_script fault)
 
 -- the lines were no script, and nothing is written
 abbrev pub NoScript : Option (List ℕ) → Option (List ℕ) → Option (List ℕ) → Option (List ℕ) → Result (Unit {0}) ProgramFault → Type 0
@@ -86,7 +86,7 @@ NoScript input left written now result =
     (fault : ScriptFault) × ReadsScript input left (Err fault) × (result ≡ Err (of_script fault)) × (now ≡ written)
 
 -- The commands of the lines were done in sessions that are cut at calls that the seed draws, on a copy of the flash, and the sessions
--- told; a fault of them has its cause.
+-- reported; a fault of them has its cause.
 abbrev pub ScriptCut : Device → (seed sessions : ℕ) → Option (List ℕ) → Option (List ℕ) → Option (List ℕ) → Option (List ℕ) → Result (Unit {0}) ProgramFault → Type 0
 ScriptCut opened seed sessions input left written now result =
     (copy : Device) × (script : Vec Stamped) × (ended : Result (Unit {0}) CutFault) × PowersUp opened copy × ReadsScript input left (Ok script)
@@ -113,7 +113,7 @@ pub record HasSizes (size pages blocks : ℕ) (made : Device) : Type 0 where
   pub pages_are : made.geometry.pages ≡ pages
   pub blocks_are : made.geometry.blocks ≡ blocks
 
--- a new image: honest, with power, all pages erased, nothing counted
+-- a new image: honest, with power, all pages erased, every count 0
 pub record IsNew (made : Device) : Type 0 where
   pub honest : made.honest ≡ true
   pub has_power : made.gone ≡ false

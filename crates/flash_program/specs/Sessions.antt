@@ -19,11 +19,11 @@ use Rattle.powercut.specs.Living.{IsSoundOn}
 use Rattle.flash_program.specs.declared.fault.ProgramFault.{ProgramFault}
 use Rattle.flash_program.specs.declared.fault.ProgramFault.TheVariants as faults
 
--- what is told of a session, from how its shell ended and from the answer to its unmount: the shell's fault goes first
-abbrev pub told : Result (Unit {0}) ShellFault → Reply → Result (Unit {0}) ProgramFault
-told (Err fault) reply = Err (faults.Shell fault)
-told (Ok done) replies.Done = Ok done
-told (Ok done) reply = Err faults.Unmount
+-- what is reported of a session, from how its shell ended and from the answer to its unmount: the shell's fault goes first
+abbrev pub reported : Result (Unit {0}) ShellFault → Reply → Result (Unit {0}) ProgramFault
+reported (Err fault) reply = Err (faults.Shell fault)
+reported (Ok done) replies.Done = Ok done
+reported (Ok done) reply = Err faults.Unmount
 
 -- The volume of a device was mounted, lines were answered by it, and it was unmounted.
 pub record Session {P V : Type 0} (state : P → PagesState) (inside : V → PageVolume P) (serves : V → Stamped → Reply → V → Type 0)
@@ -35,7 +35,7 @@ pub record Session {P V : Type 0} (state : P → PagesState) (inside : V → Pag
   pub mounted : IsMounted state before (inside first)
   pub answered : Shell serves input left written now first last shell
   pub unmounted : IsUnmounted state (inside last) after reply
-  pub result_is : result ≡ told shell reply
+  pub result_is : result ≡ reported shell reply
 
 -- The volume of a device was not mounted: the device was only read, and nothing was written.
 pub record NotMounted (before : Device) (written now : Option (List ℕ)) (after : Device) (result : Result (Unit {0}) ProgramFault) : Type 0 where

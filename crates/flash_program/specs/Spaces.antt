@@ -1,4 +1,4 @@
--- The space of a volume, as it is told.
+-- The space of a volume, as it is reported.
 use Rattle.std.specs.Prelude.{◌≡◌, ◌⊎◌, ◌↔◌, ◌<◌, ◌≤◌, ℕ, ◌+◌, ◌-◌, Bool, true, false, List, [], ◌∷◌, ◌++◌, Option, Result, Ok, Err, codes, if◌then◌else◌}
 use Rattle.std.specs.Io.KnownBytes.{Appends}
 use Rattle.flash_tree.specs.Mount.{bad_blocks}
@@ -32,20 +32,20 @@ abbrev pub space_text : Reply → Bool → List ℕ
 space_text reply read_only = reply_text reply ++ (if read_only then codes "read-only" ++ (newline ∷ []) else [])
 
 -- the text is out, unless standard output failed
-abbrev pub IsTold : Option (List ℕ) → Option (List ℕ) → List ℕ → Result (Unit {0}) ProgramFault → Type 0
-IsTold old new text (Ok done) = Appends old new text
-IsTold old new text (Err faults.Write) = AppendsPart old new text
-IsTold old new text (Err fault) = ⊥
+abbrev pub IsStated : Option (List ℕ) → Option (List ℕ) → List ℕ → Result (Unit {0}) ProgramFault → Type 0
+IsStated old new text (Ok done) = Appends old new text
+IsStated old new text (Err faults.Write) = AppendsPart old new text
+IsStated old new text (Err fault) = ⊥
 
--- A volume was mounted by all tags, asked for its space, and left as it was: its device was only read.
+-- A volume was mounted by all tags, called for its space, and left as it was: its device was only read.
 pub record Checked {P V : Type 0} (state : P → PagesState) (inside : V → PageVolume P) (serves : V → Stamped → Reply → V → Type 0)
     (before : Device) (written now : Option (List ℕ)) (after : Device) (result : Result (Unit {0}) ProgramFault) : Type 0 where
   pub first : V
   pub last : V
   pub reply : Reply
   pub mounted : IsMountedByScan state before (inside first)
-  pub asked : serves first space_asked reply last
-  pub told : IsTold written now (space_text reply (is_read_only (inside last))) result
+  pub issued : serves first space_asked reply last
+  pub reported : IsStated written now (space_text reply (is_read_only (inside last))) result
   pub reads : OnlyReads before after
 
 -- how the check of a device ends
@@ -54,13 +54,13 @@ abbrev pub CheckEnds : {P V : Type 0} → (P → PagesState) → (V → PageVolu
 CheckEnds state inside serves before written now after result =
     NotMounted before written now after result ⊎ Checked state inside serves before written now after result
 
--- what is told of a new volume, from how its space was told and from the answer to its unmount: the output's fault goes first
+-- what is reported of a new volume, from how its space was reported and from the answer to its unmount: the output's fault goes first
 abbrev pub shown : Result (Unit {0}) ProgramFault → Reply → Result (Unit {0}) ProgramFault
 shown (Err fault) reply = Err fault
 shown (Ok done) replies.Done = Ok done
 shown (Ok done) reply = Err faults.Unmount
 
--- A volume was mounted, asked for its space, and unmounted.
+-- A volume was mounted, called for its space, and unmounted.
 pub record Shown {P V : Type 0} (state : P → PagesState) (inside : V → PageVolume P) (serves : V → Stamped → Reply → V → Type 0)
     (before : Device) (written now : Option (List ℕ)) (after : Device) (result : Result (Unit {0}) ProgramFault) : Type 0 where
   pub first : V
@@ -69,8 +69,8 @@ pub record Shown {P V : Type 0} (state : P → PagesState) (inside : V → PageV
   pub spoken : Result (Unit {0}) ProgramFault
   pub answer : Reply
   pub mounted : IsMounted state before (inside first)
-  pub asked : serves first space_asked reply last
-  pub told : IsTold written now (reply_text reply) spoken
+  pub issued : serves first space_asked reply last
+  pub reported : IsStated written now (reply_text reply) spoken
   pub unmounted : IsUnmounted state (inside last) after answer
   pub result_is : result ≡ shown spoken answer
 

@@ -1,4 +1,4 @@
--- What the program's end tells: its exit status, and the line on standard error.
+-- What the program's end reports: its exit status, and the line on standard error.
 use Rattle.std.specs.Prelude.{◌⊎◌, ℕ, List, [], ◌∷◌, ◌++◌, Option, Result, Ok, Err, codes}
 use Rattle.std.specs.Io.KnownBytes.{Appends}
 use Rattle.exerciser.specs.Lines.{mount_name}
@@ -36,7 +36,7 @@ shell_name shells.TooLong = codes "TooLong"
 shell_name shells.Write = codes "Write"
 shell_name shells.NoMemory = codes "NoMemory"
 
--- the name that is told of a fault
+-- the name that is reported of a fault
 abbrev pub fault_name : ProgramFault → List ℕ
 fault_name faults.NoMemory = codes "NoMemory"
 fault_name faults.BadGeometry = codes "BadGeometry"

@@ -46,7 +46,7 @@ fn perform<F: Read + Write + Seek + Drop, R: BufRead, W: Write>(
 }
 
 /// Does what was chosen over the file of the image, where none stands for one that could not be opened, and answers the exit
-/// status. Without a subcommand the file is not looked at. A fault is told in `err`, on a line.
+/// status. Without a subcommand the file is not looked at. A fault is reported in `err`, on a line.
 pub fn act<F: Read + Write + Seek + Drop, R: BufRead, W: Write, E: Write>(
     alloc: Global,
     chosen: &Chosen,

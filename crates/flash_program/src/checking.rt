@@ -13,7 +13,7 @@ use pages::Pages;
 use std::alloc::Global;
 use std::io::{Read, Write};
 
-/// Tells the space of the volume in an image, and whether it can only be read. The image is not changed: its type has no
+/// Writes the space of the volume in an image, and whether it can only be read. The image is not changed: its type has no
 /// means to be written.
 pub(crate) fn check_image<F: Read + Drop, W: Write>(
     alloc: Global,

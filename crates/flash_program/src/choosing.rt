@@ -64,7 +64,7 @@ fn chosen_in(alloc: Global, name: &str, matches: &ArgMatches<'_>) -> Option<Chos
     }
 }
 
-/// What the words after the program's name say, or the text that is told of them: what is wrong, or the help or version
+/// What the words after the program's name say, or the text that is reported of them: what is wrong, or the help or version
 /// that they ask for.
 pub fn parse<'a, S: AsStr>(alloc: Global, words: &'a [S]) -> Result<ArgMatches<'a>, Error>
     ensures entered { IfOk result (λ matches. subcommand_rows_of matches ≡ subcommand_of program (map S.text words.entry.now)) }

@@ -1,4 +1,4 @@
-// The subcommands, and what help tells of them.
+// The subcommands, and what help reports on them.
 ghost use Rattle.std.specs.Prelude.{IfOk};
 ghost use Rattle.flash_program.specs.Program.{TakesWords, over_image, format_words, cut_words, bare_program, program};
 

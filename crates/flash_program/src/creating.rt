@@ -15,7 +15,7 @@ use posix_calls::format;
 use std::alloc::Global;
 use std::io::{Read, Seek, Write};
 
-/// Formats a device, and tells the space of its volume.
+/// Formats a device, and writes the space of its volume.
 fn format_device<N: Nand, W: Write>(
     alloc: Global,
     device: N,
@@ -31,7 +31,7 @@ fn format_device<N: Nand, W: Write>(
     }
 }
 
-/// Makes an image in an empty file, with `size` bytes in a page, `pages` pages in a block and so many blocks, formats it, and tells the space of its volume.
+/// Makes an image in an empty file, with `size` bytes in a page, `pages` pages in a block and so many blocks, formats it, and writes the space of its volume.
 pub(crate) fn make_image<F: Read + Write + Seek + Drop, W: Write>(
     alloc: Global,
     image: Option<F>,

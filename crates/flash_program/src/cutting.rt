@@ -30,7 +30,7 @@ fn fault_of(fault: CutFault) -> ProgramFault
     }
 }
 
-/// Does the commands of the reader on a copy of the volume in an image, in sessions that are cut, and tells of each what a
+/// Does the commands of the reader on a copy of the volume in an image, in sessions that are cut, and reports on each what a
 /// mount finds. The image is not changed: its type has no means to be written.
 pub(crate) fn cut_image<F: Read + Drop, R: BufRead, W: Write>(
     alloc: Global,

@@ -1,4 +1,4 @@
-// What the program tells of its end.
+// What the program reports on its end.
 ghost use Rattle.std.specs.Prelude.{◌≡◌, ◌++◌, ◌∷◌, [], codes};
 ghost use Rattle.flash_program.specs.Statuses.{status_of, IsReported};
 ghost use Rattle.line_shell.specs.Replies.{newline};
@@ -17,10 +17,10 @@ fn write_fault<E: Write>(err: &mut E, name: &[u8]) -> io::Result<()>
     write_bytes(err, b"\n")
 }
 
-/// Tells a fault on standard error, and gives the status. A torn tree was told before.
+/// Writes a fault on standard error, and gives the status. A torn tree was reported before.
 pub fn report<E: Write>(err: &mut E, ended: Result<(), ProgramFault>) -> u8
     ensures status { result ≡ status_of ended }
-    ensures told { IsReported (E.contents err.old) (E.contents err.new) ended }
+    ensures reported { IsReported (E.contents err.old) (E.contents err.new) ended }
 {
     match ended {
         Ok(()) => 0,

@@ -92,7 +92,7 @@ fn shell_name(fault: ShellFault) -> &'static [u8]
 }
 
 impl ProgramFault {
-    /// The name that is told.
+    /// The name that is reported.
     pub(crate) fn name(self) -> &'static [u8]
         ensures { result.now ≡ fault_name self }
     {

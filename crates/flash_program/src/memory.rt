@@ -1,9 +1,9 @@
-// The program: a flash in memory is formatted, mounted, asked by the lines of a shell and unmounted.
+// The program: a flash in memory is formatted, mounted, called by the lines of a shell and unmounted.
 ghost use Rattle.std.specs.Prelude.{◌≡◌, ◌⊎◌, IfOk, IfErr};
 ghost use Rattle.nand_model.specs.MemoryState.{device};
 ghost use Rattle.posix_calls.specs.Volumes.{over_pages};
 ghost use Rattle.posix_profile.specs.laws.Fresh.{fresh};
-ghost use Rattle.flash_program.specs.Sessions.{told, LinesEnd, IsEarly, IsFresh, ProgramEnds};
+ghost use Rattle.flash_program.specs.Sessions.{reported, LinesEnd, IsEarly, IsFresh, ProgramEnds};
 ghost use Rattle.flash_program.specs.declared.fault.ProgramFault.TheVariants as faults;
 
 use crate::fault::ProgramFault;
@@ -35,9 +35,9 @@ fn new_flash(alloc: Global) -> Result<MemNand, ProgramFault>
     }
 }
 
-/// What is told, from how the shell ended and from the answer to the unmount.
-fn told(ended: Result<(), ShellFault>, reply: &Reply) -> Result<(), ProgramFault>
-    ensures { result ≡ told ended reply.now }
+/// What is reported, from how the shell ended and from the answer to the unmount.
+fn reported(ended: Result<(), ShellFault>, reply: &Reply) -> Result<(), ProgramFault>
+    ensures { result ≡ reported ended reply.now }
 {
     match (ended, reply) {
         (Err(fault), _) => Err(ProgramFault::Shell(fault)),
@@ -64,7 +64,7 @@ pub(crate) fn answer_lines<N: Nand, R: BufRead, W: Write>(
     let mut served = ServedVolume { volume };
     let ended = shell(alloc, reader, writer, &mut served);
     let (device, reply) = served.volume.unmount();
-    (device, told(ended, &reply))
+    (device, reported(ended, &reply))
 }
 
 /// Answers the lines of the reader in the writer, over a new flash in memory.

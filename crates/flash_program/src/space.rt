@@ -2,7 +2,7 @@
 ghost use Rattle.std.specs.Prelude.{◌≡◌};
 ghost use Rattle.nand_model.specs.MemoryState as memory;
 ghost use Rattle.posix_calls.specs.Volumes.{over_pages};
-ghost use Rattle.flash_program.specs.Spaces.{space_asked, space_text, IsTold, CheckEnds, shown, ShowEnds};
+ghost use Rattle.flash_program.specs.Spaces.{space_asked, space_text, IsStated, CheckEnds, shown, ShowEnds};
 ghost use Rattle.line_shell.specs.Written.{Writes};
 
 use crate::fault::ProgramFault;
@@ -16,7 +16,7 @@ use posix_profile::{Command, Reply, Stamped};
 use std::alloc::Global;
 use std::io::{self, Write};
 
-/// Asks a volume for its space.
+/// Issues a volume for its space.
 fn ask_space<V: Serve>(volume: &mut V) -> Reply
     ensures { V.serves volume.old space_asked result volume.new }
 {
@@ -38,8 +38,12 @@ fn write_space<W: Write>(writer: &mut W, reply: &Reply, read_only: bool) -> io::
     }
 }
 
-fn tell_space<W: Write>(writer: &mut W, reply: &Reply, read_only: bool) -> Result<(), ProgramFault>
-    ensures { IsTold (W.contents writer.old) (W.contents writer.new) (space_text reply.now read_only) result }
+fn report_space<W: Write>(
+    writer: &mut W,
+    reply: &Reply,
+    read_only: bool,
+) -> Result<(), ProgramFault>
+    ensures { IsStated (W.contents writer.old) (W.contents writer.new) (space_text reply.now read_only) result }
 {
     match write_space(writer, reply, read_only) {
         Ok(()) => Ok(()),
@@ -47,7 +51,7 @@ fn tell_space<W: Write>(writer: &mut W, reply: &Reply, read_only: bool) -> Resul
     }
 }
 
-/// Mounts the volume of a device by all tags, as the device may come from anywhere, tells its space and whether it can only be read,
+/// Mounts the volume of a device by all tags, as the device may come from anywhere, writes its space and whether it can only be read,
 /// and leaves it as it is.
 pub(crate) fn check_device<W: Write>(
     alloc: Global,
@@ -63,22 +67,22 @@ pub(crate) fn check_device<W: Write>(
     };
     let mut served = ServedVolume { volume };
     let reply = ask_space(&mut served);
-    let told = tell_space(writer, &reply, served.volume.read_only());
-    (served.volume.abandon(), told)
+    let reported = report_space(writer, &reply, served.volume.read_only());
+    (served.volume.abandon(), reported)
 }
 
-/// What a new volume ends with, from how its space was told and from the answer to the unmount.
-fn shown(told: Result<(), ProgramFault>, reply: &Reply) -> Result<(), ProgramFault>
-    ensures { result ≡ shown told reply.now }
+/// What a new volume ends with, from how its space was reported and from the answer to the unmount.
+fn shown(reported: Result<(), ProgramFault>, reply: &Reply) -> Result<(), ProgramFault>
+    ensures { result ≡ shown reported reply.now }
 {
-    match (told, reply) {
+    match (reported, reply) {
         (Err(fault), _) => Err(fault),
         (Ok(()), Reply::Done) => Ok(()),
         (Ok(()), _) => Err(ProgramFault::Unmount),
     }
 }
 
-/// Mounts the volume of a device, tells its space, and unmounts it.
+/// Mounts the volume of a device, writes its space, and unmounts it.
 pub(crate) fn show_device<N: Nand, W: Write>(
     alloc: Global,
     device: N,
@@ -93,7 +97,7 @@ pub(crate) fn show_device<N: Nand, W: Write>(
     };
     let mut served = ServedVolume { volume };
     let reply = ask_space(&mut served);
-    let told = tell_space(writer, &reply, false);
+    let reported = report_space(writer, &reply, false);
     let (device, reply) = served.volume.unmount();
-    (device, shown(told, &reply))
+    (device, shown(reported, &reply))
 }

@@ -19,14 +19,14 @@ use Rattle.flash_tree.specs.Tree.{NewestMap, IsSingle, HasHeader}
 use Rattle.flash_tree.specs.Mount.{IsDamaged, IsNewer, HasNone, HasHeaderFault, Leads, Finds, ListEnd, Wrongly, Wholly, GoesThrough, sizes_of, IsVolume, Answer, NotAVolume, IsWrong, IsTreeOf, Answers}
 use Rattle.flash_tree.proofs.AnswerLaws.{is_page_size}
 use Rattle.flash_tree.specs.laws.Newest.{one_tag}
-use Rattle.flash_tree.specs.laws.NewestTold.{newest_or_none, data_or_none, place_within}
-use Rattle.flash_tree.proofs.FindingExists.{header_told, some_finding}
+use Rattle.flash_tree.specs.laws.NewestReported.{newest_or_none, data_or_none, place_within}
+use Rattle.flash_tree.proofs.FindingExists.{header_reported, some_finding}
 use Rattle.flash_tree.specs.laws.WalkExists.{some_end}
 use Rattle.flash_tree.specs.laws.WholeList.{IsWholeList, whole_list}
 use Rattle.flash_tree.proofs.ContentExists.{content_there}
-use Rattle.flash_tree.proofs.TwiceExists.{twice_told}
+use Rattle.flash_tree.proofs.TwiceExists.{twice_reported}
 use Rattle.flash_tree.proofs.TreeExists.{tree_objects, some_tree}
-use Rattle.flash_tree.proofs.RoomExists.{room_told}
+use Rattle.flash_tree.proofs.RoomExists.{room_reported}
 
 module _ (g : Geometry) (flash : Flash) (within : IsWithin g.pages g.blocks flash) (sized : IsSized g.bytes flash) where
   abbrev m : NewestMap
@@ -38,14 +38,14 @@ module _ (g : Geometry) (flash : Flash) (within : IsWithin g.pages g.blocks flas
   single : IsSingle m
   single = one_newest flash
 
-  told : (o c : ℕ) → ((page : List ℕ) × m o c page) ⊎ HasNone m o c
-  told o c = data_or_none flash o c g.pages g.blocks within
+  reported : (o c : ℕ) → ((page : List ℕ) × m o c page) ⊎ HasNone m o c
+  reported o c = data_or_none flash o c g.pages g.blocks within
 
   fits : (o c : ℕ) (page : List ℕ) → m o c page → (length page ≡ g.bytes) × IsBytes page
   fits o c page h = let s = sized h.spot.block h.spot.page page _ h.stored in (s.0.len, s.0.each)
 
   header : (spare o : ℕ) → HasNone m o 0 ⊎ ((fault : HeaderFault) × HasHeaderFault m o fault) ⊎ ((f : Fields) × HasHeader (z spare) m o f)
-  header spare o = header_told (z spare) (is_page_size g) m single told fits o
+  header spare o = header_reported (z spare) (is_page_size g) m single reported fits o
 
   -- ---- a number for the place of each header
 
@@ -83,16 +83,16 @@ module _ (g : Geometry) (flash : Flash) (within : IsWithin g.pages g.blocks flas
 
   -- of a volume
   volume_answer : (spare : ℕ) → IsVolume g m spare → (a : Answer) × Answers g flash a
-  volume_answer spare volume = go (some_end (z spare) (is_page_size g) m single (λ o. some_finding (z spare) (is_page_size g) m single told fits o)
+  volume_answer spare volume = go (some_end (z spare) (is_page_size g) m single (λ o. some_finding (z spare) (is_page_size g) m single reported fits o)
       (g.blocks * g.pages) place (place_below spare) (place_apart spare) root_number) where
         with_tree : (list : List ℕ) → GoesThrough (z spare) m (root_number ∷ []) 0 (Wholly list) → IsWholeList (z spare) m root_number list → (a : Answer) × Answers g flash a
-        with_tree list on whole = elim (twice_told (z spare) (is_page_size g) m single (header spare) root_number list whole) [
+        with_tree list on whole = elim (twice_reported (z spare) (is_page_size g) m single (header spare) root_number list whole) [
           | inl twice ↦ (IsWrong IsDamaged, inr (inr (inl (spare, volume, refl, list, on, twice))))
           | inr once ↦
               let content = λ (o : ℕ) (named : List ℕ) (finds : Finds (z spare) m o (Leads named)). content_there (z spare) m (λ o c page has. (fits o c page has).1) o named finds in
               let shown = some_tree (z spare) (is_page_size g) m single content volume.fields volume.has volume.kind list whole once in
               let objects = tree_objects (z spare) (is_page_size g) m single content volume.fields volume.has volume.kind list whole once in
-              elim (room_told g flash within spare (header spare) objects) [
+              elim (room_reported g flash within spare (header spare) objects) [
                 | inl room ↦ (IsTreeOf spare objects, (volume, shown, room))
                 | inr full ↦ (IsWrong IsDamaged, inr (inr (inr (spare, volume, refl, objects, shown, full))))
               ]

@@ -4,7 +4,7 @@ use Rattle.std.specs.FinMap as map
 use Rattle.std.proofs.Common.{refl, sym, subst, inl, inr, arith}
 use Rattle.std.proofs.lemmas.Bool.{cases_Bool}
 use Rattle.std.proofs.lemmas.Option.{slice_get-get_or}
-use Rattle.page_tags.specs.Headers.{Fields, IsBytes, greatest_told, is_present}
+use Rattle.page_tags.specs.Headers.{Fields, IsBytes, greatest_recorded, is_present}
 use Rattle.page_tags.specs.Slots.{Entry}
 use Rattle.page_tags.specs.declared.header.ObjectKind.TheVariants as kinds
 use Rattle.volume_terms.specs.Sizes.{Sizes, greatest_length}
@@ -43,7 +43,7 @@ module _ (z : Sizes) (m : NewestMap) (sized : (o c : ℕ) (page : List ℕ) → 
   file_there : (f : Fields) → HasHeader z m o f → f.kind ≡ kinds.File → HasChunks m o f → (x : Object) × IsContent z m o x
   file_there f has kind chunks =
       let l = listed (λ i byte. ByteIs z m o f i byte × (byte < 256)) f.length (λ i lt. byte_there f chunks i) in
-      let fits : f.length ≤ greatest_length z = subst (λ k. f.length ≤ greatest_told z.page_bytes k) kind has.1.length_fits in (
+      let fits : f.length ≤ greatest_length z = subst (λ k. f.length ≤ greatest_recorded z.page_bytes k) kind has.1.length_fits in (
         File f.moment l.0,
         record {
           reads = record {

@@ -1,4 +1,4 @@
--- Of each object it can be told what going through it finds.
+-- Of each object it can be decided what going through it finds.
 use Rattle.std.specs.Prelude.{◌≡◌, ◌≢◌, ◌⊎◌, ◌<◌, ℕ, zero, suc, ◌+◌, ◌-◌, ◌*◌, ◌/◌, ◌%◌, true, false, List, [], ◌∷◌, ◌++◌, length, take, drop, slice_get, map as list_map, Option, Some, None}
 use Rattle.std.specs.Option.{option_map_or}
 use Rattle.std.proofs.Common.{refl, sym, ◌∙◌, ap, subst, inl, inr, arith, length-append}
@@ -17,7 +17,7 @@ use Rattle.posix_profile.specs.State.{Name}
 use Rattle.flash_tree.specs.Tree.{NewestMap, IsSingle, HasHeader, SlotIs}
 use Rattle.flash_tree.specs.Mount.{IsDamaged, wrong_by, HasNone, HasHeaderFault, HasChunks, LacksChunk, AreSlots, LacksSlots, Finding, Stops, Leads, Finds}
 use Rattle.flash_tree.specs.Tree.{IsPageSize}
-use Rattle.flash_tree.specs.laws.NewestExists.{IsTold, all_or_one}
+use Rattle.flash_tree.specs.laws.NewestExists.{IsStated, all_or_one}
 
 -- a list of what there is at each place below n
 pub listed : {A : Type 0} (P : ℕ → A → Type 0) (n : ℕ) → ((i : ℕ) → i < n → (x : A) × P i x)
@@ -35,11 +35,11 @@ listed {A} P (suc n) each =
     )
 
 module _ (z : Sizes) (size : IsPageSize z.page_bytes) (m : NewestMap) (single : IsSingle m)
-    (told : (o c : ℕ) → ((page : List ℕ) × m o c page) ⊎ HasNone m o c)
+    (reported : (o c : ℕ) → ((page : List ℕ) × m o c page) ⊎ HasNone m o c)
     (sized : (o c : ℕ) (page : List ℕ) → m o c page → (length page ≡ z.page_bytes) × IsBytes page) (o : ℕ) where
   -- no header, a fault, or a header
-  pub header_told : HasNone m o 0 ⊎ ((fault : HeaderFault) × HasHeaderFault m o fault) ⊎ ((f : Fields) × HasHeader z m o f)
-  header_told = elim (told o 0) [
+  pub header_reported : HasNone m o 0 ⊎ ((fault : HeaderFault) × HasHeaderFault m o fault) ⊎ ((f : Fields) × HasHeader z m o f)
+  header_reported = elim (reported o 0) [
     | inr none ↦ inl none
     | inl (page, there) ↦
         let fits = sized o 0 page there in
@@ -54,20 +54,20 @@ module _ (z : Sizes) (size : IsPageSize z.page_bytes) (m : NewestMap) (single : 
   abbrev Chunk : Fields → ℕ → Type 0
   Chunk f i = is_present f.bits (1 + i) ≡ true → (page : List ℕ) × m o (1 + i) page
 
-  chunk_told : (f : Fields) (i : ℕ) → IsTold (Chunk f i)
-  chunk_told f i = elim (cases_Bool (is_present f.bits (1 + i))) [
+  chunk_reported : (f : Fields) (i : ℕ) → IsStated (Chunk f i)
+  chunk_reported f i = elim (cases_Bool (is_present f.bits (1 + i))) [
     | inr absent ↦ inl (λ present. let two : true ≡ false = sym present ∙ absent in absurd cc)
-    | inl present ↦ elim (told o (1 + i)) [ inl there ↦ inl (λ p. there) | inr none ↦ inr (λ has. let page = has present in none page.0 page.1) ]
+    | inl present ↦ elim (reported o (1 + i)) [ inl there ↦ inl (λ p. there) | inr none ↦ inr (λ has. let page = has present in none page.0 page.1) ]
   ]
 
   chunk_lacks : (f : Fields) (i : ℕ) → (Chunk f i → ⊥) → LacksChunk m o f
   chunk_lacks f i not = elim (cases_Bool (is_present f.bits (1 + i))) [
     | inr absent ↦ absurd (not (λ present. let two : true ≡ false = sym present ∙ absent in absurd cc))
-    | inl present ↦ elim (told o (1 + i)) [ inl there ↦ absurd (not (λ p. there)) | inr none ↦ (1 + i, omega arith, present, none) ]
+    | inl present ↦ elim (reported o (1 + i)) [ inl there ↦ absurd (not (λ p. there)) | inr none ↦ (1 + i, omega arith, present, none) ]
   ]
 
-  chunks_told : (f : Fields) → IsHeader z.page_bytes f → f.kind ≡ kinds.File → HasChunks m o f ⊎ LacksChunk m o f
-  chunks_told f valid file = elim (all_or_one (Chunk f) (chunk_told f) ((f.length + z.page_bytes - 1) / z.page_bytes)) [
+  chunks_reported : (f : Fields) → IsHeader z.page_bytes f → f.kind ≡ kinds.File → HasChunks m o f ⊎ LacksChunk m o f
+  chunks_reported f valid file = elim (all_or_one (Chunk f) (chunk_reported f) ((f.length + z.page_bytes - 1) / z.page_bytes)) [
     | inr (i, lt, not) ↦ inr (chunk_lacks f i not)
     | inl all ↦ inl (λ c some present.
         let may : MayBeSet z.page_bytes kinds.File f.length c = subst (λ (kind : ObjectKind). MayBeSet z.page_bytes kind f.length c) file (valid.within c some present) in
@@ -81,8 +81,8 @@ module _ (z : Sizes) (size : IsPageSize z.page_bytes) (m : NewestMap) (single : 
   abbrev Slot : ℕ → Type 0
   Slot i = (entry : Entry) × SlotIs z m o i entry
 
-  slot_told : (i : ℕ) → IsTold (Slot i)
-  slot_told i = elim (told o (1 + i / page_slots z)) [
+  slot_reported : (i : ℕ) → IsStated (Slot i)
+  slot_reported i = elim (reported o (1 + i / page_slots z)) [
     | inr none ↦ inr (λ slot. none slot.1.0 slot.1.1)
     | inl (page, there) ↦ elim (tree_slot_or_none (take 272 (drop (272 * (i % page_slots z)) page))) [
       | inl (entry, valid, is) ↦ inl (entry, (page, there, valid, is))
@@ -103,11 +103,11 @@ module _ (z : Sizes) (size : IsPageSize z.page_bytes) (m : NewestMap) (single : 
   abbrev Fresh : List Entry → ℕ → Type 0
   Fresh slots j = (i : ℕ) → i < j → name_at slots i ≢ name_at slots j
 
-  differs : (slots : List Entry) (i j : ℕ) → IsTold (name_at slots i ≢ name_at slots j)
+  differs : (slots : List Entry) (i j : ℕ) → IsStated (name_at slots i ≢ name_at slots j)
   differs slots i j = elim (same_or_not (name_at slots i) (name_at slots j)) [ inl same ↦ inr (λ ne. ne same) | inr ne ↦ inl ne ]
 
-  fresh_told : (slots : List Entry) (j : ℕ) → IsTold (Fresh slots j)
-  fresh_told slots j = elim (all_or_one (λ i. name_at slots i ≢ name_at slots j) (λ i. differs slots i j) j) [
+  fresh_reported : (slots : List Entry) (j : ℕ) → IsStated (Fresh slots j)
+  fresh_reported slots j = elim (all_or_one (λ i. name_at slots i ≢ name_at slots j) (λ i. differs slots i j) j) [
     | inl all ↦ inl all
     | inr (i, lt, not) ↦ inr (λ fresh. not (fresh i lt))
   ]
@@ -118,12 +118,12 @@ module _ (z : Sizes) (size : IsPageSize z.page_bytes) (m : NewestMap) (single : 
     | inr (i, lt, same) ↦ elim (same_or_not (name_at slots i) (name_at slots j)) [ inl is ↦ (i, lt, is) | inr ne ↦ absurd (same ne) ]
   ]
 
-  slots_told : (n : ℕ) → ((slots : List Entry) × AreSlots z m o n slots) ⊎ LacksSlots z m o n
-  slots_told n = elim (all_or_one Slot slot_told n) [
+  slots_reported : (n : ℕ) → ((slots : List Entry) × AreSlots z m o n slots) ⊎ LacksSlots z m o n
+  slots_reported n = elim (all_or_one Slot slot_reported n) [
     | inr (i, lt, not) ↦ inr (inl (i, lt, λ entry slot. not (entry, slot)))
     | inl all ↦
         let l = listed (λ i entry. SlotIs z m o i entry) n all in
-        elim (all_or_one (Fresh l.0) (fresh_told l.0) n) [
+        elim (all_or_one (Fresh l.0) (fresh_reported l.0) n) [
           | inl fresh ↦ inl (
             l.0,
             record {
@@ -150,17 +150,17 @@ module _ (z : Sizes) (size : IsPageSize z.page_bytes) (m : NewestMap) (single : 
 
   -- something is found
   pub some_finding : (finding : Finding) × Finds z m o finding
-  some_finding = elim header_told [
+  some_finding = elim header_reported [
     | inl none ↦ (Stops IsDamaged, inl (refl, none))
     | inr (inl (fault, faulty)) ↦ (Stops (wrong_by fault), inr (inl (fault, faulty, refl)))
     | inr (inr (f, has)) ↦ go f has f.kind refl
   ] where
     go : (f : Fields) → HasHeader z m o f → (kind : ObjectKind) → f.kind ≡ kind → (finding : Finding) × Finds z m o finding
-    go f has kinds.File is = elim (chunks_told f has.1 is) [
+    go f has kinds.File is = elim (chunks_reported f has.1 is) [
       | inl chunks ↦ (Leads [], inl (f, has, is, chunks, refl))
       | inr lacks ↦ (Stops IsDamaged, inr (inr (refl, (f, has, inl (is, lacks)))))
     ]
-    go f has kinds.Directory is = elim (slots_told f.length) [
+    go f has kinds.Directory is = elim (slots_reported f.length) [
       | inl (slots, are) ↦ (Leads (list_map (λ entry. entry.object) slots), inr (f, has, is, slots, are, refl))
       | inr lacks ↦ (Stops IsDamaged, inr (inr (refl, (f, has, inr (is, lacks)))))
     ]

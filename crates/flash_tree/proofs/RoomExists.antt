@@ -1,4 +1,4 @@
--- It can be told whether there is room to go on with a tree.
+-- It can be decided whether there is room to go on with a tree.
 use Rattle.std.specs.Prelude.{◌≡◌, ◌⊎◌, ◌<◌, ◌≤◌, ℕ, zero, suc, ◌+◌, ◌-◌, ◌/◌, true, false, List, [], ◌∷◌, ◌++◌, length, take, slice_get, unwrap_or, Option, Some, None}
 use Rattle.std.specs.FinMap as map
 use Rattle.std.proofs.Common.{refl, sym, ◌∙◌, ap, subst, inl, inr, arith, length-take}
@@ -24,60 +24,60 @@ use Rattle.flash_tree.specs.laws.Finding.{same_header, header_no_fault}
 use Rattle.flash_tree.specs.Tree.{IsPageSize}
 use Rattle.flash_tree.proofs.FindingExists.{listed}
 use Rattle.flash_tree.proofs.AnswerLaws.{is_page_size}
-use Rattle.flash_tree.specs.laws.NewestExists.{IsTold, all_or_one, tag_at}
+use Rattle.flash_tree.specs.laws.NewestExists.{IsStated, all_or_one, tag_at}
 use Rattle.flash_tree.specs.laws.Newest.{one_tag}
-use Rattle.flash_tree.specs.laws.NewestTold.{newest_or_none, place_within}
-use Rattle.flash_tree.proofs.TwiceExists.{both_told, same_told}
+use Rattle.flash_tree.specs.laws.NewestReported.{newest_or_none, place_within}
+use Rattle.flash_tree.proofs.TwiceExists.{both_reported, same_reported}
 use Rattle.flash_tree.specs.laws.WalkExists.{pigeonhole}
 use Rattle.flash_tree.specs.laws.WholeList.{IsOn}
 
--- that one number below n is so can be told
-pub below_told : (P : ℕ → Type 0) → ((i : ℕ) → IsTold (P i)) → (n : ℕ) → IsTold ((i : ℕ) × (i < n) × P i)
-below_told P told n = elim (all_or_one (λ i. P i → ⊥) (λ i. elim (told i) [ inl p ↦ inr (λ not. not p) | inr not ↦ inl not ]) n) [
+-- that one number below n is so can be decided
+pub below_reported : (P : ℕ → Type 0) → ((i : ℕ) → IsStated (P i)) → (n : ℕ) → IsStated ((i : ℕ) × (i < n) × P i)
+below_reported P reported n = elim (all_or_one (λ i. P i → ⊥) (λ i. elim (reported i) [ inl p ↦ inr (λ not. not p) | inr not ↦ inl not ]) n) [
   | inl none ↦ inr (λ f. none f.0 f.1 f.2)
-  | inr (i, lt, some) ↦ elim (told i) [ inl p ↦ inl (i, lt, p) | inr not ↦ absurd (some not) ]
+  | inr (i, lt, some) ↦ elim (reported i) [ inl p ↦ inl (i, lt, p) | inr not ↦ absurd (some not) ]
 ]
 
-kind_told : (a b : ObjectKind) → IsTold (a ≡ b)
-kind_told kinds.File kinds.File = inl refl
-kind_told kinds.File kinds.Directory = inr (λ e. cc)
-kind_told kinds.Directory kinds.File = inr (λ e. cc)
-kind_told kinds.Directory kinds.Directory = inl refl
+kind_reported : (a b : ObjectKind) → IsStated (a ≡ b)
+kind_reported kinds.File kinds.File = inl refl
+kind_reported kinds.File kinds.Directory = inr (λ e. cc)
+kind_reported kinds.Directory kinds.File = inr (λ e. cc)
+kind_reported kinds.Directory kinds.Directory = inl refl
 
-at_least_told : (a b : ℕ) → IsTold (a ≤ b)
-at_least_told a b = elim (cases_lt b a) [ inl lt ↦ inr (λ le. omega arith) | inr ge ↦ inl ge ]
+at_least_reported : (a b : ℕ) → IsStated (a ≤ b)
+at_least_reported a b = elim (cases_lt b a) [ inl lt ↦ inr (λ le. omega arith) | inr ge ↦ inl ge ]
 
-present_told : (bits : List ℕ) (c : ℕ) → IsTold (is_present bits c ≡ true)
-present_told bits c = elim (cases_Bool (is_present bits c)) [ inl is ↦ inl is | inr not ↦ inr (λ is. let two : true ≡ false = sym is ∙ not in cc) ]
+present_reported : (bits : List ℕ) (c : ℕ) → IsStated (is_present bits c ≡ true)
+present_reported bits c = elim (cases_Bool (is_present bits c)) [ inl is ↦ inl is | inr not ↦ inr (λ is. let two : true ≡ false = sym is ∙ not in cc) ]
 
-looks_told : (z : Sizes) (f : Fields) (c : ℕ) → IsTold (LooksUp z f c)
-looks_told z f c = three (same_told c 0)
-    (three_told (kind_told f.kind kinds.File) (at_least_told 1 c) (present_told f.bits c))
-    (both_told _ _ (kind_told f.kind kinds.Directory) (below_told (λ i. c ≡ 1 + i / page_slots z) (λ i. same_told c (1 + i / page_slots z)) f.length)) where
-      three : {P Q R : Type 0} → IsTold P → IsTold Q → IsTold R → IsTold (P ⊎ Q ⊎ R)
+looks_reported : (z : Sizes) (f : Fields) (c : ℕ) → IsStated (LooksUp z f c)
+looks_reported z f c = three (same_reported c 0)
+    (three_reported (kind_reported f.kind kinds.File) (at_least_reported 1 c) (present_reported f.bits c))
+    (both_reported _ _ (kind_reported f.kind kinds.Directory) (below_reported (λ i. c ≡ 1 + i / page_slots z) (λ i. same_reported c (1 + i / page_slots z)) f.length)) where
+      three : {P Q R : Type 0} → IsStated P → IsStated Q → IsStated R → IsStated (P ⊎ Q ⊎ R)
       three (inl p) q r = inl (inl p)
       three (inr np) (inl q) r = inl (inr (inl q))
       three (inr np) (inr nq) (inl r) = inl (inr (inr r))
       three (inr np) (inr nq) (inr nr) = inr (λ x. elim x [ inl p ↦ np p | inr (inl q) ↦ nq q | inr (inr r) ↦ nr r ])
 
-      three_told : {P Q R : Type 0} → IsTold P → IsTold Q → IsTold R → IsTold (P × Q × R)
-      three_told (inl p) (inl q) (inl r) = inl (p, q, r)
-      three_told (inr np) q r = inr (λ x. np x.0)
-      three_told (inl p) (inr nq) r = inr (λ x. nq x.1)
-      three_told (inl p) (inl q) (inr nr) = inr (λ x. nr x.2)
+      three_reported : {P Q R : Type 0} → IsStated P → IsStated Q → IsStated R → IsStated (P × Q × R)
+      three_reported (inl p) (inl q) (inl r) = inl (p, q, r)
+      three_reported (inr np) q r = inr (λ x. np x.0)
+      three_reported (inl p) (inr nq) r = inr (λ x. nq x.1)
+      three_reported (inl p) (inl q) (inr nr) = inr (λ x. nr x.2)
 
 module _ (g : Geometry) (flash : Flash) (within : IsWithin g.pages g.blocks flash) (z : Sizes) (size : IsPageSize z.page_bytes)
     (header : (o : ℕ) → HasNone (HasNewest flash) o 0 ⊎ ((fault : HeaderFault) × HasHeaderFault (HasNewest flash) o fault) ⊎ ((f : Fields) × HasHeader z (HasNewest flash) o f))
     (objects : Objects) where
   -- whether a key is looked up for the tree
-  footprint_told : (o c : ℕ) → IsTold (InFootprint z (HasNewest flash) objects o c)
-  footprint_told o c = go (map.get objects o) refl (header o) where
+  footprint_reported : (o c : ℕ) → IsStated (InFootprint z (HasNewest flash) objects o c)
+  footprint_reported o c = go (map.get objects o) refl (header o) where
     go : (x : Option Object) → map.get objects o ≡ x → (HasNone (HasNewest flash) o 0 ⊎ ((fault : HeaderFault) × HasHeaderFault (HasNewest flash) o fault) ⊎ ((f : Fields) × HasHeader z (HasNewest flash) o f))
-        → IsTold (InFootprint z (HasNewest flash) objects o c)
+        → IsStated (InFootprint z (HasNewest flash) objects o c)
     go None got h = inr (λ i. let two : None ≡ Some i.object = sym got ∙ i.there in cc)
     go (Some x) got (inl none) = inr (λ i. none _ i.has.0)
     go (Some x) got (inr (inl (fault, faulty))) = inr (λ i. header_no_fault z size (HasNewest flash) (one_newest flash) o i.fields fault i.has faulty)
-    go (Some x) got (inr (inr (f, has))) = elim (looks_told z f c) [
+    go (Some x) got (inr (inr (f, has))) = elim (looks_reported z f c) [
       | inl looks ↦ inl (record { object = x; there = got; fields = f; has = has; looks = looks })
       | inr not ↦ inr (λ i. not (subst (λ y. LooksUp z y c) (same_header z size (HasNewest flash) (one_newest flash) o i.fields f i.has has) i.looks))
     ]
@@ -95,14 +95,14 @@ module _ (g : Geometry) (flash : Flash) (within : IsWithin g.pages g.blocks flas
   tag_here : (b p : ℕ) (h : HoldsOne b p) → HasTag flash b p h.spot.tag
   tag_here b p h = subst (λ k. HasTag flash k p h.spot.tag) h.block (subst (λ l. HasTag flash h.spot.block l h.spot.tag) h.page h.newest.holds.has)
 
-  holds_one_told : (b p : ℕ) → IsTold (HoldsOne b p)
-  holds_one_told b p = elim (tag_at flash b p) [
+  holds_one_reported : (b p : ℕ) → IsStated (HoldsOne b p)
+  holds_one_reported b p = elim (tag_at flash b p) [
     | inr none ↦ inr (λ h. none h.spot.tag (tag_here b p h))
     | inl (t, has) ↦ elim (newest_or_none flash t.object t.chunk g.pages g.blocks within) [
       | inr nobody ↦ inr (λ h. nobody h.spot (key_of t has h).holds)
-      | inl (s, newest) ↦ elim (both_told _ _ (same_told s.block b) (same_told s.page p)) [
+      | inl (s, newest) ↦ elim (both_reported _ _ (same_reported s.block b) (same_reported s.page p)) [
         | inr elsewhere ↦ inr (λ h. let at = one_spot flash t.object t.chunk s h.spot newest (key_of t has h) in elsewhere (ap (λ (x : Spot). x.block) at ∙ h.block, ap (λ (x : Spot). x.page) at ∙ h.page))
-        | inl (block, page) ↦ elim (footprint_told t.object t.chunk) [
+        | inl (block, page) ↦ elim (footprint_reported t.object t.chunk) [
           | inl looked ↦ inl (record { object = t.object; chunk = t.chunk; spot = s; looked = looked; newest = newest; block = block; page = page })
           | inr not ↦ inr (λ h.
               let tag : h.spot.tag ≡ t = one_tag flash b p h.spot.tag t (tag_here b p h) has in
@@ -121,12 +121,12 @@ module _ (g : Geometry) (flash : Flash) (within : IsWithin g.pages g.blocks flas
         subst (λ k. IsNewest flash t.object k h.spot) c (subst (λ k. IsNewest flash k h.chunk h.spot) o h.newest)
 
   -- whether a block is free
-  free_told : (b : ℕ) → IsTold (IsFree g flash z objects b)
-  free_told b = elim (cases_lt b g.blocks) [
+  free_reported : (b : ℕ) → IsStated (IsFree g flash z objects b)
+  free_reported b = elim (cases_lt b g.blocks) [
     | inr past ↦ inr (λ free. let lt = free.within in omega arith)
     | inl lt ↦ elim (cases_Bool (flash.bad b)) [
       | inl bad ↦ inr (λ free. let two : true ≡ false = sym bad ∙ free.good in cc)
-      | inr good ↦ elim (below_told (HoldsOne b) (holds_one_told b) g.pages) [
+      | inr good ↦ elim (below_reported (HoldsOne b) (holds_one_reported b) g.pages) [
         | inl (p, few, h) ↦ inr (λ free. free.apart h.object h.chunk h.spot h.looked h.newest h.block)
         | inr none ↦ inl (record {
           within = lt;
@@ -150,8 +150,8 @@ module _ (g : Geometry) (flash : Flash) (within : IsWithin g.pages g.blocks flas
 
   free_below : (n : ℕ) → (bs : List ℕ) × AreFree n bs
   free_below zero = ([], record { each = λ i b is. absurd cc; all = λ b lt free. absurd (omega arith); once = λ i j b is is'. absurd cc })
-  free_below (suc n) = more (free_below n) (free_told n) where
-    more : ((bs : List ℕ) × AreFree n bs) → IsTold (IsFree g flash z objects n) → (bs : List ℕ) × AreFree (suc n) bs
+  free_below (suc n) = more (free_below n) (free_reported n) where
+    more : ((bs : List ℕ) × AreFree n bs) → IsStated (IsFree g flash z objects n) → (bs : List ℕ) × AreFree (suc n) bs
     more (bs, are) (inr not) = (
       bs,
       record {
@@ -191,8 +191,8 @@ module _ (g : Geometry) (flash : Flash) (within : IsWithin g.pages g.blocks flas
   taken (suc n) (x ∷ bs) (suc i) b is = taken n bs i b is
 
   -- whether so many blocks are free
-  pub count_told : (count : ℕ) → IsTold (HasFree g flash z objects count)
-  count_told count = go (free_below g.blocks) where
+  pub count_reported : (count : ℕ) → IsStated (HasFree g flash z objects count)
+  count_reported count = go (free_below g.blocks) where
     -- more free blocks than there are have no places among them
     too_many : (bs : List ℕ) → AreFree g.blocks bs → length bs < count → HasFree g flash z objects count → ⊥
     too_many bs are few h =
@@ -219,7 +219,7 @@ module _ (g : Geometry) (flash : Flash) (within : IsWithin g.pages g.blocks flas
         let place : i ≡ j = h.once i j of'.0 (of.1 ∙ ap Some block) of'.1 in
         omega arith)
 
-    go : ((bs : List ℕ) × AreFree g.blocks bs) → IsTold (HasFree g flash z objects count)
+    go : ((bs : List ℕ) × AreFree g.blocks bs) → IsStated (HasFree g flash z objects count)
     go (bs, are) = elim (cases_lt (length bs) count) [
       | inl few ↦ inr (too_many bs are few)
       | inr enough ↦ inl (record {
@@ -231,14 +231,14 @@ module _ (g : Geometry) (flash : Flash) (within : IsWithin g.pages g.blocks flas
     ]
 
 -- whether there is room for a tree
-pub room_told : (g : Geometry) (flash : Flash) (within : IsWithin g.pages g.blocks flash) (spare : ℕ)
+pub room_reported : (g : Geometry) (flash : Flash) (within : IsWithin g.pages g.blocks flash) (spare : ℕ)
     → ((o : ℕ) → HasNone (HasNewest flash) o 0 ⊎ ((fault : HeaderFault) × HasHeaderFault (HasNewest flash) o fault) ⊎ ((f : Fields) × HasHeader (sizes_of g spare) (HasNewest flash) o f))
-    → (objects : Objects) → IsTold (HasRoom g flash spare objects)
-room_told g flash within spare header objects = elim (at_least_told (charge (sizes_of g spare) objects) (capacity (sizes_of g spare))) [
+    → (objects : Objects) → IsStated (HasRoom g flash spare objects)
+room_reported g flash within spare header objects = elim (at_least_reported (charge (sizes_of g spare) objects) (capacity (sizes_of g spare))) [
   | inr full ↦ inr (λ room. full room.fits)
-  | inl fits ↦ elim (at_least_told (bad_blocks g flash) spare) [
+  | inl fits ↦ elim (at_least_reported (bad_blocks g flash) spare) [
     | inr many ↦ inl (record { fits = fits; free = λ few. absurd (many few) })
-    | inl few ↦ elim (count_told g flash within (sizes_of g spare) (is_page_size g) header objects (1 + spare - bad_blocks g flash)) [
+    | inl few ↦ elim (count_reported g flash within (sizes_of g spare) (is_page_size g) header objects (1 + spare - bad_blocks g flash)) [
       | inl free ↦ inl (record { fits = fits; free = λ few. free })
       | inr not ↦ inr (λ room. not (room.free few))
     ]

@@ -1,4 +1,4 @@
--- Of a list that was gone through wholly it can be told whether a directory is named twice.
+-- Of a list that was gone through wholly it can be decided whether a directory is named twice.
 use Rattle.std.specs.Prelude.{◌≡◌, ◌≢◌, ◌⊎◌, ℕ, zero, suc, List, [], ◌∷◌, length, slice_get, Some, None}
 use Rattle.std.proofs.Common.{refl, sym, ◌∙◌, ap, subst, inl, inr, arith}
 use Rattle.std.proofs.lemmas.Bool.{cases_eq}
@@ -16,19 +16,19 @@ use Rattle.flash_tree.specs.Mount.{HasNone, HasHeaderFault, AreSlots, IsSlotIn, 
 use Rattle.flash_tree.specs.laws.Finding.{same_header, kinds_apart, header_no_fault}
 use Rattle.flash_tree.specs.Tree.{IsPageSize}
 use Rattle.flash_tree.proofs.FindingExists.{listed}
-use Rattle.flash_tree.specs.laws.NewestExists.{IsTold}
+use Rattle.flash_tree.specs.laws.NewestExists.{IsStated}
 use Rattle.flash_tree.specs.laws.WholeList.{IsWholeList, IsThereOn}
 
 -- one of the list is so
 abbrev pub IsFound : {A : Type 0} → List A → (ℕ → A → Type 0) → Type 0
 IsFound {A} xs Q = (i : ℕ) × (x : A) × (slice_get xs i ≡ Some x) × Q i x
 
--- and whether one is can be told, where it can be told of each
-pub found_told : {A : Type 0} (xs : List A) (Q : ℕ → A → Type 0) → ((i : ℕ) (x : A) → IsTold (Q i x)) → IsTold (IsFound xs Q)
-found_told [] Q told = inr (λ f. let two : None ≡ Some f.1 = f.2 in cc)
-found_told {A} (x ∷ xs) Q told = elim (told zero x) [
+-- and whether one is can be decided, where it can be decided of each
+pub found_reported : {A : Type 0} (xs : List A) (Q : ℕ → A → Type 0) → ((i : ℕ) (x : A) → IsStated (Q i x)) → IsStated (IsFound xs Q)
+found_reported [] Q reported = inr (λ f. let two : None ≡ Some f.1 = f.2 in cc)
+found_reported {A} (x ∷ xs) Q reported = elim (reported zero x) [
   | inl is ↦ inl (zero, x, refl, is)
-  | inr not ↦ elim (found_told xs (λ i. Q (suc i)) (λ i. told (suc i))) [
+  | inr not ↦ elim (found_reported xs (λ i. Q (suc i)) (λ i. reported (suc i))) [
     | inl f ↦ inl (suc f.0, f.1, f.2, f.3)
     | inr none ↦ inr (λ f. neither not none f.0 f.1 f.2 f.3)
   ]
@@ -38,23 +38,23 @@ found_told {A} (x ∷ xs) Q told = elim (told zero x) [
   neither not none (suc i) y is q = none (i, y, is, q)
 
 -- both of two facts
-pub both_told : (P Q : Type 0) → IsTold P → IsTold Q → IsTold (P × Q)
-both_told P Q (inl p) (inl q) = inl (p, q)
-both_told P Q (inl p) (inr not) = inr (λ x. not x.1)
-both_told P Q (inr not) q = inr (λ x. not x.0)
+pub both_reported : (P Q : Type 0) → IsStated P → IsStated Q → IsStated (P × Q)
+both_reported P Q (inl p) (inl q) = inl (p, q)
+both_reported P Q (inl p) (inr not) = inr (λ x. not x.1)
+both_reported P Q (inr not) q = inr (λ x. not x.0)
 
 -- numbers that differ
-pub apart_told : (a b : ℕ) → IsTold (a ≢ b)
-apart_told a b = elim (cases_eq a b) [ inl same ↦ inr (λ ne. ne same) | inr ne ↦ inl ne ]
+pub apart_reported : (a b : ℕ) → IsStated (a ≢ b)
+apart_reported a b = elim (cases_eq a b) [ inl same ↦ inr (λ ne. ne same) | inr ne ↦ inl ne ]
 
-pub same_told : (a b : ℕ) → IsTold (a ≡ b)
-same_told a b = elim (cases_eq a b) [ inl same ↦ inl same | inr ne ↦ inr ne ]
+pub same_reported : (a b : ℕ) → IsStated (a ≡ b)
+same_reported a b = elim (cases_eq a b) [ inl same ↦ inl same | inr ne ↦ inr ne ]
 
 -- one or the other
-pub either_told : (P Q : Type 0) → IsTold P → IsTold Q → IsTold (P ⊎ Q)
-either_told P Q (inl p) q = inl (inl p)
-either_told P Q (inr not) (inl q) = inl (inr q)
-either_told P Q (inr not) (inr nor) = inr (λ x. elim x [ inl p ↦ not p | inr q ↦ nor q ])
+pub either_reported : (P Q : Type 0) → IsStated P → IsStated Q → IsStated (P ⊎ Q)
+either_reported P Q (inl p) q = inl (inl p)
+either_reported P Q (inr not) (inl q) = inl (inr q)
+either_reported P Q (inr not) (inr nor) = inr (λ x. elim x [ inl p ↦ not p | inr q ↦ nor q ])
 
 module _ (z : Sizes) (size : IsPageSize z.page_bytes) (m : NewestMap) (single : IsSingle m)
     (header : (o : ℕ) → HasNone m o 0 ⊎ ((fault : HeaderFault) × HasHeaderFault m o fault) ⊎ ((f : Fields) × HasHeader z m o f))
@@ -63,13 +63,13 @@ module _ (z : Sizes) (size : IsPageSize z.page_bytes) (m : NewestMap) (single : 
   abbrev IsDirectoryAt : ℕ → Type 0
   IsDirectoryAt o = (f : Fields) × HasHeader z m o f × (f.kind ≡ kinds.Directory)
 
-  directory_told : (o : ℕ) → IsTold (IsDirectoryAt o)
-  directory_told o = elim (header o) [
+  directory_reported : (o : ℕ) → IsStated (IsDirectoryAt o)
+  directory_reported o = elim (header o) [
     | inl none ↦ inr (λ (f, has, kind). none _ has.0)
     | inr (inl (fault, faulty)) ↦ inr (λ (f, has, kind). header_no_fault z size m single o f fault has faulty)
     | inr (inr (f, has)) ↦ go f has f.kind refl
   ] where
-    go : (f : Fields) → HasHeader z m o f → (kind : ObjectKind) → f.kind ≡ kind → IsTold (IsDirectoryAt o)
+    go : (f : Fields) → HasHeader z m o f → (kind : ObjectKind) → f.kind ≡ kind → IsStated (IsDirectoryAt o)
     go f has kinds.File is = inr (λ (g, has', kind). kinds_apart z size m single o f g has has' is kind)
     go f has kinds.Directory is = inl (f, has, is)
 
@@ -96,9 +96,9 @@ module _ (z : Sizes) (size : IsPageSize z.page_bytes) (m : NewestMap) (single : 
   abbrev IsTwice : Type 0
   IsTwice = IsFound directories.0 (λ k d. IsFound d.1 (λ i a. IsFound directories.0 (λ l e. IsFound e.1 (λ j b. Meets k i a l j b))))
 
-  is_twice_told : IsTold IsTwice
-  is_twice_told = found_told directories.0 _ (λ k d. found_told d.1 _ (λ i a. found_told directories.0 _ (λ l e. found_told e.1 _ (λ j b.
-      both_told _ _ (same_told a.object b.object) (both_told _ _ (either_told _ _ (apart_told k l) (apart_told i j)) (directory_told b.object))))))
+  is_twice_reported : IsStated IsTwice
+  is_twice_reported = found_reported directories.0 _ (λ k d. found_reported d.1 _ (λ i a. found_reported directories.0 _ (λ l e. found_reported e.1 _ (λ j b.
+      both_reported _ _ (same_reported a.object b.object) (both_reported _ _ (either_reported _ _ (apart_reported k l) (apart_reported i j)) (directory_reported b.object))))))
 
   -- a slot among them is one of the list's
   slot_in : (k : ℕ) (d : ℕ × List Entry) → slice_get directories.0 k ≡ Some d → (i : ℕ) (a : Entry) → slice_get d.1 i ≡ Some a → IsSlotIn z m list d.0 i a
@@ -164,5 +164,5 @@ module _ (z : Sizes) (size : IsPageSize z.page_bytes) (m : NewestMap) (single : 
       (t.first.place, d.0, d.1, (t.i, t.entry, d.3, (t.second.place, e.0, e.1, (t.j, t.other_entry, e.3, meets))))
 
   -- whether a directory is named twice
-  pub twice_told : IsTold (NamesTwice z m list)
-  twice_told = elim is_twice_told [ inl is ↦ inl (twice_names is) | inr not ↦ inr (λ t. not (names_twice t)) ]
+  pub twice_reported : IsStated (NamesTwice z m list)
+  twice_reported = elim is_twice_reported [ inl is ↦ inl (twice_names is) | inr not ↦ inr (λ t. not (names_twice t)) ]

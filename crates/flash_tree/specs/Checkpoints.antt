@@ -44,7 +44,7 @@ pub record IsWhole (g : Geometry) (flash : Flash) (c : Checkpoint) : Type 0 wher
 abbrev pub entry_of : Spot → CheckEntry
 entry_of s = record { object = s.tag.object; chunk = s.tag.chunk; version = s.tag.version; block = s.block; page = s.page }
 
--- Each key that is looked up to see the flash's tree has an entry, and no other key has; and each entry tells where the newest
+-- Each key that is looked up to see the flash's tree has an entry, and no other key has; and each entry says where the newest
 -- page of its key lies, in its version.
 pub record ListsTree (g : Geometry) (flash : Flash) (entries : List CheckEntry) : Type 0 where
   pub spare : ℕ

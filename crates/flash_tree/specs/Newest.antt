@@ -56,7 +56,7 @@ pub record Numbers : Type 0 where
   pub group : ℕ
   pub seq : ℕ
 
--- no valid tag of a good block, counted or not, has a number above these
+-- no valid tag of a good block, valid or not, has a number above these
 abbrev pub AreAbove : Flash → Numbers → Type 0
 AreAbove flash n = (b p : ℕ) (t : Tag) → flash.bad b ≡ false → HasTag flash b p t → (t.version ≤ n.version) × (t.group ≤ n.group) × (t.seq ≤ n.seq)
 

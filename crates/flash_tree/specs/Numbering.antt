@@ -5,6 +5,6 @@ use Rattle.nand_model.specs.Flash.{Flash}
 use Rattle.page_tags.specs.declared.tag.Tag.{Tag}
 use Rattle.flash_tree.specs.Groups.{HasTag}
 
--- the versions, groups and seqs of all valid tags of good blocks, counted or not, are below these numbers
+-- the versions, groups and seqs of all valid tags of good blocks, valid or not, are below these numbers
 abbrev pub AreBelow : Flash → (group seq : ℕ) → Type 0
 AreBelow flash group seq = (b p : ℕ) (t : Tag) → flash.bad b ≡ false → HasTag flash b p t → (t.version < group) × (t.group < group) × (t.seq < seq)

@@ -24,7 +24,7 @@ ComesBefore o c k l = (o < k) ⊎ ((o ≡ k) × (c < l))
 abbrev pub IsKeyBefore : Found → Found → Type 0
 IsKeyBefore f g = ComesBefore f.tag.object f.tag.chunk g.tag.object g.tag.chunk
 
--- what a page's tag was told to be: with none the page has no valid tag
+-- what a page's tag was reported to be: with none the page has no valid tag
 abbrev pub TagIs : Flash → ℕ → ℕ → Option Tag → Type 0
 TagIs flash b p None = (t : Tag) → HasTag flash b p t → ⊥
 TagIs flash b p (Some t) = HasTag flash b p t

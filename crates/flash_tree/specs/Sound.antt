@@ -1,4 +1,4 @@
--- The flashes that a volume is kept on.
+-- The flashes that a volume is committed on.
 -- From: this project.
 use Rattle.std.specs.Prelude.{◌≤◌, ℕ}
 use Rattle.nand_model.specs.Flash.{Flash}

@@ -7,7 +7,7 @@ pub mod Finding
 pub mod Free
 pub mod Newest
 pub mod NewestExists
-pub mod NewestTold
+pub mod NewestReported
 pub mod OneTree
 pub mod Order
 pub mod Pairs
@@ -18,7 +18,7 @@ pub mod Shown
 pub mod Slot
 pub mod SlotCounts
 pub mod Summarizing
-pub mod Telling
+pub mod Reporting
 pub mod Tree
 pub mod TreeSlot
 pub mod Truth

@@ -28,7 +28,7 @@ pub fn only_what_counts_is_newest()
     ensures { (f : Flash) (o c : ℕ) (s : Spot) → IsNewest f o c s → IsCounted f s.block s.page }
 {}
 
-/// Whether a page counts for a key is told by its own tag: the group that the tag names is whole, and no other group
+/// Whether a page counts for a key is given by its own tag: the group that the tag names is whole, and no other group
 /// has that page.
 pub fn a_page_counts_by_its_own_tag()
     ensures { (f : Flash) (o c : ℕ) (s : Spot) → Holds f o c s ↔ CountsByTag f o c s }

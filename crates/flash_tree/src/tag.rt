@@ -12,10 +12,10 @@ pub fn tag_at<N: Nand>(device: &mut N, block: u32, page: u32) -> Result<Option<T
     requires block { block < (N.state device.old).geometry.blocks }
     requires page { page < (N.state device.old).geometry.pages }
     ensures reads { OnlyReads (N.state device.old) (N.state device.new) }
-    ensures asked { (N.state device.old).gone ≡ false → (N.state device.new).reads ≡ (N.state device.old).reads + 1 }
+    ensures issued { (N.state device.old).gone ≡ false → (N.state device.new).reads ≡ (N.state device.old).reads + 1 }
     ensures powered { OnOk result ((N.state device.new).gone ≡ false) }
     ensures gone { OnErr result ((N.state device.new).gone ≡ true) }
-    ensures valid { IfOk result (λ told. IfSome told IsTag) }
+    ensures valid { IfOk result (λ reported. IfSome reported IsTag) }
     ensures tag { (N.state device.old).honest ≡ true → IfOk result (TagIs (N.state device.old).flash block page) }
 {
     let mut tag = [0; 48];

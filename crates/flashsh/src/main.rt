@@ -1,4 +1,4 @@
-//! A flash file system, asked line by line: over a flash in memory, which is formatted anew at each start, or over an image.
+//! A flash file system, called line by line: over a flash in memory, which is formatted anew at each start, or over an image.
 //!
 //! Status 0: all was done. 1: the words were not taken. 2: the image, the volume or memory failed. 3: a cut tore the tree. 4:
 //! the lines or standard output failed. With 2 and 4 one line, `fault` and a name, goes to standard error.
@@ -71,7 +71,7 @@ fn open(rt: &HostRuntime, chosen: &Chosen) -> Option<File>
     options_of(chosen).open(rt, path_of(chosen)?).ok()
 }
 
-/// Does what was chosen, between these, gives the status of its end, and tells a fault in `err`.
+/// Does what was chosen, between these, gives the status of its end, and writes a fault in `err`.
 fn perform<R: BufRead, W: Write, E: Write>(
     rt: &HostRuntime,
     chosen: &Chosen,
@@ -99,7 +99,7 @@ fn perform_between_streams(rt: &HostRuntime, chosen: &Chosen) -> u8
     }
 }
 
-/// Tells why the words are not taken, or the help or version that they ask for.
+/// Says why the words are not taken, or the help or version that they ask for.
 fn explain(rt: &HostRuntime, words: &[String]) -> u8
     ensures status { result ≤ 1 }
     ensures help { result ≡ 0 → AskForHelp (map string_bytes words.now) }
@@ -113,7 +113,7 @@ fn explain(rt: &HostRuntime, words: &[String]) -> u8
     }
 }
 
-/// Does what the words choose, or tells why they are not taken, and gives the status.
+/// Does what the words choose, or says why they are not taken, and gives the status.
 fn answer(rt: &HostRuntime, words: &[String]) -> u8
     ensures { EndsWith ⟦<File as Read>⟧.remaining (over_device ⟦<FlashPages<TrustedNand<MemNand>> as Pages>⟧.state) (over_device ⟦<FlashPages<TrustedNand<ImageNand<File>>> as Pages>⟧.state)
         (map string_bytes words.now) result }

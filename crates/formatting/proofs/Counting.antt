@@ -5,7 +5,7 @@ use Rattle.std.proofs.Common.{refl, ◌∙◌, ap, inl, inr, arith}
 use Rattle.std.proofs.lemmas.Bool.{cases_eq, cases_order, ne_eqb}
 use Rattle.std.proofs.Math.Numerals.{add-one}
 use Rattle.std.proofs.lemmas.List.Sums.{sum_by-cons}
-use Rattle.flash_tree.specs.laws.Counting.{counted}
+use Rattle.flash_tree.specs.laws.Counting.{totaled}
 
 -- where no number from a on passes otherwise, as many pass
 count_same : (p q : ℕ → Bool) (a n : ℕ) → ((k : ℕ) → a ≤ k → q k ≡ p k) → count_by q (range_with_len a n) ≡ count_by p (range_with_len a n)
@@ -57,11 +57,11 @@ count_new p q b a (suc n) same was is least most =
       | inr (inr gt) ↦ absurd (omega (arith, gt, least))
     ]
 
--- where all pass, all are counted
+-- where all pass, all are in the count
 pub count_all : (p : ℕ → Bool) (n : ℕ) → ((k : ℕ) → k < n → p k ≡ true) → count_by p (range_with_len 0 n) ≡ n
 count_all p zero all = refl
 count_all p (suc n) all =
-    let more = rw (add-one n) at (counted p n (all n (omega arith))) in
+    let more = rw (add-one n) at (totaled p n (all n (omega arith))) in
     let rest = count_all p n (λ k lt. all k (omega arith)) in
     omega (arith, more, rest)
 

@@ -8,6 +8,8 @@ use Rattle.page_tags.specs.Headers.{header_bytes}
 use Rattle.volume_terms.specs.Sizes.{root_number}
 use Rattle.flash_tree.specs.Checkpoints.{IsTrueFlash}
 use Rattle.flash_tree.specs.Mount.{bad_blocks}
+use Rattle.flash_tree.specs.Sound.{IsSoundFlash}
+use Rattle.posix_profile.specs.laws.Fresh.{fresh}
 use Rattle.flash_tree.specs.MountableFlash.{IsMountableFlash}
 use Rattle.flash_tree.specs.declared.place.Key.{Key}
 use Rattle.flash_tree.specs.declared.place.FreshPage.{FreshPage}
@@ -24,7 +26,7 @@ pub record Keeps (old new : Device) : Type 0 where
   pub bad_pages : old.honest ≡ true → (b p : ℕ) → old.flash.bad b ≡ true → new.flash.page b p ≡ old.flash.page b p
   pub new_bad : bad_blocks old.geometry new.flash ≤ bad_blocks old.geometry old.flash + (new.failures - old.failures)
 
--- each failure that was counted between marked one block: as many more blocks are bad as failures were counted
+-- each failure that there was between marked one block: as many more blocks are bad as there were failures
 abbrev pub EachFailureMarks : Device → Device → Type 0
 EachFailureMarks old new = bad_blocks old.geometry new.flash + old.failures ≡ bad_blocks old.geometry old.flash + new.failures
 
@@ -96,6 +98,13 @@ pub record HoldsOnlyRoot (spare : ℕ) (device : Device) : Type 0 where
 pub record StartsTrue (device : Device) : Type 0 where
   pub checkpoints : IsTrueFlash device.geometry device.flash
   pub mountable : IsMountableFlash device.geometry device.flash
+
+-- What a device is that was formatted with so many spare blocks: its flash is sound and shows the empty root, it holds nothing else,
+-- and a mount may go by it.
+pub record IsFormatted (spare : ℕ) (device : Device) : Type 0 where
+  pub sound : IsSoundFlash device.geometry device.flash spare fresh.objects
+  pub alone : HoldsOnlyRoot spare device
+  pub starts : StartsTrue device
 
 -- what a fault says of the device, where it is neither of the spare blocks nor of memory
 abbrev pub Explains : ℕ → Device → FormatFault → Type 0

@@ -1,9 +1,7 @@
 // The formatting of a device as a volume.
 ghost use Rattle.std.specs.Prelude.{◌≡◌, ◌↔◌, ◌⊎◌, ◌<◌, ◌≤◌, ◌+◌, ◌-◌, true, false, length, IfOk, IfErr, IsErrAnd, OnOk};
 ghost use Rattle.flash_tree.specs.Mount.{bad_blocks};
-ghost use Rattle.flash_tree.specs.Sound.{IsSoundFlash};
-ghost use Rattle.posix_profile.specs.laws.Fresh.{fresh};
-ghost use Rattle.formatting.specs.Formatting.{Keeps, EachFailureMarks, HoldsOnly, HoldsOnlyRoot, StartsTrue, Explains, given_back};
+ghost use Rattle.formatting.specs.Formatting.{Keeps, EachFailureMarks, HoldsOnly, IsFormatted, Explains, given_back};
 
 use crate::clear::clear_all;
 use crate::fault::FormatFault;
@@ -39,9 +37,7 @@ fn lay_out<N: Nand>(device: &mut N, page: &FreshPage, spare: u32) -> Result<(), 
 /// in good blocks is erased; a block that fails is marked bad. What `Spare` and `NoMemory` refuse is left as it is.
 pub fn format<N: Nand>(alloc: Global, device: N, spare: u32) -> Result<N, (N, FormatFault)>
     ensures keeps { Keeps (N.state device) (N.state (given_back result)) }
-    ensures formatted { (N.state device).honest ≡ true → IfOk result (λ d. IsSoundFlash (N.state d).geometry (N.state d).flash spare fresh.objects) }
-    ensures holds { (N.state device).honest ≡ true → IfOk result (λ d. HoldsOnlyRoot spare (N.state d)) }
-    ensures true_flash { (N.state device).honest ≡ true → IfOk result (λ d. StartsTrue (N.state d)) }
+    ensures formatted { (N.state device).honest ≡ true → IfOk result (λ d. IsFormatted spare (N.state d)) }
     ensures few_bad { IfOk result (λ d. bad_blocks (N.state d).geometry (N.state d).flash ≤ spare) }
     ensures has_power { IfOk result (λ d. (N.state d).gone ≡ false) }
     ensures spare { IsErrAnd result (λ back. back.1 ≡ FormatFault.Spare) ↔ ((N.state device).geometry.blocks < spare + 4) }

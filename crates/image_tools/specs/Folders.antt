@@ -2,7 +2,7 @@
 use Rattle.std.specs.Prelude.{◌≡◌, ℕ, ◌++◌, List, [], ◌∷◌, map as list_map, Option, Some, None, option_map, nat_eq}
 use Rattle.std.specs.List.{find}
 use Rattle.posix_profile.specs.State.{Name, Objects}
-use Rattle.plain_volume.specs.Items.{Told, OfFile, OfDirectory, Item, AreRead, root_path}
+use Rattle.plain_volume.specs.Items.{Reported, OfFile, OfDirectory, Item, AreRead, root_path}
 use Rattle.image_tools.specs.declared.folder.Folder.{Folder}
 use Rattle.image_tools.specs.declared.folder.FolderEntry.{FolderEntry}
 use Rattle.image_tools.specs.declared.folder.Node.{Node}
@@ -39,14 +39,14 @@ abbrev pub first_path : List Item → ℕ → Option (List ℕ)
 first_path items number = option_map (λ item. item.path) (find (λ item. nat_eq item.info.object number) items)
 
 -- what an entry holds, by what its object holds: a file with an earlier path is a further name of it
-abbrev pub held_by : Told → Option (List ℕ) → Held
+abbrev pub held_by : Reported → Option (List ℕ) → Held
 held_by (OfFile bytes) None = FileOf bytes
 held_by (OfFile bytes) (Some path) = LinkTo path
 held_by (OfDirectory names) first = DirectoryOf names
 
 -- the entry of an item that comes after these
 abbrev pub entry_after : List Item → Item → Entry
-entry_after earlier item = record { path = item.path; moment = item.info.moment; held = held_by item.told (first_path earlier item.info.object) }
+entry_after earlier item = record { path = item.path; moment = item.info.moment; held = held_by item.reported (first_path earlier item.info.object) }
 
 -- the entries of items that come after these, in turn
 abbrev pub entries_after : List Item → List Item → List Entry

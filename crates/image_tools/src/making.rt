@@ -16,7 +16,7 @@ const PART: usize = 2048;
 const PASSING: &[u8] = b"/a";
 
 /// The reply to a command that is not refused.
-fn asked<V: Answers>(volume: &mut V, moment: u64, command: Command) -> Result<Reply, TreeFault>
+fn issued<V: Answers>(volume: &mut V, moment: u64, command: Command) -> Result<Reply, TreeFault>
     ensures { OnOk result (GoesOn V.shows volume.old volume.new) }
 {
     let reply = ask(volume, moment, command)?;
@@ -27,7 +27,7 @@ fn asked<V: Answers>(volume: &mut V, moment: u64, command: Command) -> Result<Re
 fn change<V: Answers>(volume: &mut V, moment: u64, command: Command) -> Result<(), TreeFault>
     ensures { OnOk result (GoesOn V.shows volume.old volume.new) }
 {
-    let _done = asked(volume, moment, command)?;
+    let _done = issued(volume, moment, command)?;
     Ok(())
 }
 
@@ -74,7 +74,7 @@ fn open_new<V: Answers>(
         trunc: false,
         append: false,
     };
-    let reply = asked(volume, moment, Command::Open { path, flags })?;
+    let reply = issued(volume, moment, Command::Open { path, flags })?;
     let fd = descriptor_of(reply)?;
     Ok(fd)
 }
@@ -90,7 +90,7 @@ fn write_part<V: Answers>(
     ensures { OnOk result (GoesOn V.shows volume.old volume.new) }
 {
     let bytes = Bytes::new(part.to_vec(alloc)?);
-    let reply = asked(volume, moment, Command::Write { fd, bytes })?;
+    let reply = issued(volume, moment, Command::Write { fd, bytes })?;
     wrote_all(reply, part.len())?;
     Ok(())
 }

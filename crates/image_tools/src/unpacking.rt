@@ -1,8 +1,8 @@
 // A tree, read out of a volume.
 ghost use Rattle.std.specs.Prelude.{◌≡◌, ℕ, [], ◌++◌, ◌∷◌, List, IfOk, OnOk, map as list_map, option_map, nat_eq, if◌then◌else◌, None};
 ghost use Rattle.std.specs.Option.{option_or};
-ghost use Rattle.plain_volume.specs.Items.{Item, item_of, told_of};
-ghost use Rattle.plain_volume.specs.Reading.{Tells};
+ghost use Rattle.plain_volume.specs.Items.{Item, item_of, reported_of};
+ghost use Rattle.plain_volume.specs.Reading.{Reports};
 ghost use Rattle.image_tools.specs.Folders.{IsFolder, entries_of, entries_after, entry_of, entry_after, held_of, held_by};
 ghost use Rattle.image_tools.specs.FirstNames.{Knows, path_noted};
 
@@ -39,7 +39,7 @@ fn first_name(
 
 /// What an object holds whose first path is this one, where it has an earlier one.
 fn node_of(content: Content, first: Option<Vec<u8>>) -> Node
-    ensures { held_of result ≡ held_by (told_of content) (option_map (λ p. p.items) first) }
+    ensures { held_of result ≡ held_by (reported_of content) (option_map (λ p. p.items) first) }
 {
     match (content, first) {
         (Content::File(_), Some(path)) => Node::Link(path),
@@ -88,7 +88,7 @@ fn folder_of(alloc: Global, list: TreeList) -> Result<Folder, AllocError>
 
 /// Reads the tree of a volume by its commands. The volume needs a descriptor that is free.
 pub fn unpack<V: Answers>(alloc: Global, volume: &mut V) -> Result<Folder, TreeFault>
-    ensures { IfOk result (λ folder. Tells V.shows volume.old volume.new (λ objects. IsFolder objects (entries_of folder))) }
+    ensures { IfOk result (λ folder. Reports V.shows volume.old volume.new (λ objects. IsFolder objects (entries_of folder))) }
 {
     let list = TreeList::read(alloc, volume)?;
     let folder = folder_of(alloc, list)?;

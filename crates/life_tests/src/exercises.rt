@@ -1,6 +1,6 @@
 // Sessions on eight blocks of 32 pages of 512 bytes, lines by hand, and what a session keeps of a tree.
 use crate::lines::{formatted, script};
-use exerciser::{CutFault, Finding, cut, kept, mount_fault_name, tell};
+use exerciser::{CutFault, Finding, committed, cut, mount_fault_name, tell};
 use line_shell::read_script;
 use nand_model::{Geometry, MemNand};
 use plain_volume::{Answers, PlainTree};
@@ -89,7 +89,7 @@ fn line(rt: &impl Abort, alloc: Global, finding: Finding) -> String {
 fn each_finding_has_its_line(rt: HostRuntime) {
     let alloc = rt.alloc();
     for (finding, text) in [
-        (Finding::Kept(0), "session 3 op 17 kept 0 of 6\n"),
+        (Finding::Committed(0), "session 3 op 17 kept 0 of 6\n"),
         (Finding::Torn, "session 3 op 17 torn\n"),
         (
             Finding::Mount(MountFault::Newer(9)),
@@ -181,7 +181,7 @@ fn tree_after(rt: &impl Abort, alloc: Global, lines: &str) -> PlainTree {
 
 /// Of five commands the second is a sync that is done, the fourth changes nothing, and the last was cut.
 #[test]
-fn the_least_number_is_kept_from_the_last_sync_on(rt: HostRuntime) {
+fn the_least_number_is_committed_from_the_last_sync_on(rt: HostRuntime) {
     let alloc = rt.alloc();
     let commands = script(&rt, alloc, "mkdir /a\nsync\nmkdir /b\nrmdir /x\nmkdir /c\n");
     let end = SessionEnd {
@@ -210,7 +210,7 @@ fn the_least_number_is_kept_from_the_last_sync_on(rt: HostRuntime) {
             tree: tree_after(&rt, alloc, lines),
         };
         assert_eq!(rt;
-            kept(alloc, &before, &commands, &end, &mut volume).expect(&rt, "a tree"),
+            committed(alloc, &before, &commands, &end, &mut volume).expect(&rt, "a tree"),
             count,
             "{lines}"
         );

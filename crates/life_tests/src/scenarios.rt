@@ -148,13 +148,13 @@ fn a_renamed_file_takes_the_place_of_another_at_once(rt: HostRuntime) {
 }
 
 /// Lives through the sessions, of which the first and the last are answered so. Returns how many calls the last made.
-fn tells_at_its_ends(
+fn reports_at_its_ends(
     rt: &impl Abort,
     alloc: Global,
     nand: &MemNand,
     sessions: &[Session],
-    first_told: &str,
-    last_told: &str,
+    first_reported: &str,
+    last_reported: &str,
 ) -> u64 {
     let (after, ends) = live_through(rt, alloc, nand.copy().expect(rt, "memory"), sessions);
     let (Some(first), Some(last)) = (ends.first(), ends.last()) else {
@@ -162,11 +162,11 @@ fn tells_at_its_ends(
     };
     assert_eq!(rt;
         str::from_utf8(&answers(rt, alloc, first)).expect(rt, "a text"),
-        first_told
+        first_reported
     );
     assert_eq!(rt;
         str::from_utf8(&answers(rt, alloc, last)).expect(rt, "a text"),
-        last_told
+        last_reported
     );
     after.calls()
 }
@@ -183,7 +183,7 @@ fn stops_without_a_spare_block(
     let lines = ["mkdir /a", "sync"];
     let failing = failing_session(rt, alloc, &lines, &[(call, fate)]);
     let sync = vec![in alloc; failing].expect(rt, "memory");
-    let calls = tells_at_its_ends(rt, alloc, nand, &sync, "ok\nok\n", "ok\nok\n");
+    let calls = reports_at_its_ends(rt, alloc, nand, &sync, "ok\nok\n", "ok\nok\n");
     let next = calls.saturating_add(1);
     let lines = ["mkdir /a", "sync", "mkdir /b", "sync", "list /"];
     let failures = [(call, fate), (next, Fate::Uncorrectable)];
@@ -193,7 +193,7 @@ fn stops_without_a_spare_block(
     ]
     .expect(rt, "memory");
     let stopped = "ok\nok\nok\nerror EIO\n";
-    tells_at_its_ends(
+    reports_at_its_ends(
         rt,
         alloc,
         nand,

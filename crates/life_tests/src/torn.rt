@@ -17,11 +17,11 @@ fn reply_of(replied: Result<Reply, AllocError>) -> Reply {
     }
 }
 
-/// Answers Done to a sync and keeps nothing of what it covers: a mount shows the tree `kept`.
+/// Answers Done to a sync and keeps nothing of what it covers: a mount shows the tree `held`.
 #[derive(Drop)]
 struct Forgetful {
     tree: PlainTree,
-    kept: PlainTree,
+    committed: PlainTree,
 }
 
 impl Answers for Forgetful {
@@ -172,7 +172,7 @@ fn forgetful_session(
 ) -> (Forgetful, SessionEnd) {
     let mut volume = Forgetful {
         tree: tree_after(rt, alloc, first),
-        kept: tree_after(rt, alloc, first),
+        committed: tree_after(rt, alloc, first),
     };
     let end = end_of(rt, alloc, &mut volume, commands);
     (volume, end)
@@ -185,7 +185,7 @@ fn a_sync_that_is_forgotten_tears_the_tree(rt: HostRuntime) {
     let (volume, end) = forgetful_session(&rt, alloc, "mkdir /a\n", &commands);
     let before = tree_after(&rt, alloc, "mkdir /a\n");
     let mut shown = Shown {
-        tree: volume.kept,
+        tree: volume.committed,
         is_lost: false,
     };
     let seen = seen_of(&rt, alloc, &before, &commands, &end, &mut shown);
@@ -195,7 +195,7 @@ fn a_sync_that_is_forgotten_tears_the_tree(rt: HostRuntime) {
         is_lost: false,
     };
     let seen = seen_of(&rt, alloc, &before, &commands, &end, &mut shown);
-    assert_eq!(rt; seen.finding(), Finding::Kept(3));
+    assert_eq!(rt; seen.finding(), Finding::Committed(3));
 }
 
 #[test]
@@ -216,7 +216,7 @@ fn a_page_that_is_lost_tears_the_tree(rt: HostRuntime) {
     assert_eq!(rt; seen.finding(), Finding::Torn);
     shown.is_lost = false;
     let seen = seen_of(&rt, alloc, &before, &commands, &end, &mut shown);
-    assert_eq!(rt; seen.finding(), Finding::Kept(4));
+    assert_eq!(rt; seen.finding(), Finding::Committed(4));
 }
 
 /// What is shown cannot be made again: no directory has two names.

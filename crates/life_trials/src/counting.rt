@@ -7,7 +7,7 @@ use std::alloc::{AllocError, Global};
 pub(crate) struct Count {
     sessions: u64,
     cut: u64,
-    kept: u64,
+    committed: u64,
 }
 
 impl Count {
@@ -15,24 +15,24 @@ impl Count {
         Count {
             sessions: 0,
             cut: 0,
-            kept: 0,
+            committed: 0,
         }
     }
 
     /// Counts one session more.
     pub(crate) fn add(&mut self, judged: &Judged) {
         self.sessions = self.sessions.saturating_add(1);
-        self.kept = self.kept.saturating_add(judged.kept);
+        self.committed = self.committed.saturating_add(judged.committed);
         if judged.cut {
             self.cut = self.cut.saturating_add(1);
         }
     }
 
     /// Counts one more session that was cut, of which so many commands survived.
-    pub(crate) fn add_cut(&mut self, kept: u64) {
+    pub(crate) fn add_cut(&mut self, committed: u64) {
         self.sessions = self.sessions.saturating_add(1);
         self.cut = self.cut.saturating_add(1);
-        self.kept = self.kept.saturating_add(kept);
+        self.committed = self.committed.saturating_add(committed);
     }
 
     /// How many sessions there were, none of which was none of a life.
@@ -42,6 +42,6 @@ impl Count {
 
     /// How many were cut, and what survived.
     pub(crate) fn details(self, alloc: Global) -> Result<String, AllocError> {
-        format!(in alloc; "{} cut, {} commands kept", self.cut, self.kept)
+        format!(in alloc; "{} cut, {} commands durable", self.cut, self.committed)
     }
 }

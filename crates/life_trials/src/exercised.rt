@@ -13,9 +13,9 @@ const SESSIONS: u32 = 1000;
 fn count_lines(answers: &str) -> Result<Count> {
     let mut count = Count::new();
     for line in answers.lines() {
-        let kept = line.split_ascii_whitespace().nth(5);
-        let kept = kept.context("a line without a number")?;
-        count.add_cut(kept.parse().context("what survived")?);
+        let committed = line.split_ascii_whitespace().nth(5);
+        let committed = committed.context("a line without a number")?;
+        count.add_cut(committed.parse().context("what survived")?);
     }
     Ok(count)
 }

@@ -31,7 +31,7 @@ impl Stage {
 pub(crate) struct Judged {
     pub(crate) stage: Stage,
     pub(crate) calls: u64,
-    pub(crate) kept: u64,
+    pub(crate) committed: u64,
     pub(crate) cut: bool,
 }
 
@@ -106,7 +106,7 @@ fn tree_after(
 }
 
 /// How many commands the next mount shows: all where the session was unmounted, else a prefix that its syncs cover.
-fn count_kept(
+fn count_committed(
     before: &PlainTree,
     all: &PlainTree,
     session: &Session,
@@ -115,13 +115,13 @@ fn count_kept(
     alloc: Global,
 ) -> Result<(u64, MemNand)> {
     let mut volume = mounted(alloc, device)?;
-    let kept = if matches!(end.unmounted, Some(Reply::Done)) {
+    let committed = if matches!(end.unmounted, Some(Reply::Done)) {
         has_tree(all, &mut volume)?.then_some(end.begun)
     } else {
         shown(alloc, before, session, end, &mut volume)?
     };
-    match kept {
-        Some(kept) => Ok((kept, device_of(volume))),
+    match committed {
+        Some(committed) => Ok((committed, device_of(volume))),
         None => Err(anyhow!("the tree is torn: {end:?}")),
     }
 }
@@ -134,13 +134,13 @@ pub(crate) fn judge(alloc: Global, stage: Stage, session: &Session) -> Result<Ju
     check_end(session, &end)?;
     let calls = device.calls();
     let all = tree_after(alloc, &tree, session, &end, end.begun)?;
-    let (kept, device) = count_kept(&tree, &all, session, &end, device, alloc)?;
-    let mut tree = tree_after(alloc, &tree, session, &end, kept)?;
+    let (committed, device) = count_committed(&tree, &all, session, &end, device, alloc)?;
+    let mut tree = tree_after(alloc, &tree, session, &end, committed)?;
     tree.settle()?;
     Ok(Judged {
         stage: Stage { device, tree },
         calls,
-        kept,
+        committed,
         cut: end.cut,
     })
 }

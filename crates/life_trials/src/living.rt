@@ -1,6 +1,6 @@
 // One session at a time. What these calls promise is not said again, so that what calls them is checked fast.
 use anyhow::{Result, anyhow};
-use exerciser::kept;
+use exerciser::committed;
 use nand_model::MemNand;
 use plain_volume::PlainTree;
 use posix_calls::Volume;
@@ -57,7 +57,7 @@ pub(crate) fn shown(
     end: &SessionEnd,
     volume: &mut Volume<MemNand>,
 ) -> Result<Option<u64>> {
-    match kept(alloc, before, &session.commands, end, volume) {
+    match committed(alloc, before, &session.commands, end, volume) {
         Ok(found) => Ok(found),
         Err(fault) => Err(anyhow!("a tree is not read: {fault:?}")),
     }

@@ -9,33 +9,33 @@ use Rattle.std.specs.Io.KnownBytes.{Keeps, Consumes, IsAtEnd}
 use Rattle.std.specs.Io.BufRead.{strip_last}
 use Rattle.line_shell.specs.Lines.{carriage_return, longest_line, whole_lines}
 use Rattle.line_shell.specs.Replies.{newline}
-use Rattle.line_shell.specs.Reading.{IsWithoutNewline, IsTooLong, IsEnded, TakesSome, TakesLine, NextLine, ReadsNext, LineIsTooLong, ReadsLine, TellsMore}
+use Rattle.line_shell.specs.Reading.{IsWithoutNewline, IsTooLong, IsEnded, TakesSome, TakesLine, NextLine, ReadsNext, LineIsTooLong, ReadsLine, ReportsMore}
 use Rattle.line_shell.specs.declared.fault.ShellFault.{ShellFault}
 use Rattle.line_shell.specs.declared.fault.ShellFault.TheVariants as faults
 use Rattle.line_shell.proofs.Lines.{without_end_yes, size_yes, without_end_no, size_no, first_ended, first_last, first_begins, size_begins}
 
 -- where nothing is shown, nothing is left
 pub ended : (old new : Option (List ℕ)) (shown : List ℕ) → IfSome old (λ xs. length shown ≡ 0 → xs ≡ []) → Keeps old new → length shown ≡ 0 → IsEnded old new
-ended None new shown end kept none = (tt, tt)
-ended (Some xs) new shown end kept none = (end none, kept)
+ended None new shown end committed none = (tt, tt)
+ended (Some xs) new shown end committed none = (end none, committed)
 
 -- where something is shown, something is left
 some_left : (old : Option (List ℕ)) (shown : List ℕ) → IfSome old (λ xs. StartsWith xs shown) → 0 < length shown → IfSome old (λ xs. 0 < length xs)
 some_left None shown front some = tt
 some_left (Some xs) shown front some = omega (arith, ap length front, length-take (length shown) xs)
 
--- whether bytes are shown tells whether there are more
-pub tells : (old mid new : Option (List ℕ)) (shown : List ℕ) (empty : Bool) → Keeps old mid → IfSome mid (λ xs. StartsWith xs shown) → IfSome mid (λ xs. length shown ≡ 0 → xs ≡ [])
-    → Keeps mid new → empty ≡ eqb (length shown) 0 → TellsMore old new (Ok (not empty))
-tells old mid new shown true before front end kept is =
-    let both = ended mid new shown end kept (eqb-true (length shown) 0 (sym is)) in
+-- whether bytes are shown returns whether there are more
+pub reports : (old mid new : Option (List ℕ)) (shown : List ℕ) (empty : Bool) → Keeps old mid → IfSome mid (λ xs. StartsWith xs shown) → IfSome mid (λ xs. length shown ≡ 0 → xs ≡ [])
+    → Keeps mid new → empty ≡ eqb (length shown) 0 → ReportsMore old new (Ok (not empty))
+reports old mid new shown true before front end committed is =
+    let both = ended mid new shown end committed (eqb-true (length shown) 0 (sym is)) in
     (at old mid before both.0, Keeps-trans old mid new before both.1)
   where
     at : (old mid : Option (List ℕ)) → Keeps old mid → IsAtEnd mid → IsAtEnd old
     at None mid before none = tt
     at (Some xs) None before none = absurd before
     at (Some xs) (Some ys) before none = sym before ∙ none
-tells old mid new shown false before front end kept is =
+reports old mid new shown false before front end committed is =
     at old mid before (some_left mid shown front (omega (arith, eqb-false (length shown) 0 (sym is))))
   where
     at : (old mid : Option (List ℕ)) → Keeps old mid → IfSome mid (λ xs. 0 < length xs) → IfSome old (λ xs. 0 < length xs)

@@ -8,10 +8,10 @@ use Rattle.posix_profile.specs.declared.command.Stamped.{Stamped}
 use Rattle.posix_profile.specs.declared.reply.Reply.{Reply}
 use Rattle.line_shell.specs.Commands.{line_of}
 use Rattle.line_shell.specs.Lines.{whole_lines, without_end, line_size, longest_line, most_lines}
-use Rattle.line_shell.specs.Reading.{IsEnded, NextLine, ReadsNext, LineIsTooLong, ReadsLine, TellsMore}
+use Rattle.line_shell.specs.Reading.{IsEnded, NextLine, ReadsNext, LineIsTooLong, ReadsLine, ReportsMore}
 use Rattle.line_shell.specs.Replies.{newline}
 use Rattle.std.specs.List.{onto_first}
-use Rattle.line_shell.specs.Runs.{Session, Answers, Run, IsTold, Obeys, AnswersLine, AnswersAll, AreTold, AreAnswered, Shell}
+use Rattle.line_shell.specs.Runs.{Session, Answers, Run, IsStated, Obeys, AnswersLine, AnswersAll, AreReported, AreAnswered, Shell}
 use Rattle.line_shell.specs.declared.line.Line.{Line}
 use Rattle.line_shell.specs.declared.fault.ShellFault.{ShellFault}
 use Rattle.line_shell.specs.declared.fault.ShellFault.TheVariants as faults
@@ -37,8 +37,8 @@ pub record SoFar {V : Type 0} (serves : V → Stamped → Reply → V → Type 0
   text : List ℕ
   run : Run serves (map without_end answered) (record { moment = 0; volume = old }) text now
   short : All (λ line. line_size line ≤ longest_line) answered
-  counted : length answered ≡ count
-  told : Appends before after text
+  totaled : length answered ≡ count
+  reported : Appends before after text
   lines : LinesLeft input left answered
 
 pub lines_none : (input : Option (List ℕ)) → LinesLeft input input []
@@ -93,8 +93,8 @@ module _ {V : Type 0} (serves : V → Stamped → Reply → V → Type 0) where
     text = [];
     run = (refl, refl);
     short = λ k d lt. absurd (omega arith);
-    counted = refl;
-    told = Appends-nil before;
+    totaled = refl;
+    reported = Appends-nil before;
     lines = lines_none input;
   }
 
@@ -116,22 +116,22 @@ module _ {V : Type 0} (serves : V → Stamped → Reply → V → Type 0) where
       text = so_far.text ++ did.0;
       run = run_on next line (record { moment = moment; volume = new }) did.0 read did.1;
       short = All-append (λ line. line_size line ≤ longest_line) so_far.answered (read.whole ∷ []) so_far.short (all_one (λ line. line_size line ≤ longest_line) read.whole read.short);
-      counted = omega (arith, length-append so_far.answered (read.whole ∷ []), so_far.counted);
-      told = Appends-trans before after later so_far.text did.0 so_far.told did.2;
+      totaled = omega (arith, length-append so_far.answered (read.whole ∷ []), so_far.totaled);
+      reported = Appends-trans before after later so_far.text did.0 so_far.reported did.2;
       lines = lines_more input left next so_far.answered read.whole so_far.lines read.next;
     }
 
     -- the answers so far are out
-    all_told : AnswersAll serves so_far.answered before after old now.volume
-    all_told = record { text = so_far.text; moment = now.moment; run = so_far.run; told = so_far.told }
+    all_reported : AnswersAll serves so_far.answered before after old now.volume
+    all_reported = record { text = so_far.text; moment = now.moment; run = so_far.run; reported = so_far.reported }
 
     -- the end of the input
     pub comes_to_end : (next : Option (List ℕ)) → count ≤ most_lines → IsEnded left next → Shell serves input next before after old now.volume (Ok tt)
     comes_to_end next few end = record {
       answered = so_far.answered;
-      told = all_told;
+      reported = all_reported;
       short = so_far.short;
-      few = omega (arith, so_far.counted);
+      few = omega (arith, so_far.totaled);
       lines = lines_all input left so_far.answered so_far.lines end.0;
       read = ended_left input left next so_far.answered so_far.lines end;
     }
@@ -141,17 +141,17 @@ module _ {V : Type 0} (serves : V → Stamped → Reply → V → Type 0) where
         → Shell serves input next before after old now.volume (Err fault)
     stops next fault few other lines = record {
       answered = so_far.answered;
-      told = at fault other;
+      reported = at fault other;
       short = so_far.short;
-      few = omega (arith, so_far.counted);
+      few = omega (arith, so_far.totaled);
       lines = lines;
       read = tt;
     }
       where
-        at : (fault : ShellFault) → (fault ≡ faults.Write → ⊥) → AreTold serves so_far.answered before after old now.volume (Err fault)
-        at faults.Read other = all_told
-        at faults.NoMemory other = all_told
-        at faults.TooLong other = all_told
+        at : (fault : ShellFault) → (fault ≡ faults.Write → ⊥) → AreReported serves so_far.answered before after old now.volume (Err fault)
+        at faults.Read other = all_reported
+        at faults.NoMemory other = all_reported
+        at faults.TooLong other = all_reported
         at faults.Write other = absurd (other refl)
 
     -- a line that was not read
@@ -167,13 +167,13 @@ module _ {V : Type 0} (serves : V → Stamped → Reply → V → Type 0) where
         at (Some xs) (Some ys) so read = (read.next, read.rest, so ∙ ap (λ l. so_far.answered ++ l) read.lines, inl read.long)
 
     -- what comes after the most lines
-    pub stops_after : (next : Option (List ℕ)) (fault : ShellFault) → count ≡ most_lines → TellsMore left next (Err fault) → Shell serves input next before after old now.volume (Err fault)
-    stops_after next faults.Read all told = stops next faults.Read (omega arith) (λ e. cc) (lines_some input left so_far.answered so_far.lines)
-    stops_after next faults.NoMemory all told = absurd told
-    stops_after next faults.Write all told = absurd told
-    stops_after next faults.TooLong all told = absurd told
+    pub stops_after : (next : Option (List ℕ)) (fault : ShellFault) → count ≡ most_lines → ReportsMore left next (Err fault) → Shell serves input next before after old now.volume (Err fault)
+    stops_after next faults.Read all reported = stops next faults.Read (omega arith) (λ e. cc) (lines_some input left so_far.answered so_far.lines)
+    stops_after next faults.NoMemory all reported = absurd reported
+    stops_after next faults.Write all reported = absurd reported
+    stops_after next faults.TooLong all reported = absurd reported
 
-    pub too_many : (next : Option (List ℕ)) → count ≡ most_lines → TellsMore left next (Ok true) → Shell serves input next before after old now.volume (Err faults.TooLong)
+    pub too_many : (next : Option (List ℕ)) → count ≡ most_lines → ReportsMore left next (Ok true) → Shell serves input next before after old now.volume (Err faults.TooLong)
     too_many next all more = stops next faults.TooLong (omega arith) (λ e. cc) (at input left so_far.lines more)
       where
         some : (bytes : List ℕ) → 0 < length bytes → (line : List ℕ) × (lines : List (List ℕ)) × (whole_lines bytes ≡ line ∷ lines)
@@ -185,7 +185,7 @@ module _ {V : Type 0} (serves : V → Stamped → Reply → V → Type 0) where
         at (Some xs) None so more = absurd so
         at (Some xs) (Some ys) so more =
             let first = some ys more in
-            (first.0, first.1, so ∙ ap (λ l. so_far.answered ++ l) first.2, inr (so_far.counted ∙ all))
+            (first.0, first.1, so ∙ ap (λ l. so_far.answered ++ l) first.2, inr (so_far.totaled ∙ all))
 
     -- a line that was read, but not answered whole
     pub stops_answering : (next later : Option (List ℕ)) (line : List ℕ) (new : V) (fault : ShellFault) → count < most_lines → ReadsNext left next line
@@ -194,21 +194,21 @@ module _ {V : Type 0} (serves : V → Stamped → Reply → V → Type 0) where
     stops_answering next later line new faults.TooLong few read did = absurd did
     stops_answering next later line new faults.NoMemory few read did = record {
       answered = so_far.answered;
-      told = record {
+      reported = record {
         text = so_far.text;
         moment = now.moment;
         run = subst (λ v. Run serves (map without_end so_far.answered) (record { moment = 0; volume = old }) so_far.text (record { moment = now.moment; volume = v })) (sym did.0) so_far.run;
-        told = Appends-kept before after later so_far.text so_far.told did.1;
+        reported = Appends-kept before after later so_far.text so_far.reported did.1;
       };
       short = so_far.short;
-      few = omega (arith, so_far.counted);
+      few = omega (arith, so_far.totaled);
       lines = lines_some input left so_far.answered so_far.lines;
       read = tt;
     }
     stops_answering next later line new faults.Write few read did =
         record {
           answered = so_far.answered ++ read.whole ∷ [];
-          told = record {
+          reported = record {
             front = so_far.answered;
             last = read.whole;
             text = so_far.text;
@@ -222,18 +222,18 @@ module _ {V : Type 0} (serves : V → Stamped → Reply → V → Type 0) where
                 subst (λ l. Answers serves (line_of l) now (did.3.part ++ did.3.rest) (record { moment = did.1; volume = new })) read.text
                 (subst (λ t. Answers serves (line_of line) now t (record { moment = did.1; volume = new })) did.3.whole did.2);
             short = did.3.short;
-            told = Appends-trans before after later so_far.text did.3.part so_far.told did.3.appended;
+            reported = Appends-trans before after later so_far.text did.3.part so_far.reported did.3.appended;
           };
           short = All-append (λ line. line_size line ≤ longest_line) so_far.answered (read.whole ∷ []) so_far.short (all_one (λ line. line_size line ≤ longest_line) read.whole read.short);
-          few = omega (arith, length-append so_far.answered (read.whole ∷ []), so_far.counted);
+          few = omega (arith, length-append so_far.answered (read.whole ∷ []), so_far.totaled);
           lines = lines_some input next (so_far.answered ++ read.whole ∷ []) (lines_more input left next so_far.answered read.whole so_far.lines read.next);
           read = tt;
         }
 
--- an answer that was not told whole
+-- an answer that was not reported whole
 pub obeys_stops : {V : Type 0} (serves : V → Stamped → Reply → V → Type 0) (line : Line) (old : Session V) (before after : Option (List ℕ)) (text : List ℕ) (moment : ℕ) (new : V) (fault : ShellFault)
-    → Answers serves line old text (record { moment = moment; volume = new }) → IsTold before after text (Err fault) → Obeys serves line old before after new (Err fault)
-obeys_stops serves line old before after text moment new faults.Write answers told = (text, moment, answers, told)
-obeys_stops serves line old before after text moment new faults.Read answers told = absurd told
-obeys_stops serves line old before after text moment new faults.TooLong answers told = absurd told
-obeys_stops serves line old before after text moment new faults.NoMemory answers told = absurd told
+    → Answers serves line old text (record { moment = moment; volume = new }) → IsStated before after text (Err fault) → Obeys serves line old before after new (Err fault)
+obeys_stops serves line old before after text moment new faults.Write answers reported = (text, moment, answers, reported)
+obeys_stops serves line old before after text moment new faults.Read answers reported = absurd reported
+obeys_stops serves line old before after text moment new faults.TooLong answers reported = absurd reported
+obeys_stops serves line old before after text moment new faults.NoMemory answers reported = absurd reported

@@ -6,7 +6,7 @@ use Rattle.std.specs.Io.KnownBytes.{IsAtEnd}
 use Rattle.posix_profile.specs.declared.command.Stamped.{Stamped}
 use Rattle.line_shell.specs.Commands.{line_of}
 use Rattle.line_shell.specs.Lines.{whole_lines, without_end, line_size, longest_line, most_lines}
-use Rattle.line_shell.specs.Reading.{IsEnded, ReadsNext, LineIsTooLong, ReadsLine, TellsMore}
+use Rattle.line_shell.specs.Reading.{IsEnded, ReadsNext, LineIsTooLong, ReadsLine, ReportsMore}
 use Rattle.line_shell.specs.Scripts.{moment_after, with_line, commands_of, script_fault, Collects, IsScript, HasBadLine, HasLongLine, IsReadAs, ReadsScript}
 use Rattle.line_shell.specs.declared.line.Line.{Line}
 use Rattle.line_shell.specs.declared.line.Line.TheVariants as lines
@@ -24,12 +24,12 @@ AreAsked taken moment script = (rest : List (List ℕ)) → commands_of 0 (taken
 pub record SoFar (input left : Option (List ℕ)) (moment : ℕ) (script : List Stamped) (count : ℕ) : Type 0 where
   taken : List (List ℕ)
   short : All (λ line. line_size line ≤ longest_line) taken
-  counted : length taken ≡ count
+  totaled : length taken ≡ count
   lines_are : LinesLeft input left taken
-  asked : AreAsked (map without_end taken) moment script
+  issued : AreAsked (map without_end taken) moment script
 
 pub starts : (input : Option (List ℕ)) → SoFar input input 0 [] 0
-starts input = record { taken = []; short = λ k d lt. absurd (omega arith); counted = refl; lines_are = lines_none input; asked = λ rest. at (commands_of 0 rest) }
+starts input = record { taken = []; short = λ k d lt. absurd (omega arith); totaled = refl; lines_are = lines_none input; issued = λ rest. at (commands_of 0 rest) }
   where
     at : (commands : Option (List Stamped)) → commands ≡ option_map (λ more. [] ++ more) commands
     at None = refl
@@ -55,15 +55,15 @@ next_moment lines.Bad moment next old new did = absurd did
 asked_more : (taken : List (List ℕ)) (line : List ℕ) (moment next : ℕ) (old new : List Stamped) → AreAsked taken moment old → Collects (line_of line) moment old new (Ok next)
     → AreAsked (taken ++ line ∷ []) next new
 unfolding commands_of
-asked_more taken line moment next old new asked did rest =
-    ap (commands_of 0) (append_assoc taken (line ∷ []) rest) ∙ asked (line ∷ rest)
+asked_more taken line moment next old new issued did rest =
+    ap (commands_of 0) (append_assoc taken (line ∷ []) rest) ∙ issued (line ∷ rest)
     ∙ one_more (line_of line) moment next old new did (commands_of (moment_after moment (line_of line)) rest)
     ∙ ap (λ n. option_map (λ more. new ++ more) (commands_of n rest)) (next_moment (line_of line) moment next old new did)
 
 -- the commands so far are all, where no line is left
 asked_all : (taken : List (List ℕ)) (moment : ℕ) (script : List Stamped) → AreAsked taken moment script → commands_of 0 taken ≡ Some script
 unfolding commands_of
-asked_all taken moment script asked = ap (commands_of 0) (sym (append-nil taken)) ∙ asked [] ∙ ap Some (append-nil script)
+asked_all taken moment script issued = ap (commands_of 0) (sym (append-nil taken)) ∙ issued [] ∙ ap Some (append-nil script)
 
 module _ (input left : Option (List ℕ)) (moment : ℕ) (script : List Stamped) (count : ℕ) (so_far : SoFar input left moment script count) where
   -- the lines so far are short, and one more is
@@ -76,21 +76,21 @@ module _ (input left : Option (List ℕ)) (moment : ℕ) (script : List Stamped)
   goes_further next line later longer read did = record {
     taken = so_far.taken ++ read.whole ∷ [];
     short = short_more read.whole read.short;
-    counted = omega (arith, length-append so_far.taken (read.whole ∷ []), so_far.counted);
+    totaled = omega (arith, length-append so_far.taken (read.whole ∷ []), so_far.totaled);
     lines_are = lines_more input left next so_far.taken read.whole so_far.lines_are read.next;
-    asked = subst (λ l. AreAsked l later longer) (sym (map-append without_end so_far.taken (read.whole ∷ [])))
-        (asked_more (map without_end so_far.taken) (without_end read.whole) moment later script longer so_far.asked (subst (λ l. Collects (line_of l) moment script longer (Ok later)) read.text did));
+    issued = subst (λ l. AreAsked l later longer) (sym (map-append without_end so_far.taken (read.whole ∷ [])))
+        (asked_more (map without_end so_far.taken) (without_end read.whole) moment later script longer so_far.issued (subst (λ l. Collects (line_of l) moment script longer (Ok later)) read.text did));
   }
 
   good : commands_of 0 (map without_end so_far.taken) ≡ Some script
-  good = asked_all (map without_end so_far.taken) moment script so_far.asked
+  good = asked_all (map without_end so_far.taken) moment script so_far.issued
 
   -- the end of the input
   all_read : count ≤ most_lines → (bytes : List ℕ) → whole_lines bytes ≡ so_far.taken → IsScript bytes script
   all_read few bytes same = record {
     short = subst (λ l. All (λ line. line_size line ≤ longest_line) l) (sym same) so_far.short;
-    few = omega (arith, so_far.counted, ap length same);
-    asked = ap (λ l. commands_of 0 (map without_end l)) same ∙ good;
+    few = omega (arith, so_far.totaled, ap length same);
+    issued = ap (λ l. commands_of 0 (map without_end l)) same ∙ good;
   }
 
   pub comes_to_end : (next : Option (List ℕ)) → count ≤ most_lines → IsEnded left next → IfSome input (λ bytes. IsScript bytes script) × OnSome input (IsAtEnd next)
@@ -118,32 +118,32 @@ module _ (input left : Option (List ℕ)) (moment : ℕ) (script : List Stamped)
 
   -- a line that was not read
   pub stops_reading : (next : Option (List ℕ)) (line : List ℕ) (fault : ShellFault) → ReadsLine left next line (Err fault) → ReadsScript input next (Err (script_fault fault))
-  stops_reading next line shell_faults.Read read = record { told = unknown input; read = tt }
+  stops_reading next line shell_faults.Read read = record { reported = unknown input; read = tt }
     where
       unknown : (input : Option (List ℕ)) → IfSome input (λ bytes. Unit {0})
       unknown None = tt
       unknown (Some bytes) = tt
-  stops_reading next line shell_faults.NoMemory read = record { told = unknown input; read = tt }
+  stops_reading next line shell_faults.NoMemory read = record { reported = unknown input; read = tt }
     where
       unknown : (input : Option (List ℕ)) → IfSome input (λ bytes. Unit {0})
       unknown None = tt
       unknown (Some bytes) = tt
   stops_reading next line shell_faults.Write read = absurd read
-  stops_reading next line shell_faults.TooLong read = record { told = too_long read; read = tt }
+  stops_reading next line shell_faults.TooLong read = record { reported = too_long read; read = tt }
 
   -- what comes after the most lines
-  pub stops_after : (next : Option (List ℕ)) (fault : ShellFault) → TellsMore left next (Err fault) → ReadsScript input next (Err (script_fault fault))
-  stops_after next shell_faults.Read told = record { told = unknown input; read = tt }
+  pub stops_after : (next : Option (List ℕ)) (fault : ShellFault) → ReportsMore left next (Err fault) → ReadsScript input next (Err (script_fault fault))
+  stops_after next shell_faults.Read reported = record { reported = unknown input; read = tt }
     where
       unknown : (input : Option (List ℕ)) → IfSome input (λ bytes. Unit {0})
       unknown None = tt
       unknown (Some bytes) = tt
-  stops_after next shell_faults.NoMemory told = absurd told
-  stops_after next shell_faults.Write told = absurd told
-  stops_after next shell_faults.TooLong told = absurd told
+  stops_after next shell_faults.NoMemory reported = absurd reported
+  stops_after next shell_faults.Write reported = absurd reported
+  stops_after next shell_faults.TooLong reported = absurd reported
 
-  pub too_many : (next : Option (List ℕ)) → count ≡ most_lines → TellsMore left next (Ok true) → ReadsScript input next (Err faults.TooLong)
-  too_many next all more = record { told = at input left so_far.lines_are more; read = tt }
+  pub too_many : (next : Option (List ℕ)) → count ≡ most_lines → ReportsMore left next (Ok true) → ReadsScript input next (Err faults.TooLong)
+  too_many next all more = record { reported = at input left so_far.lines_are more; read = tt }
     where
       some : (bytes : List ℕ) → 0 < length bytes → (line : List ℕ) × (lines : List (List ℕ)) × (whole_lines bytes ≡ line ∷ lines)
       some [] more = absurd (omega arith)
@@ -161,13 +161,13 @@ module _ (input left : Option (List ℕ)) (moment : ℕ) (script : List Stamped)
             commands = script;
             lines_are = so ∙ ap (λ l. so_far.taken ++ l) first.2;
             good = good;
-            long = inr (so_far.counted ∙ all);
+            long = inr (so_far.totaled ∙ all);
           }
 
   -- a line that was read, but not taken
   pub stops_collecting : (next : Option (List ℕ)) (line : List ℕ) (longer : List Stamped) (fault : ScriptFault) → count < most_lines → ReadsNext left next line → Collects (line_of line) moment script longer (Err fault)
       → ReadsScript input next (Err fault)
-  stops_collecting next line longer fault few read did = record { told = at fault did; read = tt }
+  stops_collecting next line longer fault few read did = record { reported = at fault did; read = tt }
     where
       bad : (input left next : Option (List ℕ)) → LinesLeft input next (so_far.taken ++ read.whole ∷ []) → line_of line ≡ lines.Bad → IfSome input HasBadLine
       bad None left next so is = tt
@@ -179,7 +179,7 @@ module _ (input left : Option (List ℕ)) (moment : ℕ) (script : List Stamped)
         commands = script;
         lines_are = so ∙ append_assoc so_far.taken (read.whole ∷ []) (whole_lines ys);
         short = short_more read.whole read.short;
-        few = omega (arith, so_far.counted);
+        few = omega (arith, so_far.totaled);
         good = good;
         bad = ap line_of (sym read.text) ∙ is;
       }

@@ -95,9 +95,9 @@ command_of (name ∷ first ∷ second ∷ third ∷ []) = command_of_three name 
 command_of (name ∷ first ∷ second ∷ third ∷ more ∷ rest) = None
 
 -- a line that asks for a command, if it does
-abbrev pub asked : Option Command → Line
-asked None = lines.Bad
-asked (Some command) = lines.Do command
+abbrev pub issued : Option Command → Line
+issued None = lines.Bad
+issued (Some command) = lines.Do command
 
 -- the moment of `now N`, where the words are that
 abbrev pub moment_of : List (List ℕ) → Option ℕ
@@ -114,7 +114,7 @@ now_or (Some moment) other = lines.Now moment
 -- what a line of these words asks for
 abbrev pub meaning : List (List ℕ) → Line
 meaning [] = lines.Nothing
-meaning (name ∷ rest) = now_or (moment_of (name ∷ rest)) (asked (command_of (name ∷ rest)))
+meaning (name ∷ rest) = now_or (moment_of (name ∷ rest)) (issued (command_of (name ∷ rest)))
 
 -- what words that were read ask for; a word that cannot be read makes a bad line
 abbrev pub meaning_of_read : Option (List (List ℕ)) → Line

@@ -77,8 +77,8 @@ ReadsLine old new line (Err faults.Write) = ⊥
 ReadsLine old new line (Err fault) = Unit {0}
 
 -- whether the input has more bytes; where not, it is at its end
-abbrev pub TellsMore : Option (List ℕ) → Option (List ℕ) → Result Bool ShellFault → Type 0
-TellsMore old new (Ok true) = IfSome old (λ input. 0 < length input)
-TellsMore old new (Ok false) = IsEnded old new
-TellsMore old new (Err faults.Read) = Unit {0}
-TellsMore old new (Err fault) = ⊥
+abbrev pub ReportsMore : Option (List ℕ) → Option (List ℕ) → Result Bool ShellFault → Type 0
+ReportsMore old new (Ok true) = IfSome old (λ input. 0 < length input)
+ReportsMore old new (Ok false) = IsEnded old new
+ReportsMore old new (Err faults.Read) = Unit {0}
+ReportsMore old new (Err fault) = ⊥

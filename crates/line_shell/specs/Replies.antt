@@ -6,7 +6,7 @@ use Rattle.posix_profile.specs.declared.reply.Kind.{Kind}
 use Rattle.posix_profile.specs.declared.reply.Kind.TheVariants as kinds
 use Rattle.posix_profile.specs.declared.reply.Reply.{Reply}
 use Rattle.posix_profile.specs.declared.reply.Reply.TheVariants as replies
-use Rattle.posix_profile.specs.NameSteps.{told_size}
+use Rattle.posix_profile.specs.NameSteps.{reported_size}
 use Rattle.line_shell.specs.Words.{space, spelled}
 
 -- the byte at the end of a line
@@ -53,7 +53,7 @@ reply_words (replies.Fd fd) = codes "fd" ++ numbers_text (fd ∷ [])
 reply_words (replies.Data bytes) = codes "data" ++ numbers_text (length bytes ∷ []) ++ (space ∷ spelled bytes)
 reply_words (replies.Wrote count) = codes "wrote" ++ numbers_text (count ∷ [])
 reply_words (replies.At offset) = codes "at" ++ numbers_text (offset ∷ [])
-reply_words (replies.Info info) = codes "info " ++ kind_name info.kind ++ numbers_text (info.object ∷ info.links ∷ told_size info.kind info.size ∷ info.moment ∷ [])
+reply_words (replies.Info info) = codes "info " ++ kind_name info.kind ++ numbers_text (info.object ∷ info.links ∷ reported_size info.kind info.size ∷ info.moment ∷ [])
 reply_words (replies.Names names) = codes "names" ++ numbers_text (length names ∷ []) ++ names_text names
 reply_words (replies.SpaceInfo space') = codes "space" ++ numbers_text (space'.unit ∷ space'.total ∷ space'.free ∷ [])
 reply_words (replies.Error error) = codes "error " ++ error_name error

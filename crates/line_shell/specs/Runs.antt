@@ -34,18 +34,18 @@ Run {V} serves (line ∷ lines) old text new =
     × Answers serves (line_of line) old first middle × Run serves lines middle rest new
 
 -- the text is out, unless the writer failed
-abbrev pub IsTold : Option (List ℕ) → Option (List ℕ) → List ℕ → Result (Unit {0}) ShellFault → Type 0
-IsTold old new text (Ok done) = Appends old new text
-IsTold old new text (Err faults.Write) = AppendsPart old new text
-IsTold old new text (Err fault) = ⊥
+abbrev pub IsStated : Option (List ℕ) → Option (List ℕ) → List ℕ → Result (Unit {0}) ShellFault → Type 0
+IsStated old new text (Ok done) = Appends old new text
+IsStated old new text (Err faults.Write) = AppendsPart old new text
+IsStated old new text (Err fault) = ⊥
 
--- a command was called, and its reply told
+-- a command was called, and its reply written
 pub record Calls {V : Type 0} (serves : V → Stamped → Reply → V → Type 0) (command : Stamped) (old new : V) (before after : Option (List ℕ)) (result : Result (Unit {0}) ShellFault) : Type 0 where
   pub reply : Reply
   pub served : serves old command reply new
-  pub told : IsTold before after (reply_text reply) result
+  pub reported : IsStated before after (reply_text reply) result
 
--- what a line asks for was done, and the answer told
+-- what a line asks for was done, and the answer written
 abbrev pub Obeys : {V : Type 0} → (V → Stamped → Reply → V → Type 0) → Line → Session V → Option (List ℕ) → Option (List ℕ) → V → Result ℕ ShellFault → Type 0
 Obeys serves line old before after new (Ok moment) =
     (text : List ℕ) × Answers serves line old text (record { moment = moment; volume = new }) × Appends before after text
@@ -63,7 +63,7 @@ pub record AnswersAll {V : Type 0} (serves : V → Stamped → Reply → V → T
   pub text : List ℕ
   pub moment : ℕ
   pub run : Run serves (map without_end lines) (record { moment = 0; volume = old }) text (record { moment = moment; volume = new })
-  pub told : Appends before after text
+  pub reported : Appends before after text
 
 -- Lines were answered in turn, from the moment 0 on, until the writer failed: what the last line asks for was done, the answers to the lines before it are out, and of its own a first part, not the whole.
 pub record StopsAt {V : Type 0} (serves : V → Stamped → Reply → V → Type 0) (lines : List (List ℕ)) (before after : Option (List ℕ)) (old new : V) : Type 0 where
@@ -78,12 +78,12 @@ pub record StopsAt {V : Type 0} (serves : V → Stamped → Reply → V → Type
   pub run : Run serves (map without_end front) (record { moment = 0; volume = old }) text middle
   pub answer : Answers serves (line_of (without_end last)) middle (part ++ rest) (record { moment = moment; volume = new })
   pub short : 1 ≤ length rest
-  pub told : Appends before after (text ++ part)
+  pub reported : Appends before after (text ++ part)
 
 -- the lines were answered and the answers are out, but for the answer in which the writer failed
-abbrev pub AreTold : {V : Type 0} → (V → Stamped → Reply → V → Type 0) → List (List ℕ) → Option (List ℕ) → Option (List ℕ) → V → V → Result (Unit {0}) ShellFault → Type 0
-AreTold serves lines before after old new (Err faults.Write) = StopsAt serves lines before after old new
-AreTold serves lines before after old new result = AnswersAll serves lines before after old new
+abbrev pub AreReported : {V : Type 0} → (V → Stamped → Reply → V → Type 0) → List (List ℕ) → Option (List ℕ) → Option (List ℕ) → V → V → Result (Unit {0}) ShellFault → Type 0
+AreReported serves lines before after old new (Err faults.Write) = StopsAt serves lines before after old new
+AreReported serves lines before after old new result = AnswersAll serves lines before after old new
 
 -- which lines of the input were answered: all of them, those before one that is too long or one too many, or some first ones
 abbrev pub AreAnswered : List ℕ → List (List ℕ) → Result (Unit {0}) ShellFault → Type 0
@@ -97,10 +97,10 @@ abbrev pub IsRead : Option (List ℕ) → Option (List ℕ) → Result (Unit {0}
 IsRead input left (Ok done) = OnSome input (IsAtEnd left)
 IsRead input left (Err fault) = Unit {0}
 
--- What a shell did with something that serves: it answered lines, neither too long nor too many, and told the answers.
+-- What a shell did with something that serves: it answered lines, neither too long nor too many, and written the answers.
 pub record Shell {V : Type 0} (serves : V → Stamped → Reply → V → Type 0) (input left before after : Option (List ℕ)) (old new : V) (result : Result (Unit {0}) ShellFault) : Type 0 where
   pub answered : List (List ℕ)
-  pub told : AreTold serves answered before after old new result
+  pub reported : AreReported serves answered before after old new result
   pub short : All (λ line. line_size line ≤ longest_line) answered
   pub few : length answered ≤ most_lines
   pub lines : IfSome input (λ bytes. AreAnswered bytes answered result)

@@ -52,7 +52,7 @@ Collects line moment old new (Err fault) = ⊥
 pub record IsScript (input : List ℕ) (commands : List Stamped) : Type 0 where
   pub short : All (λ line. line_size line ≤ longest_line) (whole_lines input)
   pub few : length (whole_lines input) ≤ most_lines
-  pub asked : commands_of 0 (lines_of input) ≡ Some commands
+  pub issued : commands_of 0 (lines_of input) ≡ Some commands
 
 -- a line of the input is bad, and none before it; up to it no line is too long or one too many
 pub record HasBadLine (input : List ℕ) : Type 0 where
@@ -91,5 +91,5 @@ IsReadToEnd input left (Err fault) = Unit {0}
 
 -- an input was read as a script, where its bytes are known
 pub record ReadsScript (input left : Option (List ℕ)) (result : Result (Vec Stamped) ScriptFault) : Type 0 where
-  pub told : IfSome input (λ bytes. IsReadAs bytes result)
+  pub reported : IfSome input (λ bytes. IsReadAs bytes result)
   pub read : IsReadToEnd input left result

@@ -3,7 +3,7 @@ ghost use Rattle.std.specs.Prelude.{◌≡◌, ◌≤◌, ◌<◌, length, take,
 ghost use Rattle.std.specs.Io.BufRead.{strip_last};
 ghost use Rattle.std.specs.Io.KnownBytes.{Keeps};
 ghost use Rattle.line_shell.specs.Lines.{carriage_return, longest_line};
-ghost use Rattle.line_shell.specs.Reading.{IsWithoutNewline, TakesSome, TakesLine, ReadsLine, TellsMore};
+ghost use Rattle.line_shell.specs.Reading.{IsWithoutNewline, TakesSome, TakesLine, ReadsLine, ReportsMore};
 ghost use Rattle.line_shell.specs.Replies.{newline};
 
 use crate::fault::ShellFault;
@@ -113,7 +113,7 @@ pub fn read_line<R: BufRead>(reader: &mut R, line: &mut Vec<u8>) -> Result<bool,
 
 /// Whether the input has more bytes. None is taken.
 pub fn has_more<R: BufRead>(reader: &mut R) -> Result<bool, ShellFault>
-    ensures tells { TellsMore (R.remaining reader.old) (R.remaining reader.new) result }
+    ensures reports { ReportsMore (R.remaining reader.old) (R.remaining reader.new) result }
     ensures keeps { Keeps (R.remaining reader.old) (R.remaining reader.new) }
 {
     for _turn in 0..u64::MAX {

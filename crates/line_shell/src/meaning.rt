@@ -1,6 +1,6 @@
 // What a line asks for.
 ghost use Rattle.std.specs.Prelude.{◌≡◌, IfOk};
-ghost use Rattle.line_shell.specs.Commands.{asked, moment_of, meaning, line_of};
+ghost use Rattle.line_shell.specs.Commands.{issued, moment_of, meaning, line_of};
 
 use crate::arguments::command_of;
 use crate::line::Line;
@@ -12,8 +12,8 @@ use std::alloc::{AllocError, Global};
 
 const GREATEST_MOMENT: u64 = i64::MAX as u64;
 
-fn asked(command: Option<Command>) -> Line
-    ensures { result ≡ asked command }
+fn issued(command: Option<Command>) -> Line
+    ensures { result ≡ issued command }
 {
     match command {
         Some(command) => Line::Do(command),
@@ -42,7 +42,7 @@ fn meaning(words: Vec<Bytes>) -> Line
     }
     match moment_of(&words) {
         Some(moment) => Line::Now(moment),
-        None => asked(command_of(words)),
+        None => issued(command_of(words)),
     }
 }
 

@@ -1,6 +1,6 @@
 // The texts of replies.
 ghost use Rattle.std.specs.Prelude.{◌≡◌, ◌∷◌, ◌++◌, [], length, codes};
-ghost use Rattle.posix_profile.specs.NameSteps.{told_size};
+ghost use Rattle.posix_profile.specs.NameSteps.{reported_size};
 ghost use Rattle.line_shell.specs.Replies.{error_name, kind_name, numbers_text, names_text, reply_words, reply_text, bad_line_text};
 ghost use Rattle.line_shell.specs.Words.{space, spelled};
 ghost use Rattle.line_shell.specs.Written.{Writes};
@@ -43,9 +43,9 @@ fn kind_name(kind: Kind) -> &'static [u8]
     }
 }
 
-/// The size that is told of an object: 0 of a directory.
-fn told_size(kind: Kind, size: u64) -> u64
-    ensures { result ≡ told_size kind size }
+/// The size that is reported of an object: 0 of a directory.
+fn reported_size(kind: Kind, size: u64) -> u64
+    ensures { result ≡ reported_size kind size }
 {
     match kind {
         Kind::File => size,
@@ -61,13 +61,13 @@ fn write_data<W: Write>(writer: &mut W, bytes: &[u8]) -> Result<()>
 }
 
 fn write_info<W: Write>(writer: &mut W, info: Info) -> Result<()>
-    ensures { Writes (W.contents writer.old) (W.contents writer.new) (codes "info " ++ kind_name info.kind ++ numbers_text (info.object ∷ info.links ∷ told_size info.kind info.size ∷ info.moment ∷ [])) result }
+    ensures { Writes (W.contents writer.old) (W.contents writer.new) (codes "info " ++ kind_name info.kind ++ numbers_text (info.object ∷ info.links ∷ reported_size info.kind info.size ∷ info.moment ∷ [])) result }
 {
     write_bytes(writer, b"info ")?;
     let numbers = [
         info.object,
         info.links,
-        told_size(info.kind, info.size),
+        reported_size(info.kind, info.size),
         info.moment,
     ];
     write_tagged_numbers(writer, kind_name(info.kind), &numbers)

@@ -1,6 +1,6 @@
 // The loop between a reader, a writer and what serves commands.
 ghost use Rattle.line_shell.specs.Replies.{reply_text, bad_line_text};
-ghost use Rattle.line_shell.specs.Runs.{IsTold, Calls, Obeys, AnswersLine, Shell};
+ghost use Rattle.line_shell.specs.Runs.{IsStated, Calls, Obeys, AnswersLine, Shell};
 
 use crate::fault::ShellFault;
 use crate::input::{has_more, read_line};
@@ -15,7 +15,7 @@ use std::io::{BufRead, Write};
 pub(crate) const MOST_LINES: u32 = 16_777_216;
 
 fn tell<W: Write>(writer: &mut W, reply: &Reply) -> Result<(), ShellFault>
-    ensures { IsTold (W.contents writer.old) (W.contents writer.new) (reply_text reply.now) result }
+    ensures { IsStated (W.contents writer.old) (W.contents writer.new) (reply_text reply.now) result }
 {
     match write_reply(writer, reply) {
         Ok(()) => Ok(()),
@@ -23,8 +23,8 @@ fn tell<W: Write>(writer: &mut W, reply: &Reply) -> Result<(), ShellFault>
     }
 }
 
-fn tell_bad_line<W: Write>(writer: &mut W) -> Result<(), ShellFault>
-    ensures { IsTold (W.contents writer.old) (W.contents writer.new) bad_line_text result }
+fn report_bad_line<W: Write>(writer: &mut W) -> Result<(), ShellFault>
+    ensures { IsStated (W.contents writer.old) (W.contents writer.new) bad_line_text result }
 {
     match write_bad_line(writer) {
         Ok(()) => Ok(()),
@@ -32,7 +32,7 @@ fn tell_bad_line<W: Write>(writer: &mut W) -> Result<(), ShellFault>
     }
 }
 
-/// Calls the one that serves, and tells its reply.
+/// Calls the one that serves, and writes its reply.
 fn call<W: Write, V: Serve>(
     command: &Stamped,
     writer: &mut W,
@@ -44,7 +44,7 @@ fn call<W: Write, V: Serve>(
     tell(writer, &reply)
 }
 
-/// Does what a line asks for, tells the answer, and gives the moment of the lines after it.
+/// Does what a line asks for, writes the answer, and gives the moment of the lines after it.
 fn obey<W: Write, V: Serve>(
     line: Line,
     moment: u64,
@@ -65,7 +65,7 @@ fn obey<W: Write, V: Serve>(
             Ok(moment)
         }
         Line::Bad => {
-            tell_bad_line(writer)?;
+            report_bad_line(writer)?;
             Ok(moment)
         }
     }

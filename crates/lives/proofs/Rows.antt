@@ -52,8 +52,8 @@ len_objects = map.len-insert nat_cmp_total
 keep_objects : (m : Objects) (p : ℕ → Bool) → map.entries (map.retain_keys m p) ≡ where_key nat_cmp p (map.entries m)
 keep_objects = entries-retain_keys nat_cmp_total map.nat_cmp-IsAntisymmetric
 
-kept_object : (m : Objects) (p : ℕ → Bool) (q : ℕ) → map.get (map.retain_keys m p) q ≡ cond (p q) (map.get m q) None
-kept_object = get_retained nat_cmp_total map.nat_cmp-IsAntisymmetric
+committed_object : (m : Objects) (p : ℕ → Bool) (q : ℕ) → map.get (map.retain_keys m p) q ≡ cond (p q) (map.get m q) None
+committed_object = get_retained nat_cmp_total map.nat_cmp-IsAntisymmetric
 
 no_object : (q : ℕ) → map.get (map.empty {X = Object} {R = nat_cmp}) q ≡ None
 no_object = map.get-empty nat_cmp
@@ -76,7 +76,7 @@ no_values = nil_from_length _ (sym (map.len-entries (map.empty {X = ℕ} {R = sl
 no_handles : map.entries (map.empty {X = Handle} {R = nat_cmp}) ≡ []
 no_handles = nil_from_length _ (sym (map.len-entries (map.empty {X = Handle} {R = nat_cmp})) ∙ map.len-empty nat_cmp Handle)
 
-ruleset computes = (put_objects, put_names, get_objects, get_names, len_objects, len_entries, keep_objects, kept_object, no_objects, no_values, no_entries, no_object, no_name, no_len, no_handles)
+ruleset computes = (put_objects, put_names, get_objects, get_names, len_objects, len_entries, keep_objects, committed_object, no_objects, no_values, no_entries, no_object, no_name, no_len, no_handles)
 
 abbrev make : Stamped
 make = record { moment = 7; command = commands.Mkdir (47 ∷ 122 ∷ []) }
@@ -99,7 +99,7 @@ first_session reply = record { mounted = Mounted; commands = make ∷ sync ∷ [
 abbrev second_session : SessionRecord
 second_session = record { mounted = Gone; commands = list_root ∷ []; begun = 0; replies = []; unmounted = None; cut = true }
 
--- these names are told
+-- these names are reported
 abbrev third_session : List Name → SessionRecord
 third_session names = record { mounted = Mounted; commands = list_root ∷ []; begun = 1; replies = replies.Names names ∷ []; unmounted = Some replies.Done; cut = false }
 
@@ -137,19 +137,19 @@ tree_case (suc (suc (suc k))) le = absurd (omega (arith, le))
 
 -- the sync that ended by the loss of power is not done
 nothing_synced : (i : ℕ) → IsSyncDone (make ∷ sync ∷ []) (replies.Done ∷ lost ∷ []) i → ⊥
-nothing_synced zero (command, reply, there, told, done) =
+nothing_synced zero (command, reply, there, reported, done) =
     let one : Some make ≡ Some command = there in
     let same : make ≡ command = cc in
     let two : false ≡ true = ap (λ (c : Stamped). is_synced c.command reply) same ∙ done in
     absurd cc
-nothing_synced (suc zero) (command, reply, there, told, done) =
-    let one : Some lost ≡ Some reply = told in
+nothing_synced (suc zero) (command, reply, there, reported, done) =
+    let one : Some lost ≡ Some reply = reported in
     let same : lost ≡ reply = cc in
     let at : Some sync ≡ Some command = there in
     let that : sync ≡ command = cc in
     let two : false ≡ true = ap (λ (r : Reply). is_synced sync.command r) same ∙ ap (λ (c : Stamped). is_synced c.command reply) that ∙ done in
     absurd cc
-nothing_synced (suc (suc i)) (command, reply, there, told, done) = let two : None ≡ Some command = there in absurd cc
+nothing_synced (suc (suc i)) (command, reply, there, reported, done) = let two : None ≡ Some command = there in absurd cc
 
 first_from : (k : ℕ) → k ≤ 2 → IsSessionFrom small_sizes fresh.objects (first_session lost) (tree_at lost k)
 first_from k le = record {
@@ -169,14 +169,14 @@ second_from t = record { ends = inl (record { mounted = inr refl; begun = refl; 
 
 third_from : (t : Objects) (names : List Name) → (step small_sizes false (at_mount t) list_root).reply ≡ replies.Names names
     → IsSessionFrom small_sizes t (third_session names) (settled_after small_sizes false (at_mount t) (list_root ∷ []) (replies.Names names ∷ []) 1)
-third_from t names tells = record {
+third_from t names reports = record {
   ends = inr (record {
     mounted = refl;
     answered = refl;
-    run = (inl (sym tells), (λ _. tt), tt);
+    run = (inl (sym reports), (λ _. tt), tt);
     begun = inl refl;
     unmounted = λ reply is. let one : Some replies.Done ≡ Some reply = is in let same : reply ≡ replies.Done = cc in inl same;
-    keeps = record { count = 1; covers = λ i (command, reply, there, told, done). slice_get_within (list_root ∷ []) i command there; within = omega arith; unmounted = λ is. refl; tree = refl };
+    keeps = record { count = 1; covers = λ i (command, reply, there, reported, done). slice_get_within (list_root ∷ []) i command there; within = omega arith; unmounted = λ is. refl; tree = refl };
   });
   cuts = record {
     mount = λ is. let two : Mounted ≡ Gone = is in absurd cc;
@@ -195,26 +195,26 @@ without_z =
     let first : IsSessionFrom small_sizes fresh.objects (first_session lost) fresh.objects = subst (λ (t : Objects). IsSessionFrom small_sizes fresh.objects (first_session lost) t) fresh_again (first_from 0 (omega arith)) in
     (_, (fresh.objects, first, (fresh.objects, second_from fresh.objects, (_, third_from fresh.objects [] lists_none, refl))))
 
--- what the third session tells is the list of the tree that the first left
-told_of : (t last : Objects) (names : List Name) → IsLife small_sizes t (second_session ∷ third_session names ∷ []) last → replies.Names names ≡ (step small_sizes false (at_mount t) list_root).reply
-told_of t last names (u, second, (v, third, end)) =
+-- what the third session reports is the list of the tree that the first left
+reported_of : (t last : Objects) (names : List Name) → IsLife small_sizes t (second_session ∷ third_session names ∷ []) last → replies.Names names ≡ (step small_sizes false (at_mount t) list_root).reply
+reported_of t last names (u, second, (v, third, end)) =
     let same : u ≡ t = stays_unmounted small_sizes t second_session u second (λ is. let two : Gone ≡ Mounted = is in absurd cc) in
     let serves = serves_mounted small_sizes u (third_session names) v third refl in
     elim serves.run.0 [
-      | inl tells ↦ tells ∙ ap (λ (o : Objects). (step small_sizes false (at_mount o) list_root).reply) same
+      | inl reports ↦ reports ∙ ap (λ (o : Objects). (step small_sizes false (at_mount o) list_root).reply) same
       | inr (inl none) ↦ let two : false ≡ true = none.0 in absurd cc
       | inr (inr stop) ↦ let two : false ≡ true = stop in absurd cc
     ]
 
--- nothing else is told
+-- nothing else is reported
 one_of_both : (names : List Name) (last : Objects) → IsLife small_sizes fresh.objects (row lost names) last → (names ≡ []) ⊎ (names ≡ (122 ∷ []) ∷ [])
 one_of_both names last (t, first, rest) =
     let keeps = (serves_mounted small_sizes fresh.objects (first_session lost) t first refl).keeps in
-    let tells = told_of t last names rest in
+    let reports = reported_of t last names rest in
     let list : Objects → Reply = λ (o : Objects). (step small_sizes false (at_mount o) list_root).reply in
     elim (tree_case keeps.count keeps.within) [
-      | inl none ↦ let one : replies.Names names ≡ replies.Names [] = tells ∙ ap list (keeps.tree ∙ none) ∙ lists_none in let same : names ≡ [] = cc in inl same
-      | inr there ↦ let one : replies.Names names ≡ replies.Names ((122 ∷ []) ∷ []) = tells ∙ ap list (keeps.tree ∙ there) ∙ lists_made in let same : names ≡ (122 ∷ []) ∷ [] = cc in inr same
+      | inl none ↦ let one : replies.Names names ≡ replies.Names [] = reports ∙ ap list (keeps.tree ∙ none) ∙ lists_none in let same : names ≡ [] = cc in inl same
+      | inr there ↦ let one : replies.Names names ≡ replies.Names ((122 ∷ []) ∷ []) = reports ∙ ap list (keeps.tree ∙ there) ∙ lists_made in let same : names ≡ (122 ∷ []) ∷ [] = cc in inr same
     ]
 
 synced_tree : tree_at replies.Done 2 ≡ made
@@ -226,5 +226,5 @@ synced_z : (names : List Name) (last : Objects) → IsLife small_sizes fresh.obj
 synced_z names last (t, first, rest) =
     let whole : t ≡ tree_at replies.Done 2 = synced_whole small_sizes fresh.objects (first_session replies.Done) t 1 first (sync, replies.Done, refl, refl, refl) refl in
     let list : Objects → Reply = λ (o : Objects). (step small_sizes false (at_mount o) list_root).reply in
-    let one : replies.Names names ≡ replies.Names ((122 ∷ []) ∷ []) = told_of t last names rest ∙ ap list (whole ∙ synced_tree) ∙ lists_made in
+    let one : replies.Names names ≡ replies.Names ((122 ∷ []) ∷ []) = reported_of t last names rest ∙ ap list (whole ∙ synced_tree) ∙ lists_made in
     cc

@@ -20,7 +20,7 @@ pub data MountAnswer : Type 0 where
   Faulty : MountAnswer
 
 -- What is recorded of a session, from the moment that power comes on: how the mount answered; the commands that were handed in, how
--- many of them were begun, and the replies; how the unmount answered, if there was one; whether the device counted a loss of power.
+-- many of them were begun, and the replies; how the unmount answered, if there was one; whether the device had a loss of power.
 pub record SessionRecord : Type 0 where
   pub mounted : MountAnswer
   pub commands : List Stamped
@@ -43,7 +43,7 @@ pub record FailsToMount (before : Objects) (session : SessionRecord) (after : Ob
 
 -- the last reply is the stop
 abbrev pub EndsStopped : List Reply → Type 0
-EndsStopped told = (before : List Reply) × (told ≡ before ++ replies.Error errors.EIO ∷ [])
+EndsStopped reported = (before : List Reply) × (reported ≡ before ++ replies.Error errors.EIO ∷ [])
 
 -- The tree after the session is what a mount shows of the state after the first so many commands: at least those up to and with the
 -- last sync that is done, and all that were begun where the unmount is done.

@@ -1,6 +1,6 @@
 // Room that is made by a collection, by a free block, and not at all.
 
-use crate::kept::{assert_stored, marked};
+use crate::committed::{assert_stored, marked};
 use crate::moves::{FULL, MOUNT, MOVE, full_flash, room_made};
 use crate::same::assert_same;
 use block_state::Blocks;
@@ -35,7 +35,7 @@ fn made(
 }
 
 #[test]
-fn the_block_with_the_fewest_kept_pages_is_collected(rt: HostRuntime) {
+fn the_block_with_the_fewest_committed_pages_is_collected(rt: HostRuntime) {
     let alloc = rt.alloc();
     let flash = full_flash(&rt, alloc);
     for count in [1, 8, 29u32] {
@@ -57,7 +57,7 @@ fn a_block_is_taken_while_more_are_free(rt: HostRuntime) {
 }
 
 #[test]
-fn where_too_much_is_kept_nothing_is_written(rt: HostRuntime) {
+fn where_too_much_is_committed_nothing_is_written(rt: HostRuntime) {
     let alloc = rt.alloc();
     let flash = full_flash(&rt, alloc);
     for count in [30, 32, 33, u32::MAX] {

@@ -4,7 +4,7 @@ use crate::same::assert_same;
 use crate::scans::pages_of;
 use crate::worked::{flashes, written};
 use block_state::Blocks;
-use chunk_index::{Index, KeptPage};
+use chunk_index::{CommittedPage, Index};
 use flash_tree::Key;
 use mount_scan::{PageCopy, scan_newest};
 use nand_model::Nand;
@@ -33,14 +33,14 @@ impl Mounted {
     }
 }
 
-/// How many keys are kept in the five blocks.
-fn kept_in_all(rt: &impl Abort, blocks: &Blocks) -> u64 {
-    let mut kept = 0u64;
+/// How many keys are committed in the five blocks.
+fn committed_in_all(rt: &impl Abort, blocks: &Blocks) -> u64 {
+    let mut committed = 0u64;
     for block in 0..blocks.geometry().blocks() {
         assert!(rt; block < 5);
-        kept = kept.saturating_add(blocks.entry(block).kept as u64);
+        committed = committed.saturating_add(blocks.entry(block).committed as u64);
     }
-    kept
+    committed
 }
 
 /// Asserts that the index has each of the newest pages.
@@ -50,19 +50,19 @@ fn expect_newest(rt: &impl Abort, mounted: &Mounted, what: &str) {
             object: found.object,
             chunk: u64::from(found.chunk),
         };
-        let page = KeptPage {
+        let page = CommittedPage {
             block: u32::from(found.block),
             page: u32::from(found.page),
             version: found.version,
         };
-        assert_same!(rt; mounted.index.kept(key), Some(page), (what, key));
+        assert_same!(rt; mounted.index.committed(key), Some(page), (what, key));
     }
-    let kept = kept_in_all(rt, &mounted.blocks);
-    assert_same!(rt; kept, mounted.newest.len() as u64, what);
+    let committed = committed_in_all(rt, &mounted.blocks);
+    assert_same!(rt; committed, mounted.newest.len() as u64, what);
 }
 
 #[test]
-fn the_newest_pages_of_a_scan_are_kept(rt: HostRuntime) {
+fn the_newest_pages_of_a_scan_are_committed(rt: HostRuntime) {
     let alloc = rt.alloc();
     for flash in flashes(&rt, alloc) {
         let mut nand = written(&rt, alloc, &flash);

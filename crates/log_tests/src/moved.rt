@@ -1,4 +1,4 @@
-//! What a move of kept pages leaves of a checkpoint, and of the pages.
+//! What a move of committed pages leaves of a checkpoint, and of the pages.
 
 use crate::laid::{checkpoint, empty, write};
 use crate::left::{READS, assert_left};
@@ -75,8 +75,8 @@ fn moved(
     assert!(rt; 4 < log.device.geometry().blocks());
     assert!(rt; 4 < log.blocks.geometry().blocks());
     assert!(rt; !log.blocks.entry(4).bad);
-    assert!(rt; log.blocks.entry(4).kept == 3);
-    let result = log.move_kept(4);
+    assert!(rt; log.blocks.entry(4).committed == 3);
+    let result = log.move_committed(4);
     (result, log.device, log.blocks)
 }
 

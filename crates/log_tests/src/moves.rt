@@ -1,6 +1,6 @@
 // Small flashes, and moves of pages on them.
 
-use crate::kept::Run;
+use crate::committed::Run;
 use crate::volumes::{Volume, pages_from};
 use block_state::Blocks;
 use flash_log::{MoveFault, Moved, RoomFault};
@@ -69,7 +69,7 @@ pub(crate) fn flash(rt: &impl Abort, alloc: Global) -> MemNand {
 }
 
 /// What stands on it.
-pub(crate) const KEPT: [Run; 4] = [
+pub(crate) const COMMITTED: [Run; 4] = [
     Run {
         first: 1,
         count: 1,
@@ -176,8 +176,8 @@ pub(crate) fn moved(
     assert!(rt; block < log.device.geometry().blocks());
     assert!(rt; block < log.blocks.geometry().blocks());
     assert!(rt; !log.blocks.entry(block).bad);
-    assert!(rt; log.blocks.entry(block).kept > 0);
-    let result = log.move_kept(block);
+    assert!(rt; log.blocks.entry(block).committed > 0);
+    let result = log.move_committed(block);
     (result, log.device, log.blocks)
 }
 

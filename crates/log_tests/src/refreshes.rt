@@ -2,7 +2,7 @@
 
 use crate::moves::{MOUNT, MOVE, five_pages};
 use crate::same::assert_same;
-use chunk_index::KeptPage;
+use chunk_index::CommittedPage;
 use flash_tree::Key;
 use nand_model::Nand;
 use test_devices::mount_log;
@@ -20,12 +20,12 @@ fn the_committed_pages_of_a_refreshed_block_lie_elsewhere(rt: HostRuntime) {
         assert_same!(rt; log.refresh(2), Ok(()));
         assert_same!(rt; log.device.calls(), MOUNT + MOVE);
         for (object, page, version) in [(1u64, 0u32, 1u64), (2, 1, 2), (3, 2, 2)] {
-            let at = KeptPage {
+            let at = CommittedPage {
                 block: 0,
                 page,
                 version,
             };
-            assert_same!(rt; log.index.kept(Key { object, chunk: 0 }), Some(at), object);
+            assert_same!(rt; log.index.committed(Key { object, chunk: 0 }), Some(at), object);
         }
     }
 }

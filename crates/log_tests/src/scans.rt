@@ -89,7 +89,7 @@ fn finds_as_plainly(
 fn finds_as_worked(rt: &impl Abort, alloc: Global, flash: &WorkedFlash) {
     let mut nand = written(rt, alloc, flash);
     let found = scan(alloc, &mut nand).expect(rt, "a scan");
-    let valid = valid_at(rt, alloc, &found.counted);
+    let valid = valid_at(rt, alloc, &found.valid_pages);
     assert_same!(rt; valid, flash.valid, flash.what);
     assert_same!(rt; found.numbers, flash.numbers, flash.what);
     let listed = finds_newest(rt, alloc, &mut nand, &found.newest, flash.what);
@@ -135,7 +135,7 @@ fn counts_of_group(rt: &impl Abort, alloc: Global, pages: u32) -> (usize, usize)
             .expect(rt, "a write");
     }
     let found = scan(alloc, &mut powered_up(flash)).expect(rt, "a scan");
-    (found.counted.len(), found.newest.len())
+    (found.valid_pages.len(), found.newest.len())
 }
 
 #[test]
@@ -283,7 +283,7 @@ fn counted_of_drawn(rt: &impl Abort, alloc: Global, random: &mut Pcg32) -> u64 {
     let mut nand = random_flash(rt, alloc, random);
     let found = scan(alloc, &mut nand).expect(rt, "a scan");
     let _listed = finds_newest(rt, alloc, &mut nand, &found.newest, "a random flash");
-    found.counted.len() as u64
+    found.valid_pages.len() as u64
 }
 
 #[test]

@@ -128,11 +128,11 @@ fn equal_pages(rt: &impl Abort, alloc: Global) -> WorkedFlash {
 }
 
 fn bad_block(rt: &impl Abort, alloc: Global) -> WorkedFlash {
-    let kept = vec![in alloc; tag((0, 1), (1, 0), (1, 1, 1))].expect(rt, "memory");
+    let committed = vec![in alloc; tag((0, 1), (1, 0), (1, 1, 1))].expect(rt, "memory");
     let lost = vec![in alloc; tag((0, 1), (1, 0), (9, 9, 9))].expect(rt, "memory");
     WorkedFlash {
         what: "the newer page stands in a bad block",
-        blocks: vec![in alloc; (2, kept), (0, lost)].expect(rt, "memory"),
+        blocks: vec![in alloc; (2, committed), (0, lost)].expect(rt, "memory"),
         bad: Some(0),
         valid: vec![in alloc; (2, 0)].expect(rt, "memory"),
         newest: vec![in alloc; (2, 0)].expect(rt, "memory"),

@@ -6,7 +6,9 @@ ghost use Rattle.chunk_index.specs.declared.form.Present.TheVariants as presents
 
 use crate::same::assert_same;
 use block_state::Blocks;
-use chunk_index::{Form, Index, KeptKey, KeptPage, KeyFilter, PagePlace, Present, WrittenGroup};
+use chunk_index::{
+    CommittedKey, CommittedPage, Form, Index, KeyFilter, PagePlace, Present, WrittenGroup,
+};
 use flash_tree::Key;
 use nand_model::Geometry;
 use std::alloc::{AllocError, Global};
@@ -24,7 +26,7 @@ struct Store {
 }
 
 impl Store {
-    /// No key is kept or present.
+    /// No key is committed or present.
     fn new(rt: &impl Abort, alloc: Global) -> Store {
         let geometry = Geometry::new(512, 32, 8).expect(rt, "a geometry");
         let blocks = Blocks::new(alloc, geometry).expect(rt, "memory");
@@ -56,12 +58,12 @@ impl Store {
         self.index.settle_group(group, &mut self.blocks);
     }
 
-    /// The kept page of a key, if there is one, was copied to another place.
+    /// The committed page of a key, if there is one, was copied to another place.
     fn copy(&mut self, key: Key, place: PagePlace)
         requires block { place.block < 8 }
         requires page { place.page < 32 }
     {
-        match self.index.kept(key) {
+        match self.index.committed(key) {
             Some(_) => self.index.copied(key, place, &mut self.blocks),
             None => {}
         }
@@ -89,11 +91,11 @@ impl Store {
         self.index.forget(object);
     }
 
-    /// How many keys are kept in a block.
+    /// How many keys are committed in a block.
     fn count(&self, block: u32) -> u32
         requires { block < 8 }
     {
-        self.blocks.entry(block).kept
+        self.blocks.entry(block).committed
     }
 }
 
@@ -120,9 +122,9 @@ fn key(object: u64, chunk: u64) -> Key
     Key { object, chunk }
 }
 
-/// A kept page at a place, in a version.
-fn at(block: u32, page: u32, version: u64) -> KeptPage {
-    KeptPage {
+/// A committed page at a place, in a version.
+fn at(block: u32, page: u32, version: u64) -> CommittedPage {
+    CommittedPage {
         block,
         page,
         version,
@@ -136,10 +138,10 @@ fn expect_present(rt: &impl Abort, index: &Index, wanted: &[(Key, Present)]) {
     }
 }
 
-/// Asserts which page is kept of each of some keys.
-fn expect_kept(rt: &impl Abort, index: &Index, wanted: &[(Key, Option<KeptPage>)]) {
-    for (key, kept) in wanted {
-        assert_same!(rt; index.kept(*key), *kept, *key);
+/// Asserts which page is committed of each of some keys.
+fn expect_committed(rt: &impl Abort, index: &Index, wanted: &[(Key, Option<CommittedPage>)]) {
+    for (key, committed) in wanted {
+        assert_same!(rt; index.committed(*key), *committed, *key);
     }
 }
 
@@ -151,9 +153,9 @@ fn a_group_is_settled_copied_and_forgotten(rt: HostRuntime) {
     store.buffer(&rt, key(5, 2), 1);
     store.buffer(&rt, key(1, 0), 2);
     expect_present(&rt, &store.index, &[(key(5, 2), Present::InBuffer(1))]);
-    expect_kept(&rt, &store.index, &[(key(5, 2), None)]);
+    expect_committed(&rt, &store.index, &[(key(5, 2), None)]);
     store.settle(3, 10, 7);
-    expect_kept(&rt, &store.index, &[(key(5, 0), Some(at(3, 10, 7)))]);
+    expect_committed(&rt, &store.index, &[(key(5, 0), Some(at(3, 10, 7)))]);
     let settled = [
         (key(1, 0), Present::OnFlash(at(3, 12, 7))),
         (key(5, 1), Present::Absent),
@@ -161,7 +163,7 @@ fn a_group_is_settled_copied_and_forgotten(rt: HostRuntime) {
     expect_present(&rt, &store.index, &settled);
     assert_same!(&rt; store.count(3), 3);
     store.copy(key(1, 0), PagePlace { block: 4, page: 1 });
-    expect_kept(&rt, &store.index, &[(key(1, 0), Some(at(4, 1, 7)))]);
+    expect_committed(&rt, &store.index, &[(key(1, 0), Some(at(4, 1, 7)))]);
     assert_same!(&rt; [store.count(3), store.count(4)], [2, 1]);
     store.buffer(&rt, key(5, 1), 0);
     store.cut(5, 2);
@@ -170,7 +172,7 @@ fn a_group_is_settled_copied_and_forgotten(rt: HostRuntime) {
         (key(5, 2), Present::Absent),
     ];
     expect_present(&rt, &store.index, &cut);
-    expect_kept(&rt, &store.index, &[(key(5, 2), Some(at(3, 11, 7)))]);
+    expect_committed(&rt, &store.index, &[(key(5, 2), Some(at(3, 11, 7)))]);
     store.forget(1);
     store.settle(6, 7, 8);
     let left = [
@@ -178,30 +180,30 @@ fn a_group_is_settled_copied_and_forgotten(rt: HostRuntime) {
         (key(5, 2), None),
         (key(1, 0), None),
     ];
-    expect_kept(&rt, &store.index, &left);
+    expect_committed(&rt, &store.index, &left);
     assert_same!(&rt; [store.count(3), store.count(4), store.count(6)], [1, 0, 1]);
 }
 
-/// A key with its kept page.
-fn kept(key: Key, at: KeptPage) -> Option<KeptKey> {
-    Some(KeptKey { key, at })
+/// A key with its committed page.
+fn committed(key: Key, at: CommittedPage) -> Option<CommittedKey> {
+    Some(CommittedKey { key, at })
 }
 
-/// Asserts which kept key is next after each of some keys.
-fn expect_next(rt: &impl Abort, index: &Index, wanted: &[(Option<Key>, Option<KeptKey>)]) {
+/// Asserts which committed key is next after each of some keys.
+fn expect_next(rt: &impl Abort, index: &Index, wanted: &[(Option<Key>, Option<CommittedKey>)]) {
     for (after, next) in wanted {
-        assert_same!(rt; index.next_kept(*after), *next, *after);
+        assert_same!(rt; index.next_committed(*after), *next, *after);
     }
 }
 
-/// Asserts which key is the last of so many kept ones.
+/// Asserts which key is the last of so many committed ones.
 fn expect_last(rt: &impl Abort, index: &Index, wanted: &[(u32, Option<Key>)]) {
     for (count, last) in wanted {
-        assert_same!(rt; index.last_kept(*count), *last, *count);
+        assert_same!(rt; index.last_committed(*count), *last, *count);
     }
 }
 
-/// The kept keys in their order, before and after all but one object's first chunks go.
+/// The committed keys in their order, before and after all but one object's first chunks go.
 #[test]
 fn keys_come_in_order_and_some_stay(rt: HostRuntime) {
     let mut store = Store::new(&rt, rt.alloc());
@@ -210,12 +212,12 @@ fn keys_come_in_order_and_some_stay(rt: HostRuntime) {
     store.buffer(&rt, key(5, 0), 2);
     store.settle(3, 10, 7);
     store.buffer(&rt, key(2, 0), 0);
-    let second = kept(key(5, 0), at(3, 12, 7));
+    let second = committed(key(5, 0), at(3, 12, 7));
     let order = [
-        (None, kept(key(1, 9), at(3, 11, 7))),
+        (None, committed(key(1, 9), at(3, 11, 7))),
         (Some(key(1, 9)), second),
         (Some(key(3, 7)), second),
-        (Some(key(5, 0)), kept(key(5, 2), at(3, 10, 7))),
+        (Some(key(5, 0)), committed(key(5, 2), at(3, 10, 7))),
         (Some(key(5, 2)), None),
     ];
     expect_next(&rt, &store.index, &order);
@@ -236,7 +238,7 @@ fn keys_come_in_order_and_some_stay(rt: HostRuntime) {
     assert_same!(&rt; store.count(3), 1);
     store.settle(4, 0, 8);
     let left = [(key(5, 0), Some(at(3, 12, 7))), (key(2, 0), None)];
-    expect_kept(&rt, &store.index, &left);
+    expect_committed(&rt, &store.index, &left);
 }
 
 /// Run it with each allocation of the preparation refused in turn.
@@ -247,7 +249,7 @@ fn a_refused_preparation_changes_nothing(rt: HostRuntime) {
     store.settle(3, 10, 7);
     if store.prepare(key(6, 0)).is_err() {
         let left = [(key(5, 0), Some(at(3, 10, 7))), (key(6, 0), None)];
-        expect_kept(&rt, &store.index, &left);
+        expect_committed(&rt, &store.index, &left);
         expect_present(&rt, &store.index, &[(key(6, 0), Present::Absent)]);
         store.prepare(key(6, 0)).expect(&rt, "memory");
     }

@@ -1,6 +1,6 @@
 // Collects a block of a flash in memory, of 64 blocks of 64 pages of 2,048 bytes each.
 //
-// Each argument is a number of pages that are kept in the block. Where `time` goes before, the times are printed.
+// Each argument is a number of pages that are committed in the block. Where `time` goes before, the times are printed.
 
 mod full;
 
@@ -69,18 +69,18 @@ fn mean_time<R: CpuClock>(rt: &R, alloc: Global, flash: &MemNand) -> Result<u128
 fn measure<R: CpuClock + Print + Eprint>(
     rt: &R,
     alloc: Global,
-    kept: u32,
+    committed: u32,
     timed: bool,
 ) -> Result<()> {
-    let flash = full_flash(alloc, kept)?;
+    let flash = full_flash(alloc, committed)?;
     let report = collected(rt, alloc, &flash)?;
     println!(rt;
-        "{kept} kept pages: {} reads, {} programs, {} erases",
+        "{committed} committed pages: {} reads, {} programs, {} erases",
         report.reads, report.programs, report.erases
     )?;
     if timed {
         let time = mean_time(rt, alloc, &flash)?;
-        eprintln!(rt; "{kept} kept pages: {time} nanoseconds")?;
+        eprintln!(rt; "{committed} committed pages: {time} nanoseconds")?;
     }
     Ok(())
 }
@@ -96,8 +96,8 @@ pub(crate) fn run<R: CpuClock + Print + Eprint>(
         if words[place] == "time" {
             timed = true;
         } else {
-            let kept = number(words, place, "the number of kept pages")?;
-            measure(rt, alloc, kept, timed)?;
+            let committed = number(words, place, "the number of committed pages")?;
+            measure(rt, alloc, committed, timed)?;
         }
     }
     Ok(())

@@ -1,6 +1,6 @@
 // Settles changes of a few keys in an index in memory that has many entries.
 //
-// The first argument is the number of blocks, of 256 pages each, whose pages are all kept, and the second one that of the
+// The first argument is the number of blocks, of 256 pages each, whose pages are all committed, and the second one that of the
 // pages of an object, where it is not 256. With a third one, `time`, the times are printed. The memory that the index takes is what
 // the program holds above one of few blocks.
 ghost use Rattle.std.specs.Prelude.{◌<◌, ◌≤◌, ◌^◌};
@@ -51,7 +51,7 @@ fn key(block: u32, page: u32, of_object: u32) -> Key
     }
 }
 
-/// Fills the index: each page of each block is kept.
+/// Fills the index: each page of each block is committed.
 fn fill(filled: &mut Filled, size: Size) -> Result<()> {
     for block in 0..size.blocks {
         for group in 0..PAGES / GROUP {

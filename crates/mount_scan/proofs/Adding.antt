@@ -115,18 +115,18 @@ passes_page b p end tags first old reach past adds = adds_same (IsCountedIn b ta
 -- the groups that begin at one more page
 pub reaches_more : (tags : List (Option Tag)) (p end run to : ℕ) → Reaches tags p p end → ((page : ℕ) → p ≤ page → page < run ↔ IsWithinRun tags p page) → to ≡ max end run
     → Reaches tags (p + 1) p to
-reaches_more tags p end run to reach tells is = record {
+reaches_more tags p end run to reach reports is = record {
   covers = λ start page lt from within. elim (cases_eq start p) [
     | inr ne ↦ let before : page < end = reach.covers start page (omega (arith, lt, ne)) from within in omega (arith, before, is)
-    | inl at ↦ let before : page < run = (tells page from).1 (subst (λ s. IsWithinRun tags s page) at within) in omega (arith, before, is)
+    | inl at ↦ let before : page < run = (reports page from).1 (subst (λ s. IsWithinRun tags s page) at within) in omega (arith, before, is)
   ];
   covered = λ page from lt. elim (cases_lt page end) [
     | inl before ↦ let group = reach.covered page from before in (group.0, omega (arith, group.1), group.2)
-    | inr past ↦ (p, omega arith, (tells page from).0 (omega (arith, lt, past, is)))
+    | inr past ↦ (p, omega arith, (reports page from).0 (omega (arith, lt, past, is)))
   ];
 }
 
--- the same, told of later pages
+-- the same, reported of later pages
 pub reaches_on : (tags : List (Option Tag)) (n p end : ℕ) → Reaches tags n p end → Reaches tags n (p + 1) end
 reaches_on tags n p end reach = record {
   covers = λ start page lt from within. reach.covers start page lt (omega (arith, from)) within;

@@ -8,7 +8,7 @@ use Rattle.flash_tree.specs.laws.Newest.{one_tag}
 use Rattle.mount_scan.specs.CheckpointCandidates.{BeginsCheckpoint, FirstIs, IsAbove, IsGreatestBelow, MayBegin}
 use Rattle.mount_scan.specs.declared.checkpoint_candidate.Candidate.{Candidate}
 
--- a block that may begin a checkpoint has no other tag than the one it was told to have
+-- a block that may begin a checkpoint has no other tag than the one it was reported to have
 one_first : (flash : Flash) (b : ℕ) (tag t : Tag) → FirstIs flash b (Some tag) → MayBegin flash b t → tag ≡ t
 one_first flash b tag t is may = one_tag flash b 0 tag t is.1 may.has
 

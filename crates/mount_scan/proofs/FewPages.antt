@@ -91,16 +91,6 @@ not_older flash b renewed (firsts.Summary count number seq) is latest not (t, be
     let most = latest k u other own in
     not (seq, refl, omega (arith, ap (λ (x : Tag). x.seq) one, less, most))
 
--- of an older block no more pages are read than it costs
-pub older_costs : (d : Device) (b : ℕ) (first : FirstPage) (summarized : Bool) (renewed cost x y : ℕ) → IsOther d b first summarized renewed cost → summarized ≡ false → IsOlderThan renewed first → y ≤ x + d.geometry.pages
-    → ((q : ℕ) → d.flash.page b q ≡ Erased → y ≤ x + (q + 1)) → y ≤ x + cost
-older_costs d b first summarized renewed cost x y is not older most up_to =
-    let (t, begins, lt) = older_begins d.flash b renewed first is.first_page older in
-    elim (is.cost_is begins.0 (begun_written d.flash b t begins) (is.noted not)) [
-      | inl all ↦ omega (arith, most, all)
-      | inr (it, (q, erased, less)) ↦ let read = up_to q erased in omega (arith, read, less)
-    ]
-
 -- nor of one that does not begin erased and is not older
 pub other_costs : (d : Device) (b : ℕ) (first : FirstPage) (summarized : Bool) (renewed cost : ℕ) → IsOther d b first summarized renewed cost → summarized ≡ false → (first ≡ firsts.Bad → ⊥) → (first ≡ firsts.Erased → ⊥)
     → (IsOlderThan renewed first → ⊥) → d.geometry.pages ≤ cost
@@ -117,7 +107,7 @@ other_costs d b first summarized renewed cost is not good written other =
       begun (firsts.Tagged seq) (t, begins, same, other) good written = (begins.0, begun_written d.flash b t begins)
       begun (firsts.Summary count number seq) is good written = (is.0, begun_written d.flash b (first_tag count number seq) is)
 
--- of any block whose tags are read, no more than it costs, where the pages of one that begins erased are counted apart
+-- of any block whose tags are read, no more than it costs, where the pages of one that begins erased are in the count apart
 erased_or_other : (first : FirstPage) → (first ≡ firsts.Erased) ⊎ (first ≡ firsts.Erased → ⊥)
 erased_or_other firsts.Bad = inr (λ same. cc)
 erased_or_other firsts.Erased = inl refl

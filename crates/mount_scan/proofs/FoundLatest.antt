@@ -53,28 +53,28 @@ later_key list k l x y sorted ends lt at_k at_l =
       | inr ne ↦ key_before_on x next y first (pair_at IsSortedBefore list (k + 1) l next y sorted (omega (arith, lt, ne)) at_next at_l)
     ]
 
--- the last page of its key is kept
-pub last_kept : (list : List PageCopy) (i : ℕ) (x : PageCopy) (kept : List PageCopy) → AllPairs IsSortedBefore list → slice_get list i ≡ Some x → IsLastAt list i
-    → AreLastOfKeys list i kept → AreLastOfKeys list (i + 1) (kept ++ x ∷ [])
-last_kept list i x kept sorted at ends are = record {
+-- the last page of its key is committed
+pub last_committed : (list : List PageCopy) (i : ℕ) (x : PageCopy) (committed : List PageCopy) → AllPairs IsSortedBefore list → slice_get list i ≡ Some x → IsLastAt list i
+    → AreLastOfKeys list i committed → AreLastOfKeys list (i + 1) (committed ++ x ∷ [])
+last_committed list i x committed sorted at ends are = record {
   each = λ f. (
-    λ has. elim (Contains-push_cases kept x f has) [
+    λ has. elim (Contains-push_cases committed x f has) [
       | inl was ↦ let is = (are.each f).0 was in record { index = is.index; before = omega (arith, is.before); here = is.here; last = is.last }
       | inr same ↦ record { index = i; before = omega arith; here = subst (λ y. slice_get list i ≡ Some y) same at; last = ends }
     ],
     λ is. elim (cases_eq is.index i) [
-      | inr ne ↦ Contains-append_left kept (x ∷ []) f ((are.each f).1 (record { index = is.index; before = omega (arith, is.before, ne); here = is.here; last = is.last }))
-      | inl here ↦ subst (Contains (kept ++ x ∷ [])) (one_page list i x f at (at_index list is.index i f here is.here)) (Contains-push kept x)
+      | inr ne ↦ Contains-append_left committed (x ∷ []) f ((are.each f).1 (record { index = is.index; before = omega (arith, is.before, ne); here = is.here; last = is.last }))
+      | inl here ↦ subst (Contains (committed ++ x ∷ [])) (one_page list i x f at (at_index list is.index i f here is.here)) (Contains-push committed x)
     ],
   );
-  order = all_pairs_push IsKeyBefore kept x are.order (λ k d lt.
-      let is = (are.each (get_or kept k d)).0 (Contains-get_or kept k d lt) in
-      later_key list is.index i (get_or kept k d) x sorted is.last is.before is.here at);
+  order = all_pairs_push IsKeyBefore committed x are.order (λ k d lt.
+      let is = (are.each (get_or committed k d)).0 (Contains-get_or committed k d lt) in
+      later_key list is.index i (get_or committed k d) x sorted is.last is.before is.here at);
 }
 
 -- a page whose next has the same key is not
-pub last_passed : (list : List PageCopy) (i : ℕ) (kept : List PageCopy) → (IsLastAt list i → ⊥) → AreLastOfKeys list i kept → AreLastOfKeys list (i + 1) kept
-last_passed list i kept goes_on are = record {
+pub last_passed : (list : List PageCopy) (i : ℕ) (committed : List PageCopy) → (IsLastAt list i → ⊥) → AreLastOfKeys list i committed → AreLastOfKeys list (i + 1) committed
+last_passed list i committed goes_on are = record {
   each = λ f. (
     λ has. let is = (are.each f).0 has in record { index = is.index; before = omega (arith, is.before); here = is.here; last = is.last },
     λ is. elim (cases_eq is.index i) [
@@ -92,26 +92,26 @@ same_there xs ys k x len same at =
     slice_get-get_or ys k x (omega (arith, within, len)) ∙ ap Some (same x ∙ get_or_from_slice_get xs k x x at)
 
 -- the last page of its key is gathered
-pub gather_kept : (first list : List PageCopy) (i kept : ℕ) (x : PageCopy) → i < length list → slice_get list i ≡ Some x → IsLastAt list i → AllPairs IsSortedBefore first → Gathers first i list kept
-    → Gathers first (i + 1) (slice_set list kept x) (kept + 1)
-gather_kept first list i kept x lt at ends sorted are = record {
-  len = length-set list kept x ∙ are.len;
+pub gather_committed : (first list : List PageCopy) (i committed : ℕ) (x : PageCopy) → i < length list → slice_get list i ≡ Some x → IsLastAt list i → AllPairs IsSortedBefore first → Gathers first i list committed
+    → Gathers first (i + 1) (slice_set list committed x) (committed + 1)
+gather_committed first list i committed x lt at ends sorted are = record {
+  len = length-set list committed x ∙ are.len;
   front = omega (arith, are.front);
-  last = subst (AreLastOfKeys first (i + 1)) (sym (take_more_set list kept x (omega (arith, are.front, lt)))) (last_kept first i x (take kept list) sorted
+  last = subst (AreLastOfKeys first (i + 1)) (sym (take_more_set list committed x (omega (arith, are.front, lt)))) (last_committed first i x (take committed list) sorted
       (same_there list first i x (sym are.len) (λ d. sym (are.rest i d (omega arith))) at)
       (λ f g at_f at_g. ends f g
       (same_there first list i f are.len (λ d. are.rest i d (omega arith)) at_f)
       (same_there first list (i + 1) g are.len (λ d. are.rest (i + 1) d (omega arith)) at_g))
       are.last);
-  rest = λ k d le. get_or-set_other list kept k x d (λ same. absurd (omega (arith, are.front, le, same))) ∙ are.rest k d (omega (arith, le));
+  rest = λ k d le. get_or-set_other list committed k x d (λ same. absurd (omega (arith, are.front, le, same))) ∙ are.rest k d (omega (arith, le));
 }
 
 -- another stays
-pub gather_passed : (first list : List PageCopy) (i kept : ℕ) → (IsLastAt list i → ⊥) → Gathers first i list kept → Gathers first (i + 1) list kept
-gather_passed first list i kept goes_on are = record {
+pub gather_passed : (first list : List PageCopy) (i committed : ℕ) → (IsLastAt list i → ⊥) → Gathers first i list committed → Gathers first (i + 1) list committed
+gather_passed first list i committed goes_on are = record {
   len = are.len;
   front = omega (arith, are.front);
-  last = last_passed first i (take kept list) (λ ends. goes_on (λ f g at_f at_g. ends f g
+  last = last_passed first i (take committed list) (λ ends. goes_on (λ f g at_f at_g. ends f g
       (same_there list first i f (sym are.len) (λ d. sym (are.rest i d (omega arith))) at_f)
       (same_there list first (i + 1) g (sym are.len) (λ d. sym (are.rest (i + 1) d (omega arith))) at_g))) are.last;
   rest = λ k d le. are.rest k d (omega (arith, le));
@@ -165,8 +165,8 @@ last_from list (suc left) k x at near = elim (cases_lt (k + 1) (length list)) [
 ]
 
 -- the last pages of the keys of a sorted list are the newest
-pub latest_of : (list sorted kept : List PageCopy) → AreSorted list sorted → AreLastOfKeys sorted (length sorted) kept → AreLatest list kept
-latest_of list sorted kept order are = record {
+pub latest_of : (list sorted committed : List PageCopy) → AreSorted list sorted → AreLastOfKeys sorted (length sorted) committed → AreLatest list committed
+latest_of list sorted committed order are = record {
   among = λ f has. let is = (are.each f).0 has in (order.each f).0 (has_index sorted is.index f is.here);
   last = λ f g has_f has_g one after.
       let is = (are.each f).0 has_f in
@@ -183,5 +183,5 @@ latest_of list sorted kept order are = record {
       let at = index_of sorted g ((order.each g).1 has) in
       let last = last_from sorted (length sorted) at.0 g at.1 (omega arith) in
       (last.0, (are.each last.0).1 last.1, last.2);
-  order = λ i j d lt within one. not_before_itself (get_or kept i d) (get_or kept j d) (are.order i j d lt within) one.0 one.1;
+  order = λ i j d lt within one. not_before_itself (get_or committed i d) (get_or committed j d) (are.order i j d lt within) one.0 one.1;
 }

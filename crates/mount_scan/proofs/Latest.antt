@@ -17,12 +17,12 @@ use Rattle.mount_scan.specs.Copies.{FitsCopy, HasValidName, copy_at, copy_of, sp
 use Rattle.mount_scan.specs.Keys.{HaveOneKey, ThinsFound, AreLatest}
 use Rattle.mount_scan.specs.declared.page_copy.PageCopy.{PageCopy}
 use Rattle.mount_scan.specs.laws.Order.{not_after_on}
-use Rattle.mount_scan.specs.Scanned.{IsNewestCopy, AreNewest, TellsNewest}
+use Rattle.mount_scan.specs.Scanned.{IsNewestCopy, AreNewest, ListsNewest}
 use Rattle.mount_scan.specs.laws.Scan.{found_of}
 use Rattle.mount_scan.specs.Runs.{AddsCounted}
 use Rattle.mount_scan.specs.Blocks.{AreTags}
-use Rattle.mount_scan.specs.Latest.{TellsBlock, IsCountedCopy, HasLatestBelow}
-use Rattle.mount_scan.proofs.Tagged.{counted_told}
+use Rattle.mount_scan.specs.Latest.{ReportsBlock, IsCountedCopy, HasLatestBelow}
+use Rattle.mount_scan.proofs.Tagged.{counted_reported}
 
 pub none_in : (f : Found) → Contains [] f → ⊥
 none_in f has = absurd (omega (arith, has.1))
@@ -36,8 +36,8 @@ counted_copy flash x f same holds = subst (IsCountedCopy flash) same (record { s
 
 -- the pages that its tags tell
 pub one_block : (device : Device) (b : ℕ) (tags : List (Option Tag)) → IsWithin device.geometry.pages device.geometry.blocks device.flash → length tags ≡ device.geometry.pages
-    → (device.honest ≡ true → AreTags device.flash b tags) → (old new : List Found) → device.flash.bad b ≡ false → AddsCounted b tags (length tags) old new → old ≡ [] → TellsBlock device b new
-one_block device b tags within len told old new good adds empty =
+    → (device.honest ≡ true → AreTags device.flash b tags) → (old new : List Found) → device.flash.bad b ≡ false → AddsCounted b tags (length tags) old new → old ≡ [] → ReportsBlock device b new
+one_block device b tags within len reported old new good adds empty =
     let none : (f : Found) → Contains old f → ⊥ = λ f has. none_in f (subst (λ xs. Contains xs f) empty has) in
     record {
       placed = λ f has. elim ((adds.each f).0 has) [
@@ -47,14 +47,14 @@ one_block device b tags within len told old new good adds empty =
       exact = λ honest f. (
         λ has. elim ((adds.each f).0 has) [
           | inl was ↦ absurd (none f was)
-          | inr is ↦ (counted_told device.flash b device.geometry.pages device.geometry.blocks tags within len (told honest) f good).1 is
+          | inr is ↦ (counted_reported device.flash b device.geometry.pages device.geometry.blocks tags within len (reported honest) f good).1 is
         ],
-        λ holds. (adds.each f).1 (inr ((counted_told device.flash b device.geometry.pages device.geometry.blocks tags within len (told honest) f good).0 holds)),
+        λ holds. (adds.each f).1 (inr ((counted_reported device.flash b device.geometry.pages device.geometry.blocks tags within len (reported honest) f good).0 holds)),
       );
     }
 
 -- a bad one has none
-pub no_block : (device : Device) (b : ℕ) (list : List Found) → device.flash.bad b ≡ true → list ≡ [] → TellsBlock device b list
+pub no_block : (device : Device) (b : ℕ) (list : List Found) → device.flash.bad b ≡ true → list ≡ [] → ReportsBlock device b list
 no_block device b list bad empty =
     let none : (f : Found) → Contains list f → ⊥ = λ f has. none_in f (subst (λ xs. Contains xs f) empty has) in
     record {
@@ -90,14 +90,14 @@ place_fits g x low block page named =
     let pages = g.most_pages in
     (low, omega (arith, block, blocks), omega (arith, page, pages), named)
 
-pub latest_block : (device : Device) (b : ℕ) (one : List Found) (old new : List PageCopy) → b < device.geometry.blocks → TellsBlock device b one → ThinsFound one old new → HasLatestBelow device b old
+pub latest_block : (device : Device) (b : ℕ) (one : List Found) (old new : List PageCopy) → b < device.geometry.blocks → ReportsBlock device b one → ThinsFound one old new → HasLatestBelow device b old
     → HasLatestBelow device (b + 1) new
-latest_block device b one old new within tells thins below = record {
+latest_block device b one old new within reports thins below = record {
   placed = λ f has. elim (thins.among f has) [
     | inl was ↦ let is = below.placed f was in (omega (arith, is.0), is.1)
     | inr is ↦
         let (x, there, fits, same) = is in
-        let at = tells.placed x there in
+        let at = reports.placed x there in
         subst (λ (y : PageCopy). (y.block < b + 1) × (y.page < device.geometry.pages)) same (omega (arith, at.0), at.1)
   ];
   low = λ f has. elim (thins.among f has) [
@@ -106,12 +106,12 @@ latest_block device b one old new within tells thins below = record {
   ];
   held = λ honest f has. elim (thins.among f has) [
     | inl was ↦ below.held honest f was
-    | inr is ↦ let (x, there, fits, same) = is in counted_copy device.flash x f same ((tells.exact honest x).0 there).1
+    | inr is ↦ let (x, there, fits, same) = is in counted_copy device.flash x f same ((reports.exact honest x).0 there).1
   ];
   some = λ honest g lt low holds. elim (cases_eq g.block b) [
     | inl here ↦
-        let has = (tells.exact honest g).1 (here, holds) in
-        let at = tells.placed g has in
+        let has = (reports.exact honest g).1 (here, holds) in
+        let at = reports.placed g has in
         thins.some (copy_of g) (inr (g, has, place_fits device.geometry g low (omega (arith, at.0, within)) at.1 (held_named device.flash g.tag.object g.tag.chunk (spot_of g) holds), refl))
     | inr ne ↦
         let was = below.some honest g (omega (arith, lt, ne)) low holds in
@@ -162,42 +162,42 @@ module _ (device : Device) (honest : device.honest ≡ true) (within : IsWithin 
     chunk = refl;
   })
 
-  kept_is_newest : (x : PageCopy) → Contains newest x → IsNewestCopy flash x
-  kept_is_newest x has =
-      let counted : IsCountedCopy flash x = below.held honest x (latest.among x has) in
+  committed_is_newest : (x : PageCopy) → Contains newest x → IsNewestCopy flash x
+  committed_is_newest x has =
+      let valid_pages : IsCountedCopy flash x = below.held honest x (latest.among x has) in
       record {
-        spot = counted.spot;
-        copied = counted.copied;
+        spot = valid_pages.spot;
+        copied = valid_pages.copied;
         newest = record {
-          holds = counted.holds;
+          holds = valid_pages.holds;
           last = λ t other after.
               let chunk : x.chunk ≡ t.tag.chunk = sym other.chunk in
               let some = left x.object x.chunk t (subst (λ k. k < 2 ^ 32) chunk (below.low x (latest.among x has))) other in
               not_after_on t (spot_of_copy some.0) (spot_of_copy x) some.3
               (latest.last x some.0 has some.1 (some.2.0 ∙ other.object, some.2.1 ∙ other.chunk))
-              (subst (λ (y : PageCopy). IsAfter t (spot_of_copy y)) counted.copied after);
+              (subst (λ (y : PageCopy). IsAfter t (spot_of_copy y)) valid_pages.copied after);
         };
       }
 
-  newest_is_kept : (o c : ℕ) (s : Spot) → c < 2 ^ 32 → IsNewest flash o c s → Contains newest (copy_at s)
-  newest_is_kept o c s low is =
+  newest_is_committed : (o c : ℕ) (s : Spot) → c < 2 ^ 32 → IsNewest flash o c s → Contains newest (copy_at s)
+  newest_is_committed o c s low is =
       let first = left o c s (subst (λ k. k < 2 ^ 32) (sym is.holds.chunk) low) is.holds in
       let some = latest.some first.0 first.1 in
       let x : PageCopy = some.0 in
-      let kept : IsNewestCopy flash x = kept_is_newest x some.1 in
+      let committed : IsNewestCopy flash x = committed_is_newest x some.1 in
       let object : x.object ≡ o = some.2.0 ∙ first.2.0 ∙ is.holds.object in
       let chunk : x.chunk ≡ c = some.2.1 ∙ first.2.1 ∙ is.holds.chunk in
-      let key : IsNewest flash o c kept.spot = subst (λ k. IsNewest flash o k kept.spot) chunk (subst (λ k. IsNewest flash k x.chunk kept.spot) object kept.newest) in
-      subst (Contains newest) (sym kept.copied ∙ ap copy_at (one_spot flash o c kept.spot s key is)) some.1
+      let key : IsNewest flash o c committed.spot = subst (λ k. IsNewest flash o k committed.spot) chunk (subst (λ k. IsNewest flash k x.chunk committed.spot) object committed.newest) in
+      subst (Contains newest) (sym committed.copied ∙ ap copy_at (one_spot flash o c committed.spot s key is)) some.1
 
   -- the latest of what is left are the newest pages
   newest_pages : AreNewest flash newest
-  newest_pages = record { each = newest_is_kept; only = kept_is_newest; order = latest.order }
+  newest_pages = record { each = newest_is_committed; only = committed_is_newest; order = latest.order }
 
--- of what is left of all blocks, what is told of the newest pages
-pub tells_newest : (device : Device) (list newest : List PageCopy) → IsWithin device.geometry.pages device.geometry.blocks device.flash → HasLatestBelow device device.geometry.blocks list
-    → AreLatest list newest → TellsNewest device newest
-tells_newest device list newest within below latest = record {
+-- of what is left of all blocks, what is reported of the newest pages
+pub lists_newest : (device : Device) (list newest : List PageCopy) → IsWithin device.geometry.pages device.geometry.blocks device.flash → HasLatestBelow device device.geometry.blocks list
+    → AreLatest list newest → ListsNewest device newest
+lists_newest device list newest within below latest = record {
   placed = λ k d lt. below.placed (get_or newest k d) (latest.among (get_or newest k d) (Contains-get_or newest k d lt));
   low = λ k d lt. below.low (get_or newest k d) (latest.among (get_or newest k d) (Contains-get_or newest k d lt));
   order = latest.order;

@@ -21,3 +21,8 @@ pub mod SummaryFinds
 pub mod OneSummary
 pub mod FewPages
 pub mod WrittenTags
+pub mod SummaryEntries
+pub mod SummaryBytes
+pub mod SummaryRows
+pub mod SummaryReads
+pub mod WholeSummary

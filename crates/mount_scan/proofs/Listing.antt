@@ -128,9 +128,6 @@ pub record AreThinned (old new : List Bucket) (n : ℕ) : Type 0 where
   pub done : (k : ℕ) (a b : Bucket) → k < n → slice_get old k ≡ Some a → slice_get new k ≡ Some b → AreLatest (pages_of a) (pages_of b)
   pub rest : (k : ℕ) → n ≤ k → slice_get new k ≡ slice_get old k
 
-pub thinned_none : (bs : List Bucket) → AreThinned bs bs 0
-thinned_none bs = record { len = refl; done = λ k a b lt. absurd (omega (arith, lt)); rest = λ k le. refl }
-
 pub thinned_more : (old new : List Bucket) (n : ℕ) (a b : Bucket) → slice_get new n ≡ Some a → AreLatest (pages_of a) (pages_of b) → AreThinned old new n → AreThinned old (slice_set new n b) (n + 1)
 thinned_more old new n a b at latest thinned = record {
   len = length-set new n b ∙ thinned.len;

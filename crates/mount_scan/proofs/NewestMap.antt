@@ -14,7 +14,7 @@ use Rattle.flash_tree.specs.Newest.{Spot, Holds, IsAfter, IsNewest}
 use Rattle.flash_tree.specs.laws.Newest.{one_spot}
 use Rattle.flash_tree.specs.declared.place.Found.{Found}
 use Rattle.flash_tree.specs.Places.{spot_of}
-use Rattle.mount_scan.specs.Scanned.{TellsCounted}
+use Rattle.mount_scan.specs.Scanned.{ReportsCounted}
 use Rattle.mount_scan.specs.NewestMap.{KeyMap, key_cmp, page_of, AreLatestOf, ReportsNewest}
 use Rattle.mount_scan.specs.laws.Scan.{found_of, listed_spot}
 
@@ -44,16 +44,6 @@ pub record Gives (x : Found) (m n : KeyMap) : Type 0 where
 
 gives : (x : Found) (m n : KeyMap) → Updates key_cmp m n (x.tag.object, x.tag.chunk) (Some x) → Gives x m n
 gives x m n updates = record { here = updates.1; others = λ o c ne. updates.2 (o, c) (not_at x.tag.object x.tag.chunk o c ne) }
-
--- no pages
-pub latest_of_none : (m : KeyMap) → IsEmpty m → AreLatestOf [] m
-latest_of_none m empty =
-    let none : (o c : ℕ) → page_of m o c ≡ None = λ o c. ap (lookup (is_at (key_cmp (o, c)))) empty in
-    record {
-      among = λ o c f is. absurd (let two : None ≡ Some f = sym (none o c) ∙ is in cc);
-      last = λ o c f g is. absurd (let two : None ≡ Some f = sym (none o c) ∙ is in cc);
-      some = λ g has. absurd (omega (arith, has.1));
-    }
 
 -- one page more, that does not come after the one of its key
 pub latest_stays : (list : List Found) (m : KeyMap) (x y : Found) → page_of m x.tag.object x.tag.chunk ≡ Some y → (IsAfter (spot_of x) (spot_of y) → ⊥) → AreLatestOf list m → AreLatestOf (list ++ (x ∷ [])) m
@@ -135,23 +125,23 @@ of_key : (flash : Flash) (o c k l : ℕ) (s : Spot) → Holds flash o c s → s.
 of_key flash o c k l s holds object chunk = record { group = holds.group; whole = holds.whole; index = holds.index; within = holds.within; block = holds.block; page = holds.page; has = holds.has; object = object; chunk = chunk }
 
 -- of all pages that count these are the newest
-pub reports_newest : (device : Device) (counted : List Found) (m : KeyMap) → TellsCounted device counted → AreLatestOf counted m → ReportsNewest device m
-reports_newest device counted m tells latest =
+pub reports_newest : (device : Device) (valid_pages : List Found) (m : KeyMap) → ReportsCounted device valid_pages → AreLatestOf valid_pages m → ReportsNewest device m
+reports_newest device valid_pages m reports latest =
     let only : device.honest ≡ true → (o c : ℕ) (f : Found) → page_of m o c ≡ Some f → IsNewest device.flash o c (spot_of f) = λ honest o c f is.
     let was = latest.among o c f is in
-    let counts : (s : Spot) → Holds device.flash s.tag.object s.tag.chunk s → Contains counted (found_of s) = λ s holds. (listed_spot counted s).0 (((tells.exact honest).each s).0 holds) in
-    let holds : Holds device.flash f.tag.object f.tag.chunk (spot_of f) = ((tells.exact honest).each (spot_of f)).1 ((listed_spot counted (spot_of f)).1 was.0) in
+    let counts : (s : Spot) → Holds device.flash s.tag.object s.tag.chunk s → Contains valid_pages (found_of s) = λ s holds. (listed_spot valid_pages s).0 (((reports.exact honest).each s).0 holds) in
+    let holds : Holds device.flash f.tag.object f.tag.chunk (spot_of f) = ((reports.exact honest).each (spot_of f)).1 ((listed_spot valid_pages (spot_of f)).1 was.0) in
     record {
       holds = of_key device.flash f.tag.object f.tag.chunk o c (spot_of f) holds was.1 was.2;
       last = λ t other after. latest.last o c f (found_of t) is (counts t (of_key device.flash o c t.tag.object t.tag.chunk t other refl refl)) other.object other.chunk after;
     } in
     record {
-      placed = λ o c f is. All-contains (λ (y : Found). (y.block < device.geometry.blocks) × (y.page < device.geometry.pages)) counted f tells.placed (latest.among o c f is).0;
+      placed = λ o c f is. All-contains (λ (y : Found). (y.block < device.geometry.blocks) × (y.page < device.geometry.pages)) valid_pages f reports.placed (latest.among o c f is).0;
       exact = λ honest. record {
         only = only honest;
         each = λ o c s newest.
             let holds = newest.holds in
-            let here = (listed_spot counted s).0 (((tells.exact honest).each s).0 (of_key device.flash o c s.tag.object s.tag.chunk s holds refl refl)) in
+            let here = (listed_spot valid_pages s).0 (((reports.exact honest).each s).0 (of_key device.flash o c s.tag.object s.tag.chunk s holds refl refl)) in
             let (f, at) = the_page (page_of m s.tag.object s.tag.chunk) (latest.some (found_of s) here) in
             let there : page_of m o c ≡ Some f = subst (λ (k : ℕ). page_of m k c ≡ Some f) holds.object (subst (λ (k : ℕ). page_of m s.tag.object k ≡ Some f) holds.chunk at) in
             (f, there, one_spot device.flash o c (spot_of f) s (only honest o c f there) newest);

@@ -19,8 +19,8 @@ use Rattle.flash_tree.specs.Groups.{HasTag}
 use Rattle.flash_tree.specs.Summaries.{Summary, IsWholeSummary, MatchesBlock, BeginsSummary, summary_tag, summary_page}
 use Rattle.flash_tree.specs.laws.Newest.{one_tag}
 use Rattle.flash_tree.specs.laws.Place.{no_tag, same_flash, tag_placed}
-use Rattle.block_summaries.specs.FoundSummary.{summary_of, IsOf, IsWholeOn, HasNoSummary}
-use Rattle.block_summaries.specs.declared.found_summary.FoundSummary.{FoundSummary}
+use Rattle.mount_scan.specs.FoundSummary.{summary_of, IsOf, IsWholeOn, HasNoSummary}
+use Rattle.mount_scan.specs.declared.block_summary.found_summary.FoundSummary.{FoundSummary}
 use Rattle.mount_scan.specs.FewReads.{AreSizes, AreDoneBelow}
 use Rattle.mount_scan.specs.FirstPages.{BeginsWithTag, IsNoSummaryTag, IsFirstPage, AreNoted, HasSeqAt, first_tag, seq_of_first, tag_of_summary}
 use Rattle.mount_scan.specs.declared.first_page.FirstPage.{FirstPage}

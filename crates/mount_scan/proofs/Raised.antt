@@ -8,7 +8,7 @@ use Rattle.flash_tree.specs.Groups.{HasTag}
 use Rattle.flash_tree.specs.Newest.{Numbers, AreGreatest}
 use Rattle.flash_tree.specs.laws.Place.{tag_placed}
 use Rattle.mount_scan.specs.Blocks.{AreTags, numbers_in, AreAtMost, AreRaisedBy, AreGreatestBelow, RaisesBy}
-use Rattle.mount_scan.proofs.Tagged.{tag_told}
+use Rattle.mount_scan.proofs.Tagged.{tag_reported}
 
 pub at_most_on : (a b c : Numbers) → AreAtMost a b → AreAtMost b c → AreAtMost a c
 at_most_on a b c first then = record { version = omega (arith, first.version, then.version); group = omega (arith, first.group, then.group); seq = omega (arith, first.seq, then.seq) }
@@ -49,25 +49,25 @@ raised_more tags i t n m new at version group seq is = record {
 -- the tags of a block raise the numbers of the blocks before it to those of the blocks up to it
 pub greatest_block : (f : Flash) (b pages blocks : ℕ) (tags : List (Option Tag)) (n m : Numbers) → IsWithin pages blocks f → length tags ≡ pages → AreTags f b tags → f.bad b ≡ false
     → AreRaisedBy tags (length tags) n m → AreGreatestBelow f b n → AreGreatestBelow f (b + 1) m
-greatest_block f b pages blocks tags n m within len told good raised is = record {
+greatest_block f b pages blocks tags n m within len reported good raised is = record {
   above = λ k l t lt good_there has. elim (cases_eq k b) [
     | inr ne ↦ at_most_on (numbers_in t) n m (is.above k l t (omega (arith, lt, ne)) good_there has) raised.keeps
     | inl here ↦
         let has_here : HasTag f b l t = subst (λ j. HasTag f j l t) here has in
-        raised.above l t (omega (arith, (tag_placed pages blocks f b l t within has_here).1, len)) (tag_told f b pages blocks tags within len told l t has_here)
+        raised.above l t (omega (arith, (tag_placed pages blocks f b l t within has_here).1, len)) (tag_reported f b pages blocks tags within len reported l t has_here)
   ];
   least = λ k above. raised.least k
       (is.least k (λ j l t lt. above j l t (omega (arith, lt))))
-      (λ l t lt at. above b l t (omega arith) good (told l (Some t) at));
+      (λ l t lt at. above b l t (omega arith) good (reported l (Some t) at));
 }
 
 -- and any numbers to those of the block too
 pub raises_block : (f : Flash) (b pages blocks : ℕ) (tags : List (Option Tag)) (n m : Numbers) → IsWithin pages blocks f → length tags ≡ pages → AreTags f b tags → f.bad b ≡ false
     → AreRaisedBy tags (length tags) n m → RaisesBy f b n m
-raises_block f b pages blocks tags n m within len told good raised = record {
+raises_block f b pages blocks tags n m within len reported good raised = record {
   keeps = raised.keeps;
-  above = λ _ l t has. raised.above l t (omega (arith, (tag_placed pages blocks f b l t within has).1, len)) (tag_told f b pages blocks tags within len told l t has);
-  least = λ k keeps above. raised.least k keeps (λ l t lt at. above good l t (told l (Some t) at));
+  above = λ _ l t has. raised.above l t (omega (arith, (tag_placed pages blocks f b l t within has).1, len)) (tag_reported f b pages blocks tags within len reported l t has);
+  least = λ k keeps above. raised.least k keeps (λ l t lt at. above good l t (reported l (Some t) at));
 }
 
 module _ (f : Flash) where

@@ -8,7 +8,7 @@ use Rattle.nand_model.specs.declared.geometry.Geometry.{Geometry}
 use Rattle.nand_model.specs.Changes.{OnlyReads}
 use Rattle.nand_model.specs.laws.Changes.{only_reads_on, only_reads_here}
 use Rattle.flash_tree.specs.laws.Place.{same_flash}
-use Rattle.mount_scan.specs.Scanned.{TellsGone}
+use Rattle.mount_scan.specs.Scanned.{ScanReportsGone}
 use Rattle.mount_scan.specs.declared.fault.ScanFault.{ScanFault}
 use Rattle.mount_scan.specs.declared.fault.ScanFault.TheVariants as faults
 use Rattle.mount_scan.specs.FoundCheckpoint.{ReadsAtMost}
@@ -35,9 +35,9 @@ read_on p q n a b c done first next le = record {
 pub has_read : {T : Type 0} (n : ℕ) (a b : Device) (done : T) → ReadsAtMost n a b (Ok done) → HasRead n a b
 has_read n a b done read = record { only = read.only; most = read.most; power = read.gone }
 
-gone_on : (T U : Type 0) (a b c : Device) (e : ScanFault) → (a.gone ≡ false → b.gone ≡ false) → TellsGone {T = T} b c (Err e) → TellsGone {T = U} a c (Err e)
-gone_on T U a b c faults.NoMemory power tells = λ was. tells (power was)
-gone_on T U a b c faults.Gone power tells = tells
+gone_on : (T U : Type 0) (a b c : Device) (e : ScanFault) → (a.gone ≡ false → b.gone ≡ false) → ScanReportsGone {T = T} b c (Err e) → ScanReportsGone {T = U} a c (Err e)
+gone_on T U a b c faults.NoMemory power reports = λ was. reports (power was)
+gone_on T U a b c faults.Gone power reports = reports
 
 -- some were, and the next call ended so
 pub ends_so : (T U : Type 0) (p q n : ℕ) (a b c : Device) (e : ScanFault) → HasRead p a b → p + q ≤ n → ReadsAtMost {T = T} q b c (Err e) → ReadsAtMost {T = U} n a c (Err e)

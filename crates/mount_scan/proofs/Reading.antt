@@ -8,7 +8,7 @@ use Rattle.nand_model.specs.Calls.{Device}
 use Rattle.nand_model.specs.declared.geometry.Geometry.{Geometry}
 use Rattle.nand_model.specs.Changes.{OnlyReads}
 use Rattle.nand_model.specs.laws.Changes.{only_reads_on, only_reads_here}
-use Rattle.mount_scan.specs.Scanned.{good_pages, TellsGone, ReadsEach}
+use Rattle.mount_scan.specs.Scanned.{good_pages, ScanReportsGone, ReadsEach}
 use Rattle.mount_scan.specs.declared.fault.ScanFault.{ScanFault}
 use Rattle.mount_scan.specs.declared.fault.ScanFault.TheVariants as faults
 
@@ -31,8 +31,8 @@ read_on p q a b c first next = record {
 }
 
 at_most_one : (a b : Device) → OnlyReads a b → (a.gone ≡ false → b.reads ≡ a.reads + 1) → b.reads ≤ a.reads + 1
-at_most_one a b only asked = elim (cases_Bool a.gone) [
-  | inr was ↦ let one : b.reads ≡ a.reads + 1 = asked was in omega (arith, one)
+at_most_one a b only issued = elim (cases_Bool a.gone) [
+  | inr was ↦ let one : b.reads ≡ a.reads + 1 = issued was in omega (arith, one)
   | inl gone ↦ let same : b.reads ≡ a.reads = ap (λ (d : Device). d.reads) (only.lasts.gone gone) in omega (arith, same)
 ]
 
@@ -40,9 +40,9 @@ at_most_one a b only asked = elim (cases_Bool a.gone) [
 pub ends_refused : {T : Type 0} (p n : ℕ) (a b : Device) → HasRead p a b → p ≤ n → ReadsEach {T = T} n a b (Err faults.NoMemory)
 ends_refused p n a b read le = record { only = read.only; most = omega (arith, read.each, le); each = tt; gone = read.power }
 
-gone_on : (T U : Type 0) (a b c : Device) (e : ScanFault) → (a.gone ≡ false → b.gone ≡ false) → TellsGone {T = T} b c (Err e) → TellsGone {T = U} a c (Err e)
-gone_on T U a b c faults.NoMemory power tells = λ was. tells (power was)
-gone_on T U a b c faults.Gone power tells = tells
+gone_on : (T U : Type 0) (a b c : Device) (e : ScanFault) → (a.gone ≡ false → b.gone ≡ false) → ScanReportsGone {T = T} b c (Err e) → ScanReportsGone {T = U} a c (Err e)
+gone_on T U a b c faults.NoMemory power reports = λ was. reports (power was)
+gone_on T U a b c faults.Gone power reports = reports
 
 -- some were, and the call that reads the next ends so
 pub ends_so : {T U : Type 0} (p q n : ℕ) (a b c : Device) (e : ScanFault) → HasRead p a b → p + q ≤ n → ReadsEach {T = T} q b c (Err e) → ReadsEach {T = U} n a c (Err e)

@@ -114,8 +114,8 @@ module _ (d : Device) (summarized : HasSummarizedFlash d) (within : IsWithin d.g
     -- no copy of the key comes after the page
     none_after : (x : PageCopy) → Contains list x → x.object ≡ o → x.chunk ≡ c → IsAfter (spot_of_copy x) s → ⊥
     none_after x has object chunk after = elim (below.known.known summarized.0 x has) [
-      | inl counted ↦ is.last counted.spot (subst (λ k. Holds flash o k counted.spot) chunk (subst (λ k. Holds flash k x.chunk counted.spot) object counted.holds))
-          (subst (λ (y : PageCopy). IsAfter (spot_of_copy y) s) (sym counted.copied) after)
+      | inl valid_pages ↦ is.last valid_pages.spot (subst (λ k. Holds flash o k valid_pages.spot) chunk (subst (λ k. Holds flash k x.chunk valid_pages.spot) object valid_pages.holds))
+          (subst (λ (y : PageCopy). IsAfter (spot_of_copy y) s) (sym valid_pages.copied) after)
       | inr named ↦
           let object_of : o ≡ named.entry.object = sym object ∙ sym (ap (λ (y : PageCopy). y.object) named.copied) in
           let chunk_of : c ≡ named.entry.chunk = sym chunk ∙ sym (ap (λ (y : PageCopy). y.chunk) named.copied) in
@@ -179,11 +179,11 @@ module _ (d : Device) (summarized : HasSummarizedFlash d) (within : IsWithin d.g
 -- no version that is found is above the numbers of all groups
 version_most : (d : Device) (list : List PageCopy) (n : Numbers) → HasSummarizedFlash d → HasKnown d list → AreAbove d.flash n → (f : PageCopy) → Contains list f → f.version ≤ n.group
 version_most d list n summarized known above f has = elim (known.known summarized.0 f has) [
-  | inl counted ↦
-      let s : Spot = counted.spot in
-      let most = above s.block s.page s.tag (ap d.flash.bad counted.holds.block ∙ counted.holds.whole.good) counted.holds.has in
-      let version : s.tag.version ≡ f.version = ap (λ (y : PageCopy). y.version) counted.copied in
-      omega (arith, most.1, counted.holds.has.valid.version, version)
+  | inl valid_pages ↦
+      let s : Spot = valid_pages.spot in
+      let most = above s.block s.page s.tag (ap d.flash.bad valid_pages.holds.block ∙ valid_pages.holds.whole.good) valid_pages.holds.has in
+      let version : s.tag.version ≡ f.version = ap (λ (y : PageCopy). y.version) valid_pages.copied in
+      omega (arith, most.1, valid_pages.holds.has.valid.version, version)
   | inr named ↦
       let less = summarized.1.right.versions named.summary named.entry named.whole named.has in
       let most = above named.summary.block 0 (summary_tag named.summary 0) named.whole.good (first_of_summary d.geometry d.flash named.summary named.whole) in

@@ -42,9 +42,9 @@ use Rattle.mount_scan.proofs.ReadCount.{back_honest}
 adds_back : (d a : Device) (b : ℕ) (old new : List PageCopy) → OnlyReads d a → AddsBlock a b old new → AddsBlock d b old new
 adds_back d a b old new only adds = record {
   pages = adds.pages;
-  tells = record {
-    placed = λ f has. let is = adds.tells.placed f has in (is.0, omega (arith, is.1, ap (λ (g : Geometry). g.pages) only.lasts.geometry));
-    exact = back_honest (λ g flash. (f : Found) → Contains adds.pages f ↔ ((f.block ≡ b) × Holds flash f.tag.object f.tag.chunk (spot_of f))) d a only adds.tells.exact;
+  reports = record {
+    placed = λ f has. let is = adds.reports.placed f has in (is.0, omega (arith, is.1, ap (λ (g : Geometry). g.pages) only.lasts.geometry));
+    exact = back_honest (λ g flash. (f : Found) → Contains adds.pages f ↔ ((f.block ≡ b) × Holds flash f.tag.object f.tag.chunk (spot_of f))) d a only adds.reports.exact;
   };
   thins = adds.thins;
 }
@@ -88,12 +88,12 @@ known_added d b pages old new lt placed held thins were = record {
 
 module _ (d : Device) (b : ℕ) (lt : b < d.geometry.blocks) (old new : List PageCopy) (adds : AddsBlock d b old new) where
   known_block : HasKnown d old → HasKnown d new
-  known_block = known_added d b adds.pages old new lt adds.tells.placed (λ honest f has. ((adds.tells.exact honest f).0 has).1) adds.thins
+  known_block = known_added d b adds.pages old new lt adds.reports.placed (λ honest f has. ((adds.reports.exact honest f).0 has).1) adds.thins
 
   covers_block : d.honest ≡ true → CoversBlock d.flash b new
   covers_block honest s here low holds =
-      let has = (adds.tells.exact honest (found_of s)).1 (here, holds) in
-      let at = adds.tells.placed (found_of s) has in
+      let has = (adds.reports.exact honest (found_of s)).1 (here, holds) in
+      let at = adds.reports.placed (found_of s) has in
       as_new_added adds.pages old new (found_of s) adds.thins has (place_fits d.geometry (found_of s) low (omega (arith, at.0, lt)) at.1 (held_named d.flash s.tag.object s.tag.chunk s holds))
 
 -- and so it is the next block's turn

@@ -16,17 +16,17 @@ use Rattle.flash_tree.specs.laws.Newest.{one_tag}
 use Rattle.flash_tree.specs.declared.place.Found.{Found}
 use Rattle.flash_tree.specs.Places.{spot_of, group_of, CountsByTag, TagIs}
 use Rattle.flash_tree.specs.laws.Place.{same_flash, tag_placed, counts_by_tag}
-use Rattle.mount_scan.specs.Scanned.{AreCounted, ArePlaced, IsPlaceBefore, TellsCounted}
+use Rattle.mount_scan.specs.Scanned.{AreCounted, ArePlaced, IsPlaceBefore, ReportsCounted}
 use Rattle.mount_scan.specs.laws.Scan.{found_of, listed_spot}
 use Rattle.mount_scan.specs.Runs.{IsPartOf, IsRun, IsCountedIn, AddsCounted}
-use Rattle.mount_scan.specs.Blocks.{AreTags, AreCountedBelow, TellsBelow}
+use Rattle.mount_scan.specs.Blocks.{AreTags, AreCountedBelow, ReportsBelow}
 
 -- ---- some tags of a block
 
 module _ (f : Flash) (b : ℕ) (tags : List (Option Tag)) where
-  pub told_is : (p : ℕ) (t : Tag) (o : Option Tag) → HasTag f b p t → slice_get tags p ≡ Some o → TagIs f b p o → slice_get tags p ≡ Some (Some t)
-  told_is p t None has at is = absurd (is t has)
-  told_is p t (Some u) has at is = at ∙ ap (λ (v : Tag). Some (Some v)) (one_tag f b p u t is has)
+  pub reported_is : (p : ℕ) (t : Tag) (o : Option Tag) → HasTag f b p t → slice_get tags p ≡ Some o → TagIs f b p o → slice_get tags p ≡ Some (Some t)
+  reported_is p t None has at is = absurd (is t has)
+  reported_is p t (Some u) has at is = at ∙ ap (λ (v : Tag). Some (Some v)) (one_tag f b p u t is has)
 
   -- a whole group whose tags are listed is a run in the list
   run_of : (g : Group) (whole : IsGroup f g) → ((i : ℕ) (lt : i < g.size) → slice_get tags (g.start + i) ≡ Some (Some (whole.each i lt).tag)) → (first : Tag) × (IsRun tags g.start first) × (first.count ≡ g.size)
@@ -52,7 +52,7 @@ module _ (f : Flash) (b : ℕ) (tags : List (Option Tag)) where
         first.count,
       )
 
-  -- a valid page is counted in the list, where the tags of its group are listed
+  -- a valid page is in the count in the list, where the tags of its group are listed
   pub held_counted : (x : Found) → x.block ≡ b → (by_tag : CountsByTag f x.tag.object x.tag.chunk (spot_of x))
       → ((i : ℕ) (lt : i < x.tag.count) → slice_get tags (x.page - x.tag.index + i) ≡ Some (Some (by_tag.whole.each i lt).tag)) → x.page < length tags → slice_get tags x.page ≡ Some (Some x.tag)
       → IsCountedIn b tags (length tags) x
@@ -78,7 +78,7 @@ module _ (f : Flash) (b : ℕ) (tags : List (Option Tag)) where
           record { tag = part.tag; has = there (start + i) part.tag part.there; index = part.index; count = part.count; group = part.group; seq = part.seq };
     }
 
-    -- what is counted in the list is a valid page
+    -- what is in the count in the list is a valid page
     pub counted_held : (x : Found) → f.bad b ≡ false → IsCountedIn b tags (length tags) x → (x.block ≡ b) × Holds f x.tag.object x.tag.chunk (spot_of x)
     counted_held x good is =
         let run = is.within in (
@@ -98,24 +98,24 @@ module _ (f : Flash) (b : ℕ) (tags : List (Option Tag)) where
 
 -- ---- all of them
 
-module _ (f : Flash) (b pages blocks : ℕ) (tags : List (Option Tag)) (within : IsWithin pages blocks f) (len : length tags ≡ pages) (told : AreTags f b tags) where
+module _ (f : Flash) (b pages blocks : ℕ) (tags : List (Option Tag)) (within : IsWithin pages blocks f) (len : length tags ≡ pages) (reported : AreTags f b tags) where
   -- a tag on the flash stands in the list
-  pub tag_told : (p : ℕ) (t : Tag) → HasTag f b p t → slice_get tags p ≡ Some (Some t)
-  tag_told p t has =
+  pub tag_reported : (p : ℕ) (t : Tag) → HasTag f b p t → slice_get tags p ≡ Some (Some t)
+  tag_reported p t has =
       let lt : p < length tags = omega (arith, (tag_placed pages blocks f b p t within has).1, len) in
       let at : slice_get tags p ≡ Some (get_or tags p None) = slice_get-get_or tags p None lt in
-      told_is f b tags p t (get_or tags p None) has at (told p (get_or tags p None) at)
+      reported_is f b tags p t (get_or tags p None) has at (reported p (get_or tags p None) at)
 
-  -- what counts in a block is told by its tags
-  pub counted_told : (x : Found) → f.bad b ≡ false → ((x.block ≡ b) × Holds f x.tag.object x.tag.chunk (spot_of x)) ↔ IsCountedIn b tags (length tags) x
-  counted_told x good = (
+  -- what counts in a block is reported by its tags
+  pub counted_reported : (x : Found) → f.bad b ≡ false → ((x.block ≡ b) × Holds f x.tag.object x.tag.chunk (spot_of x)) ↔ IsCountedIn b tags (length tags) x
+  counted_reported x good = (
     λ holds.
         let by_tag = (counts_by_tag f x.tag.object x.tag.chunk (spot_of x)).0 holds.1 in
         let has : HasTag f b x.page x.tag = subst (λ k. HasTag f k x.page x.tag) holds.0 by_tag.has in
         held_counted f b tags x holds.0 by_tag
-        (λ i lt. tag_told (x.page - x.tag.index + i) (by_tag.whole.each i lt).tag (subst (λ k. HasTag f k (x.page - x.tag.index + i) (by_tag.whole.each i lt).tag) holds.0 (by_tag.whole.each i lt).has))
-        (omega (arith, (tag_placed pages blocks f b x.page x.tag within has).1, len)) (tag_told x.page x.tag has),
-    counted_held f b tags (λ p t at. told p (Some t) at) x good,
+        (λ i lt. tag_reported (x.page - x.tag.index + i) (by_tag.whole.each i lt).tag (subst (λ k. HasTag f k (x.page - x.tag.index + i) (by_tag.whole.each i lt).tag) holds.0 (by_tag.whole.each i lt).has))
+        (omega (arith, (tag_placed pages blocks f b x.page x.tag within has).1, len)) (tag_reported x.page x.tag has),
+    counted_held f b tags (λ p t at. reported p (Some t) at) x good,
   )
 
   -- with what counts in a block it is the next block's turn
@@ -124,11 +124,11 @@ module _ (f : Flash) (b pages blocks : ℕ) (tags : List (Option Tag)) (within :
     each = λ x. (
       λ has. elim ((adds.each x).0 has) [
         | inl was ↦ let is = (below.each x).0 was in (omega (arith, is.0), is.1)
-        | inr is ↦ let holds = (counted_told x good).1 is in (omega (arith, holds.0), holds.1)
+        | inr is ↦ let holds = (counted_reported x good).1 is in (omega (arith, holds.0), holds.1)
       ],
       λ holds. elim (cases_eq x.block b) [
         | inr ne ↦ (adds.each x).1 (inl ((below.each x).1 (omega (arith, holds.0, ne), holds.1)))
-        | inl here ↦ (adds.each x).1 (inr ((counted_told x good).0 (here, holds.1)))
+        | inl here ↦ (adds.each x).1 (inr ((counted_reported x good).0 (here, holds.1)))
       ],
     );
     order = adds.order below.order (λ x y was is. inl (omega (arith, ((below.each x).0 was).0, is.block)));
@@ -179,57 +179,52 @@ order_block : (b pages : ℕ) (tags : List (Option Tag)) (old new : List Found) 
 order_block b pages tags old new adds placed order =
     adds.order order (λ x y was is. inl (omega (arith, (All-contains (λ x. (x.block < b) × (x.page < pages)) old x placed was).0, is.block)))
 
--- places among those of another list
-pub placed_among : (blocks pages : ℕ) (list some : List Found) → ((x : Found) → Contains some x → Contains list x) → ArePlaced blocks pages list → ArePlaced blocks pages some
-placed_among blocks pages list some among placed k d lt =
-    All-contains (λ x. (x.block < blocks) × (x.page < pages)) list (get_or some k d) placed (among (get_or some k d) (Contains-get_or some k d lt))
-
--- after a block what is told of one more
-pub tells_block : (device : Device) (b : ℕ) (tags : List (Option Tag)) → IsWithin device.geometry.pages device.geometry.blocks device.flash → length tags ≡ device.geometry.pages
+-- after a block what is reported of one more
+pub reports_block : (device : Device) (b : ℕ) (tags : List (Option Tag)) → IsWithin device.geometry.pages device.geometry.blocks device.flash → length tags ≡ device.geometry.pages
     → (device.honest ≡ true → AreTags device.flash b tags) → (old new : List Found) → device.flash.bad b ≡ false → AddsCounted b tags (length tags) old new
-    → TellsBelow device b old → TellsBelow device (b + 1) new
-tells_block device b tags within len told old new good adds below = record {
+    → ReportsBelow device b old → ReportsBelow device (b + 1) new
+reports_block device b tags within len reported old new good adds below = record {
   placed = placed_block b device.geometry.pages tags old new len adds below.placed;
   order = order_block b device.geometry.pages tags old new adds below.placed below.order;
-  exact = λ honest. below_block device.flash b device.geometry.pages device.geometry.blocks tags within len (told honest) old new good adds (below.exact honest);
+  exact = λ honest. below_block device.flash b device.geometry.pages device.geometry.blocks tags within len (reported honest) old new good adds (below.exact honest);
 }
 
 -- after a bad one nothing more is
-pub tells_bad : (device : Device) (b : ℕ) (list : List Found) → device.flash.bad b ≡ true → TellsBelow device b list → TellsBelow device (b + 1) list
-tells_bad device b list bad below = record {
+pub reports_bad : (device : Device) (b : ℕ) (list : List Found) → device.flash.bad b ≡ true → ReportsBelow device b list → ReportsBelow device (b + 1) list
+reports_bad device b list bad below = record {
   placed = λ k d lt. let is = below.placed k d lt in (omega (arith, is.0), is.1);
   order = below.order;
   exact = λ honest. below_bad device.flash b list bad (below.exact honest);
 }
 
 -- after some reads the same is
-pub tells_on : (a b : Device) (k : ℕ) (list : List Found) → OnlyReads a b → TellsBelow a k list → TellsBelow b k list
-tells_on a b k list reads tells = record {
-  placed = subst (λ (g : Geometry). ArePlaced k g.pages list) (sym reads.lasts.geometry) tells.placed;
-  order = tells.order;
+pub reports_on : (a b : Device) (k : ℕ) (list : List Found) → OnlyReads a b → ReportsBelow a k list → ReportsBelow b k list
+reports_on a b k list reads reports = record {
+  placed = subst (λ (g : Geometry). ArePlaced k g.pages list) (sym reads.lasts.geometry) reports.placed;
+  order = reports.order;
   exact = λ honest.
       let was : a.honest ≡ true = sym reads.lasts.honest ∙ honest in
-      subst (λ f. AreCountedBelow f k list) (sym (same_flash a b reads was)) (tells.exact was);
+      subst (λ f. AreCountedBelow f k list) (sym (same_flash a b reads was)) (reports.exact was);
 }
 
-pub tells_back : (a b : Device) (k : ℕ) (list : List Found) → OnlyReads a b → TellsBelow b k list → TellsBelow a k list
-tells_back a b k list reads tells = record {
-  placed = subst (λ (g : Geometry). ArePlaced k g.pages list) reads.lasts.geometry tells.placed;
-  order = tells.order;
-  exact = λ honest. subst (λ f. AreCountedBelow f k list) (same_flash a b reads honest) (tells.exact (reads.lasts.honest ∙ honest));
+pub reports_back : (a b : Device) (k : ℕ) (list : List Found) → OnlyReads a b → ReportsBelow b k list → ReportsBelow a k list
+reports_back a b k list reads reports = record {
+  placed = subst (λ (g : Geometry). ArePlaced k g.pages list) reads.lasts.geometry reports.placed;
+  order = reports.order;
+  exact = λ honest. subst (λ f. AreCountedBelow f k list) (same_flash a b reads honest) (reports.exact (reads.lasts.honest ∙ honest));
 }
 
 -- before the first block nothing is
-pub tells_none : (device : Device) → TellsBelow device 0 []
-tells_none device = record {
+pub reports_none : (device : Device) → ReportsBelow device 0 []
+reports_none device = record {
   placed = λ k d lt. absurd (omega (arith, lt));
   order = λ i j d lt within. absurd (omega (arith, within));
   exact = λ honest. below_none device.flash;
 }
 
 -- after the last block all is
-pub tells_all : (device : Device) (list : List Found) → IsWithin device.geometry.pages device.geometry.blocks device.flash → TellsBelow device device.geometry.blocks list → TellsCounted device list
-tells_all device list within below = record {
+pub reports_all : (device : Device) (list : List Found) → IsWithin device.geometry.pages device.geometry.blocks device.flash → ReportsBelow device device.geometry.blocks list → ReportsCounted device list
+reports_all device list within below = record {
   placed = below.placed;
   order = below.order;
   exact = λ honest. below_all device.flash device.geometry.pages device.geometry.blocks list within (below.exact honest);

@@ -83,16 +83,6 @@ one_or_none old mid x thins f has = elim (Contains-push_cases mid x f has) [
 
 -- ---- the pages of a list
 
--- no page of a list was added
-pub found_none : (list : List PageCopy) → ThinsFound [] list list
-found_none list = record {
-  among = λ f has. inl has;
-  some = λ g has. elim has [
-    | inl was ↦ (g, was, (refl, refl), not_after_itself (spot_of_copy g))
-    | inr is ↦ absurd (let lt = is.1.1 in omega (arith, lt))
-  ];
-}
-
 module _ (added : List Found) (old mid new : List PageCopy) (i : ℕ) (x : Found) (lt : i < length added) (at : get_or added i x ≡ x) where
   one_more : take (i + 1) added ≡ take i added ++ x ∷ []
   one_more = take_more added i x lt ∙ ap (λ z. take i added ++ z ∷ []) at

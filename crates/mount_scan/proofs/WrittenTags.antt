@@ -22,7 +22,7 @@ use Rattle.mount_scan.specs.declared.fault.ScanFault.{ScanFault}
 use Rattle.mount_scan.specs.declared.page_copy.PageCopy.{PageCopy}
 use Rattle.mount_scan.proofs.Latest.{none_in}
 use Rattle.mount_scan.proofs.ReadCount.{HasRead, back_honest, read_none, read_on}
-use Rattle.mount_scan.proofs.Tagged.{counted_held, held_counted, told_is}
+use Rattle.mount_scan.proofs.Tagged.{counted_held, held_counted, reported_is}
 
 -- ---- the list
 
@@ -33,8 +33,8 @@ pub record IsReadUpTo (flash : Flash) (b p : ℕ) (ended : Bool) (tags : List (O
   pub written : IsWrittenUpTo flash b end
   pub erased : ended ≡ true → flash.page b end ≡ Erased
   pub goes : ended ≡ false → end ≡ p
-  pub told : (l : ℕ) (told : Option Tag) → l < end → slice_get tags l ≡ Some told → TagIs flash b l told
-  pub none : (l : ℕ) (told : Option Tag) → end ≤ l → slice_get tags l ≡ Some told → told ≡ None
+  pub reported : (l : ℕ) (reported : Option Tag) → l < end → slice_get tags l ≡ Some reported → TagIs flash b l reported
+  pub none : (l : ℕ) (reported : Option Tag) → end ≤ l → slice_get tags l ≡ Some reported → reported ≡ None
 
 pub up_to_none : (flash : Flash) (b : ℕ) → IsReadUpTo flash b 0 false []
 up_to_none flash b = record {
@@ -43,8 +43,8 @@ up_to_none flash b = record {
   written = λ l lt. absurd (omega (arith, lt));
   erased = λ two. absurd cc;
   goes = λ is. omega arith;
-  told = λ l told lt. absurd (omega (arith, lt));
-  none = λ l told le at. absurd cc;
+  reported = λ l reported lt. absurd (omega (arith, lt));
+  none = λ l reported le at. absurd cc;
 }
 
 -- an erased page lies behind all that were read
@@ -55,9 +55,9 @@ erased_behind flash b p tags read q is = elim (cases_lt q p) [
 ]
 
 -- one more that is not erased
-more_written : (flash : Flash) (b p : ℕ) (told : Option Tag) (tags : List (Option Tag)) → length tags ≡ p → flash.page b p ≢ Erased → TagIs flash b p told → IsReadUpTo flash b p false tags
-    → IsReadUpTo flash b (p + 1) false (tags ++ told ∷ [])
-more_written flash b p told tags len not is read =
+more_written : (flash : Flash) (b p : ℕ) (reported : Option Tag) (tags : List (Option Tag)) → length tags ≡ p → flash.page b p ≢ Erased → TagIs flash b p reported → IsReadUpTo flash b p false tags
+    → IsReadUpTo flash b (p + 1) false (tags ++ reported ∷ [])
+more_written flash b p reported tags len not is read =
     let end : read.end ≡ p = read.goes refl in
     record {
       end = p + 1;
@@ -68,11 +68,11 @@ more_written flash b p told tags len not is read =
       ];
       erased = λ two. absurd cc;
       goes = λ same. omega arith;
-      told = λ l u lt at. elim (get_push tags told l u at) [
-        | inl before ↦ let less = before.0 in read.told l u (omega (arith, less, len, end)) before.1
-        | inr last ↦ let here : p ≡ l = sym len ∙ sym last.0 in subst (λ x. TagIs flash b l x) (sym last.1) (subst (λ n. TagIs flash b n told) here is)
+      reported = λ l u lt at. elim (get_push tags reported l u at) [
+        | inl before ↦ let less = before.0 in read.reported l u (omega (arith, less, len, end)) before.1
+        | inr last ↦ let here : p ≡ l = sym len ∙ sym last.0 in subst (λ x. TagIs flash b l x) (sym last.1) (subst (λ n. TagIs flash b n reported) here is)
       ];
-      none = λ l u le at. elim (get_push tags told l u at) [
+      none = λ l u le at. elim (get_push tags reported l u at) [
         | inl before ↦ let less = before.0 in absurd (omega (arith, less, len, le))
         | inr last ↦ let at_end = last.0 in absurd (omega (arith, at_end, len, le))
       ];
@@ -87,8 +87,8 @@ more_none flash b p ended tags len read erased = record {
   written = read.written;
   erased = λ is. erased;
   goes = λ two. absurd cc;
-  told = λ l u lt at. elim (get_push tags None l u at) [
-    | inl before ↦ read.told l u lt before.1
+  reported = λ l u lt at. elim (get_push tags None l u at) [
+    | inl before ↦ read.reported l u lt before.1
     | inr last ↦ let at_end = last.0 in let within = read.within in absurd (omega (arith, at_end, len, lt, within))
   ];
   none = λ l u le at. elim (get_push tags None l u at) [
@@ -105,24 +105,12 @@ pub up_to_more : (d : Device) (b p : ℕ) (old new : List (Option Tag)) (erased 
 up_to_more d b p old new erased honest len pushes read = subst (IsReadUpTo d.flash b (p + 1) erased) (sym pushes.pushed) (elim (cases_Bool erased) [
   | inl is ↦
       let blank : d.flash.page b read.end ≡ Erased = ap (d.flash.page b) (read.goes refl) ∙ pushes.is_erased honest is in
-      subst (λ x. IsReadUpTo d.flash b (p + 1) x (old ++ pushes.told ∷ [])) (sym is)
+      subst (λ x. IsReadUpTo d.flash b (p + 1) x (old ++ pushes.reported ∷ [])) (sym is)
       (subst (λ x. IsReadUpTo d.flash b (p + 1) true (old ++ x ∷ [])) (sym (pushes.none is)) (more_none d.flash b p false old len read blank))
   | inr is ↦
       let written = pushes.is_written honest is in
-      subst (λ x. IsReadUpTo d.flash b (p + 1) x (old ++ pushes.told ∷ [])) (sym is) (more_written d.flash b p pushes.told old len written.0 written.1 read)
+      subst (λ x. IsReadUpTo d.flash b (p + 1) x (old ++ pushes.reported ∷ [])) (sym is) (more_written d.flash b p pushes.reported old len written.0 written.1 read)
 ])
-
-pub up_to_all : (flash : Flash) (b p : ℕ) (ended : Bool) (tags : List (Option Tag)) → IsReadUpTo flash b p ended tags → AreWrittenTags flash b p tags
-up_to_all flash b p ended tags read = record {
-  end = read.end;
-  written = read.written;
-  stops = λ lt. elim (cases_Bool ended) [
-    | inl is ↦ read.erased is
-    | inr is ↦ let end = read.goes is in absurd (omega (arith, lt, end))
-  ];
-  told = read.told;
-  none = read.none;
-}
 
 -- ---- the pages that were read
 
@@ -155,11 +143,11 @@ passed_behind a c b p ended tags new is pushed were = record {
 -- what is pushed is that of the device before it was read
 pushes_back : (a c : Device) (b p : ℕ) (old new : List (Option Tag)) (erased : Bool) → OnlyReads a c → PushesTag c b p old new erased → PushesTag a b p old new erased
 pushes_back a c b p old new erased only pushes = record {
-  told = pushes.told;
+  reported = pushes.reported;
   pushed = pushes.pushed;
   none = pushes.none;
   is_erased = back_honest (λ g f. erased ≡ true → f.page b p ≡ Erased) a c only pushes.is_erased;
-  is_written = back_honest (λ g f. erased ≡ false → (f.page b p ≢ Erased) × TagIs f b p pushes.told) a c only pushes.is_written;
+  is_written = back_honest (λ g f. erased ≡ false → (f.page b p ≢ Erased) × TagIs f b p pushes.reported) a c only pushes.is_written;
 }
 
 -- and one that is
@@ -167,7 +155,7 @@ pub passed_more : (a c e : Device) (b p : ℕ) (before ended : Bool) (tags new :
     → HasPassed a c b p before tags → HasPassed a e b (p + 1) ended new
 passed_more a c e b p before ended tags new not reads pushes were = record {
   read = read_on p 1 (p + 1) a c e ended were.read reads (omega arith);
-  len = ap (λ (xs : List (Option Tag)). length xs) pushes.pushed ∙ omega (arith, length-append tags (pushes.told ∷ []), were.len);
+  len = ap (λ (xs : List (Option Tag)). length xs) pushes.pushed ∙ omega (arith, length-append tags (pushes.reported ∷ []), were.len);
   stopped = λ honest is q erased. let behind = behind_it honest q erased in let first = were.read.most in let one = reads.most in omega (arith, behind, first, one);
   up_to = λ honest. up_to_more a b p tags new ended honest were.len (pushes_back a c b p tags new ended were.read.only pushes) (so_far honest);
 } where
@@ -176,15 +164,6 @@ passed_more a c e b p before ended tags new not reads pushes were = record {
 
   behind_it : a.honest ≡ true → (q : ℕ) → a.flash.page b q ≡ Erased → p ≤ q
   behind_it honest = erased_behind a.flash b p tags (so_far honest)
-
--- no more were read than up to an erased page, though the next call may fail
-pub passed_fails : {T : Type 0} (a c e : Device) (b p : ℕ) (before : Bool) (tags : List (Option Tag)) (fault : ScanFault) → before ≡ false → ReadsAtMost {T = T} 1 c e (Err fault) → HasPassed a c b p before tags
-    → a.honest ≡ true → ReadsUpToErased b a e
-passed_fails a c e b p before tags fault not reads were honest q erased =
-    let behind = erased_behind a.flash b p tags (subst (λ x. IsReadUpTo a.flash b p x tags) not (were.up_to honest)) q erased in
-    let first = were.read.most in
-    let one = reads.most in
-    omega (arith, behind, first, one)
 
 pub passed_all : (a c : Device) (b p : ℕ) (ended : Bool) (tags : List (Option Tag)) → HasPassed a c b p ended tags → a.honest ≡ true → ReadsUpToErased b a c
 passed_all a c b p ended tags were honest q erased = elim (cases_Bool ended) [
@@ -200,14 +179,14 @@ passed_all a c b p ended tags were honest q erased = elim (cases_Bool ended) [
 module _ (f : Flash) (b count : ℕ) (tags : List (Option Tag)) (len : length tags ≡ count) (read : AreWrittenTags f b count tags) where
   pub tag_there : (p : ℕ) (t : Tag) → slice_get tags p ≡ Some (Some t) → HasTag f b p t
   tag_there p t at = elim (cases_lt p read.end) [
-    | inl lt ↦ read.told p (Some t) lt at
+    | inl lt ↦ read.reported p (Some t) lt at
     | inr past ↦ let two : Some t ≡ None = read.none p (Some t) (omega (arith, past)) at in absurd cc
   ]
 
   tag_listed : (p : ℕ) (t : Tag) → p < count → p < read.end → HasTag f b p t → slice_get tags p ≡ Some (Some t)
   tag_listed p t lt before has =
       let at : slice_get tags p ≡ Some (get_or tags p None) = slice_get-get_or tags p None (omega (arith, lt, len)) in
-      told_is f b tags p t (get_or tags p None) has at (read.told p (get_or tags p None) before at)
+      reported_is f b tags p t (get_or tags p None) has at (read.reported p (get_or tags p None) before at)
 
   -- a page with a tag, before which none is erased, lies before the end
   before_end : (p : ℕ) (t : Tag) → p < count → HasTag f b p t → IsWrittenUpTo f b p → p < read.end
@@ -258,16 +237,16 @@ module _ (f : Flash) (b count : ℕ) (tags : List (Option Tag)) (len : length ta
         (omega (arith, placed, len)) (tag_listed x.page x.tag placed it_ends has_it)
 
 -- the pages that are listed are added
-pub adds_written : (d : Device) (b : ℕ) (tags : List (Option Tag)) (none counted : List Found) (old new : List PageCopy) → IsWithin d.geometry.pages d.geometry.blocks d.flash → length tags ≡ d.geometry.pages
-    → (d.honest ≡ true → AreWrittenTags d.flash b d.geometry.pages tags) → none ≡ [] → AddsCounted b tags (length tags) none counted → ThinsFound counted old new → AddsWritten d b old new
-adds_written d b tags none counted old new within len read empty adds thins = record {
-  pages = counted;
+pub adds_written : (d : Device) (b : ℕ) (tags : List (Option Tag)) (none valid_pages : List Found) (old new : List PageCopy) → IsWithin d.geometry.pages d.geometry.blocks d.flash → length tags ≡ d.geometry.pages
+    → (d.honest ≡ true → AreWrittenTags d.flash b d.geometry.pages tags) → none ≡ [] → AddsCounted b tags (length tags) none valid_pages → ThinsFound valid_pages old new → AddsWritten d b old new
+adds_written d b tags none valid_pages old new within len read empty adds thins = record {
+  pages = valid_pages;
   placed = λ f has. let is = listed f has in (is.block, let before = is.before in omega (arith, before, len));
   held = λ honest good f has. (counted_held d.flash b tags (tag_there d.flash b d.geometry.pages tags len (read honest)) f good (listed f has)).1;
   covers = λ honest f here holds up_to. (adds.each f).1 (inr (counted_up_to d.flash b d.geometry.pages tags len (read honest) d.geometry.blocks within f here holds up_to));
   thins = thins;
 } where
-  listed : (f : Found) → Contains counted f → IsCountedIn b tags (length tags) f
+  listed : (f : Found) → Contains valid_pages f → IsCountedIn b tags (length tags) f
   listed f has = elim ((adds.each f).0 has) [
     | inl was ↦ absurd (none_in f (subst (λ xs. Contains xs f) empty was))
     | inr is ↦ is

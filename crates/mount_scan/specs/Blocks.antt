@@ -1,5 +1,5 @@
 -- What is known of a flash whose lower blocks were scanned.
-use Rattle.std.specs.Prelude.{◌≡◌, ◌↔◌, ◌<◌, ◌≤◌, ℕ, max, true, false, List, Option, Some, slice_get, Contains}
+use Rattle.std.specs.Prelude.{◌≡◌, ◌↔◌, ◌<◌, ◌≤◌, ℕ, max, true, false, List, Option, Some, slice_get, Contains, ◌+◌, Result, OnOk}
 use Rattle.std.specs.List.{AllPairs}
 use Rattle.nand_model.specs.Flash.{Flash}
 use Rattle.nand_model.specs.Calls.{Device}
@@ -12,16 +12,16 @@ use Rattle.mount_scan.specs.Scanned.{IsPlaceBefore, ArePlaced}
 
 -- the tags of the first pages of a block
 abbrev pub AreTags : Flash → ℕ → List (Option Tag) → Type 0
-AreTags flash b tags = (p : ℕ) (told : Option Tag) → slice_get tags p ≡ Some told → TagIs flash b p told
+AreTags flash b tags = (p : ℕ) (reported : Option Tag) → slice_get tags p ≡ Some reported → TagIs flash b p reported
 
 -- exactly the pages of blocks below b that count, in the order of places
 pub record AreCountedBelow (flash : Flash) (b : ℕ) (list : List Found) : Type 0 where
   pub each : (f : Found) → Contains list f ↔ ((f.block < b) × Holds flash f.tag.object f.tag.chunk (spot_of f))
   pub order : AllPairs IsPlaceBefore list
 
--- What is told of the blocks below b: of each device places in them, each once, and of an honest one exactly the pages
+-- What is reported of the blocks below b: of each device places in them, each once, and of an honest one exactly the pages
 -- that count.
-pub record TellsBelow (device : Device) (b : ℕ) (list : List Found) : Type 0 where
+pub record ReportsBelow (device : Device) (b : ℕ) (list : List Found) : Type 0 where
   pub placed : ArePlaced b device.geometry.pages list
   pub order : AllPairs IsPlaceBefore list
   pub exact : device.honest ≡ true → AreCountedBelow device.flash b list
@@ -62,3 +62,11 @@ pub record RaisesBy (flash : Flash) (b : ℕ) (old new : Numbers) : Type 0 where
   pub keeps : AreAtMost old new
   pub above : flash.bad b ≡ false → (l : ℕ) (t : Tag) → HasTag flash b l t → AreAtMost (numbers_in t) new
   pub least : (m : Numbers) → AreAtMost old m → (flash.bad b ≡ false → (l : ℕ) (t : Tag) → HasTag flash b l t → AreAtMost (numbers_in t) m) → AreAtMost new m
+
+-- of an honest device: where the numbers were the greatest of the blocks below this one, they are the greatest with it
+abbrev pub KeepsGreatest : {T E : Type 0} → Device → ℕ → Numbers → Numbers → Result T E → Type 0
+KeepsGreatest d b old new result = d.honest ≡ true → AreGreatestBelow d.flash b old → OnOk result (AreGreatestBelow d.flash (b + 1) new)
+
+-- of an honest device: the numbers are raised by those of the tags of the block
+abbrev pub RaisesNumbers : {T E : Type 0} → Device → ℕ → Numbers → Numbers → Result T E → Type 0
+RaisesNumbers d b old new result = d.honest ≡ true → OnOk result (RaisesBy d.flash b old new)

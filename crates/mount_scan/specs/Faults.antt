@@ -1,6 +1,6 @@
 -- Why a scan ends.
-use Rattle.block_summaries.specs.declared.fault.SummaryFault.{SummaryFault}
-use Rattle.block_summaries.specs.declared.fault.SummaryFault.TheVariants as summaries
+use Rattle.mount_scan.specs.declared.block_summary.fault.SummaryFault.{SummaryFault}
+use Rattle.mount_scan.specs.declared.block_summary.fault.SummaryFault.TheVariants as summaries
 use Rattle.mount_scan.specs.declared.fault.ScanFault.{ScanFault}
 use Rattle.mount_scan.specs.declared.fault.ScanFault.TheVariants as faults
 

@@ -6,7 +6,7 @@ use Rattle.nand_model.specs.Changes.{OnlyReads}
 use Rattle.page_tags.specs.Tags.{IsTag}
 use Rattle.page_tags.specs.Checks.{IsCheckEntry, IsEntryBefore}
 use Rattle.flash_tree.specs.Checkpoints.{Checkpoint, check_tag, IsWhole, IsTrueFlash}
-use Rattle.mount_scan.specs.Scanned.{TellsGone}
+use Rattle.mount_scan.specs.Scanned.{ScanReportsGone}
 use Rattle.mount_scan.specs.declared.fault.ScanFault.{ScanFault}
 use Rattle.mount_scan.specs.declared.found_checkpoint.FoundCheckpoint.{FoundCheckpoint}
 
@@ -29,7 +29,7 @@ pub record HasForm (device : Device) (c : Checkpoint) : Type 0 where
 pub record ReadsAtMost {T : Type 0} (pages : ℕ) (old new : Device) (result : Result T ScanFault) : Type 0 where
   pub only : OnlyReads old new
   pub most : new.reads ≤ old.reads + pages
-  pub gone : TellsGone old new result
+  pub gone : ScanReportsGone old new result
 
 -- of an honest device: the checkpoint is whole
 abbrev pub IsWholeOn : Device → Checkpoint → Type 0

@@ -34,24 +34,24 @@ pub record IsLastOfKey (list : List PageCopy) (p : ℕ) (f : PageCopy) : Type 0 
   pub last : IsLastAt list index
 
 -- of the first p pages those whose next has another key, in the order of keys
-pub record AreLastOfKeys (list : List PageCopy) (p : ℕ) (kept : List PageCopy) : Type 0 where
-  pub each : (f : PageCopy) → Contains kept f ↔ IsLastOfKey list p f
-  pub order : AllPairs IsKeyBefore kept
+pub record AreLastOfKeys (list : List PageCopy) (p : ℕ) (committed : List PageCopy) : Type 0 where
+  pub each : (f : PageCopy) → Contains committed f ↔ IsLastOfKey list p f
+  pub order : AllPairs IsKeyBefore committed
 
 -- Of the first p pages of a list the last ones of the keys stand in front in another, whose other pages from p on are
 -- those of the first.
-pub record Gathers (first : List PageCopy) (p : ℕ) (list : List PageCopy) (kept : ℕ) : Type 0 where
+pub record Gathers (first : List PageCopy) (p : ℕ) (list : List PageCopy) (committed : ℕ) : Type 0 where
   pub len : length list ≡ length first
-  pub front : kept ≤ p
-  pub last : AreLastOfKeys first p (take kept list)
+  pub front : committed ≤ p
+  pub last : AreLastOfKeys first p (take committed list)
   pub rest : (k : ℕ) (d : PageCopy) → p ≤ k → slice_index_or list k d ≡ slice_index_or first k d
 
 -- of the pages of each key the one that none comes after, so that each key stands once
-pub record AreLatest (list kept : List PageCopy) : Type 0 where
-  pub among : (f : PageCopy) → Contains kept f → Contains list f
-  pub last : (f g : PageCopy) → Contains kept f → Contains list g → HaveOneKey g f → IsAfter (spot_of_copy g) (spot_of_copy f) → ⊥
-  pub some : (g : PageCopy) → Contains list g → (f : PageCopy) × Contains kept f × HaveOneKey f g
-  pub order : AllPairs HaveOtherKeys kept
+pub record AreLatest (list committed : List PageCopy) : Type 0 where
+  pub among : (f : PageCopy) → Contains committed f → Contains list f
+  pub last : (f g : PageCopy) → Contains committed f → Contains list g → HaveOneKey g f → IsAfter (spot_of_copy g) (spot_of_copy f) → ⊥
+  pub some : (g : PageCopy) → Contains list g → (f : PageCopy) × Contains committed f × HaveOneKey f g
+  pub order : AllPairs HaveOtherKeys committed
 
 -- Some pages were added, and others went that are not the newest of their keys: what is left is from both, and has for each page a
 -- page of its key that it does not come after.

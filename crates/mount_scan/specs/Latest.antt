@@ -9,15 +9,15 @@ use Rattle.mount_scan.specs.Copies.{copy_at, copy_of, spot_of_copy}
 use Rattle.mount_scan.specs.Keys.{HaveOneKey, ThinsFound}
 use Rattle.mount_scan.specs.declared.page_copy.PageCopy.{PageCopy}
 
--- What is told of a block: of each device places in it, and of an honest one exactly the pages that count.
-pub record TellsBlock (device : Device) (b : ℕ) (list : List Found) : Type 0 where
+-- What is reported of a block: of each device places in it, and of an honest one exactly the pages that count.
+pub record ReportsBlock (device : Device) (b : ℕ) (list : List Found) : Type 0 where
   pub placed : (f : Found) → Contains list f → (f.block ≡ b) × (f.page < device.geometry.pages)
   pub exact : device.honest ≡ true → (f : Found) → Contains list f ↔ ((f.block ≡ b) × Holds device.flash f.tag.object f.tag.chunk (spot_of f))
 
 -- the pages of a block were added
 pub record AddsBlock (device : Device) (b : ℕ) (old new : List PageCopy) : Type 0 where
   pub pages : List Found
-  pub tells : TellsBlock device b pages
+  pub reports : ReportsBlock device b pages
   pub thins : ThinsFound pages old new
 
 -- the page of a copy counts

@@ -19,3 +19,6 @@ pub mod SummaryScan
 pub mod Faults
 pub mod FewReads
 pub mod WrittenBlocks
+pub mod SummaryContents
+pub mod FoundSummary
+pub mod SummaryGroups

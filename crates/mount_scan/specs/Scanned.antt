@@ -1,4 +1,4 @@
--- What a scan tells of a flash.
+-- What a scan reports on a flash.
 use Rattle.std.specs.Prelude.{◌≡◌, ◌⊎◌, ◌↔◌, ◌<◌, ◌≤◌, ◌^◌, ℕ, ◌+◌, true, false, List, map, sum, Result, Ok, Err, OnOk, All, Contains, if◌then◌else◌}
 use Rattle.std.specs.List.{AllPairs, range_with_len}
 use Rattle.nand_model.specs.Flash.{Flash}
@@ -42,15 +42,15 @@ ArePlaced blocks pages = All (λ f. (f.block < blocks) × (f.page < pages))
 abbrev pub AreCopiesPlaced : (blocks pages : ℕ) → List PageCopy → Type 0
 AreCopiesPlaced blocks pages = All (λ f. (f.block < blocks) × (f.page < pages))
 
--- What is told of the pages that count: of each device places on it, each once, and of an honest one exactly those.
-pub record TellsCounted (device : Device) (list : List Found) : Type 0 where
+-- What is reported of the pages that count: of each device places on it, each once, and of an honest one exactly those.
+pub record ReportsCounted (device : Device) (list : List Found) : Type 0 where
   pub placed : ArePlaced device.geometry.blocks device.geometry.pages list
   pub order : AllPairs IsPlaceBefore list
   pub exact : device.honest ≡ true → AreCounted device.flash list
 
--- What is told of the newest pages: of each device places on it, each key once, of chunks that a tree may look up, and of an honest
+-- What is reported of the newest pages: of each device places on it, each key once, of chunks that a tree may look up, and of an honest
 -- one exactly those.
-pub record TellsNewest (device : Device) (list : List PageCopy) : Type 0 where
+pub record ListsNewest (device : Device) (list : List PageCopy) : Type 0 where
   pub placed : AreCopiesPlaced device.geometry.blocks device.geometry.pages list
   pub low : All (λ (f : PageCopy). f.chunk < 2 ^ 32) list
   pub order : AllPairs HaveOtherKeys list
@@ -60,15 +60,23 @@ pub record TellsNewest (device : Device) (list : List PageCopy) : Type 0 where
 abbrev pub good_pages : Flash → (pages b : ℕ) → ℕ
 good_pages flash pages b = sum (map (λ k. if flash.bad k then 0 else pages) (range_with_len 0 b))
 
--- Gone is told of a device that is gone, and of one that went in the call nothing else is.
-abbrev pub TellsGone : {T : Type 0} → Device → Device → Result T ScanFault → Type 0
-TellsGone old new (Ok done) = old.gone ≡ false → new.gone ≡ false
-TellsGone old new (Err faults.NoMemory) = old.gone ≡ false → new.gone ≡ false
-TellsGone old new (Err faults.Gone) = new.gone ≡ true
+-- Gone is reported of a device that is gone, and of one that went in the call nothing else is.
+abbrev pub ScanReportsGone : {T : Type 0} → Device → Device → Result T ScanFault → Type 0
+ScanReportsGone old new (Ok done) = old.gone ≡ false → new.gone ≡ false
+ScanReportsGone old new (Err faults.NoMemory) = old.gone ≡ false → new.gone ≡ false
+ScanReportsGone old new (Err faults.Gone) = new.gone ≡ true
 
 -- The device was only read, and so many pages were: no more, and no fewer where the call is done.
 pub record ReadsEach {T : Type 0} (pages : ℕ) (old new : Device) (result : Result T ScanFault) : Type 0 where
   pub only : OnlyReads old new
   pub most : new.reads ≤ old.reads + pages
   pub each : OnOk result (new.reads ≡ old.reads + pages)
-  pub gone : TellsGone old new result
+  pub gone : ScanReportsGone old new result
+
+-- each tag of a block is read once at most, and none of a bad one
+abbrev pub ReadsBlock : {T : Type 0} → ℕ → Device → Device → Result T ScanFault → Type 0
+ReadsBlock b old new result = ReadsEach (if old.flash.bad b then 0 else old.geometry.pages) old new result
+
+-- and so of all blocks
+abbrev pub ReadsBlocks : {T : Type 0} → Device → Device → Result T ScanFault → Type 0
+ReadsBlocks old new result = ReadsEach (good_pages old.flash old.geometry.pages old.geometry.blocks) old new result

@@ -16,7 +16,7 @@ use Rattle.mount_scan.specs.declared.page_copy.PageCopy.{PageCopy}
 -- the page is what was read of it
 abbrev pub IsTagRead : Flash → ℕ → ℕ → TagRead → Type 0
 IsTagRead flash b p reads.Erased = flash.page b p ≡ Erased
-IsTagRead flash b p (reads.Written told) = (flash.page b p ≢ Erased) × TagIs flash b p told
+IsTagRead flash b p (reads.Written reported) = (flash.page b p ≢ Erased) × TagIs flash b p reported
 
 -- the pages of the block before this one are not erased
 abbrev pub IsWrittenUpTo : Flash → (b p : ℕ) → Type 0
@@ -27,8 +27,8 @@ pub record AreWrittenTags (flash : Flash) (b count : ℕ) (tags : List (Option T
   pub end : ℕ
   pub written : IsWrittenUpTo flash b end
   pub stops : end < count → flash.page b end ≡ Erased
-  pub told : (p : ℕ) (told : Option Tag) → p < end → slice_get tags p ≡ Some told → TagIs flash b p told
-  pub none : (p : ℕ) (told : Option Tag) → end ≤ p → slice_get tags p ≡ Some told → told ≡ None
+  pub reported : (p : ℕ) (reported : Option Tag) → p < end → slice_get tags p ≡ Some reported → TagIs flash b p reported
+  pub none : (p : ℕ) (reported : Option Tag) → end ≤ p → slice_get tags p ≡ Some reported → reported ≡ None
 
 -- where a page of the block is erased, no more pages were read than those up to it
 abbrev pub ReadsUpToErased : (b : ℕ) → Device → Device → Type 0
@@ -36,11 +36,11 @@ ReadsUpToErased b old new = (q : ℕ) → old.flash.page b q ≡ Erased → new.
 
 -- One more tag is listed, or none, and of an honest device it is that of the page; where this is erased there is none.
 pub record PushesTag (device : Device) (b p : ℕ) (old new : List (Option Tag)) (erased : Bool) : Type 0 where
-  pub told : Option Tag
-  pub pushed : new ≡ old ++ told ∷ []
-  pub none : erased ≡ true → told ≡ None
+  pub reported : Option Tag
+  pub pushed : new ≡ old ++ reported ∷ []
+  pub none : erased ≡ true → reported ≡ None
   pub is_erased : device.honest ≡ true → erased ≡ true → device.flash.page b p ≡ Erased
-  pub is_written : device.honest ≡ true → erased ≡ false → (device.flash.page b p ≢ Erased) × TagIs device.flash b p told
+  pub is_written : device.honest ≡ true → erased ≡ false → (device.flash.page b p ≢ Erased) × TagIs device.flash b p reported
 
 -- The pages of a block were added: of each device places in it, and of an honest one valid pages of a good block, among which is each
 -- before which no page of its block is erased.

@@ -8,7 +8,7 @@ use std::collections::BTreeMap;
 #[derive(Drop)]
 pub struct Scan {
     /// The pages that count, in the order of blocks and pages.
-    pub counted: Vec<Found>,
+    pub valid_pages: Vec<Found>,
     /// The newest page of each key: of an object and a chunk.
     pub newest: BTreeMap<(u64, u64), Found>,
     /// The greatest numbers of all valid tags of good blocks, of pages that count and of those that don't.

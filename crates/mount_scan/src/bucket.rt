@@ -11,7 +11,7 @@ use std::alloc::{AllocError, Global};
 pub struct Bucket {
     pub(crate) pages: Vec<PageCopy>,
     // How many pages there were when there was one of each key last.
-    kept: usize,
+    committed: usize,
 }
 
 impl Bucket {
@@ -23,7 +23,7 @@ impl Bucket {
     {
         Bucket {
             pages: Vec::new(alloc),
-            kept: 0,
+            committed: 0,
         }
     }
 
@@ -61,7 +61,7 @@ impl Bucket {
         ensures { Thins [] (pages_of self.old) (pages_of self.new) }
     {
         let count = self.pages.len();
-        if count - self.kept.min(count) > count / 3 {
+        if count - self.committed.min(count) > count / 3 {
             self.keep_newest();
         }
     }
@@ -82,6 +82,6 @@ impl Bucket {
         ensures { AreLatest (pages_of self.old) (pages_of self.new) }
     {
         keep_newest(&mut self.pages);
-        self.kept = self.pages.len();
+        self.committed = self.pages.len();
     }
 }

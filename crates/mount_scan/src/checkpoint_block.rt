@@ -38,7 +38,7 @@ fn read_tagged<N: Nand>(
     requires page { i < (N.state device.old).geometry.pages }
     requires size { length page.old ≡ (N.state device.old).geometry.bytes }
     ensures reads { OnlyReads (N.state device.old) (N.state device.new) }
-    ensures asked { (N.state device.new).reads ≤ (N.state device.old).reads + 1 }
+    ensures issued { (N.state device.new).reads ≤ (N.state device.old).reads + 1 }
     ensures powered { OnOk result ((N.state device.new).gone ≡ false) }
     ensures gone { OnErr result ((N.state device.new).gone ≡ true) }
     ensures yes { (N.state device.old).honest ≡ true → IfOk result (λ is. IsTrue is → IsTagged (N.state device.old).flash candidate.now i page.new) }

@@ -3,7 +3,7 @@ ghost use Rattle.std.specs.Prelude.{◌≡◌};
 ghost use Rattle.mount_scan.specs.Faults.{of_summary};
 ghost use Rattle.mount_scan.specs.declared.fault.ScanFault.TheVariants as faults;
 
-use block_summaries::SummaryFault;
+use crate::block_summary::SummaryFault;
 use nand_model::Gone;
 use std::alloc::{AllocError, AllocFailed};
 

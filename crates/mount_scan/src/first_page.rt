@@ -11,9 +11,9 @@ ghost use Rattle.mount_scan.specs.FirstPages.{BeginsWithTag, IsFirstRead, IsGood
 ghost use Rattle.mount_scan.specs.FirstPages.{FirstReadsBelow, HasSeqAt, IsOlderThan, IsRaisedToRead, IsRenewedBy, seq_of_first, tag_of_read, tag_of_summary};
 
 use crate::ScanFault;
+use crate::block_summary::SUMMARY_CHUNK;
 use crate::checkpoint_candidate::{Candidate, best_with};
 use crate::raise::raised_to;
-use block_summaries::SUMMARY_CHUNK;
 use flash_tree::{CHECK_OBJECT, TagNumbers};
 use nand_model::{Gone, Nand, PageKind};
 use page_tags::Tag;
@@ -69,7 +69,7 @@ pub(crate) struct FirstReads {
 fn read_first<N: Nand>(device: &mut N, block: u32) -> Result<FirstRead, Gone>
     requires { block < (N.state device.old).geometry.blocks }
     ensures reads { OnlyReads (N.state device.old) (N.state device.new) }
-    ensures asked { (N.state device.new).reads ≤ (N.state device.old).reads + 1 }
+    ensures issued { (N.state device.new).reads ≤ (N.state device.old).reads + 1 }
     ensures powered { OnOk result ((N.state device.old).gone ≡ false → (N.state device.new).gone ≡ false) }
     ensures gone { OnErr result ((N.state device.new).gone ≡ true) }
     ensures valid { IfOk result (IsGoodRead (N.state device.old) block) }

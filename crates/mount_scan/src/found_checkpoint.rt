@@ -14,7 +14,7 @@ pub struct FoundCheckpoint {
     pub number: u64,
     /// The number that its block got when it was taken.
     pub seq: u64,
-    /// A key each with its kept page, in the order of objects and chunks.
+    /// A key each with its committed page, in the order of objects and chunks.
     pub entries: Vec<CheckEntry>,
 }
 

@@ -53,15 +53,15 @@ fn add_found(
     block: u32,
     tags: &[Option<Tag>],
     page: usize,
-    counted: &mut Vec<Found>,
+    valid_pages: &mut Vec<Found>,
 ) -> Result<(), AllocError>
     requires few { length tags.now ≤ 256 }
     requires page { page < length tags.now }
-    ensures { OnOk result (AddsPage block tags.now page counted.old.items counted.new.items) }
+    ensures { OnOk result (AddsPage block tags.now page valid_pages.old.items valid_pages.new.items) }
 {
     if let Some(tag) = tags[page] {
         let page = page as u32;
-        counted.push(Found { block, page, tag })?;
+        valid_pages.push(Found { block, page, tag })?;
     }
     Ok(())
 }
@@ -73,45 +73,45 @@ fn add_page(
     tags: &[Option<Tag>],
     page: usize,
     end: usize,
-    counted: &mut Vec<Found>,
+    valid_pages: &mut Vec<Found>,
 ) -> Result<usize, AllocError>
     requires few { length tags.now ≤ 256 }
     requires page { page < length tags.now }
     requires reach { Reaches tags.now page page end }
     ensures reach { IfOk result (Reaches tags.now (page + 1) (page + 1)) }
-    ensures added { OnOk result ((first : List Found) → AddsCounted block tags.now page first counted.old.items
-        → AddsCounted block tags.now (page + 1) first counted.new.items) }
+    ensures added { OnOk result ((first : List Found) → AddsCounted block tags.now page first valid_pages.old.items
+        → AddsCounted block tags.now (page + 1) first valid_pages.new.items) }
 {
     let end = end.max(run_end(tags, page));
     if page < end {
-        add_found(block, tags, page, counted)?;
+        add_found(block, tags, page, valid_pages)?;
     }
     Ok(end)
 }
 
 /// Sees that a list has room for so many pages more. It grows by an eighth, and by these pages at the least.
-fn make_room(counted: &mut Vec<Found>, pages: usize) -> Result<(), AllocError>
-    ensures { counted.new.items ≡ counted.old.items }
+fn make_room(valid_pages: &mut Vec<Found>, pages: usize) -> Result<(), AllocError>
+    ensures { valid_pages.new.items ≡ valid_pages.old.items }
 {
-    if pages <= counted.capacity() - counted.len() {
+    if pages <= valid_pages.capacity() - valid_pages.len() {
         return Ok(());
     }
-    counted.reserve_exact(pages.max(counted.len() / 8))
+    valid_pages.reserve_exact(pages.max(valid_pages.len() / 8))
 }
 
 /// Adds the pages of a block that count, from its tags.
 pub(crate) fn add_counted(
     block: u32,
     tags: &[Option<Tag>],
-    counted: &mut Vec<Found>,
+    valid_pages: &mut Vec<Found>,
 ) -> Result<(), AllocError>
     requires { length tags.now ≤ 256 }
-    ensures { OnOk result (AddsCounted block tags.now (length tags.now) counted.old.items counted.new.items) }
+    ensures { OnOk result (AddsCounted block tags.now (length tags.now) valid_pages.old.items valid_pages.new.items) }
 {
-    make_room(counted, tags.len())?;
+    make_room(valid_pages, tags.len())?;
     let mut end = 0;
     for page in 0..tags.len() {
-        end = add_page(block, tags, page, end, counted)?;
+        end = add_page(block, tags, page, end, valid_pages)?;
     }
     Ok(())
 }

@@ -31,31 +31,31 @@ fn is_last_of_key(sorted: &[PageCopy], i: usize) -> bool
     }
 }
 
-/// Moves a page to the end of the `kept` ones in front, if it is the last of its key, and tells how many these are
+/// Moves a page to the end of the `committed` ones in front, if it is the last of its key, and returns how many these are
 /// then.
-fn gather_at(sorted: &mut Vec<PageCopy>, i: usize, kept: usize) -> usize
+fn gather_at(sorted: &mut Vec<PageCopy>, i: usize, committed: usize) -> usize
     requires i { i < length sorted.old.items }
-    requires kept { kept ≤ i }
-    ensures { (first : List PageCopy) → AllPairs IsSortedBefore first → Gathers first i sorted.old.items kept → Gathers first (i + 1) sorted.new.items result }
+    requires committed { committed ≤ i }
+    ensures { (first : List PageCopy) → AllPairs IsSortedBefore first → Gathers first i sorted.old.items committed → Gathers first (i + 1) sorted.new.items result }
 {
     if is_last_of_key(sorted, i) {
-        sorted[kept] = sorted[i];
-        kept + 1
+        sorted[committed] = sorted[i];
+        committed + 1
     } else {
-        kept
+        committed
     }
 }
 
-/// Moves the last page of each key to the front, and tells how many these are.
+/// Moves the last page of each key to the front, and returns how many these are.
 fn gather_last(sorted: &mut Vec<PageCopy>) -> usize
     requires { AllPairs IsSortedBefore sorted.old.items }
     ensures { Gathers sorted.old.items (length sorted.old.items) sorted.new.items result }
 {
-    let mut kept = 0;
+    let mut committed = 0;
     for i in 0..sorted.len() {
-        kept = gather_at(sorted, i, kept);
+        committed = gather_at(sorted, i, committed);
     }
-    kept
+    committed
 }
 
 /// Keeps of the pages of each key the newest, and takes no memory.
@@ -63,6 +63,6 @@ pub(crate) fn keep_newest(list: &mut Vec<PageCopy>)
     ensures { AreLatest list.old.items list.new.items }
 {
     list.sort_unstable_by_key(rank);
-    let kept = gather_last(list);
-    list.truncate(kept);
+    let committed = gather_last(list);
+    list.truncate(committed);
 }

@@ -4,6 +4,7 @@
 
 mod answer;
 mod block;
+mod block_summary;
 mod bucket;
 mod checkpoint_block;
 mod checkpoint_candidate;
@@ -26,6 +27,7 @@ mod whole;
 mod written;
 
 pub use answer::{NewestScan, Scan};
+pub use block_summary::{FoundSummary, SUMMARY_CHUNK, SummaryFault, read_summary};
 pub use bucket::Bucket;
 pub use checkpoint_search::find_checkpoint;
 pub use fault::ScanFault;

@@ -2,15 +2,15 @@
 ghost use Rattle.std.specs.Prelude.{◌≡◌, ◌<◌, ◌≤◌, ◌+◌, ◌*◌, ℕ, true, Some, IfOk, OnOk, length, slice_get};
 ghost use Rattle.nand_model.specs.Calls.{Device};
 ghost use Rattle.nand_model.specs.Changes.{OnlyReads};
-ghost use Rattle.block_summaries.specs.FoundSummary.{summary_of};
+ghost use Rattle.mount_scan.specs.FoundSummary.{summary_of};
 ghost use Rattle.mount_scan.specs.FoundCheckpoint.{ReadsAtMost};
 ghost use Rattle.mount_scan.specs.FirstPages.{HasSeqAt, AreNoted, AreGoodFirsts};
 ghost use Rattle.mount_scan.specs.FewReads.{AreSizes, AreDoneBelow, sum_below};
 ghost use Rattle.mount_scan.specs.SummaryScan.{AreSummaryPages, MayBeAdded};
 
+use crate::block_summary::{FoundSummary, read_summary};
 use crate::first_page::{FirstPage, has_seq, tag_of_summary};
 use crate::{FoundPages, ScanFault};
-use block_summaries::{FoundSummary, read_summary};
 use nand_model::Nand;
 use std::alloc::{AllocError, Global};
 

@@ -1,10 +1,10 @@
 // A scan of all blocks.
-ghost use Rattle.std.specs.Prelude.{◌≡◌, ◌+◌, ◌<◌, [], true, IfOk, OnOk, if◌then◌else◌};
+ghost use Rattle.std.specs.Prelude.{◌≡◌, ◌+◌, ◌<◌, [], true, IfOk, OnOk};
 ghost use Rattle.flash_tree.specs.Newest.{AreGreatest};
 ghost use Rattle.flash_tree.specs.Places.{numbers_of};
-ghost use Rattle.mount_scan.specs.Scanned.{TellsCounted, TellsNewest, ReadsEach, good_pages};
-ghost use Rattle.mount_scan.specs.Blocks.{TellsBelow, AreGreatestBelow, RaisesBy};
-ghost use Rattle.mount_scan.specs.Latest.{TellsBlock, AddsBlock, HasLatestBelow};
+ghost use Rattle.mount_scan.specs.Scanned.{ReportsCounted, ListsNewest, ReadsBlock, ReadsBlocks};
+ghost use Rattle.mount_scan.specs.Blocks.{ReportsBelow, KeepsGreatest, RaisesNumbers};
+ghost use Rattle.mount_scan.specs.Latest.{ReportsBlock, AddsBlock, HasLatestBelow};
 ghost use Rattle.mount_scan.specs.NewestMap.{ReportsNewest};
 ghost use Rattle.mount_scan.specs.Listed.{listed};
 
@@ -23,14 +23,14 @@ use std::alloc::Global;
 /// What stands in the blocks that were read.
 #[derive(Drop)]
 pub(crate) struct Seen {
-    pub counted: Vec<Found>,
+    pub valid_pages: Vec<Found>,
     pub numbers: TagNumbers,
 }
 
 impl Seen {
     /// No block was read.
     fn new(alloc: Global) -> Seen
-        ensures counted { result.counted.items ≡ [] }
+        ensures valid_pages { result.valid_pages.items ≡ [] }
         ensures numbers { numbers_of result.numbers ≡ record { version = 0; group = 0; seq = 0 } }
     {
         Seen::with(
@@ -45,11 +45,11 @@ impl Seen {
 
     /// Tags with these greatest numbers were read.
     pub(crate) fn with(alloc: Global, numbers: TagNumbers) -> Seen
-        ensures counted { result.counted.items ≡ [] }
+        ensures valid_pages { result.valid_pages.items ≡ [] }
         ensures numbers { result.numbers ≡ numbers }
     {
         Seen {
-            counted: Vec::new(alloc),
+            valid_pages: Vec::new(alloc),
             numbers,
         }
     }
@@ -63,27 +63,26 @@ fn scan_block<N: Nand>(
     seen: &mut Seen,
 ) -> Result<(), ScanFault>
     requires { block < (N.state device.old).geometry.blocks }
-    ensures reads { ReadsEach (if (N.state device.old).flash.bad block then 0 else (N.state device.old).geometry.pages) (N.state device.old) (N.state device.new) result }
-    ensures counted { TellsBelow (N.state device.old) block seen.old.counted.items
-        → OnOk result (TellsBelow (N.state device.old) (block + 1) seen.new.counted.items) }
-    ensures alone { seen.old.counted.items ≡ [] → OnOk result (TellsBlock (N.state device.old) block seen.new.counted.items) }
-    ensures numbers { (N.state device.old).honest ≡ true → AreGreatestBelow (N.state device.old).flash block (numbers_of seen.old.numbers)
-        → OnOk result (AreGreatestBelow (N.state device.old).flash (block + 1) (numbers_of seen.new.numbers)) }
-    ensures raised { (N.state device.old).honest ≡ true → OnOk result (RaisesBy (N.state device.old).flash block (numbers_of seen.old.numbers) (numbers_of seen.new.numbers)) }
+    ensures reads { ReadsBlock block (N.state device.old) (N.state device.new) result }
+    ensures valid_pages { ReportsBelow (N.state device.old) block seen.old.valid_pages.items
+        → OnOk result (ReportsBelow (N.state device.old) (block + 1) seen.new.valid_pages.items) }
+    ensures alone { seen.old.valid_pages.items ≡ [] → OnOk result (ReportsBlock (N.state device.old) block seen.new.valid_pages.items) }
+    ensures numbers { KeepsGreatest (N.state device.old) block (numbers_of seen.old.numbers) (numbers_of seen.new.numbers) result }
+    ensures raised { RaisesNumbers (N.state device.old) block (numbers_of seen.old.numbers) (numbers_of seen.new.numbers) result }
 {
     if device.is_bad(block) {
         return Ok(());
     }
     read_tags(device, block, tags)?;
     seen.numbers = raised_by(seen.numbers, tags);
-    add_counted(block, tags, &mut seen.counted)?;
+    add_counted(block, tags, &mut seen.valid_pages)?;
     Ok(())
 }
 
 /// What stands in all blocks.
 fn scan_blocks<N: Nand>(alloc: Global, device: &mut N) -> Result<Seen, ScanFault>
-    ensures reads { ReadsEach (good_pages (N.state device.old).flash (N.state device.old).geometry.pages (N.state device.old).geometry.blocks) (N.state device.old) (N.state device.new) result }
-    ensures counted { IfOk result (λ seen. TellsCounted (N.state device.old) seen.counted.items) }
+    ensures reads { ReadsBlocks (N.state device.old) (N.state device.new) result }
+    ensures valid_pages { IfOk result (λ seen. ReportsCounted (N.state device.old) seen.valid_pages.items) }
     ensures numbers { (N.state device.old).honest ≡ true → IfOk result (λ seen. AreGreatest (N.state device.old).flash (numbers_of seen.numbers)) }
 {
     let mut tags = Vec::new(alloc);
@@ -103,23 +102,22 @@ pub(crate) fn find_block<N: Nand>(
     found: &mut FoundPages,
 ) -> Result<(), ScanFault>
     requires { block < (N.state device.old).geometry.blocks }
-    ensures reads { ReadsEach (if (N.state device.old).flash.bad block then 0 else (N.state device.old).geometry.pages) (N.state device.old) (N.state device.new) result }
+    ensures reads { ReadsBlock block (N.state device.old) (N.state device.new) result }
     ensures found { HasLatestBelow (N.state device.old) block (listed found.old)
         → OnOk result (HasLatestBelow (N.state device.old) (block + 1) (listed found.new)) }
-    ensures numbers { (N.state device.old).honest ≡ true → AreGreatestBelow (N.state device.old).flash block (numbers_of seen.old.numbers)
-        → OnOk result (AreGreatestBelow (N.state device.old).flash (block + 1) (numbers_of seen.new.numbers)) }
+    ensures numbers { KeepsGreatest (N.state device.old) block (numbers_of seen.old.numbers) (numbers_of seen.new.numbers) result }
     ensures adds { OnOk result (AddsBlock (N.state device.old) block (listed found.old) (listed found.new)) }
-    ensures raised { (N.state device.old).honest ≡ true → OnOk result (RaisesBy (N.state device.old).flash block (numbers_of seen.old.numbers) (numbers_of seen.new.numbers)) }
+    ensures raised { RaisesNumbers (N.state device.old) block (numbers_of seen.old.numbers) (numbers_of seen.new.numbers) result }
 {
-    seen.counted.clear();
+    seen.valid_pages.clear();
     scan_block(device, block, tags, seen)?;
-    found.add_all(&seen.counted)?;
+    found.add_all(&seen.valid_pages)?;
     Ok(())
 }
 
 /// The newest pages of all blocks, among which others may be, and the greatest numbers.
 fn find_blocks<N: Nand>(alloc: Global, device: &mut N) -> Result<NewestScan, ScanFault>
-    ensures reads { ReadsEach (good_pages (N.state device.old).flash (N.state device.old).geometry.pages (N.state device.old).geometry.blocks) (N.state device.old) (N.state device.new) result }
+    ensures reads { ReadsBlocks (N.state device.old) (N.state device.new) result }
     ensures found { IfOk result (λ scan. HasLatestBelow (N.state device.old) (N.state device.old).geometry.blocks (listed scan.newest)) }
     ensures numbers { (N.state device.old).honest ≡ true → IfOk result (λ scan. AreGreatest (N.state device.old).flash (numbers_of scan.numbers)) }
 {
@@ -136,17 +134,17 @@ fn find_blocks<N: Nand>(alloc: Global, device: &mut N) -> Result<NewestScan, Sca
 /// Finds the pages that count, the newest of each key and the greatest numbers. Each tag of a good block is read once,
 /// and no page's data.
 ///
-/// A device that is not honest may have any of its places told, each once, and any keys for them.
+/// A device that is not honest may have any of its places reported, each once, and any keys for them.
 pub fn scan<N: Nand>(alloc: Global, device: &mut N) -> Result<Scan, ScanFault>
-    ensures reads { ReadsEach (good_pages (N.state device.old).flash (N.state device.old).geometry.pages (N.state device.old).geometry.blocks) (N.state device.old) (N.state device.new) result }
-    ensures counted { IfOk result (λ scan. TellsCounted (N.state device.old) scan.counted.items) }
+    ensures reads { ReadsBlocks (N.state device.old) (N.state device.new) result }
+    ensures valid_pages { IfOk result (λ scan. ReportsCounted (N.state device.old) scan.valid_pages.items) }
     ensures newest { IfOk result (λ scan. ReportsNewest (N.state device.old) scan.newest) }
     ensures numbers { (N.state device.old).honest ≡ true → IfOk result (λ scan. AreGreatest (N.state device.old).flash (numbers_of scan.numbers)) }
 {
     let seen = scan_blocks(alloc, device)?;
-    let newest = newest_of(alloc, &seen.counted)?;
+    let newest = newest_of(alloc, &seen.valid_pages)?;
     Ok(Scan {
-        counted: seen.counted,
+        valid_pages: seen.valid_pages,
         newest,
         numbers: seen.numbers,
     })
@@ -155,8 +153,8 @@ pub fn scan<N: Nand>(alloc: Global, device: &mut N) -> Result<Scan, ScanFault>
 /// The newest pages of the keys that a tree may look up, those of chunks below 2^32, and the greatest numbers, in less memory than
 /// `scan` takes: while it goes on, pages are given up that are not the newest of their keys. A mount needs no more.
 pub fn scan_newest<N: Nand>(alloc: Global, device: &mut N) -> Result<NewestScan, ScanFault>
-    ensures reads { ReadsEach (good_pages (N.state device.old).flash (N.state device.old).geometry.pages (N.state device.old).geometry.blocks) (N.state device.old) (N.state device.new) result }
-    ensures newest { IfOk result (λ scan. TellsNewest (N.state device.old) (listed scan.newest)) }
+    ensures reads { ReadsBlocks (N.state device.old) (N.state device.new) result }
+    ensures newest { IfOk result (λ scan. ListsNewest (N.state device.old) (listed scan.newest)) }
     ensures numbers { (N.state device.old).honest ≡ true → IfOk result (λ scan. AreGreatest (N.state device.old).flash (numbers_of scan.numbers)) }
 {
     let mut scan = find_blocks(alloc, device)?;

@@ -28,7 +28,7 @@ fn read_tag<N: Nand>(device: &mut N, block: u32, page: u32) -> Result<TagRead, G
     requires block { block < (N.state device.old).geometry.blocks }
     requires page { page < (N.state device.old).geometry.pages }
     ensures reads { OnlyReads (N.state device.old) (N.state device.new) }
-    ensures asked { (N.state device.new).reads ≤ (N.state device.old).reads + 1 }
+    ensures issued { (N.state device.new).reads ≤ (N.state device.old).reads + 1 }
     ensures powered { OnOk result ((N.state device.old).gone ≡ false → (N.state device.new).gone ≡ false) }
     ensures gone { OnErr result ((N.state device.new).gone ≡ true) }
     ensures tag { (N.state device.old).honest ≡ true → IfOk result (IsTagRead (N.state device.old).flash block page) }
@@ -107,10 +107,10 @@ pub(crate) fn find_written<N: Nand>(
     ensures adds { OnOk result (AddsWritten (N.state device.old) block (listed found.old) (listed found.new)) }
     ensures raised { (N.state device.old).honest ≡ true → OnOk result (RaisesWithin (N.state device.old).flash block (numbers_of seen.old.numbers) (numbers_of seen.new.numbers)) }
 {
-    seen.counted.clear();
+    seen.valid_pages.clear();
     read_written_tags(device, block, tags)?;
     seen.numbers = raised_by(seen.numbers, tags);
-    add_counted(block, tags, &mut seen.counted)?;
-    found.add_all(&seen.counted)?;
+    add_counted(block, tags, &mut seen.valid_pages)?;
+    found.add_all(&seen.valid_pages)?;
     Ok(())
 }

@@ -8,7 +8,7 @@ use Rattle.nand_model.specs.declared.geometry.Geometry.{Geometry}
 use Rattle.flash_tree.specs.Mount.{Wrong, Answers, NotAVolume, IsWrong, IsVolume, IsNoVolume, HasWrongRoot, sizes_of}
 use Rattle.flash_tree.specs.laws.Place.{same_flash}
 use Rattle.chunk_index.specs.declared.index.Index.{Index}
-use Rattle.page_store.specs.Shown.{kept_data}
+use Rattle.page_store.specs.Shown.{committed_data}
 use Rattle.pages.specs.Maps.{PageMap, has}
 use Rattle.tree_walk.specs.Trees.{IsWrongTree}
 use Rattle.tree_walk.specs.declared.fault.RootFault.{RootFault}
@@ -30,36 +30,36 @@ wrong_answers : MapsAnswer → (g : Geometry) (flash : Flash) (m : PageMap) (wro
 wrong_answers laws g flash m wrong newest (inl at_root) = laws.root g flash m wrong newest at_root
 wrong_answers laws g flash m wrong newest (inr below) = laws.tree g flash m below.0 wrong newest below.1 below.2
 
--- what is told of the pages, and a device that failed
+-- what is reported of the pages, and a device that failed
 pub answers_fault : MapsAnswer → (d : Device) (m : PageMap) (fault : RootFault) → IsNewestMap d.flash m → WhyNoTree d.geometry (has m) fault → (fault ≡ roots.Device → d.gone ≡ true) → AnswersFault d fault
-answers_fault laws d m roots.NoMemory newest told gone = tt
-answers_fault laws d m roots.Device newest told gone = gone refl
-answers_fault laws d m roots.NotAVolume newest told gone = laws.no_volume d.geometry d.flash m newest told
-answers_fault laws d m (roots.Newer format) newest told gone = wrong_answers laws d.geometry d.flash m _ newest told
-answers_fault laws d m roots.Damaged newest told gone = wrong_answers laws d.geometry d.flash m _ newest told
+answers_fault laws d m roots.NoMemory newest reported gone = tt
+answers_fault laws d m roots.Device newest reported gone = gone refl
+answers_fault laws d m roots.NotAVolume newest reported gone = laws.no_volume d.geometry d.flash m newest reported
+answers_fault laws d m (roots.Newer format) newest reported gone = wrong_answers laws d.geometry d.flash m _ newest reported
+answers_fault laws d m roots.Damaged newest reported gone = wrong_answers laws d.geometry d.flash m _ newest reported
 
 newest_after : (a b : Device) (m : PageMap) → OnlyReads a b → a.honest ≡ true → IsNewestMap a.flash m → IsNewestMap b.flash m
 newest_after a b m reads honest newest = subst (λ (f : Flash). IsNewestMap f m) (sym (same_flash a b reads honest)) newest
 
--- what is told of the pages of a device that was scanned, and is only read
-pub fault_answered : MapsAnswer → (d back : Device) (x : Index) (fault : RootFault) → OnlyReads d back → (d.honest ≡ true → IsNewestMap d.flash (kept_data x d.flash))
-    → ((d.honest && true) ≡ true → WhyNoTree d.geometry (has (kept_data x d.flash)) fault) → (fault ≡ roots.Device → (back.gone ≡ true) ⊎ ((d.honest && true) ≡ false))
+-- what is reported of the pages of a device that was scanned, and is only read
+pub fault_answered : MapsAnswer → (d back : Device) (x : Index) (fault : RootFault) → OnlyReads d back → (d.honest ≡ true → IsNewestMap d.flash (committed_data x d.flash))
+    → ((d.honest && true) ≡ true → WhyNoTree d.geometry (has (committed_data x d.flash)) fault) → (fault ≡ roots.Device → (back.gone ≡ true) ⊎ ((d.honest && true) ≡ false))
     → back.honest ≡ true → AnswersFault back fault
-fault_answered laws d back x fault reads newest told why honest =
+fault_answered laws d back x fault reads newest reported why honest =
     let was : d.honest ≡ true = sym reads.lasts.honest ∙ honest in
     let both : (d.honest && true) ≡ true = ap (λ h. h && true) was in
-    let m : PageMap = kept_data x d.flash in
-    answers_fault laws back m fault (newest_after d back m reads was (newest was)) (subst (λ (g : Geometry). WhyNoTree g (has m) fault) (sym reads.lasts.geometry) (told both))
+    let m : PageMap = committed_data x d.flash in
+    answers_fault laws back m fault (newest_after d back m reads was (newest was)) (subst (λ (g : Geometry). WhyNoTree g (has m) fault) (sym reads.lasts.geometry) (reported both))
     (λ device. elim (why device) [
       | inl gone ↦ gone
       | inr lies ↦ let two : true ≡ false = sym both ∙ lies in absurd cc
     ])
 
 -- reads leave the tree of a device
-pub tree_after : (a b : Device) (x : Index) (spare : ℕ) (tree : Tree) → OnlyReads a b → IsNewestMap a.flash (kept_data x a.flash) → a.honest ≡ true
-    → IsGoneThrough a.geometry (has (kept_data x a.flash)) spare tree → IsTreeOn b spare tree
+pub tree_after : (a b : Device) (x : Index) (spare : ℕ) (tree : Tree) → OnlyReads a b → IsNewestMap a.flash (committed_data x a.flash) → a.honest ≡ true
+    → IsGoneThrough a.geometry (has (committed_data x a.flash)) spare tree → IsTreeOn b spare tree
 tree_after a b x spare tree reads newest honest through = record {
-  pages = kept_data x a.flash;
-  newest = newest_after a b (kept_data x a.flash) reads honest newest;
-  through = subst (λ (g : Geometry). IsGoneThrough g (has (kept_data x a.flash)) spare tree) (sym reads.lasts.geometry) through;
+  pages = committed_data x a.flash;
+  newest = newest_after a b (committed_data x a.flash) reads honest newest;
+  through = subst (λ (g : Geometry). IsGoneThrough g (has (committed_data x a.flash)) spare tree) (sym reads.lasts.geometry) through;
 }

@@ -10,7 +10,7 @@ use Rattle.flash_tree.specs.laws.Place.{same_flash}
 use Rattle.chunk_index.specs.declared.index.Index.{Index}
 use Rattle.name_index.specs.Covering.{HasHashes}
 use Rattle.name_index.specs.declared.index.NameIndex.{NameIndex}
-use Rattle.page_store.specs.Shown.{kept_data}
+use Rattle.page_store.specs.Shown.{committed_data}
 use Rattle.pages.specs.Maps.{PageMap, known_pages}
 use Rattle.posix_profile.specs.State.{Objects}
 use Rattle.tree_walk.specs.Covering.{CoversObjects}
@@ -35,22 +35,10 @@ pub objects_within : (z : Sizes) (part m : PageMap) (names : NameIndex) (objects
 objects_within z part m names objects within covers = λ o moment entries is. has_within z part m names o _ within (covers o moment entries is)
 
 -- reads leave the hashes of the newest pages
-pub covers_after : (a b : Device) (x : Index) (names : NameIndex) (spare : ℕ) (tree : Tree) → OnlyReads a b → IsNewestMap a.flash (kept_data x a.flash) → a.honest ≡ true
-    → CoversTree names (sizes_of a.geometry spare) (kept_data x a.flash) tree → CoversNewest names b spare tree
+pub covers_after : (a b : Device) (x : Index) (names : NameIndex) (spare : ℕ) (tree : Tree) → OnlyReads a b → IsNewestMap a.flash (committed_data x a.flash) → a.honest ≡ true
+    → CoversTree names (sizes_of a.geometry spare) (committed_data x a.flash) tree → CoversNewest names b spare tree
 covers_after a b x names spare tree reads newest honest covers pages is =
     let here : IsNewestMap a.flash pages = subst (λ (f : Flash). IsNewestMap f pages) (same_flash a b reads honest) is in
     let z : Sizes = sizes_of a.geometry spare in
     subst (λ (g : Geometry). CoversTree names (sizes_of g spare) pages tree) (sym reads.lasts.geometry)
-    (covers_within z pages (kept_data x a.flash) names tree (λ o c page at. (newest o c page).1 ((here o c page).0 at)) covers)
-
--- what is said of the pages of a device that are lent
-pub covers_lent : (d a : Device) (x y : Index) (g : Geometry) (names : NameIndex) (spare : ℕ) (tree : Tree) → a ≡ d → y ≡ x → g ≡ d.geometry
-    → (a.honest ≡ true → g.bytes ≡ a.geometry.bytes → CoversTree names (sizes_of g spare) (known_pages a.honest (kept_data y a.flash)) tree)
-    → d.honest ≡ true → CoversTree names (sizes_of d.geometry spare) (kept_data x d.flash) tree
-covers_lent d a x y g names spare tree same index geometry told honest =
-    let is : a.honest ≡ true = ap (λ (k : Device). k.honest) same ∙ honest in
-    let sizes : g ≡ a.geometry = geometry ∙ ap (λ (k : Device). k.geometry) (sym same) in
-    let known = subst (λ (m : PageMap). CoversTree names (sizes_of g spare) m tree) (ap (λ h. known_pages h (kept_data y a.flash)) is) (told is (ap (λ (k : Geometry). k.bytes) sizes)) in
-    let here = subst (λ (k : Device). CoversTree names (sizes_of g spare) (kept_data y k.flash) tree) same known in
-    let kept = subst (λ (i : Index). CoversTree names (sizes_of g spare) (kept_data i d.flash) tree) index here in
-    subst (λ (k : Geometry). CoversTree names (sizes_of k spare) (kept_data x d.flash) tree) geometry kept
+    (covers_within z pages (committed_data x a.flash) names tree (λ o c page at. (newest o c page).1 ((here o c page).0 at)) covers)

@@ -16,9 +16,9 @@ use Rattle.mounting.specs.declared.fault.MountFault.TheVariants as faults
 
 -- reads leave what a mount answers
 answers_still : (a b : Device) (answer : Answer) → OnlyReads a b → (a.honest ≡ true → Answers a.geometry a.flash answer) → b.honest ≡ true → Answers b.geometry b.flash answer
-answers_still a b answer reads told honest =
+answers_still a b answer reads reported honest =
     let was : a.honest ≡ true = sym reads.lasts.honest ∙ honest in
-    subst (λ (g : Geometry). Answers g b.flash answer) (sym reads.lasts.geometry) (subst (λ (f : Flash). Answers a.geometry f answer) (sym (same_flash a b reads was)) (told was))
+    subst (λ (g : Geometry). Answers g b.flash answer) (sym reads.lasts.geometry) (subst (λ (f : Flash). Answers a.geometry f answer) (sym (same_flash a b reads was)) (reported was))
 
 -- a reason of a device that has power still, after reads
 reason_still : (a b : Device) (fault : MountFault) → OnlyReads a b → b.gone ≡ false → IsReason a fault → WhyNotMounted b fault
@@ -28,15 +28,15 @@ reason_still a b faults.NotAVolume reads power why = (power, answers_still a b N
 reason_still a b (faults.Newer format) reads power why = (power, answers_still a b (IsWrong (IsNewer format)) reads why)
 reason_still a b faults.Damaged reads power why = (power, answers_still a b (IsWrong IsDamaged) reads why)
 
--- the reason of a device that was asked for its power
-pub reason_told : (a b : Device) (fault : MountFault) (power : Bool) → OnlyReads a b → power ≡ not b.gone → power ≡ true → (a.gone ≡ false → IsReason a fault) → WhyNotMounted b fault
-reason_told a b fault power reads told has why =
-    let there : b.gone ≡ false = not-true b.gone (sym told ∙ has) in
+-- the reason of a device that was wanted for its power
+pub reason_reported : (a b : Device) (fault : MountFault) (power : Bool) → OnlyReads a b → power ≡ not b.gone → power ≡ true → (a.gone ≡ false → IsReason a fault) → WhyNotMounted b fault
+reason_reported a b fault power reads reported has why =
+    let there : b.gone ≡ false = not-true b.gone (sym reported ∙ has) in
     reason_still a b fault reads there (why (had_power a b reads.lasts there))
 
 -- a fault of a tree has its reason
-pub tree_reason : (d : Device) (fault : RootFault) (told : MountFault) → told ≡ of_root fault → (d.honest ≡ true → AnswersFault d fault) → d.gone ≡ false → IsReason d told
-tree_reason d fault told is why power = subst (IsReason d) (sym is) (go fault why)
+pub tree_reason : (d : Device) (fault : RootFault) (reported : MountFault) → reported ≡ of_root fault → (d.honest ≡ true → AnswersFault d fault) → d.gone ≡ false → IsReason d reported
+tree_reason d fault reported is why power = subst (IsReason d) (sym is) (go fault why)
   where
     go : (fault : RootFault) → (d.honest ≡ true → AnswersFault d fault) → IsReason d (of_root fault)
     go roots.NoMemory why = tt

@@ -34,7 +34,7 @@ scan_knows d t t' x n knows unwritten opened honest left some = knows (record {
   some = let next = opened.tables.seq left in omega (arith, next, some);
 })
 
--- it is known still once the device was read, and committed pages were counted anew
+-- it is known still once the device was read, and committed pages were in the count anew
 flash_after : (a b : Device) → OnlyReads a b → (honest : b.honest ≡ true) → (t : Table) → KnowsFirsts a.flash t → KnowsFirsts b.flash t
 flash_after a b reads honest t known = subst (λ (f : Flash). KnowsFirsts f t) (sym (same_flash a b reads (sym reads.lasts.honest ∙ honest))) known
 
@@ -71,10 +71,10 @@ known_noted d at t u n notes known = elim notes.is [
       record { erased = was.erased; written = was.written; tagged = was.tagged; aged = was.aged })
 ]
 
-told_of : (honest told : Bool) → (honest && told) ≡ true → told ≡ true
-told_of true told is = is
-told_of false told is = absurd cc
+reported_of : (honest reported : Bool) → (honest && reported) ≡ true → reported ≡ true
+reported_of true reported is = is
+reported_of false reported is = absurd cc
 
 -- the table of a checkpoint, of a device as it is trusted
-pub known_trusted : (told : Bool) (d : Device) (c : Checkpoint) (opened : Opened) → IsTrustedFor c told d → KnowsFirstsBy d c opened → KnowsFirstsOf (trusted_as told d) (table opened.blocks) (numbers_of opened.numbers)
-known_trusted told d c opened trusted known both left = known (honest_of d.honest told both) (trusted (told_of d.honest told both) (honest_of d.honest told both)).above left
+pub known_trusted : (reported : Bool) (d : Device) (c : Checkpoint) (opened : Opened) → IsTrustedFor c reported d → KnowsFirstsBy d c opened → KnowsFirstsOf (trusted_as reported d) (table opened.blocks) (numbers_of opened.numbers)
+known_trusted reported d c opened trusted known both left = known (honest_of d.honest reported both) (trusted (reported_of d.honest reported both) (honest_of d.honest reported both)).above left

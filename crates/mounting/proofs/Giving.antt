@@ -10,24 +10,24 @@ use Rattle.posix_profile.specs.WellFormed.{IsForest}
 use Rattle.flash_tree.specs.Newest.{Numbers, AreGreatest}
 use Rattle.flash_tree.specs.Tree.{Shows}
 use Rattle.flash_tree.specs.Mount.{Answers, IsTreeOf, IsVolume, sizes_of}
-use Rattle.chunk_index.specs.declared.form.KeptPage.{KeptPage}
+use Rattle.chunk_index.specs.declared.form.CommittedPage.{CommittedPage}
 use Rattle.chunk_index.specs.declared.index.Index.{Index}
 use Rattle.paged_objects.specs.Holding.{HoldsObjects}
 use Rattle.object_store.specs.Stores.{CanHave}
 use Rattle.paged_objects.specs.laws.Holding.{same_objects}
 use Rattle.object_store.specs.Stores.{settled}
-use Rattle.object_store.specs.Told.{Tells}
+use Rattle.object_store.specs.Reported.{Reports}
 use Rattle.object_store.specs.declared.table.ObjectTable.{ObjectTable}
-use Rattle.page_store.specs.Shown.{kept_data}
+use Rattle.page_store.specs.Shown.{committed_data}
 use Rattle.pages.specs.Maps.{PageMap, has}
 use Rattle.pages.specs.State.{PagesState}
 use Rattle.pages.specs.Stores.{bad_on}
 use Rattle.paged_objects.specs.Standing.{volume_of, Shown}
-use Rattle.paged_objects.specs.laws.Showing.{kept_shown}
+use Rattle.paged_objects.specs.laws.Showing.{committed_shown}
 use Rattle.page_store.specs.ReadOnly.{IsWorn}
 use Rattle.name_index.specs.declared.index.NameIndex.{NameIndex}
-use Rattle.flash_log.specs.Standing.{AreKept}
-use Rattle.chunk_index.specs.Maps.{kept_pages}
+use Rattle.flash_log.specs.Standing.{AreCommitted}
+use Rattle.chunk_index.specs.Maps.{committed_pages}
 use Rattle.tree_walk.specs.Covering.{CoversObjects}
 use Rattle.tree_walk.specs.Hashes.{CoversTree}
 use Rattle.tree_walk.specs.Trees.{IsTreeThrough}
@@ -35,7 +35,7 @@ use Rattle.tree_walk.specs.declared.tree.Tree.{Tree}
 use Rattle.mounting.specs.Made.{ArePagesOn, CanBeWritten, CanOnlyBeRead, AreNext, IsMountedWith}
 use Rattle.mounting.specs.Mounted.{IsTreeShown, CoversNewest}
 use Rattle.mounting.proofs.Covering.{IsWithin, objects_within}
-use Rattle.mounting.proofs.Shown.{kept_low, kept_newest}
+use Rattle.mounting.proofs.Shown.{committed_low, committed_newest}
 
 -- the laws that are used of a tree that is shown
 pub record ShownLaws : Type 0 where
@@ -45,9 +45,9 @@ pub record ShownLaws : Type 0 where
   pub names : (z : Sizes) (m : PageMap) (tree : Tree) (objects : Objects) (index : NameIndex) → IsSizes z → IsTreeThrough z (has m) tree → Shows z (has m) objects
       → CoversTree index z m tree → CoversObjects index z m objects
 
--- what the making of a table tells
+-- what the making of a table reports
 abbrev pub TableLaw : Sizes → Tree → ObjectTable → Type 0
-TableLaw z tree table = (m : PageMap) (objects : Objects) → IsSizes z → IsTreeThrough z (has m) tree → Shows z (has m) objects → fits z objects ≡ true → Tells table objects
+TableLaw z tree table = (m : PageMap) (objects : Objects) → IsSizes z → IsTreeThrough z (has m) tree → Shows z (has m) objects → fits z objects ≡ true → Reports table objects
 
 module _ (d : Device) (x : Index) (n : Numbers) (spare : ℕ) (p : PagesState) (pages : ArePagesOn d x n spare p) where
   abbrev z : Sizes
@@ -105,35 +105,35 @@ module _ (d : Device) (x : Index) (n : Numbers) (spare : ℕ) (p : PagesState) (
   are_next greatest = (n, subst (λ (k : Device). AreGreatest k.flash n) (sym pages.device_is) greatest, pages.next)
 
   module _ (laws : ShownLaws) (tree : Tree) (objects : Objects) (honest : d.honest ≡ true) (answers : Answers d.geometry d.flash (IsTreeOf spare objects)) (shown : IsTreeShown d x spare tree objects)
-      (table : ObjectTable) (told : Sizes) (same : told ≡ z) (law : TableLaw told tree table) (fit : charge told objects ≤ capacity told)
-      (names : NameIndex) (covers : CoversNewest names d spare tree) (kept : AreKept d.flash (kept_pages x)) (low : (o c : ℕ) (k : KeptPage) → kept_pages x o c ≡ Some k → c < 2 ^ 32) where
+      (table : ObjectTable) (reported : Sizes) (same : reported ≡ z) (law : TableLaw reported tree table) (fit : charge reported objects ≤ capacity reported)
+      (names : NameIndex) (covers : CoversNewest names d spare tree) (committed : AreCommitted d.flash (committed_pages x)) (low : (o c : ℕ) (k : CommittedPage) → committed_pages x o c ≡ Some k → c < 2 ^ 32) where
     sizes : IsSizes z
     sizes = laws.sizes d shown.on.pages spare shown.on.through.volume
 
-    fits_told : fits told objects ≡ true
-    fits_told = le-leb (charge told objects) (capacity told) fit
+    fits_reported : fits reported objects ≡ true
+    fits_reported = le-leb (charge reported objects) (capacity reported) fit
 
     can : CanHave (volume_of p) objects
     can = subst (λ (k : Sizes). CanHave k objects) (sym volume_is) (record {
       numbers = sizes;
       forest = laws.forest z shown.on.pages objects shown.shows;
-      fit = subst (λ (k : Sizes). fits k objects ≡ true) same fits_told;
+      fit = subst (λ (k : Sizes). fits k objects ≡ true) same fits_reported;
     })
 
-    holds : HoldsObjects (volume_of p) (kept_data x d.flash) objects
-    holds = subst (λ (k : Sizes). HoldsObjects k (kept_data x d.flash) objects) (sym volume_is) shown.holds
+    holds : HoldsObjects (volume_of p) (committed_data x d.flash) objects
+    holds = subst (λ (k : Sizes). HoldsObjects k (committed_data x d.flash) objects) (sym volume_is) shown.holds
 
     settles : settled objects ≡ objects
     settles = laws.settled z shown.on.pages objects shown.shows
 
     is_shown : Shown (volume_of p) p objects
-    is_shown = subst (λ (o : Objects). Shown (volume_of p) p o) settles (kept_shown (volume_of p) p (kept_data x d.flash) objects refl (pages.kept honest) holds can)
+    is_shown = subst (λ (o : Objects). Shown (volume_of p) p o) settles (committed_shown (volume_of p) p (committed_data x d.flash) objects refl (pages.committed honest) holds can)
 
     -- what is handed out is what the newest pages have
     within : IsWithin p.present shown.on.pages
     within o c page at =
         let is = sym (pages.present honest o c) ∙ at in
-        (shown.on.newest o c page).1 (kept_newest d.flash x kept o c page is, kept_low d.flash x low o c page is)
+        (shown.on.newest o c page).1 (committed_newest d.flash x committed o c page is, committed_low d.flash x low o c page is)
 
     named : CoversObjects names (volume_of p) p.present objects
     named = subst (λ (k : Sizes). CoversObjects names k p.present objects) (sym volume_is)
@@ -149,14 +149,14 @@ module _ (d : Device) (x : Index) (n : Numbers) (spare : ℕ) (p : PagesState) (
         sizes = refl;
         page_bytes = page_bytes_is;
         most = most_is;
-        holds = same_objects (volume_of p) (kept_data x d.flash) p.present objects holds (pages.present honest);
+        holds = same_objects (volume_of p) (committed_data x d.flash) p.present objects holds (pages.present honest);
         shown = (objects, is_shown);
       };
       shown = is_shown;
       can = can;
       settles = settles;
-      tells = law shown.on.pages objects (subst (λ (k : Sizes). IsSizes k) (sym same) sizes)
+      reports = law shown.on.pages objects (subst (λ (k : Sizes). IsSizes k) (sym same) sizes)
           (subst (λ (k : Sizes). IsTreeThrough k (has shown.on.pages) tree) (sym same) shown.on.through.tree_is)
-          (subst (λ (k : Sizes). Shows k (has shown.on.pages) objects) (sym same) shown.shows) fits_told;
+          (subst (λ (k : Sizes). Shows k (has shown.on.pages) objects) (sym same) shown.shows) fits_reported;
       covers = named;
     }

@@ -14,8 +14,8 @@ use Rattle.flash_tree.specs.Newest.{Spot, Numbers}
 use Rattle.flash_tree.specs.Summarizing.{IsFindable}
 use Rattle.flash_tree.specs.laws.Place.{same_flash}
 use Rattle.block_state.specs.Table.{Table}
-use Rattle.chunk_index.specs.Kept.{HoldsNone}
-use Rattle.chunk_index.specs.Maps.{kept_pages, kept_in}
+use Rattle.chunk_index.specs.Committed.{HoldsNone}
+use Rattle.chunk_index.specs.Maps.{committed_pages, count_committed_in}
 use Rattle.chunk_index.specs.declared.index.Index.{Index}
 use Rattle.transactions.specs.Checking.{log_of}
 use Rattle.transactions.specs.Ready.{IsReady}
@@ -23,10 +23,10 @@ use Rattle.flash_log.specs.Erased.{TracksErased}
 use Rattle.flash_log.specs.Mountable.{IsMountable, IsMountableSince}
 use Rattle.flash_log.specs.Snapshots.{Snapshot, flash_of, remembered_flash}
 use Rattle.flash_log.specs.laws.Snapshots.{snapshot, remembered}
-use Rattle.flash_log.specs.Standing.{AreFound, AreKept}
+use Rattle.flash_log.specs.Standing.{AreFound, AreCommitted}
 use Rattle.page_store.specs.KnownFirsts.{KnowsFirsts, MayKnowErased}
 use Rattle.page_store.specs.Opened.{IsOpenedBy}
-use Rattle.page_store.specs.Shown.{kept_data}
+use Rattle.page_store.specs.Shown.{committed_data}
 use Rattle.page_store.specs.StoreState.{StoreState, seen_of}
 use Rattle.pages.specs.State.{PagesState}
 use Rattle.pages.specs.Stores.{FindsSince, BeganMountably, IsOrdered}
@@ -34,22 +34,22 @@ use Rattle.mounting.specs.Made.{Remembers}
 use Rattle.mounting.specs.Mounted.{KeepsPlaces}
 use Rattle.mounting.specs.Named.{IsTrustedSince}
 use Rattle.mounting.specs.Tables.{HoldsWhole}
-use Rattle.mounting.proofs.PagesMade.{kept_of_data}
+use Rattle.mounting.proofs.PagesMade.{committed_of_data}
 
 -- what a table knows by first pages
 abbrev pub ErasedLaw : Type 0
 ErasedLaw = (d : Device) (t : Table) → KnowsFirsts d.flash t → MayKnowErased d t → TracksErased d t
 
 module _ (d : Device) (t : Table) (x : Index) (spare : ℕ) (objects : Objects) (honest : d.honest ≡ true) (began : IsMountableFlash d.geometry d.flash)
-    (answers : Answers d.geometry d.flash (IsTreeOf spare objects)) (places : KeepsPlaces d.flash (sizes_of d.geometry spare) objects (kept_pages x))
-    (kept : AreKept d.flash (kept_pages x)) where
-  found : AreFound d.geometry d.flash (kept_pages x)
+    (answers : Answers d.geometry d.flash (IsTreeOf spare objects)) (places : KeepsPlaces d.flash (sizes_of d.geometry spare) objects (committed_pages x))
+    (committed : AreCommitted d.flash (committed_pages x)) where
+  found : AreFound d.geometry d.flash (committed_pages x)
   found o c (p, is) = began.found spare objects answers.0 answers.1 o c (places.only o c p is)
 
   -- no committed page lies in a block that begins erased
-  holds_none : (b : ℕ) → BeginsErased d.flash b → HoldsNone (kept_pages x) b
+  holds_none : (b : ℕ) → BeginsErased d.flash b → HoldsNone (committed_pages x) b
   holds_none b erased o c p is at =
-      let k = kept o c p is in
+      let k = committed o c p is in
       let spot : Spot = record { block = p.block; page = p.page; tag = k.tag } in
       let first : d.flash.page p.block 0 ≡ Erased = ap (λ j. d.flash.page j 0) at ∙ erased.1 in
       elim (cases_eq p.page 0) [
@@ -62,7 +62,7 @@ module _ (d : Device) (t : Table) (x : Index) (spare : ℕ) (objects : Objects) 
       ]
 
   module _ (noted : Option ℕ) (n : Numbers) (opened : IsOpenedBy noted d t x n) (ready : IsReady d t) (within : IsWithin d.geometry.pages d.geometry.blocks d.flash)
-      (firsts : KnowsFirsts d.flash t) (checkpoint : HoldsWhole d t.checkpoint) (none : (b : ℕ) → HoldsNone (kept_pages x) b → kept_in x b ≡ 0) (law : ErasedLaw) where
+      (firsts : KnowsFirsts d.flash t) (checkpoint : HoldsWhole d t.checkpoint) (none : (b : ℕ) → HoldsNone (committed_pages x) b → count_committed_in x b ≡ 0) (law : ErasedLaw) where
     may_know : MayKnowErased d t
     may_know = record {
       geometry = opened.geometry;
@@ -70,7 +70,7 @@ module _ (d : Device) (t : Table) (x : Index) (spare : ℕ) (objects : Objects) 
       marks = ready.marks;
       closed = opened.closed;
       first = began.summarized.first;
-      kept = λ b erased. opened.counts.counts b ∙ none b (holds_none b erased);
+      committed = λ b erased. opened.counts.counts b ∙ none b (holds_none b erased);
       noted = λ c is. let (k, whole, same) = checkpoint honest c is in subst (GoesFirst d.flash) same (began.checkpoints k whole);
     }
 
@@ -97,9 +97,9 @@ module _ (d : Device) (t : Table) (x : Index) (within : IsWithin d.geometry.page
       (subst (λ (s : Option Snapshot). BeganMountable d.geometry (remembered_flash s)) first (subst (λ (k : Device). BeganMountable k.geometry (remembered_flash a.first)) device began))
       (ap (λ (k : Device). k.honest) (sym device) ∙ honest)
 
-  pub store_finds : FindsSince (seen_of a lent) (kept_data x d.flash)
+  pub store_finds : FindsSince (seen_of a lent) (committed_data x d.flash)
   store_finds begun = ∥∥₁_elim (store_began begun) (λ m n. squash₁ m n) (λ (m : IsMountable (log_of d t) x).
-      ∣ (λ o c (xs, there). subst (λ (k : Device). IsFindable k.geometry k.flash o c) (sym device) (m.found o c (kept_of_data d.flash xs (kept_pages x o c) there))) ∣₁)
+      ∣ (λ o c (xs, there). subst (λ (k : Device). IsFindable k.geometry k.flash o c) (sym device) (m.found o c (committed_of_data d.flash xs (committed_pages x o c) there))) ∣₁)
 
   ordered : IsMountable (log_of d t) x → IsOrdered (seen_of a lent)
   ordered m = record {

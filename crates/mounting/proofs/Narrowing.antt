@@ -14,7 +14,7 @@ use Rattle.flash_tree.specs.laws.WholeList.{whole_list}
 use Rattle.name_index.specs.declared.index.NameIndex.{NameIndex}
 use Rattle.pages.specs.Maps.{PageMap, has}
 use Rattle.tree_walk.specs.Hashes.{CoversTree}
-use Rattle.tree_walk.specs.Trees.{IsLookedUp, IsTreeThrough, TellsHeads, AreNamesOf, objects_listed}
+use Rattle.tree_walk.specs.Trees.{IsLookedUp, IsTreeThrough, ReportsHeads, AreNamesOf, objects_listed}
 use Rattle.tree_walk.specs.declared.tree.NamedObject.{NamedObject}
 use Rattle.tree_walk.specs.declared.tree.Tree.{Tree}
 use Rattle.mounting.specs.Trees.{IsGoneThrough}
@@ -69,7 +69,7 @@ module _ (z : Sizes) (m p : PageMap) (tree : Tree) (to : (o c : ℕ) (xs : List 
   names_in zero names is = is
   names_in (suc k) names (o, named, before, at, finds, rest, is) = (o, named, before, at, finds_in o named (k, at) finds, names_in k before rest, is)
 
-  heads_in : TellsHeads z (has m) tree → TellsHeads z (has p) tree
+  heads_in : ReportsHeads z (has m) tree → ReportsHeads z (has p) tree
   heads_in heads = record {
     each = heads.each;
     only = heads.only;

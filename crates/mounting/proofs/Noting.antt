@@ -19,10 +19,10 @@ use Rattle.flash_tree.specs.laws.OneTree.{one_tree}
 use Rattle.flash_tree.specs.laws.Place.{same_flash}
 use Rattle.flash_tree.specs.laws.Tree.{footprint_law}
 use Rattle.block_state.specs.Table.{Table}
-use Rattle.chunk_index.specs.Kept.{HoldsNone}
-use Rattle.chunk_index.specs.Maps.{kept_pages, kept_in}
+use Rattle.chunk_index.specs.Committed.{HoldsNone}
+use Rattle.chunk_index.specs.Maps.{committed_pages, count_committed_in}
 use Rattle.chunk_index.specs.declared.index.Index.{Index}
-use Rattle.flash_log.specs.Standing.{AreKept}
+use Rattle.flash_log.specs.Standing.{AreCommitted}
 use Rattle.page_store.specs.Checked.{HasTrueFlash, IsConsistent}
 use Rattle.page_store.specs.Opened.{IsOpenedBy}
 use Rattle.paged_objects.specs.laws.Findable.{one_spare}
@@ -52,7 +52,7 @@ trusted_is d = ap (λ h. record d { honest = h }) (both_true d.honest) where
 
 -- ---- the tables with the block that is noted
 
-module _ (d : Device) (t : Table) (x : Index) (n : Numbers) (b : ℕ) (opened : IsOpenedBy t.checkpoint d t x n) (within : b < d.geometry.blocks) (good : d.flash.bad b ≡ false) (empty : (t.entry b).kept ≡ 0) where
+module _ (d : Device) (t : Table) (x : Index) (n : Numbers) (b : ℕ) (opened : IsOpenedBy t.checkpoint d t x n) (within : b < d.geometry.blocks) (good : d.flash.bad b ≡ false) (empty : (t.entry b).committed ≡ 0) where
   abbrev u : Table
   u = record t { checkpoint = Some b }
 
@@ -63,7 +63,7 @@ module _ (d : Device) (t : Table) (x : Index) (n : Numbers) (b : ℕ) (opened : 
     good = opened.good;
     closed = opened.closed;
     noted = refl;
-    apart = λ c at. let same : b ≡ c = cc in subst (λ k. (t.entry k).kept ≡ 0) same empty;
+    apart = λ c at. let same : b ≡ c = cc in subst (λ k. (t.entry k).committed ≡ 0) same empty;
     shown = opened.shown;
     unbuffered = opened.unbuffered;
     within = opened.within;
@@ -134,22 +134,22 @@ module _ (g : Geometry) (flash : Flash) (c : Checkpoint) (right : IsRight g flas
       let there : InFootprint (sizes_of g right.tree.spare) n right.tree.objects o k =
       subst (λ q. InFootprint (sizes_of g q) n right.tree.objects o k) (sym spare_is) (subst (λ (q : Objects). InFootprint z n q o k) (sym objects_are) here) in
       let (e, listed, object, chunk) = right.tree.all o k there in
-      let (r, last, told) = (right.tree.only e listed).1 in
+      let (r, last, reported) = (right.tree.only e listed).1 in
       let key : IsNewest flash o k r = subst (λ j. IsNewest flash o j r) chunk (subst (λ j. IsNewest flash j e.chunk r) object last) in
       let spot : r ≡ s = one_spot flash o k r s key at in
-      right.apart e listed (ap (λ (f : CheckEntry). f.block) told ∙ ap (λ (q : Spot). q.block) spot ∙ same)
+      right.apart e listed (ap (λ (f : CheckEntry). f.block) reported ∙ ap (λ (q : Spot). q.block) spot ∙ same)
 
--- so the checkpoint's block holds no kept page of the tree
-pub holds_none : (flash : Flash) (x : Index) (keeps : ℕ → ℕ → Bool) (b : ℕ) → AreKept flash (kept_pages x) → ((o k : ℕ) → keeps o k ≡ false → kept_pages x o k ≡ None)
-    → ((o k : ℕ) (s : Spot) → keeps o k ≡ true → IsNewest flash o k s → s.block ≢ b) → HoldsNone (kept_pages x) b
-holds_none flash x keeps b kept others apart o k p is = elim (cases_Bool (keeps o k)) [
+-- so the checkpoint's block holds no committed page of the tree
+pub holds_none : (flash : Flash) (x : Index) (keeps : ℕ → ℕ → Bool) (b : ℕ) → AreCommitted flash (committed_pages x) → ((o k : ℕ) → keeps o k ≡ false → committed_pages x o k ≡ None)
+    → ((o k : ℕ) (s : Spot) → keeps o k ≡ true → IsNewest flash o k s → s.block ≢ b) → HoldsNone (committed_pages x) b
+holds_none flash x keeps b committed others apart o k p is = elim (cases_Bool (keeps o k)) [
   | inr goes ↦ let two : None ≡ Some p = sym (others o k goes) ∙ is in absurd cc
-  | inl stays ↦ let at = kept o k p is in apart o k (record { block = p.block; page = p.page; tag = at.tag }) stays at.newest
+  | inl stays ↦ let at = committed o k p is in apart o k (record { block = p.block; page = p.page; tag = at.tag }) stays at.newest
 ]
 
 -- what is noted then is what may have one
 pub noted_checked : (g : Geometry) (flash : Flash) (at : Option ℕ) (t u : Table) → IsTrueFlash g flash → StandsOnly g flash at → NotesFree at t u
-    → ((b : ℕ) → flash.bad b ≡ false → (t.entry b).bad ≡ false) → ((c : Checkpoint) → IsWhole g flash c → (t.entry c.block).kept ≡ 0) → IsChecked g flash u.checkpoint
+    → ((b : ℕ) → flash.bad b ≡ false → (t.entry b).bad ≡ false) → ((c : Checkpoint) → IsWhole g flash c → (t.entry c.block).committed ≡ 0) → IsChecked g flash u.checkpoint
 noted_checked g flash at t u true_flash only notes good empty = record {
   right = true_flash;
   only = λ c whole.
@@ -232,7 +232,7 @@ abbrev pub TestLaw : Type 0
 TestLaw = (z : Sizes) (m : PageMap) (objects : Objects) (list : List ℕ) (keeps : ℕ → ℕ → Bool) → 32 ≤ z.page_bytes → z.page_bytes ≤ 4096 → Shows z (has m) objects
     → GoesThrough z (has m) (root_number ∷ []) 0 (Wholly list) → ((o c : ℕ) → (keeps o c ≡ true) ↔ IsLookedUp z (has m) list o c) → KeepsFootprint z m objects keeps
 
-pub scan_checked : KeysLaw → TestLaw → (d : Device) (t u : Table) (x : Index) (n : Numbers) (spare : ℕ) (tree : Tree) (objects : Objects) (at : Option ℕ) → ((b : ℕ) → HoldsNone (kept_pages x) b → kept_in x b ≡ 0)
+pub scan_checked : KeysLaw → TestLaw → (d : Device) (t u : Table) (x : Index) (n : Numbers) (spare : ℕ) (tree : Tree) (objects : Objects) (at : Option ℕ) → ((b : ℕ) → HoldsNone (committed_pages x) b → count_committed_in x b ≡ 0)
     → d.honest ≡ true → IsTrueFlash d.geometry d.flash → MayBeNoted d at → NotesFree at t u → IsTreeRead d t x n spare tree → IsTreeShown d x spare tree objects → IsChecked d.geometry d.flash u.checkpoint
 scan_checked keys test d t u x n spare tree objects at zero honest true_flash may notes read shown =
     let on = shown.on in
@@ -250,7 +250,7 @@ scan_checked keys test d t u x n spare tree objects at zero honest true_flash ma
 -- a device that was trusted since the one that was read
 pub since_before : (a b c seen : Device) → OnlyReads a b → (a.gone ≡ false → b.gone ≡ false) → IsTrustedSince b c seen → IsTrustedSince a c seen
 since_before a b c seen reads power since = record {
-  told = since.told;
+  reported = since.reported;
   read = record {
     reads = only_reads_on a b c reads since.read.reads;
     power = λ was. since.read.power (power was);
@@ -261,7 +261,7 @@ since_before a b c seen reads power since = record {
 
 -- one that is trusted is so, however its flash is
 pub since_trusted : (a b seen : Device) → IsReadAs true a b seen → IsTrustedSince a b seen
-since_trusted a b seen read = record { told = true; read = read; trusted = λ is. refl }
+since_trusted a b seen read = record { reported = true; read = read; trusted = λ is. refl }
 
 pub read_before : (a b c seen : Device) → OnlyReads a b → (a.gone ≡ false → b.gone ≡ false) → IsReadAs true b c seen → IsReadAs true a c seen
 read_before a b c seen reads power read = record { reads = only_reads_on a b c reads read.reads; power = λ was. read.power (power was); seen_is = read.seen_is }
@@ -276,7 +276,7 @@ since_same a b c s t new seen since = subst (λ (d : Device). IsTrustedSince a c
 -- and one that has power
 pub since_with : (a b c seen : Device) → OnlyReads a b → c.gone ≡ false → IsTrustedSince b c seen → IsTrustedSince a c seen
 since_with a b c seen reads power since = record {
-  told = since.told;
+  reported = since.reported;
   read = record { reads = only_reads_on a b c reads since.read.reads; power = λ was. power; seen_is = since.read.seen_is };
   trusted = λ is. since.trusted (true_after a b reads is);
 }
@@ -302,9 +302,9 @@ whole_after a b c reads whole honest =
     subst (λ (g : Geometry). IsWhole g b.flash c) (sym reads.lasts.geometry) (subst (λ (f : Flash). IsWhole a.geometry f c) (sym (same_flash a b reads was)) (whole was))
 
 -- a device that is read as it is trusted has the checkpoint that was whole
-pub whole_seen : (told : Bool) (a b seen : Device) (c : Checkpoint) (at : Option ℕ) → IsReadAs told a b seen → IsWholeOn a c → at ≡ Some c.block → HoldsWhole seen at
-whole_seen told a b seen c at read whole noted = subst (λ (d : Device). HoldsWhole d at) (sym read.seen_is) (λ both k is.
-    let honest : b.honest ≡ true = honest_of b.honest told both in
+pub whole_seen : (reported : Bool) (a b seen : Device) (c : Checkpoint) (at : Option ℕ) → IsReadAs reported a b seen → IsWholeOn a c → at ≡ Some c.block → HoldsWhole seen at
+whole_seen reported a b seen c at read whole noted = subst (λ (d : Device). HoldsWhole d at) (sym read.seen_is) (λ both k is.
+    let honest : b.honest ≡ true = honest_of b.honest reported both in
     let same : Some c.block ≡ Some k = sym noted ∙ is in
     (c, whole_after a b c read.reads whole honest, cc))
 
@@ -339,8 +339,8 @@ ok_both (Ok x) to p q = to x p q
 ok_both (Err e) to p q = tt
 
 -- what is known of the blocks of a device that was gone through by a checkpoint
-pub blocks_known : {T E : Type 0} (r : Result T E) (told : Bool) (a : Device) (c : Checkpoint) (new seen : T → Device) (t : T → Table) (n : T → Numbers) → IsWholeOn a c
-    → IfOk r (λ x. IsReadAs told a (new x) (seen x)) → IfOk r (λ x. (t x).checkpoint ≡ Some c.block) → IfOk r (λ x. KnowsFirstsOf (seen x) (t x) (n x))
+pub blocks_known : {T E : Type 0} (r : Result T E) (reported : Bool) (a : Device) (c : Checkpoint) (new seen : T → Device) (t : T → Table) (n : T → Numbers) → IsWholeOn a c
+    → IfOk r (λ x. IsReadAs reported a (new x) (seen x)) → IfOk r (λ x. (t x).checkpoint ≡ Some c.block) → IfOk r (λ x. KnowsFirstsOf (seen x) (t x) (n x))
     → IfOk r (λ x. KnowsBlocks (seen x) (t x) (n x))
-blocks_known (Ok x) told a c new seen t n whole read noted firsts = record { firsts = firsts; whole = whole_seen told a (new x) (seen x) c (t x).checkpoint read whole noted }
-blocks_known (Err e) told a c new seen t n whole read noted firsts = tt
+blocks_known (Ok x) reported a c new seen t n whole read noted firsts = record { firsts = firsts; whole = whole_seen reported a (new x) (seen x) c (t x).checkpoint read whole noted }
+blocks_known (Err e) reported a c new seen t n whole read noted firsts = tt

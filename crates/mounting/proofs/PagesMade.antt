@@ -8,24 +8,24 @@ use Rattle.nand_model.specs.Calls.{Device}
 use Rattle.volume_terms.specs.Sizes.{number_limit}
 use Rattle.flash_tree.specs.Newest.{Numbers}
 use Rattle.flash_tree.specs.FreeBlocks.{LeavesFree}
-use Rattle.block_state.specs.Kept.{bad_count, free_count, unkept_count, SameCounts}
+use Rattle.block_state.specs.Committed.{bad_count, free_count, uncommitted_count, SameCounts}
 use Rattle.block_state.specs.Table.{Table}
-use Rattle.block_state.specs.laws.Kept.{free_where_closed, same_unkept_count}
-use Rattle.chunk_index.specs.Entries.{as_kept}
-use Rattle.chunk_index.specs.Kept.{HoldsNone}
-use Rattle.chunk_index.specs.Maps.{kept_pages, kept_in}
-use Rattle.chunk_index.specs.declared.form.KeptPage.{KeptPage}
+use Rattle.block_state.specs.laws.Committed.{free_where_closed, same_uncommitted_count}
+use Rattle.chunk_index.specs.Entries.{as_committed}
+use Rattle.chunk_index.specs.Committed.{HoldsNone}
+use Rattle.chunk_index.specs.Maps.{committed_pages, count_committed_in}
+use Rattle.chunk_index.specs.declared.form.CommittedPage.{CommittedPage}
 use Rattle.chunk_index.specs.declared.index.Index.{Index}
 use Rattle.transactions.specs.Ready.{IsReady}
-use Rattle.flash_log.specs.Standing.{AreHeld, IsKept, Stands, HasFreeBlocks, KeepsOrdinary, TablesAgree}
-use Rattle.flash_log.specs.laws.FreeBlocks.{leaves_fewer, leaves_unkept, same_bad_blocks}
+use Rattle.flash_log.specs.Standing.{AreHeld, IsCommittedKey, Stands, HasFreeBlocks, KeepsOrdinary, TablesAgree}
+use Rattle.flash_log.specs.laws.FreeBlocks.{leaves_fewer, leaves_uncommitted, same_bad_blocks}
 use Rattle.flash_log.specs.laws.Moves.{are_held}
 use Rattle.page_store.specs.BufferOf.{buffered, most_pages}
-use Rattle.page_store.specs.Shown.{data_at, data_by, kept_data, present_data}
+use Rattle.page_store.specs.Shown.{data_at, data_by, committed_data, present_data}
 use Rattle.pages.specs.Maps.{PageMap, known_pages}
 use Rattle.pages.specs.State.{PagesState}
 use Rattle.pages.specs.Stores.{bad_on, Carries, FindsSince, HasPage, HasNumbersLeft, IsCarried}
-use Rattle.page_store.specs.StoreOf.{kept_map, next_numbers}
+use Rattle.page_store.specs.StoreOf.{committed_data_map, next_numbers}
 use Rattle.page_store.specs.StoreState.{StoreState, committed_in, seen_of}
 use Rattle.page_store.specs.Newest.{seen}
 use Rattle.page_store.specs.ReadOnly.{IsWorn, only_read, next_after}
@@ -33,18 +33,18 @@ use Rattle.mounting.specs.Made.{ArePagesOn, CanBeWritten, Remembers}
 use Rattle.mounting.specs.Marked.{marked, AreFitting}
 use Rattle.mounting.specs.Mounted.{HasRoomOn}
 use Rattle.mounting.specs.Tables.{IsPruned}
-use Rattle.mounting.proofs.Shown.{kept_newest}
+use Rattle.mounting.proofs.Shown.{committed_newest}
 use Rattle.mounting.proofs.Standing.{stands_pruned, tables_pruned}
 
--- a key with data is kept
-pub kept_of_data : (flash : Flash) (xs : List ℕ) (m : Option KeptPage) → option_and_then (data_at flash) m ≡ Some xs → (p : KeptPage) × (m ≡ Some p)
-kept_of_data flash xs None is = absurd cc
-kept_of_data flash xs (Some p) is = (p, refl)
+-- a key with data is committed
+pub committed_of_data : (flash : Flash) (xs : List ℕ) (m : Option CommittedPage) → option_and_then (data_at flash) m ≡ Some xs → (p : CommittedPage) × (m ≡ Some p)
+committed_of_data flash xs None is = absurd cc
+committed_of_data flash xs (Some p) is = (p, refl)
 
--- what is kept is present
-data_kept : (flash : Flash) (m : Option KeptPage) → data_by flash [] (as_kept m) ≡ option_and_then (data_at flash) m
-data_kept flash None = refl
-data_kept flash (Some p) = refl
+-- what is committed is present
+data_committed : (flash : Flash) (m : Option CommittedPage) → data_by flash [] (as_committed m) ≡ option_and_then (data_at flash) m
+data_committed flash None = refl
+data_committed flash (Some p) = refl
 
 -- as much carried where the names of a device and of the spare blocks are others
 pub carried_as : (p : PagesState) (d : Device) (spare : ℕ) (m : PageMap) → p.device ≡ d → p.spare ≡ spare → IsCarried d spare m → IsCarried p.device p.spare m
@@ -52,9 +52,9 @@ carried_as p d spare m device spares carried =
     subst (λ s. IsCarried p.device s m) (sym spares) (subst (λ (e : Device). IsCarried e spare m) (sym device) carried)
 
 module _ (keeps : ℕ → ℕ → Bool) (d : Device) (t : Table) (x : Index) (n : Numbers) (spare : ℕ) (pruned : IsPruned keeps d t x n) where
-  -- what is present without a buffer is what is kept
-  present_kept : (o c : ℕ) → present_data x [] d.flash o c ≡ kept_data x d.flash o c
-  present_kept o c = ap (data_by d.flash []) (pruned.tables.shown o c) ∙ data_kept d.flash (kept_pages x o c)
+  -- what is present without a buffer is what is committed
+  present_committed : (o c : ℕ) → present_data x [] d.flash o c ≡ committed_data x d.flash o c
+  present_committed o c = ap (data_by d.flash []) (pruned.tables.shown o c) ∙ data_committed d.flash (committed_pages x o c)
 
   module _ (fits : AreFitting t) (room : HasRoomOn d t spare) (can : CanBeWritten d n spare) where
     pub ready : IsReady d t
@@ -64,15 +64,15 @@ module _ (keeps : ℕ → ℕ → Bool) (d : Device) (t : Table) (x : Index) (n 
     few = let same : bad_on d ≡ bad_count t = same_bad_blocks d t ready in let le = can.1 in omega (arith, same, le)
 
     counts : SameCounts t (marked d.flash t)
-    counts = record { bad = λ b. sym (ready.marks b); kept = λ b. refl; geometry = refl }
+    counts = record { bad = λ b. sym (ready.marks b); committed = λ b. refl; geometry = refl }
 
     pub free : HasFreeBlocks t spare
     free =
         let same : bad_on d ≡ bad_count t = same_bad_blocks d t ready in
-        let enough : 1 + spare ≤ unkept_count (marked d.flash t) + bad_on d = room can.1 in
-        let unkept : unkept_count (marked d.flash t) ≡ unkept_count t = same_unkept_count t (marked d.flash t) counts in
-        let closed : free_count t ≡ unkept_count t = free_where_closed t pruned.tables.closed in
-        omega (arith, same, enough, unkept, closed)
+        let enough : 1 + spare ≤ uncommitted_count (marked d.flash t) + bad_on d = room can.1 in
+        let uncommitted : uncommitted_count (marked d.flash t) ≡ uncommitted_count t = same_uncommitted_count t (marked d.flash t) counts in
+        let closed : free_count t ≡ uncommitted_count t = free_where_closed t pruned.tables.closed in
+        omega (arith, same, enough, uncommitted, closed)
 
     tables : TablesAgree spare t x
     tables = tables_pruned keeps spare d t x n pruned can.0 fits free
@@ -80,15 +80,15 @@ module _ (keeps : ℕ → ℕ → Bool) (d : Device) (t : Table) (x : Index) (n 
     pub stands : (d.honest ≡ true → KeepsOrdinary x) → Stands spare d t x
     stands = stands_pruned keeps spare d t x n pruned can.0 fits free
 
-    module _ (none : (b : ℕ) → kept_in x b ≡ 0 → HoldsNone (kept_pages x) b) where
+    module _ (none : (b : ℕ) → count_committed_in x b ≡ 0 → HoldsNone (committed_pages x) b) where
       held : AreHeld t x
       held = are_held t x none pruned.tables.counts
 
-      carried : d.honest ≡ true → IsCarried d spare (kept_data x d.flash)
+      carried : d.honest ≡ true → IsCarried d spare (committed_data x d.flash)
       carried honest = record {
-        newest = kept_newest d.flash x (pruned.tables.newest honest);
-        free = λ left. leaves_fewer d.geometry d.flash spare (IsKept (kept_pages x)) (HasPage (kept_data x d.flash)) (λ o c (xs, is). kept_of_data d.flash xs (kept_pages x o c) is)
-            (leaves_unkept spare d t x ready tables held (pruned.tables.newest honest));
+        newest = committed_newest d.flash x (pruned.tables.newest honest);
+        free = λ left. leaves_fewer d.geometry d.flash spare (IsCommittedKey (committed_pages x)) (HasPage (committed_data x d.flash)) (λ o c (xs, is). committed_of_data d.flash xs (committed_pages x o c) is)
+            (leaves_uncommitted spare d t x ready tables held (pruned.tables.newest honest));
       }
 
       next_is : next_numbers t ≡ next_after n
@@ -97,9 +97,9 @@ module _ (keeps : ℕ → ℕ → Bool) (d : Device) (t : Table) (x : Index) (n 
 
       -- the pages of a new store
       pub store_pages : (a : StoreState) (lent : List ℕ) → a.log.device ≡ d → (a.log.table ≡ t) × (a.spare ≡ spare) → a.broken ≡ false → most_pages a.buffer ≡ d.geometry.pages / 4
-          → ((o c : ℕ) → committed_in a o c ≡ kept_map d x o c) → ((o c : ℕ) → present_data a.index (buffered a.buffer) d.flash o c ≡ present_data x [] d.flash o c)
-          → FindsSince (seen_of a lent) (kept_data x d.flash) → Remembers d (seen_of a lent) → ArePagesOn d x n spare (seen_of a lent)
-      store_pages a lent device same whole most kept pages finds remembers = record {
+          → ((o c : ℕ) → committed_in a o c ≡ committed_data_map d x o c) → ((o c : ℕ) → present_data a.index (buffered a.buffer) d.flash o c ≡ present_data x [] d.flash o c)
+          → FindsSince (seen_of a lent) (committed_data x d.flash) → Remembers d (seen_of a lent) → ArePagesOn d x n spare (seen_of a lent)
+      store_pages a lent device same whole most committed pages finds remembers = record {
         device_is = device;
         spare_is = same.1;
         page_bytes = ap (λ (k : Device). k.geometry.bytes) device;
@@ -107,11 +107,11 @@ module _ (keeps : ℕ → ℕ → Bool) (d : Device) (t : Table) (x : Index) (n 
         next = ap next_numbers same.0 ∙ next_is;
         sound = λ honest. ap (λ (k : Device). k.honest && not a.broken) device ∙ ap (λ h. h && not a.broken) honest ∙ ap (λ b. true && not b) whole;
         present = λ honest o c.
-            subst (λ (k : Device). known_pages k.honest (present_data a.index (buffered a.buffer) k.flash) o c ≡ kept_data x d.flash o c) (sym device)
-            (ap (λ h. known_pages h (present_data a.index (buffered a.buffer) d.flash) o c) honest ∙ pages o c ∙ present_kept o c);
-        kept = λ honest. record {
-          carried = λ is. carried_as (seen_of a lent) d spare (kept_data x d.flash) device same.1 (carried honest);
-          kept = λ sound o c. kept o c ∙ ap (λ h. known_pages h (kept_data x d.flash) o c) honest;
+            subst (λ (k : Device). known_pages k.honest (present_data a.index (buffered a.buffer) k.flash) o c ≡ committed_data x d.flash o c) (sym device)
+            (ap (λ h. known_pages h (present_data a.index (buffered a.buffer) d.flash) o c) honest ∙ pages o c ∙ present_committed o c);
+        committed = λ honest. record {
+          carried = λ is. carried_as (seen_of a lent) d spare (committed_data x d.flash) device same.1 (carried honest);
+          committed = λ sound o c. committed o c ∙ ap (λ h. known_pages h (committed_data x d.flash) o c) honest;
           found = finds;
         };
         remembers = remembers;
@@ -132,10 +132,10 @@ module _ (keeps : ℕ → ℕ → Bool) (d : Device) (t : Table) (x : Index) (n 
         let least = (pruned.tables.numbers honest).least (record { version = number_limit; group = number_limit; seq = number_limit }) left in
         worn (omega (arith, least.1)) (omega (arith, least.2))
 
-    worn_carried : d.honest ≡ true → IsCarried d spare (kept_data x d.flash)
+    worn_carried : d.honest ≡ true → IsCarried d spare (committed_data x d.flash)
     worn_carried honest = record {
-      newest = kept_newest d.flash x (pruned.tables.newest honest);
-      free = λ left. none_free (HasPage (kept_data x d.flash)) (too_many_bad honest left);
+      newest = committed_newest d.flash x (pruned.tables.newest honest);
+      free = λ left. none_free (HasPage (committed_data x d.flash)) (too_many_bad honest left);
     }
 
     -- the pages of a device that is only read
@@ -149,9 +149,9 @@ module _ (keeps : ℕ → ℕ → Bool) (d : Device) (t : Table) (x : Index) (n 
       next = refl;
       sound = λ honest. ap (λ (k : Device). k.honest && true) device ∙ ap (λ h. h && true) honest;
       present = λ honest o c. there honest o c;
-      kept = λ honest. record {
-        carried = λ is. carried_as (only_read (record (seen e y page) { checkpoint = at }) n spare (d.geometry.pages / 4) false) d spare (kept_data x d.flash) device refl (worn_carried honest);
-        kept = λ sound o c. there honest o c;
+      committed = λ honest. record {
+        carried = λ is. carried_as (only_read (record (seen e y page) { checkpoint = at }) n spare (d.geometry.pages / 4) false) d spare (committed_data x d.flash) device refl (worn_carried honest);
+        committed = λ sound o c. there honest o c;
         found = λ begun. absurd begun.1;
       };
       remembers = record {
@@ -159,14 +159,14 @@ module _ (keeps : ℕ → ℕ → Bool) (d : Device) (t : Table) (x : Index) (n 
         ordered = λ written. let two : true ≡ false = written in absurd cc;
       };
     } where
-      there : d.honest ≡ true → (o c : ℕ) → known_pages e.honest (kept_data y e.flash) o c ≡ kept_data x d.flash o c
+      there : d.honest ≡ true → (o c : ℕ) → known_pages e.honest (committed_data y e.flash) o c ≡ committed_data x d.flash o c
       there honest o c =
-          subst (λ (k : Device). known_pages k.honest (kept_data y k.flash) o c ≡ kept_data x d.flash o c) (sym device)
-          (ap (λ h. known_pages h (kept_data y d.flash) o c) honest ∙ ap (λ i. kept_data i d.flash o c) index)
+          subst (λ (k : Device). known_pages k.honest (committed_data y k.flash) o c ≡ committed_data x d.flash o c) (sym device)
+          (ap (λ h. known_pages h (committed_data y d.flash) o c) honest ∙ ap (λ i. committed_data i d.flash o c) index)
 
     -- what is read is carried
-    pub worn_carries : (e : Device) (y : Index) → e ≡ d → y ≡ x → e.honest ≡ true → Carries e.flash (known_pages e.honest (kept_data y e.flash))
+    pub worn_carries : (e : Device) (y : Index) → e ≡ d → y ≡ x → e.honest ≡ true → Carries e.flash (known_pages e.honest (committed_data y e.flash))
     worn_carries e y device index honest =
-        subst (λ (k : Device). k.honest ≡ true → Carries k.flash (known_pages k.honest (kept_data y k.flash))) (sym device)
-        (λ is. subst (λ h. Carries d.flash (known_pages h (kept_data y d.flash))) (sym is)
-        (subst (λ i. Carries d.flash (kept_data i d.flash)) (sym index) (kept_newest d.flash x (pruned.tables.newest is)))) honest
+        subst (λ (k : Device). k.honest ≡ true → Carries k.flash (known_pages k.honest (committed_data y k.flash))) (sym device)
+        (λ is. subst (λ h. Carries d.flash (known_pages h (committed_data y d.flash))) (sym is)
+        (subst (λ i. Carries d.flash (committed_data i d.flash)) (sym index) (committed_newest d.flash x (pruned.tables.newest is)))) honest

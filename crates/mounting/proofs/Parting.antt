@@ -15,20 +15,20 @@ use Rattle.flash_tree.specs.Tree.{IsPageSize, IsSingle, HasHeader, SlotIs, Looks
 use Rattle.flash_tree.specs.Mount.{Leads, Finds, sizes_of}
 use Rattle.flash_tree.specs.laws.Finding.{same_header, kinds_apart}
 use Rattle.flash_tree.specs.laws.Newest.{one_newest, one_spot}
-use Rattle.flash_tree.specs.laws.NewestTold.{data_or_none}
+use Rattle.flash_tree.specs.laws.NewestReported.{data_or_none}
 use Rattle.flash_tree.specs.laws.OneTree.{one_slot}
 use Rattle.flash_tree.specs.laws.Part.{through_all, volume_all, twice_back}
 use Rattle.flash_tree.specs.laws.WholeList.{IsThereOn, IsWholeList, whole_list}
-use Rattle.flash_log.specs.Standing.{AreKept}
-use Rattle.chunk_index.specs.declared.form.KeptPage.{KeptPage}
+use Rattle.flash_log.specs.Standing.{AreCommitted}
+use Rattle.chunk_index.specs.declared.form.CommittedPage.{CommittedPage}
 use Rattle.chunk_index.specs.declared.index.Index.{Index}
-use Rattle.chunk_index.specs.Maps.{kept_pages}
+use Rattle.chunk_index.specs.Maps.{committed_pages}
 use Rattle.name_index.specs.declared.index.NameIndex.{NameIndex}
-use Rattle.page_store.specs.Opened.{kept_at}
-use Rattle.page_store.specs.Shown.{data_at, kept_data}
+use Rattle.page_store.specs.Opened.{committed_at}
+use Rattle.page_store.specs.Shown.{data_at, committed_data}
 use Rattle.pages.specs.Maps.{PageMap, has}
 use Rattle.tree_walk.specs.Hashes.{CoversTree}
-use Rattle.tree_walk.specs.Trees.{IsTreeThrough, IsLookedUp, TellsHeads, AreNamesOf, objects_listed}
+use Rattle.tree_walk.specs.Trees.{IsTreeThrough, IsLookedUp, ReportsHeads, AreNamesOf, objects_listed}
 use Rattle.tree_walk.specs.declared.tree.NamedObject.{NamedObject}
 use Rattle.tree_walk.specs.declared.tree.Tree.{Tree}
 use Rattle.mounting.specs.NewestMaps.{IsNewestMap}
@@ -36,32 +36,32 @@ use Rattle.mounting.specs.Trees.{IsGoneThrough}
 
 -- ---- a map of all newest pages
 
--- what is told of a key's newest page
-abbrev IsToldOf : Flash → ℕ → ℕ → Type 0
-IsToldOf flash o c = ((bytes : List ℕ) × HasNewest flash o c bytes) ⊎ ((bytes : List ℕ) → HasNewest flash o c bytes → ⊥)
+-- what is reported of a key's newest page
+abbrev IsReportedOf : Flash → ℕ → ℕ → Type 0
+IsReportedOf flash o c = ((bytes : List ℕ) × HasNewest flash o c bytes) ⊎ ((bytes : List ℕ) → HasNewest flash o c bytes → ⊥)
 
-abbrev data_told : (flash : Flash) (o c : ℕ) → IsToldOf flash o c → Option (List ℕ)
-data_told flash o c (inl (bytes, newest)) = Some bytes
-data_told flash o c (inr none) = None
+abbrev data_reported : (flash : Flash) (o c : ℕ) → IsReportedOf flash o c → Option (List ℕ)
+data_reported flash o c (inl (bytes, newest)) = Some bytes
+data_reported flash o c (inr none) = None
 
-data_exact : (flash : Flash) (o c : ℕ) (told : IsToldOf flash o c) (xs : List ℕ) → (data_told flash o c told ≡ Some xs) ↔ HasNewest flash o c xs
+data_exact : (flash : Flash) (o c : ℕ) (reported : IsReportedOf flash o c) (xs : List ℕ) → (data_reported flash o c reported ≡ Some xs) ↔ HasNewest flash o c xs
 data_exact flash o c (inl (bytes, newest)) xs =
     (λ is. let same : bytes ≡ xs = cc in subst (HasNewest flash o c) same newest, λ other. ap Some (one_newest flash o c bytes xs newest other))
 data_exact flash o c (inr none) xs = (λ is. absurd cc, λ newest. absurd (none xs newest))
 
 -- of a chunk that a tree may look up, and of no other
-abbrev low_told : (flash : Flash) (o c : ℕ) → (c < 2 ^ 32) ⊎ (2 ^ 32 ≤ c) → IsToldOf flash o c → Option (List ℕ)
-low_told flash o c (inl low) told = data_told flash o c told
-low_told flash o c (inr high) told = None
+abbrev low_reported : (flash : Flash) (o c : ℕ) → (c < 2 ^ 32) ⊎ (2 ^ 32 ≤ c) → IsReportedOf flash o c → Option (List ℕ)
+low_reported flash o c (inl low) reported = data_reported flash o c reported
+low_reported flash o c (inr high) reported = None
 
-low_exact : (flash : Flash) (o c : ℕ) (at : (c < 2 ^ 32) ⊎ (2 ^ 32 ≤ c)) (told : IsToldOf flash o c) (xs : List ℕ) → (low_told flash o c at told ≡ Some xs) ↔ (HasNewest flash o c xs × (c < 2 ^ 32))
-low_exact flash o c (inl low) told xs = (λ is. ((data_exact flash o c told xs).0 is, low), λ (newest, also). (data_exact flash o c told xs).1 newest)
-low_exact flash o c (inr high) told xs = (λ is. absurd cc, λ (newest, low). absurd (omega (arith, low, high)))
+low_exact : (flash : Flash) (o c : ℕ) (at : (c < 2 ^ 32) ⊎ (2 ^ 32 ≤ c)) (reported : IsReportedOf flash o c) (xs : List ℕ) → (low_reported flash o c at reported ≡ Some xs) ↔ (HasNewest flash o c xs × (c < 2 ^ 32))
+low_exact flash o c (inl low) reported xs = (λ is. ((data_exact flash o c reported xs).0 is, low), λ (newest, also). (data_exact flash o c reported xs).1 newest)
+low_exact flash o c (inr high) reported xs = (λ is. absurd cc, λ (newest, low). absurd (omega (arith, low, high)))
 
 -- each flash of some size has one
 pub newest_map : (g : Geometry) (flash : Flash) → IsWithin g.pages g.blocks flash → (m : PageMap) × IsNewestMap flash m
 newest_map g flash within = (
-  λ o c. low_told flash o c (cases_lt c (2 ^ 32)) (data_or_none flash o c g.pages g.blocks within),
+  λ o c. low_reported flash o c (cases_lt c (2 ^ 32)) (data_or_none flash o c g.pages g.blocks within),
   λ o c xs. low_exact flash o c (cases_lt c (2 ^ 32)) (data_or_none flash o c g.pages g.blocks within) xs,
 )
 
@@ -87,7 +87,7 @@ module _ (m n : PageMap) (to : (o c : ℕ) (xs : List ℕ) → m o c ≡ Some xs
   names_to z list zero names is = is
   names_to z list (suc k) names (o, named, before, at, finds, rest, is) = (o, named, before, at, finds_to z o named finds, names_to z list k before rest, is)
 
-  heads_to : (z : Sizes) (tree : Tree) → TellsHeads z (has m) tree → TellsHeads z (has n) tree
+  heads_to : (z : Sizes) (tree : Tree) → ReportsHeads z (has m) tree → ReportsHeads z (has n) tree
   heads_to z tree heads = record {
     each = heads.each;
     only = heads.only;
@@ -160,23 +160,23 @@ module _ (m : PageMap) (z : Sizes) (size : IsPageSize z.page_bytes) (tree : Tree
       let all : IsWholeList z (has m) root_number (objects_listed tree) = whole_list z (has m) root_number (objects_listed tree) is.through in
       looked_there o c looked.fields looked.has looked.looks (all.there looked.place o looked.listed)
 
--- ---- and so it is kept
+-- ---- and so it is committed
 
--- a key with data is kept
-data_kept : (flash : Flash) (xs : List ℕ) (m : Option KeptPage) → option_and_then (data_at flash) m ≡ Some xs → (p : KeptPage) × (m ≡ Some p)
-data_kept flash xs None is = absurd cc
-data_kept flash xs (Some p) is = (p, refl)
+-- a key with data is committed
+data_committed : (flash : Flash) (xs : List ℕ) (m : Option CommittedPage) → option_and_then (data_at flash) m ≡ Some xs → (p : CommittedPage) × (m ≡ Some p)
+data_committed flash xs None is = absurd cc
+data_committed flash xs (Some p) is = (p, refl)
 
 -- at its newest page
-pub kept_at_newest : (flash : Flash) (x : Index) (o c : ℕ) (s : Spot) (xs : List ℕ) → AreKept flash (kept_pages x) → kept_data x flash o c ≡ Some xs → IsNewest flash o c s → kept_pages x o c ≡ Some (kept_at s)
-kept_at_newest flash x o c s xs kept found newest =
-    let there = data_kept flash xs (kept_pages x o c) found in
-    let p : KeptPage = there.0 in
-    let at = kept o c p there.1 in
+pub committed_at_newest : (flash : Flash) (x : Index) (o c : ℕ) (s : Spot) (xs : List ℕ) → AreCommitted flash (committed_pages x) → committed_data x flash o c ≡ Some xs → IsNewest flash o c s → committed_pages x o c ≡ Some (committed_at s)
+committed_at_newest flash x o c s xs committed found newest =
+    let there = data_committed flash xs (committed_pages x o c) found in
+    let p : CommittedPage = there.0 in
+    let at = committed o c p there.1 in
     let place : Spot = record { block = p.block; page = p.page; tag = at.tag } in
     let spot : place ≡ s = one_spot flash o c place s at.newest newest in
     let version : p.version ≡ s.tag.version = sym at.version ∙ ap (λ (k : Spot). k.tag.version) spot in
     let block : p.block ≡ s.block = ap (λ (k : Spot). k.block) spot in
     let page : p.page ≡ s.page = ap (λ (k : Spot). k.page) spot in
-    let same : p ≡ kept_at s = λ i. record { block = block i; page = page i; version = version i } in
+    let same : p ≡ committed_at s = λ i. record { block = block i; page = page i; version = version i } in
     there.1 ∙ ap Some same

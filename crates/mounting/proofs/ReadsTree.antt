@@ -37,7 +37,7 @@ pub record ReadLaws : Type 0 where
 -- a device with the same flash
 module _ (a seen : Device) (geometry : seen.geometry ≡ a.geometry) (flash : seen.flash ≡ a.flash) where
   answers_before : (answer : Answer) → Answers seen.geometry seen.flash answer → Answers a.geometry a.flash answer
-  answers_before answer told = subst (λ (g : Geometry). Answers g a.flash answer) geometry (subst (λ (f : Flash). Answers seen.geometry f answer) flash told)
+  answers_before answer reported = subst (λ (g : Geometry). Answers g a.flash answer) geometry (subst (λ (f : Flash). Answers seen.geometry f answer) flash reported)
 
   -- the pages of a tree that was gone through are those that are looked up to see the flash's
   pub looked_as : ReadLaws → (x : Index) (spare : ℕ) (tree : Tree) (objects : Objects) → Answers seen.geometry seen.flash (IsTreeOf spare objects) → IsTreeShown seen x spare tree objects
@@ -66,8 +66,8 @@ module _ (a b seen : Device) (since : IsTrustedSince a b seen) (is : HasTrueFlas
 
   -- where its flash is sound it is not damaged
   pub not_damaged : ReadLaws → (spare : ℕ) (objects : Objects) → IsSoundFlash a.geometry a.flash spare objects → Answers seen.geometry seen.flash (IsWrong IsDamaged) → ⊥
-  not_damaged laws spare objects sound told =
-      let two : IsTreeOf spare objects ≡ IsWrong IsDamaged = laws.one a.geometry a.flash _ _ (sound.volume, sound.shows, sound.room) (answers_before a seen geometry flash (IsWrong IsDamaged) told) in
+  not_damaged laws spare objects sound reported =
+      let two : IsTreeOf spare objects ≡ IsWrong IsDamaged = laws.one a.geometry a.flash _ _ (sound.volume, sound.shows, sound.room) (answers_before a seen geometry flash (IsWrong IsDamaged) reported) in
       cc
 
   -- at most the pages that are looked up to see its tree were read
@@ -199,5 +199,5 @@ ok_each (Err e) by = tt
 
 -- and of each of which more is said
 pub ok_all : {T E : Type 0} {P Q : T → Type 0} (r : Result T E) (A : Type 0) → (A → IfOk r P) → ((x : T) → (A → P x) → Q x) → IfOk r Q
-ok_all (Ok x) A told by = by x told
-ok_all (Err e) A told by = tt
+ok_all (Ok x) A reported by = by x reported
+ok_all (Err e) A reported by = tt

@@ -1,4 +1,4 @@
--- Whether a volume can go on with a tree, by what it costs and by the blocks without a kept page.
+-- Whether a volume can go on with a tree, by what it costs and by the blocks without a committed page.
 use Rattle.std.specs.Prelude.{◌≡◌, ◌<◌, ◌≤◌, ℕ, ◌+◌, ◌-◌, true, false, not, nat_eq}
 use Rattle.std.proofs.Common.{refl, sym, ◌∙◌, ap, subst, inr, arith}
 use Rattle.std.proofs.lemmas.Bool.{eq-eqb, and_from}
@@ -13,14 +13,14 @@ use Rattle.flash_tree.specs.laws.Tree.{footprint_law}
 use Rattle.flash_tree.specs.Tree.{IsPageSize, InFootprint, Shows}
 use Rattle.flash_tree.specs.Mount.{IsDamaged, sizes_of, IsVolume, bad_blocks, IsFree, HasFree, IsWrong, IsTreeOf, Answers}
 use Rattle.block_state.specs.Table.{Table}
-use Rattle.block_state.specs.Kept.{is_unkept, unkept_count, bad_count}
+use Rattle.block_state.specs.Committed.{is_uncommitted, uncommitted_count, bad_count}
 use Rattle.chunk_index.specs.declared.index.Index.{Index}
 use Rattle.chunk_index.specs.Free.{KeepsTree, HasMarks}
-use Rattle.chunk_index.specs.Kept.{HoldsNone}
-use Rattle.chunk_index.specs.Maps.{kept_pages, kept_in, CountsAgree}
+use Rattle.chunk_index.specs.Committed.{HoldsNone}
+use Rattle.chunk_index.specs.Maps.{committed_pages, count_committed_in, CountsAgree}
 use Rattle.pages.specs.Maps.{PageMap, has}
 use Rattle.mounting.specs.NewestMaps.{IsNewestMap}
-use Rattle.mounting.specs.KeptTrees.{KeepsOnlyTree}
+use Rattle.mounting.specs.CommittedTrees.{KeepsOnlyTree}
 use Rattle.mounting.proofs.NewestMaps.{has_newest, newest_has, is_volume}
 use Rattle.mounting.proofs.SameMaps.{HasAll, header_too}
 use Rattle.mounting.proofs.VolumeSizes.{is_page_size}
@@ -60,30 +60,30 @@ module _ (flash : Flash) (m : PageMap) (is : IsNewestMap flash m) (spare : ℕ) 
   abbrev z : Sizes
   z = sizes_of t.geometry spare
 
-  module _ (agree : CountsAgree t x) (marks : HasMarks flash t) (keeps : KeepsOnlyTree flash z m objects (kept_pages x)) where
-    pub keeps_tree : KeepsTree flash z objects (kept_pages x)
+  module _ (agree : CountsAgree t x) (marks : HasMarks flash t) (keeps : KeepsOnlyTree flash z m objects (committed_pages x)) where
+    pub keeps_tree : KeepsTree flash z objects (committed_pages x)
     keeps_tree o c s looked newest =
         let p = keeps.all o c s (looked_on_map flash m is z objects o c looked) newest in
         let q = keeps.newest o c p.0 p.1 in
         (p.0, p.1, sym q.2 ∙ ap (λ (s : Spot). s.block) (one_spot flash o c q.0 s q.1 newest))
 
-    -- a free block is good, and no key is kept in it
-    free_unkept : (zero_where_none : (b : ℕ) → HoldsNone (kept_pages x) b → kept_in x b ≡ 0) (b : ℕ) → IsFree t.geometry flash z objects b → is_unkept t b ≡ true
-    free_unkept zero_where_none b free =
-        let none : kept_in x b ≡ 0 = zero_where_none b (λ o c p kept here.
-        let q = keeps.newest o c p kept in
-        free.apart o c q.0 (looked_on_flash flash m is z objects o c (keeps.only o c p kept)) q.1 (q.2 ∙ here)) in
+    -- a free block is good, and no key is committed in it
+    free_uncommitted : (zero_where_none : (b : ℕ) → HoldsNone (committed_pages x) b → count_committed_in x b ≡ 0) (b : ℕ) → IsFree t.geometry flash z objects b → is_uncommitted t b ≡ true
+    free_uncommitted zero_where_none b free =
+        let none : count_committed_in x b ≡ 0 = zero_where_none b (λ o c p committed here.
+        let q = keeps.newest o c p committed in
+        free.apart o c q.0 (looked_on_flash flash m is z objects o c (keeps.only o c p committed)) q.1 (q.2 ∙ here)) in
         let good : (t.entry b).bad ≡ false = marks b free.within ∙ free.good in
-        and_from (not (t.entry b).bad) (nat_eq (t.entry b).kept 0) (ap not good) (eq-eqb (t.entry b).kept 0 (agree.counts b ∙ none))
+        and_from (not (t.entry b).bad) (nat_eq (t.entry b).committed 0) (ap not good) (eq-eqb (t.entry b).committed 0 (agree.counts b ∙ none))
 
-    -- so no more blocks are free than are unkept
-    pub few_free : ((b : ℕ) → HoldsNone (kept_pages x) b → kept_in x b ≡ 0) → (count : ℕ) → HasFree t.geometry flash z objects count → count ≤ unkept_count t
+    -- so no more blocks are free than are uncommitted
+    pub few_free : ((b : ℕ) → HoldsNone (committed_pages x) b → count_committed_in x b ≡ 0) → (count : ℕ) → HasFree t.geometry flash z objects count → count ≤ uncommitted_count t
     few_free zero_where_none count free =
-        let few = few_picked (is_unkept t) t.geometry.blocks free.blocks free.once (λ i b at. let f = free.each i b at in (f.within, free_unkept zero_where_none b f)) in
+        let few = few_picked (is_uncommitted t) t.geometry.blocks free.blocks free.once (λ i b at. let f = free.each i b at in (f.within, free_uncommitted zero_where_none b f)) in
         omega (arith, few, free.size)
 
-    -- where too few blocks are unkept, too few are free
-    scarce_here : ((b : ℕ) → HoldsNone (kept_pages x) b → kept_in x b ≡ 0) → bad_count t ≡ bad_blocks t.geometry flash → bad_count t ≤ spare → unkept_count t + bad_count t < 1 + spare
+    -- where too few blocks are uncommitted, too few are free
+    scarce_here : ((b : ℕ) → HoldsNone (committed_pages x) b → count_committed_in x b ≡ 0) → bad_count t ≡ bad_blocks t.geometry flash → bad_count t ≤ spare → uncommitted_count t + bad_count t < 1 + spare
         → IsVolume t.geometry (has m) spare → Shows z (has m) objects → Answers t.geometry flash (IsWrong IsDamaged)
     scarce_here zero_where_none same few scarce volume shown = inr (inr (inr (
       spare,
@@ -97,8 +97,8 @@ module _ (flash : Flash) (m : PageMap) (is : IsNewestMap flash m) (spare : ℕ) 
     )))
 
     -- where enough are, there is room
-    room_here : ((count : ℕ) → count ≤ unkept_count t → HasFree t.geometry flash z objects count) → bad_count t ≡ bad_blocks t.geometry flash
-        → (bad_count t ≤ spare → 1 + spare ≤ unkept_count t + bad_count t) → charge z objects ≤ capacity z
+    room_here : ((count : ℕ) → count ≤ uncommitted_count t → HasFree t.geometry flash z objects count) → bad_count t ≡ bad_blocks t.geometry flash
+        → (bad_count t ≤ spare → 1 + spare ≤ uncommitted_count t + bad_count t) → charge z objects ≤ capacity z
         → IsVolume t.geometry (has m) spare → Shows z (has m) objects → Answers t.geometry flash (IsTreeOf spare objects)
     room_here free same enough fits volume shown = (
       is_volume t.geometry flash m spare is volume,
@@ -110,18 +110,18 @@ module _ (flash : Flash) (m : PageMap) (is : IsNewestMap flash m) (spare : ℕ) 
     )
 
 module _ (g : Geometry) (flash : Flash) (m : PageMap) (spare : ℕ) (objects : Objects) (x : Index) (t : Table) (is : IsNewestMap flash m) (volume : IsVolume g (has m) spare)
-    (shown : Shows (sizes_of g spare) (has m) objects) (at : t.geometry ≡ g) (agree : CountsAgree t x) (marks : HasMarks flash t) (keeps : KeepsOnlyTree flash (sizes_of g spare) m objects (kept_pages x)) where
-  pub scarce : ((b : ℕ) → HoldsNone (kept_pages x) b → kept_in x b ≡ 0) → bad_count t ≡ bad_blocks t.geometry flash → bad_count t ≤ spare → unkept_count t + bad_count t < 1 + spare
+    (shown : Shows (sizes_of g spare) (has m) objects) (at : t.geometry ≡ g) (agree : CountsAgree t x) (marks : HasMarks flash t) (keeps : KeepsOnlyTree flash (sizes_of g spare) m objects (committed_pages x)) where
+  pub scarce : ((b : ℕ) → HoldsNone (committed_pages x) b → count_committed_in x b ≡ 0) → bad_count t ≡ bad_blocks t.geometry flash → bad_count t ≤ spare → uncommitted_count t + bad_count t < 1 + spare
       → Answers g flash (IsWrong IsDamaged)
   scarce zero_where_none same few less =
-      subst (λ g. KeepsOnlyTree flash (sizes_of g spare) m objects (kept_pages x) → IsVolume g (has m) spare → Shows (sizes_of g spare) (has m) objects → Answers g flash (IsWrong IsDamaged)) at
+      subst (λ g. KeepsOnlyTree flash (sizes_of g spare) m objects (committed_pages x) → IsVolume g (has m) spare → Shows (sizes_of g spare) (has m) objects → Answers g flash (IsWrong IsDamaged)) at
       (λ k. scarce_here flash m is spare objects x t agree marks k zero_where_none same few less) keeps volume shown
 
-  pub with_room : ((count : ℕ) → KeepsTree flash (sizes_of t.geometry spare) objects (kept_pages x) → count ≤ unkept_count t → HasFree t.geometry flash (sizes_of t.geometry spare) objects count)
-      → bad_count t ≡ bad_blocks t.geometry flash → charge (sizes_of g spare) objects ≤ capacity (sizes_of g spare) → (bad_count t ≤ spare → 1 + spare ≤ unkept_count t + bad_count t)
+  pub with_room : ((count : ℕ) → KeepsTree flash (sizes_of t.geometry spare) objects (committed_pages x) → count ≤ uncommitted_count t → HasFree t.geometry flash (sizes_of t.geometry spare) objects count)
+      → bad_count t ≡ bad_blocks t.geometry flash → charge (sizes_of g spare) objects ≤ capacity (sizes_of g spare) → (bad_count t ≤ spare → 1 + spare ≤ uncommitted_count t + bad_count t)
       → Answers g flash (IsTreeOf spare objects)
   with_room free same fits enough =
-      subst (λ g. KeepsOnlyTree flash (sizes_of g spare) m objects (kept_pages x) → charge (sizes_of g spare) objects ≤ capacity (sizes_of g spare)
+      subst (λ g. KeepsOnlyTree flash (sizes_of g spare) m objects (committed_pages x) → charge (sizes_of g spare) objects ≤ capacity (sizes_of g spare)
       → IsVolume g (has m) spare → Shows (sizes_of g spare) (has m) objects → Answers g flash (IsTreeOf spare objects)) at
       (λ k fits. room_here flash m is spare objects x t agree marks k
       (λ count. free count (keeps_tree flash m is spare objects x t agree marks k)) same enough fits) keeps fits volume shown

@@ -3,13 +3,13 @@ use Rattle.std.proofs.Common.{inl}
 use Rattle.nand_model.specs.declared.geometry.Geometry.{Geometry}
 use Rattle.flash_tree.specs.Tree.{NewestMap}
 use Rattle.pages.specs.State.{PagesState, OnlyFinds}
-use Rattle.tree_walk.specs.Faults.{TellsRoot, RootFailsBy}
+use Rattle.tree_walk.specs.Faults.{ReportsRoot, RootFailsBy}
 use Rattle.tree_walk.specs.declared.fault.RootFault.{RootFault}
 use Rattle.tree_walk.specs.declared.fault.RootFault.TheVariants as roots
 use Rattle.mounting.specs.TreeAnswers.{WhyNoTree, FailsTree}
 
 -- what is wrong with the header is wrong with the tree
-pub wrong_root : (g : Geometry) (m : NewestMap) (fault : RootFault) → TellsRoot g m fault → WhyNoTree g m fault
+pub wrong_root : (g : Geometry) (m : NewestMap) (fault : RootFault) → ReportsRoot g m fault → WhyNoTree g m fault
 wrong_root g m roots.NoMemory wrong = tt
 wrong_root g m roots.Device wrong = tt
 wrong_root g m roots.NotAVolume wrong = wrong

@@ -14,23 +14,23 @@ use Rattle.posix_profile.specs.Charge.{charge}
 use Rattle.flash_tree.specs.Newest.{Spot, IsNewest, HasNewest, Numbers}
 use Rattle.flash_tree.specs.Tree.{Shows, InFootprint}
 use Rattle.flash_tree.specs.Mount.{Wholly, GoesThrough, NamesTwice, Answers, IsWrong, IsDamaged, IsTreeOf, sizes_of, IsVolume, bad_blocks}
-use Rattle.block_state.specs.Kept.{bad_count, unkept_count}
+use Rattle.block_state.specs.Committed.{bad_count, uncommitted_count}
 use Rattle.block_state.specs.Table.{Table}
 use Rattle.chunk_index.specs.Free.{HasMarks}
 use Rattle.pages.specs.laws.Low.{looked_low}
-use Rattle.chunk_index.specs.Maps.{KeptMap, kept_pages, CountsAgree}
-use Rattle.chunk_index.specs.declared.form.KeptPage.{KeptPage}
+use Rattle.chunk_index.specs.Maps.{CommittedMap, committed_pages, CountsAgree}
+use Rattle.chunk_index.specs.declared.form.CommittedPage.{CommittedPage}
 use Rattle.chunk_index.specs.declared.index.Index.{Index}
-use Rattle.flash_log.specs.Standing.{AreKept, IsKeptAt}
+use Rattle.flash_log.specs.Standing.{AreCommitted, IsCommittedAt}
 use Rattle.paged_objects.specs.Holding.{HoldsObjects}
-use Rattle.page_store.specs.Shown.{data_of, data_at, kept_data}
+use Rattle.page_store.specs.Shown.{data_of, data_at, committed_data}
 use Rattle.pages.specs.Maps.{PageMap, has}
 use Rattle.pages.specs.Stores.{bad_on, Carries}
-use Rattle.page_store.specs.Opened.{kept_at}
-use Rattle.tree_walk.specs.Trees.{IsLookedUp, TellsHeads, keeps_key, objects_listed, page_size}
+use Rattle.page_store.specs.Opened.{committed_at}
+use Rattle.tree_walk.specs.Trees.{IsLookedUp, ReportsHeads, keeps_key, objects_listed, page_size}
 use Rattle.tree_walk.specs.declared.tree.Tree.{Tree}
 use Rattle.mounting.specs.Footprints.{KeepsFootprint, IsFootprint}
-use Rattle.mounting.specs.KeptTrees.{LieNewest, KeepsOnlyTree}
+use Rattle.mounting.specs.CommittedTrees.{LieNewest, KeepsOnlyTree}
 use Rattle.mounting.specs.NewestMaps.{IsNewestMap}
 use Rattle.mounting.specs.Marked.{marked}
 use Rattle.mounting.specs.Mounted.{IsTreeOn, IsTreeShown, HasRoomOn, KeepsPlaces}
@@ -47,28 +47,28 @@ pub record TreeLaws : Type 0 where
   pub full : (g : Geometry) (flash : Flash) (m : PageMap) (spare : ℕ) (objects : Objects) → IsNewestMap flash m → IsVolume g (has m) spare
       → Shows (sizes_of g spare) (has m) objects → capacity (sizes_of g spare) < charge (sizes_of g spare) objects → Answers g flash (IsWrong IsDamaged)
   pub scarce : (g : Geometry) (flash : Flash) (m : PageMap) (spare : ℕ) (objects : Objects) (x : Index) (t : Table) → IsNewestMap flash m → IsVolume g (has m) spare
-      → Shows (sizes_of g spare) (has m) objects → t.geometry ≡ g → CountsAgree t x → HasMarks flash t → KeepsOnlyTree flash (sizes_of g spare) m objects (kept_pages x)
-      → bad_count t ≤ spare → unkept_count t + bad_count t < 1 + spare → Answers g flash (IsWrong IsDamaged)
+      → Shows (sizes_of g spare) (has m) objects → t.geometry ≡ g → CountsAgree t x → HasMarks flash t → KeepsOnlyTree flash (sizes_of g spare) m objects (committed_pages x)
+      → bad_count t ≤ spare → uncommitted_count t + bad_count t < 1 + spare → Answers g flash (IsWrong IsDamaged)
   pub room : (g : Geometry) (flash : Flash) (m : PageMap) (spare : ℕ) (objects : Objects) (x : Index) (t : Table) → IsNewestMap flash m → IsVolume g (has m) spare
-      → Shows (sizes_of g spare) (has m) objects → t.geometry ≡ g → CountsAgree t x → HasMarks flash t → KeepsOnlyTree flash (sizes_of g spare) m objects (kept_pages x)
-      → charge (sizes_of g spare) objects ≤ capacity (sizes_of g spare) → (bad_count t ≤ spare → 1 + spare ≤ unkept_count t + bad_count t)
+      → Shows (sizes_of g spare) (has m) objects → t.geometry ≡ g → CountsAgree t x → HasMarks flash t → KeepsOnlyTree flash (sizes_of g spare) m objects (committed_pages x)
+      → charge (sizes_of g spare) objects ≤ capacity (sizes_of g spare) → (bad_count t ≤ spare → 1 + spare ≤ uncommitted_count t + bad_count t)
       → Answers g flash (IsTreeOf spare objects)
   pub test : (z : Sizes) (m : PageMap) (objects : Objects) (list : List ℕ) (keeps : ℕ → ℕ → Bool) → 32 ≤ z.page_bytes → z.page_bytes ≤ 4096 → Shows z (has m) objects
       → GoesThrough z (has m) (root_number ∷ []) 0 (Wholly list) → ((o c : ℕ) → (keeps o c ≡ true) ↔ IsLookedUp z (has m) list o c) → KeepsFootprint z m objects keeps
   pub part : (z : Sizes) (m part : PageMap) (objects : Objects) (keeps : ℕ → ℕ → Bool) → KeepsFootprint z m objects keeps
       → ((o c : ℕ) → keeps o c ≡ true → part o c ≡ m o c) → ((o c : ℕ) → keeps o c ≡ false → part o c ≡ None) → IsFootprint z m objects part
-  pub kept : (flash : Flash) (z : Sizes) (m : PageMap) (objects : Objects) (keeps : ℕ → ℕ → Bool) (kept : KeptMap) → KeepsFootprint z m objects keeps → LieNewest flash kept
-      → ((o c : ℕ) (s : Spot) → keeps o c ≡ true → IsNewest flash o c s → (p : KeptPage) × (kept o c ≡ Some p)) → ((o c : ℕ) → keeps o c ≡ false → kept o c ≡ None)
-      → KeepsOnlyTree flash z m objects kept
-  pub keys : (z : Sizes) (m : PageMap) (tree : Tree) → z.page_bytes ≡ page_size tree → TellsHeads z (has m) tree
+  pub committed : (flash : Flash) (z : Sizes) (m : PageMap) (objects : Objects) (keeps : ℕ → ℕ → Bool) (committed : CommittedMap) → KeepsFootprint z m objects keeps → LieNewest flash committed
+      → ((o c : ℕ) (s : Spot) → keeps o c ≡ true → IsNewest flash o c s → (p : CommittedPage) × (committed o c ≡ Some p)) → ((o c : ℕ) → keeps o c ≡ false → committed o c ≡ None)
+      → KeepsOnlyTree flash z m objects committed
+  pub keys : (z : Sizes) (m : PageMap) (tree : Tree) → z.page_bytes ≡ page_size tree → ReportsHeads z (has m) tree
       → (o c : ℕ) → (keeps_key tree o c ≡ true) ↔ IsLookedUp z (has m) (objects_listed tree) o c
   pub bad : (t : Table) (flash : Flash) → HasMarks flash t → bad_count t ≡ bad_blocks t.geometry flash
 
 -- the data of a page that is the newest of its key
-data_is : (flash : Flash) (o c : ℕ) (k : KeptPage) (at : IsKeptAt flash o c k) → data_at flash k ≡ Some at.newest.holds.has.bytes
+data_is : (flash : Flash) (o c : ℕ) (k : CommittedPage) (at : IsCommittedAt flash o c k) → data_at flash k ≡ Some at.newest.holds.has.bytes
 data_is flash o c k at = ap data_of at.newest.holds.has.page
 
-newest_of : (flash : Flash) (o c : ℕ) (xs : List ℕ) (k : KeptPage) → IsKeptAt flash o c k → data_at flash k ≡ Some xs → HasNewest flash o c xs
+newest_of : (flash : Flash) (o c : ℕ) (xs : List ℕ) (k : CommittedPage) → IsCommittedAt flash o c k → data_at flash k ≡ Some xs → HasNewest flash o c xs
 newest_of flash o c xs k at is =
     let two : Some at.newest.holds.has.bytes ≡ Some xs = sym (data_is flash o c k at) ∙ is in
     let same : at.newest.holds.has.bytes ≡ xs = cc in
@@ -78,21 +78,21 @@ newest_of flash o c xs k at is =
       stored = at.newest.holds.has.page ∙ ap (λ ys. Written ys (tag_bytes at.tag)) same;
     }
 
-from_kept : (flash : Flash) (o c : ℕ) (xs : List ℕ) (m : Option KeptPage) → ((k : KeptPage) → m ≡ Some k → IsKeptAt flash o c k) → option_and_then (data_at flash) m ≡ Some xs → HasNewest flash o c xs
-from_kept flash o c xs None kept is = absurd cc
-from_kept flash o c xs (Some k) kept is = newest_of flash o c xs k (kept k refl) is
+from_committed : (flash : Flash) (o c : ℕ) (xs : List ℕ) (m : Option CommittedPage) → ((k : CommittedPage) → m ≡ Some k → IsCommittedAt flash o c k) → option_and_then (data_at flash) m ≡ Some xs → HasNewest flash o c xs
+from_committed flash o c xs None committed is = absurd cc
+from_committed flash o c xs (Some k) committed is = newest_of flash o c xs k (committed k refl) is
 
 -- and its chunk is one that a tree may look up
-low_from : (flash : Flash) (o c : ℕ) (xs : List ℕ) (m : Option KeptPage) → ((k : KeptPage) → m ≡ Some k → c < 2 ^ 32) → option_and_then (data_at flash) m ≡ Some xs → c < 2 ^ 32
+low_from : (flash : Flash) (o c : ℕ) (xs : List ℕ) (m : Option CommittedPage) → ((k : CommittedPage) → m ≡ Some k → c < 2 ^ 32) → option_and_then (data_at flash) m ≡ Some xs → c < 2 ^ 32
 low_from flash o c xs None low is = absurd cc
 low_from flash o c xs (Some k) low is = low k refl
 
-pub kept_low : (flash : Flash) (x : Index) → ((o c : ℕ) (p : KeptPage) → kept_pages x o c ≡ Some p → c < 2 ^ 32) → (o c : ℕ) (xs : List ℕ) → kept_data x flash o c ≡ Some xs → c < 2 ^ 32
-kept_low flash x low o c xs is = low_from flash o c xs (kept_pages x o c) (low o c) is
+pub committed_low : (flash : Flash) (x : Index) → ((o c : ℕ) (p : CommittedPage) → committed_pages x o c ≡ Some p → c < 2 ^ 32) → (o c : ℕ) (xs : List ℕ) → committed_data x flash o c ≡ Some xs → c < 2 ^ 32
+committed_low flash x low o c xs is = low_from flash o c xs (committed_pages x o c) (low o c) is
 
--- what is kept is the newest
-pub kept_newest : (flash : Flash) (x : Index) → AreKept flash (kept_pages x) → Carries flash (kept_data x flash)
-kept_newest flash x kept o c xs is = from_kept flash o c xs (kept_pages x o c) (kept o c) is
+-- what is committed is the newest
+pub committed_newest : (flash : Flash) (x : Index) → AreCommitted flash (committed_pages x) → Carries flash (committed_data x flash)
+committed_newest flash x committed o c xs is = from_committed flash o c xs (committed_pages x o c) (committed o c) is
 
 module _ (laws : TreeLaws) (d : Device) (t : Table) (x : Index) (n : Numbers) (spare : ℕ) (tree : Tree) (within : IsWithin d.geometry.pages d.geometry.blocks d.flash) (sized : IsSized d.geometry.bytes d.flash)
     (pruned : IsPruned (keeps_key tree) d t x n) (honest : d.honest ≡ true) (on : IsTreeOn d spare tree) where
@@ -103,25 +103,25 @@ module _ (laws : TreeLaws) (d : Device) (t : Table) (x : Index) (n : Numbers) (s
   m = on.pages
 
   -- a key that stays has its newest page, and so what the map has
-  stays : (o c : ℕ) → keeps_key tree o c ≡ true → kept_data x d.flash o c ≡ m o c
-  stays o c keeps = go (m o c) (kept_data x d.flash o c) refl refl where
-    held : (xs : List ℕ) → m o c ≡ Some xs → kept_data x d.flash o c ≡ Some xs
+  stays : (o c : ℕ) → keeps_key tree o c ≡ true → committed_data x d.flash o c ≡ m o c
+  stays o c keeps = go (m o c) (committed_data x d.flash o c) refl refl where
+    held : (xs : List ℕ) → m o c ≡ Some xs → committed_data x d.flash o c ≡ Some xs
     held xs is =
         let (newest, low) = (on.newest o c xs).0 is in
         ap (option_and_then (data_at d.flash)) (pruned.all honest o c newest.spot low keeps newest.newest) ∙ ap data_of newest.stored
 
-    go : (a b : Option (List ℕ)) → m o c ≡ a → kept_data x d.flash o c ≡ b → kept_data x d.flash o c ≡ m o c
-    go (Some xs) b is told = held xs is ∙ sym is
-    go None None is told = told ∙ sym is
-    go None (Some ys) is told =
-        let there : m o c ≡ Some ys = (on.newest o c ys).1 (kept_newest d.flash x (pruned.tables.newest honest) o c ys told, kept_low d.flash x pruned.tables.low o c ys told) in
+    go : (a b : Option (List ℕ)) → m o c ≡ a → committed_data x d.flash o c ≡ b → committed_data x d.flash o c ≡ m o c
+    go (Some xs) b is reported = held xs is ∙ sym is
+    go None None is reported = reported ∙ sym is
+    go None (Some ys) is reported =
+        let there : m o c ≡ Some ys = (on.newest o c ys).1 (committed_newest d.flash x (pruned.tables.newest honest) o c ys reported, committed_low d.flash x pruned.tables.low o c ys reported) in
         let two : None ≡ Some ys = sym is ∙ there in
         absurd cc
 
-  goes : (o c : ℕ) → keeps_key tree o c ≡ false → kept_data x d.flash o c ≡ None
-  goes o c not_kept = ap (option_and_then (data_at d.flash)) (pruned.others o c not_kept)
+  goes : (o c : ℕ) → keeps_key tree o c ≡ false → committed_data x d.flash o c ≡ None
+  goes o c not_committed = ap (option_and_then (data_at d.flash)) (pruned.others o c not_committed)
 
-  lies : LieNewest d.flash (kept_pages x)
+  lies : LieNewest d.flash (committed_pages x)
   lies o c p is = let at = pruned.tables.newest honest o c p is in (record { block = p.block; page = p.page; tag = at.tag }, at.newest, refl)
 
   pub shows : (objects : Objects) × Shows z (has m) objects × Shows z (HasNewest d.flash) objects
@@ -133,8 +133,8 @@ module _ (laws : TreeLaws) (d : Device) (t : Table) (x : Index) (n : Numbers) (s
         let size = d.geometry.least_bytes in
         laws.test z m objects (objects_listed tree) (keeps_key tree) (omega (arith, size)) d.geometry.most_bytes shown on.through.tree_is.through (laws.keys z m tree (sym on.through.size) on.through.tree_is.heads)
 
-    pub holds : HoldsObjects z (kept_data x d.flash) objects
-    holds = laws.holds d.geometry spare m (kept_data x d.flash) objects on.through.volume shown (laws.part z m (kept_data x d.flash) objects (keeps_key tree) footprint stays goes)
+    pub holds : HoldsObjects z (committed_data x d.flash) objects
+    holds = laws.holds d.geometry spare m (committed_data x d.flash) objects on.through.volume shown (laws.part z m (committed_data x d.flash) objects (keeps_key tree) footprint stays goes)
 
     -- a key that stays is of a chunk that a tree may look up
     low : (o c : ℕ) → keeps_key tree o c ≡ true → c < 2 ^ 32
@@ -143,8 +143,8 @@ module _ (laws : TreeLaws) (d : Device) (t : Table) (x : Index) (n : Numbers) (s
         let least = d.geometry.least_bytes in
         looked_low z (record { least = omega (arith, least); most = d.geometry.most_bytes }) foot.fields c foot.has.1 foot.looks
 
-    only : KeepsOnlyTree d.flash z m objects (kept_pages x)
-    only = laws.kept d.flash z m objects (keeps_key tree) (kept_pages x) footprint lies (λ o c s keeps newest. (kept_at s, pruned.all honest o c s (low o c keeps) keeps newest)) pruned.others
+    only : KeepsOnlyTree d.flash z m objects (committed_pages x)
+    only = laws.committed d.flash z m objects (keeps_key tree) (committed_pages x) footprint lies (λ o c s keeps newest. (committed_at s, pruned.all honest o c s (low o c keeps) keeps newest)) pruned.others
 
     counts : CountsAgree (marked d.flash t) x
     counts = record { counts = pruned.tables.counts.counts; within = pruned.tables.counts.within }
@@ -168,7 +168,7 @@ module _ (laws : TreeLaws) (d : Device) (t : Table) (x : Index) (n : Numbers) (s
     pub answers_scarce : (HasRoomOn d t spare → ⊥) → Answers d.geometry d.flash (IsWrong IsDamaged)
     answers_scarce none = elim (cases_lt spare (bad_count (marked d.flash t))) [
       | inl many ↦ absurd (none (λ few. absurd (omega (arith, few, many, bad_is))))
-      | inr few ↦ elim (cases_lt (unkept_count (marked d.flash t) + bad_count (marked d.flash t)) (1 + spare)) [
+      | inr few ↦ elim (cases_lt (uncommitted_count (marked d.flash t) + bad_count (marked d.flash t)) (1 + spare)) [
         | inl lt ↦ laws.scarce d.geometry d.flash m spare objects x (marked d.flash t) on.newest on.through.volume shown pruned.tables.geometry counts marks only few lt
         | inr ge ↦ absurd (none (λ f. omega (arith, ge, bad_is)))
       ]
@@ -184,7 +184,7 @@ module _ (laws : TreeLaws) (d : Device) (t : Table) (x : Index) (n : Numbers) (s
     from_map : (o c : ℕ) → InFootprint z (has m) objects o c → InFootprint z (HasNewest d.flash) objects o c
     from_map o c foot = record { object = foot.object; there = foot.there; fields = foot.fields; has = (((on.newest o 0 (header_bytes foot.fields)).0 foot.has.0).0, foot.has.1); looks = foot.looks }
 
-    places : KeepsPlaces d.flash z objects (kept_pages x)
+    places : KeepsPlaces d.flash z objects (committed_pages x)
     places = record {
       all = λ o c s foot newest. let keeps = (footprint o c).1 (to_map o c foot) in pruned.all honest o c s (low o c keeps) keeps newest;
       only = λ o c p is. from_map o c (only.only o c p is);

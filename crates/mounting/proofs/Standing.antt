@@ -8,14 +8,14 @@ use Rattle.nand_model.specs.Flash.{Flash}
 use Rattle.posix_profile.specs.State.{Object, Objects}
 use Rattle.posix_profile.specs.WellFormed.{IsForest}
 use Rattle.paged_objects.specs.Holding.{HoldsObject, HoldsObjects}
-use Rattle.page_store.specs.Shown.{data_at, data_of, kept_data}
-use Rattle.chunk_index.specs.Maps.{kept_pages}
+use Rattle.page_store.specs.Shown.{data_at, data_of, committed_data}
+use Rattle.chunk_index.specs.Maps.{committed_pages}
 use Rattle.nand_model.specs.Calls.{Device}
 use Rattle.flash_tree.specs.Newest.{Numbers}
 use Rattle.block_state.specs.Table.{Table}
-use Rattle.block_state.specs.laws.Kept.{free_where_closed}
+use Rattle.block_state.specs.laws.Committed.{free_where_closed}
 use Rattle.chunk_index.specs.declared.index.Index.{Index}
-use Rattle.flash_log.specs.Standing.{AreKept, KeepsOrdinary, Stands, TablesAgree, HasFreeBlocks}
+use Rattle.flash_log.specs.Standing.{AreCommitted, KeepsOrdinary, Stands, TablesAgree, HasFreeBlocks}
 use Rattle.page_store.specs.Opened.{AreLeft}
 use Rattle.mounting.specs.Marked.{AreFitting}
 use Rattle.mounting.specs.Tables.{IsPruned}
@@ -28,7 +28,7 @@ tables_pruned keeps spare d t x n pruned left fits free = record {
   within = pruned.tables.lie left;
   fits = fits;
   written = λ o at. let both : None ≡ Some o = sym pruned.tables.closed ∙ at in absurd cc;
-  unkept = let same = free_where_closed t pruned.tables.closed in omega (arith, same, free);
+  uncommitted = let same = free_where_closed t pruned.tables.closed in omega (arith, same, free);
   apart = pruned.tables.apart;
 }
 
@@ -42,10 +42,10 @@ stands_pruned keeps spare d t x n pruned left fits free ordinary = record {
   limits = (omega (arith, pruned.tables.group left, left.0), omega (arith, pruned.tables.seq left, left.1));
 }
 
--- The kept pages are of the objects of a tree, and none of these has the number of checkpoints.
-pub ordinary_shown : (z w : Sizes) (f : Flash) (x : Index) (objects : Objects) → IsForest z objects → HoldsObjects w (kept_data x f) objects → AreKept f (kept_pages x) → KeepsOrdinary x
-ordinary_shown z w f x objects forest holds kept o c p is same =
-    let has = (kept o c p is).newest.holds.has in
+-- The committed pages are of the objects of a tree, and none of these has the number of checkpoints.
+pub ordinary_shown : (z w : Sizes) (f : Flash) (x : Index) (objects : Objects) → IsForest z objects → HoldsObjects w (committed_data x f) objects → AreCommitted f (committed_pages x) → KeepsOrdinary x
+ordinary_shown z w f x objects forest holds committed o c p is same =
+    let has = (committed o c p is).newest.holds.has in
     let two : None ≡ Some has.bytes = sym empty ∙ ap (option_and_then (data_at f)) is ∙ ap data_of has.page in
     cc
   where
@@ -55,5 +55,5 @@ ordinary_shown z w f x objects forest holds kept o c p is same =
       go None at = at
       go (Some object) at = let less : o < 2 ^ 64 - 1 = (forest.each o object at).number in absurd (omega (arith, less, same))
 
-    empty : kept_data x f o c ≡ None
-    empty = subst (HoldsObject w (kept_data x f) o) none (holds.each o) c
+    empty : committed_data x f o c ≡ None
+    empty = subst (HoldsObject w (committed_data x f) o) none (holds.each o) c

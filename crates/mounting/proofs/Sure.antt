@@ -16,7 +16,7 @@ use Rattle.flash_tree.specs.laws.Shown.{Each, IsThere, ends_well, not_twice}
 use Rattle.flash_tree.specs.laws.Tree.{footprint_law}
 use Rattle.page_store.specs.Checked.{KeepsItsTree}
 use Rattle.page_store.specs.declared.opening.Opened.{Opened}
-use Rattle.page_store.specs.Shown.{data_of, data_at, kept_data}
+use Rattle.page_store.specs.Shown.{data_of, data_at, committed_data}
 use Rattle.pages.specs.Maps.{PageMap, has}
 use Rattle.tree_walk.specs.Trees.{IsWrongTree}
 use Rattle.tree_walk.specs.declared.fault.RootFault.{RootFault}
@@ -63,28 +63,28 @@ module _ (g : Geometry) (m : PageMap) (spare : ℕ) (objects : Objects) (volume 
       wrong_tree wrong (subst (λ n. IsWrongTree (sizes_of g n) (has m) wrong) (one_spare g (has m) (single m) s spare other volume) amiss)
 
   pub nothing_wrong : (fault : RootFault) → WhyNoTree g (has m) fault → (fault ≡ roots.NoMemory) ⊎ (fault ≡ roots.Device)
-  nothing_wrong roots.NoMemory told = inl refl
-  nothing_wrong roots.Device told = inr refl
-  nothing_wrong roots.NotAVolume told = absurd (no_volume told)
-  nothing_wrong (roots.Newer format) told = absurd (wrong_none _ told)
-  nothing_wrong roots.Damaged told = absurd (wrong_none _ told)
+  nothing_wrong roots.NoMemory reported = inl refl
+  nothing_wrong roots.Device reported = inr refl
+  nothing_wrong roots.NotAVolume reported = absurd (no_volume reported)
+  nothing_wrong (roots.Newer format) reported = absurd (wrong_none _ reported)
+  nothing_wrong roots.Damaged reported = absurd (wrong_none _ reported)
 
--- ---- the pages that a right checkpoint tells of show the tree
+-- ---- the pages that a right checkpoint reports on show the tree
 
 module _ (d : Device) (opened : Opened) (k : KeepsItsTree d opened) where
-  abbrev kept : PageMap
-  kept = kept_data opened.index d.flash
+  abbrev committed : PageMap
+  committed = committed_data opened.index d.flash
 
-  held : KeepsFootprint (sizes_of d.geometry k.spare) (HasNewest d.flash) (has kept) k.objects
+  held : KeepsFootprint (sizes_of d.geometry k.spare) (HasNewest d.flash) (has committed) k.objects
   held o c bytes foot newest = ap (option_and_then (data_at d.flash)) (k.all o c newest.spot foot newest.newest) ∙ ap data_of newest.stored
 
-  shows : Shows (sizes_of d.geometry k.spare) (has kept) k.objects
-  shows = footprint_law (sizes_of d.geometry k.spare) (HasNewest d.flash) (has kept) k.objects held k.shows
+  shows : Shows (sizes_of d.geometry k.spare) (has committed) k.objects
+  shows = footprint_law (sizes_of d.geometry k.spare) (HasNewest d.flash) (has committed) k.objects held k.shows
 
   root_looked : InFootprint (sizes_of d.geometry k.spare) (HasNewest d.flash) k.objects root_number 0
   root_looked = let r = k.shows.tree.forest.root in record { object = Dir r.0 r.1; there = r.2; fields = k.volume.fields; has = k.volume.has; looks = inl refl }
 
-  volume : IsVolume d.geometry (has kept) k.spare
+  volume : IsVolume d.geometry (has committed) k.spare
   volume = record {
     fields = k.volume.fields;
     has = (held root_number 0 _ root_looked k.volume.has.0, k.volume.has.1);
@@ -95,7 +95,7 @@ module _ (d : Device) (opened : Opened) (k : KeepsItsTree d opened) where
 
   -- so no scan follows where it is not gone through
   pub ends_mount : (new : Device) (fault : RootFault) → WhyNotThrough opened.index d new fault → EndsMount new fault
-  ends_mount new fault (told, gone) = elim (nothing_wrong d.geometry kept k.spare k.objects volume shows fault told) [
+  ends_mount new fault (reported, gone) = elim (nothing_wrong d.geometry committed k.spare k.objects volume shows fault reported) [
     | inl memory ↦ inl memory
     | inr device ↦ inr (gone device)
   ]

@@ -1,4 +1,4 @@
--- On a true flash the tree is gone through in what summaries found, and all that it looks up is kept at its newest page.
+-- On a true flash the tree is gone through in what summaries found, and all that it looks up is committed at its newest page.
 use Rattle.std.specs.Prelude.{◌≡◌, ◌⊎◌, ◌↔◌, ◌≤◌, ℕ, zero, suc, true, false, List, [], ◌∷◌, Some, None}
 use Rattle.std.specs.Option.{option_map}
 use Rattle.std.proofs.Common.{refl, sym, ◌∙◌, ap, subst, inl, inr}
@@ -13,14 +13,14 @@ use Rattle.flash_tree.specs.Newest.{Spot, IsNewest, HasNewest}
 use Rattle.flash_tree.specs.Tree.{NewestMap, HasHeader, ReadsAs, Shows, LooksUp, InFootprint, KeepsFootprint}
 use Rattle.flash_tree.specs.laws.Finding.{same_header}
 use Rattle.flash_tree.specs.laws.Newest.{one_newest}
-use Rattle.flash_tree.specs.laws.NewestTold.{newest_or_none}
+use Rattle.flash_tree.specs.laws.NewestReported.{newest_or_none}
 use Rattle.flash_tree.specs.laws.Shown.{Each, IsThere, ends_well}
 use Rattle.flash_tree.specs.laws.Tree.{footprint_law}
-use Rattle.chunk_index.specs.Maps.{kept_pages}
+use Rattle.chunk_index.specs.Maps.{committed_pages}
 use Rattle.chunk_index.specs.declared.index.Index.{Index}
-use Rattle.flash_log.specs.Standing.{IsKeptAt, AreKept}
+use Rattle.flash_log.specs.Standing.{IsCommittedAt, AreCommitted}
 use Rattle.page_store.specs.FoundTables.{FindsItsTree}
-use Rattle.page_store.specs.Opened.{kept_at}
+use Rattle.page_store.specs.Opened.{committed_at}
 use Rattle.page_store.specs.declared.opening.Opened.{Opened}
 use Rattle.paged_objects.specs.laws.Findable.{one_spare}
 use Rattle.pages.specs.Maps.{PageMap, has}
@@ -108,7 +108,7 @@ module _ (d : Device) (opened : Opened) (k : FindsItsTree d opened) where
 
   -- so no scan follows where it is not gone through
   pub ends_found : (new : Device) (fault : RootFault) → WhyNoTree d.geometry (has m) fault → (fault ≡ roots.Device → (new.gone ≡ true) ⊎ (d.honest ≡ false)) → d.honest ≡ true → EndsMount new fault
-  ends_found new fault told why honest = elim (nothing_wrong d.geometry m k.spare k.objects volume shows fault told) [
+  ends_found new fault reported why honest = elim (nothing_wrong d.geometry m k.spare k.objects volume shows fault reported) [
     | inl memory ↦ inl memory
     | inr device ↦ elim (why device) [
       | inl gone ↦ inr gone
@@ -128,14 +128,14 @@ module _ (d : Device) (opened : Opened) (k : FindsItsTree d opened) where
       let same : own.0 ≡ foot.fields = same_header z (is_size d.geometry k.spare) (has m) (single m) o own.0 foot.fields was foot.has in
       record { object = foot.object; there = foot.there; fields = foot.fields; has = subst (HasHeader z (HasNewest d.flash) o) same own.1; looks = foot.looks }
 
-  -- the place of a newest page is one where it is kept
-  kept_so : (o c : ℕ) (s : Spot) → IsNewest d.flash o c s → IsKeptAt d.flash o c (kept_at s)
-  kept_so o c s newest = record { tag = s.tag; newest = newest; version = refl }
+  -- the place of a newest page is one where it is committed
+  committed_so : (o c : ℕ) (s : Spot) → IsNewest d.flash o c s → IsCommittedAt d.flash o c (committed_at s)
+  committed_so o c s newest = record { tag = s.tag; newest = newest; version = refl }
 
-  -- and so all that is kept of the tree that was gone through is newest
-  pub kept_of_tree : KeysLaw → FootLaw → IsWithin d.geometry.pages d.geometry.blocks d.flash → (y : Index) (spare : ℕ) (tree : Tree) → KeepsOnly (keeps_key tree) opened.index y
-      → IsGoneThrough d.geometry (has m) spare tree → AreKept d.flash (kept_pages y)
-  kept_of_tree keys feet within y spare tree only gone o c p is = elim (cases_Bool (keeps_key tree o c)) [
+  -- and so all that is committed of the tree that was gone through is newest
+  pub committed_of_tree : KeysLaw → FootLaw → IsWithin d.geometry.pages d.geometry.blocks d.flash → (y : Index) (spare : ℕ) (tree : Tree) → KeepsOnly (keeps_key tree) opened.index y
+      → IsGoneThrough d.geometry (has m) spare tree → AreCommitted d.flash (committed_pages y)
+  committed_of_tree keys feet within y spare tree only gone o c p is = elim (cases_Bool (keeps_key tree o c)) [
     | inr goes ↦ absurd (let two : None ≡ Some p = sym (only.none o c goes) ∙ is in cc)
     | inl stays ↦
         let one : spare ≡ k.spare = one_spare d.geometry (has m) (single m) spare k.spare gone.volume volume in
@@ -144,7 +144,7 @@ module _ (d : Device) (opened : Opened) (k : FindsItsTree d opened) where
         let looked = (keys z m tree (sym own.size) own.tree_is.heads o c).0 stays in
         let foot = foot_back o c ((feet z m k.objects (objects_listed tree) size.least size.most shows own.tree_is.through o c).0 looked) in
         let newest = foot_newest d.geometry d.flash k.spare k.objects k.shows within o c foot in
-        let two : Some (kept_at newest.0) ≡ Some p = sym (k.all o c newest.0 foot newest.1) ∙ sym (only.same o c stays) ∙ is in
-        let place : kept_at newest.0 ≡ p = cc in
-        subst (IsKeptAt d.flash o c) place (kept_so o c newest.0 newest.1)
+        let two : Some (committed_at newest.0) ≡ Some p = sym (k.all o c newest.0 foot newest.1) ∙ sym (only.same o c stays) ∙ is in
+        let place : committed_at newest.0 ≡ p = cc in
+        subst (IsCommittedAt d.flash o c) place (committed_so o c newest.0 newest.1)
   ]

@@ -1,4 +1,4 @@
--- What is told of kept pages that are read where they can be.
+-- What is reported of committed pages that are read where they can be.
 use Rattle.std.specs.Prelude.{◌≡◌, ◌⊎◌, ◌↔◌, ◌||◌, ◌≤◌, ◌+◌, ℕ, Bool, true, false, not, List, Option, Some, None, IsSome, IsTrue, is_some, Result, Ok, Err, IfOk, IfErr, OnOk}
 use Rattle.std.specs.Option.{option_map}
 use Rattle.std.proofs.Common.{refl, sym, ◌∙◌, ap, subst, inl, inr, arith}
@@ -9,9 +9,9 @@ use Rattle.nand_model.specs.Flash.{Flash}
 use Rattle.nand_model.specs.declared.geometry.Geometry.{Geometry}
 use Rattle.flash_tree.specs.Mount.{sizes_of}
 use Rattle.flash_tree.specs.laws.Place.{same_flash}
-use Rattle.chunk_index.specs.declared.form.KeptPage.{KeptPage}
+use Rattle.chunk_index.specs.declared.form.CommittedPage.{CommittedPage}
 use Rattle.chunk_index.specs.declared.index.Index.{Index}
-use Rattle.chunk_index.specs.Maps.{kept_pages}
+use Rattle.chunk_index.specs.Maps.{committed_pages}
 use Rattle.page_store.specs.laws.Reading.{finds_seen}
 use Rattle.pages.specs.Maps.{PageMap, known_pages}
 use Rattle.pages.specs.State.{FailsBy, FindsPage, OnlyFinds, PagesState}
@@ -35,52 +35,16 @@ known_after a b x reads = ap (λ h. known_pages h (candidate_pages x b)) reads.l
   go true is = pages_after a b x reads is
   go false is = refl
 
--- a call that only reads the device only finds
-pub finds_candidates : (a b : Device) (x y : Index) (page page' : List ℕ) → OnlyReads a b → y ≡ x → OnlyFinds (candidates a x page) (candidates b y page')
-finds_candidates a b x y page page' reads index =
-    let f = finds_seen a b x y page page' reads index in
-    let known = ap (λ (i : Index). known_pages b.honest (candidate_pages i b)) index ∙ known_after a b x reads in
-    record {
-      page_bytes = f.page_bytes;
-      most = f.most;
-      present = known;
-      kept = known;
-      buffered = f.buffered;
-      sound = f.sound;
-      failed = f.failed;
-      refused = f.refused;
-      commits = f.commits;
-      asked = f.asked;
-      device = f.device;
-      next = f.next;
-      spare = f.spare;
-      worn = f.worn;
-      checkpoint = f.checkpoint;
-      first = f.first;
-    }
-
--- what is read of a key that is kept
-here : (a : Device) (x : Index) (o c : ℕ) (at : KeptPage) → kept_pages x o c ≡ Some at → a.honest ≡ true → known_pages a.honest (candidate_pages x a) o c ≡ Some (read_at a.geometry.bytes a.flash at)
+-- what is read of a key that is committed
+here : (a : Device) (x : Index) (o c : ℕ) (at : CommittedPage) → committed_pages x o c ≡ Some at → a.honest ≡ true → known_pages a.honest (candidate_pages x a) o c ≡ Some (read_at a.geometry.bytes a.flash at)
 here a x o c at is honest = ap (λ h. known_pages h (candidate_pages x a) o c) honest ∙ ap (option_map (read_at a.geometry.bytes a.flash)) is
 
--- a kept key has the page that is lent
-pub candidate_lent : (a : Device) (x : Index) (page : List ℕ) (o c : ℕ) (at : KeptPage) (result : Result Presence StoreFault) → kept_pages x o c ≡ Some at → a.honest ≡ true
-    → IfOk result (λ presence. presence ≡ presences.Present) → (a.honest ≡ true → OnOk result (page ≡ read_at a.geometry.bytes a.flash at))
-    → IfOk result (FindsPage (known_pages a.honest (candidate_pages x a)) o c page)
-candidate_lent a x page o c at (Err fault) is honest there read = tt
-candidate_lent a x page o c at (Ok told) is honest there read =
-    subst (FindsPage (known_pages a.honest (candidate_pages x a)) o c page) (sym there) (here a x o c at is honest ∙ ap Some (sym (read honest)))
-
--- one that is not kept has none
-pub candidate_absent : (a : Device) (x : Index) (o c : ℕ) → kept_pages x o c ≡ None → a.honest ≡ true → known_pages a.honest (candidate_pages x a) o c ≡ None
+-- one that is not committed has none
+pub candidate_absent : (a : Device) (x : Index) (o c : ℕ) → committed_pages x o c ≡ None → a.honest ≡ true → known_pages a.honest (candidate_pages x a) o c ≡ None
 candidate_absent a x o c is honest = ap (λ h. known_pages h (candidate_pages x a) o c) honest ∙ ap (option_map (read_at a.geometry.bytes a.flash)) is
 
--- one that is kept is not told to be absent
-pub candidate_there : (a : Device) (x : Index) (o c : ℕ) (at : KeptPage) → kept_pages x o c ≡ Some at → a.honest ≡ true → known_pages a.honest (candidate_pages x a) o c ≡ None → ⊥
-candidate_there a x o c at is honest none = let two : None ≡ Some (read_at a.geometry.bytes a.flash at) = sym none ∙ here a x o c at is honest in cc
-
--- a key has a page exactly where it is kept
-pub has_candidate : (a : Device) (x : Index) (o c : ℕ) (m : Option KeptPage) (result : Bool) → result ≡ is_some m → m ≡ kept_pages x o c → a.honest ≡ true
+-- a key has a page exactly where it is committed
+pub has_candidate : (a : Device) (x : Index) (o c : ℕ) (m : Option CommittedPage) (result : Bool) → result ≡ is_some m → m ≡ committed_pages x o c → a.honest ≡ true
     → IsTrue result ↔ IsSome (known_pages a.honest (candidate_pages x a) o c)
 has_candidate a x o c None result same at honest =
     let none : known_pages a.honest (candidate_pages x a) o c ≡ None = candidate_absent a x o c (sym at) honest in (
@@ -90,12 +54,6 @@ has_candidate a x o c None result same at honest =
 has_candidate a x o c (Some k) result same at honest =
     let some : known_pages a.honest (candidate_pages x a) o c ≡ Some (read_at a.geometry.bytes a.flash k) = here a x o c k (sym at) honest in
     (λ yes'. subst (λ (n : Option (List ℕ)). IsSome n) (sym some) refl, λ _. subst (λ b. IsTrue b) (sym same) refl)
-
--- each fault has its cause
-pub fault_candidate : (old : PagesState) (b : Device) (y : Index) (page : List ℕ) (result : Result Presence StoreFault) → IfErr result (λ fault. (fault ≡ faults.Device) × (b.gone ≡ true))
-    → IfErr result (FailsBy old (candidates b y page))
-fault_candidate old b y page (Ok found) why = tt
-fault_candidate old b y page (Err fault) why = subst (FailsBy old (candidates b y page)) (sym why.0) (or_left b.gone (not b.honest) why.1)
 
 -- ---- what is said of a tree that was gone through in them
 
@@ -107,27 +65,3 @@ said_candidates R d a x y g same index geometry said honest =
     let sizes : g.bytes ≡ a.geometry.bytes = ap (λ (k : Geometry). k.bytes) geometry ∙ sym (ap (λ (k : Device). k.geometry.bytes) same) in
     let known = subst (R g) (ap (λ h. known_pages h (candidate_pages y a)) honest_is) (said honest_is sizes) in
     subst (λ (k : Geometry). R k (candidate_pages x d)) geometry (subst (λ (i : Index). R g (candidate_pages i d)) index (subst (λ (k : Device). R g (candidate_pages y k)) same known))
-
--- as many pages were read as were asked for
-pub few_candidates : (d a b back : Device) (g : Geometry) (spare : ℕ) (tree : Tree) → a ≡ d → g ≡ d.geometry → back ≡ b
-    → (a.honest ≡ true → g.bytes ≡ a.geometry.bytes → b.reads ≤ a.reads + tree_pages (sizes_of g spare) tree) → d.honest ≡ true → ReadsThrough d back spare tree
-few_candidates d a b back g spare tree same geometry given asked honest =
-    let honest_is : a.honest ≡ true = ap (λ (k : Device). k.honest) same ∙ honest in
-    let sizes : g.bytes ≡ a.geometry.bytes = ap (λ (k : Geometry). k.bytes) geometry ∙ sym (ap (λ (k : Device). k.geometry.bytes) same) in
-    let few = asked honest_is sizes in
-    let pages : tree_pages (sizes_of g spare) tree ≡ tree_pages (sizes_of d.geometry spare) tree = ap (λ (k : Geometry). tree_pages (sizes_of k spare) tree) geometry in
-    let before : a.reads ≡ d.reads = ap (λ (k : Device). k.reads) same in
-    let after : back.reads ≡ b.reads = ap (λ (k : Device). k.reads) given in
-    omega (arith, few, pages, before, after)
-
--- a device that is told to have failed
-pub failed_candidates : (d b back : Device) → back ≡ b → b.honest ≡ d.honest → (b.gone || not b.honest) ≡ true → (back.gone ≡ true) ⊎ (d.honest ≡ false)
-failed_candidates d b back given same failed = elim (cases_Bool b.gone) [
-  | inl gone ↦ inl (ap (λ (k : Device). k.gone) given ∙ gone)
-  | inr powered ↦
-      let rest : not b.honest ≡ true = sym (ap (λ w. w || not b.honest) powered) ∙ failed in
-      inr (sym same ∙ is_false b.honest rest)
-] where
-  is_false : (h : Bool) → not h ≡ true → h ≡ false
-  is_false true is = absurd cc
-  is_false false is = refl

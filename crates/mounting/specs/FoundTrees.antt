@@ -4,7 +4,7 @@ use Rattle.nand_model.specs.Calls.{Device}
 use Rattle.nand_model.specs.declared.geometry.Geometry.{Geometry}
 use Rattle.flash_tree.specs.Mount.{IsVolume, sizes_of}
 use Rattle.chunk_index.specs.declared.index.Index.{Index}
-use Rattle.page_store.specs.Shown.{kept_data}
+use Rattle.page_store.specs.Shown.{committed_data}
 use Rattle.pages.specs.Maps.{PageMap, has}
 use Rattle.pages.specs.State.{PagesState}
 use Rattle.tree_walk.specs.Hashes.{CoversTree}
@@ -15,8 +15,8 @@ use Rattle.mounting.specs.Trees.{IsGoneThrough}
 use Rattle.mounting.specs.declared.tree.FoundTree.{FoundTree}
 
 -- the pages that an index keeps on a device
-abbrev pub kept_on : Device → Index → PageMap
-kept_on device x = kept_data x device.flash
+abbrev pub committed_on : Device → Index → PageMap
+committed_on device x = committed_data x device.flash
 
 -- the tree was gone through wholly
 abbrev pub IsFoundIn : Geometry → PageMap → FoundTree → Type 0
@@ -34,9 +34,9 @@ WhyNoneIn g m fault = WhyNoTree g (has m) fault
 abbrev pub OfSized : Geometry → PagesState → Type 0 → Type 0
 OfSized g p A = p.sound ≡ true → g.bytes ≡ p.page_bytes → A
 
--- at most the pages of the tree's headers and slots were asked for
-abbrev pub AsksForTree : Geometry → PagesState → PagesState → FoundTree → Type 0
-AsksForTree g old new found = new.asked ≤ old.asked + tree_pages (sizes_of g found.spare) found.tree
+-- at most the pages of the tree's headers and slots were looked up
+abbrev pub IssuesForTree : Geometry → PagesState → PagesState → FoundTree → Type 0
+IssuesForTree g old new found = new.issued ≤ old.issued + tree_pages (sizes_of g found.spare) found.tree
 
 -- the pages are those of a volume, and then this is why none was gone through
 abbrev pub IsWhyBelow : Geometry → PageMap → RootFault → Type 0

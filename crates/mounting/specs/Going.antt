@@ -22,7 +22,7 @@ use Rattle.mounting.specs.declared.tree_on.TreeOn.{TreeOn}
 abbrev pub HasRoomFor : Sizes → Objects → Type 0
 HasRoomFor z objects = charge z objects ≤ capacity z
 
--- what a mount of the device answers are these objects, whose pages are kept, and there is room for them
+-- what a mount of the device answers are these objects, whose pages are committed, and there is room for them
 abbrev pub GoesOnBy : {N : Type 0} → Device → TreeOn N → Sizes → Type 0
 GoesOnBy device on z = (objects : Objects)
     × Answers device.geometry device.flash (IsTreeOf on.spare objects)
@@ -55,6 +55,6 @@ pub record MayBeNoted (device : Device) (at : Option ℕ) : Type 0 where
 
 -- The block is noted where it is free, and else nothing changes.
 pub record NotesFree (at : Option ℕ) (old new : Table) : Type 0 where
-  pub is : (new ≡ old) ⊎ ((b : ℕ) × (at ≡ Some b) × ((old.entry b).kept ≡ 0) × (new ≡ record old { checkpoint = at }))
-  pub free : (b : ℕ) → at ≡ Some b → (old.entry b).bad ≡ false → (old.entry b).kept ≡ 0 → new ≡ record old { checkpoint = at }
+  pub is : (new ≡ old) ⊎ ((b : ℕ) × (at ≡ Some b) × ((old.entry b).committed ≡ 0) × (new ≡ record old { checkpoint = at }))
+  pub free : (b : ℕ) → at ≡ Some b → (old.entry b).bad ≡ false → (old.entry b).committed ≡ 0 → new ≡ record old { checkpoint = at }
   pub none : at ≡ None → new ≡ old

@@ -16,6 +16,6 @@ pub mod Given
 pub mod laws
 pub mod NewestMaps
 pub mod Footprints
-pub mod KeptTrees
+pub mod CommittedTrees
 pub mod TreeAnswers
 pub mod TreeLaws

@@ -15,11 +15,11 @@ use Rattle.page_store.specs.ReadOnly.{next_after}
 use Rattle.name_index.specs.declared.index.NameIndex.{NameIndex}
 use Rattle.object_store.specs.Stores.{CanHave}
 use Rattle.object_store.specs.Stores.{settled}
-use Rattle.object_store.specs.Told.{table_sizes, Tells}
+use Rattle.object_store.specs.Reported.{table_sizes, Reports}
 use Rattle.object_store.specs.declared.table.ObjectTable.{ObjectTable}
-use Rattle.page_store.specs.Shown.{kept_data}
+use Rattle.page_store.specs.Shown.{committed_data}
 use Rattle.pages.specs.State.{PagesState, NextNumbers}
-use Rattle.pages.specs.Stores.{BeganMountably, IsOrdered, bad_on, SamePages, KeptAs}
+use Rattle.pages.specs.Stores.{BeganMountably, IsOrdered, bad_on, SamePages, CommittedAs}
 use Rattle.paged_objects.specs.Standing.{volume_of, StandsFor, Shown}
 use Rattle.posix_profile.specs.State.{Objects}
 use Rattle.page_store.specs.Opened.{AreLeft}
@@ -52,8 +52,8 @@ pub record ArePagesOn (device : Device) (x : Index) (n : Numbers) (spare : ℕ) 
   pub most : p.most ≡ device.geometry.pages / 4
   pub next : p.next ≡ next_after n
   pub sound : device.honest ≡ true → p.sound ≡ true
-  pub present : device.honest ≡ true → SamePages p.present (kept_data x device.flash)
-  pub kept : device.honest ≡ true → KeptAs p (kept_data x device.flash)
+  pub present : device.honest ≡ true → SamePages p.present (committed_data x device.flash)
+  pub committed : device.honest ≡ true → CommittedAs p (committed_data x device.flash)
   pub remembers : Remembers device p
 
 -- nothing can be written: more blocks are bad than there are to spare, or a number of 2^62 or more stands on the device
@@ -70,7 +70,7 @@ pub record HasSizes (p : PagesState) (table : ObjectTable) : Type 0 where
   pub most : p.most ≡ p.device.geometry.pages / 4
   pub volume : table_sizes table ≡ volume_of p
 
--- These objects are the tree that the device shows: the pages hold them, a mount would show them again, the table tells of
+-- These objects are the tree that the device shows: the pages hold them, a mount would show them again, the table reports on
 -- them, and the index has the hashes of their names.
 pub record IsMountedWith (p : PagesState) (table : ObjectTable) (names : NameIndex) (objects : Objects) : Type 0 where
   pub answers : Answers p.device.geometry p.device.flash (IsTreeOf p.spare objects)
@@ -78,5 +78,5 @@ pub record IsMountedWith (p : PagesState) (table : ObjectTable) (names : NameInd
   pub shown : Shown (volume_of p) p objects
   pub can : CanHave (volume_of p) objects
   pub settles : settled objects ≡ objects
-  pub tells : Tells table objects
+  pub reports : Reports table objects
   pub covers : CoversObjects names (volume_of p) p.present objects

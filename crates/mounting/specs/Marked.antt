@@ -14,6 +14,6 @@ marked flash t = record {
   next_group = t.next_group;
 }
 
--- no block has more kept pages than it has pages
+-- no block has more committed pages than it has pages
 abbrev pub AreFitting : Table → Type 0
-AreFitting t = (b : ℕ) → (t.entry b).kept ≤ t.geometry.pages
+AreFitting t = (b : ℕ) → (t.entry b).committed ≤ t.geometry.pages

@@ -6,14 +6,14 @@ use Rattle.nand_model.specs.Flash.{Flash}
 use Rattle.nand_model.specs.Calls.{Device}
 use Rattle.flash_tree.specs.Newest.{Spot, IsNewest, HasNewest, Numbers}
 use Rattle.flash_tree.specs.Mount.{sizes_of}
-use Rattle.block_state.specs.Kept.{unkept_count}
+use Rattle.block_state.specs.Committed.{uncommitted_count}
 use Rattle.block_state.specs.Table.{Table}
-use Rattle.chunk_index.specs.declared.form.KeptPage.{KeptPage}
+use Rattle.chunk_index.specs.declared.form.CommittedPage.{CommittedPage}
 use Rattle.chunk_index.specs.declared.index.Index.{Index}
-use Rattle.chunk_index.specs.Maps.{KeptMap, kept_pages}
-use Rattle.page_store.specs.Opened.{kept_at}
+use Rattle.chunk_index.specs.Maps.{CommittedMap, committed_pages}
+use Rattle.page_store.specs.Opened.{committed_at}
 use Rattle.paged_objects.specs.Holding.{HoldsObjects}
-use Rattle.page_store.specs.Shown.{kept_data}
+use Rattle.page_store.specs.Shown.{committed_data}
 use Rattle.pages.specs.Maps.{PageMap, has}
 use Rattle.pages.specs.Stores.{bad_on}
 use Rattle.posix_profile.specs.State.{Objects}
@@ -37,24 +37,24 @@ pub record IsTreeOn (device : Device) (spare : ℕ) (tree : Tree) : Type 0 where
 abbrev pub CoversNewest : NameIndex → Device → (spare : ℕ) → Tree → Type 0
 CoversNewest names device spare tree = (pages : PageMap) → IsNewestMap device.flash pages → CoversTree names (sizes_of device.geometry spare) pages tree
 
--- The pages of a tree are kept, and nothing else; and on an honest device the tree is that of its newest pages.
+-- The pages of a tree are committed, and nothing else; and on an honest device the tree is that of its newest pages.
 pub record IsTreeRead (device : Device) (t : Table) (x : Index) (n : Numbers) (spare : ℕ) (tree : Tree) : Type 0 where
   pub tables : IsPruned (keeps_key tree) device t x n
   pub tree_on : device.honest ≡ true → IsTreeOn device spare tree
 
--- blocks enough are bad or without a kept page, unless more are bad than there are to spare
+-- blocks enough are bad or without a committed page, unless more are bad than there are to spare
 abbrev pub HasRoomOn : Device → Table → (spare : ℕ) → Type 0
-HasRoomOn device t spare = bad_on device ≤ spare → 1 + spare ≤ unkept_count (marked device.flash t) + bad_on device
+HasRoomOn device t spare = bad_on device ≤ spare → 1 + spare ≤ uncommitted_count (marked device.flash t) + bad_on device
 
--- Exactly the keys that are looked up to see these objects are kept, each at the place and in the version of its newest page.
-pub record KeepsPlaces (flash : Flash) (z : Sizes) (objects : Objects) (kept : KeptMap) : Type 0 where
-  pub all : (o c : ℕ) (s : Spot) → InFootprint z (HasNewest flash) objects o c → IsNewest flash o c s → kept o c ≡ Some (kept_at s)
-  pub only : (o c : ℕ) (p : KeptPage) → kept o c ≡ Some p → InFootprint z (HasNewest flash) objects o c
+-- Exactly the keys that are looked up to see these objects are committed, each at the place and in the version of its newest page.
+pub record KeepsPlaces (flash : Flash) (z : Sizes) (objects : Objects) (committed : CommittedMap) : Type 0 where
+  pub all : (o c : ℕ) (s : Spot) → InFootprint z (HasNewest flash) objects o c → IsNewest flash o c s → committed o c ≡ Some (committed_at s)
+  pub only : (o c : ℕ) (p : CommittedPage) → committed o c ≡ Some p → InFootprint z (HasNewest flash) objects o c
 
--- These objects are the tree that the newest pages show, and the pages that are kept are theirs and no others, each at its place. What is
--- told of the tree is told of pages that show them.
+-- These objects are the tree that the newest pages show, and the pages that are committed are theirs and no others, each at its place. What is
+-- reported of the tree is reported of pages that show them.
 pub record IsTreeShown (device : Device) (x : Index) (spare : ℕ) (tree : Tree) (objects : Objects) : Type 0 where
   pub on : IsTreeOn device spare tree
   pub shows : Shows (sizes_of device.geometry spare) (has on.pages) objects
-  pub holds : HoldsObjects (sizes_of device.geometry spare) (kept_data x device.flash) objects
-  pub places : KeepsPlaces device.flash (sizes_of device.geometry spare) objects (kept_pages x)
+  pub holds : HoldsObjects (sizes_of device.geometry spare) (committed_data x device.flash) objects
+  pub places : KeepsPlaces device.flash (sizes_of device.geometry spare) objects (committed_pages x)

@@ -10,19 +10,19 @@ use Rattle.nand_model.specs.Trusting.{trusted_as}
 use Rattle.mounting.specs.Mounted.{IsTreeRead, CoversNewest}
 use Rattle.mounting.specs.declared.tree_on.NamedTree.{NamedTree}
 
--- the pages of the tree are kept, and the index has the hashes of its names
+-- the pages of the tree are committed, and the index has the hashes of its names
 pub record IsNamedTree {N : Type 0} (device : Device) (named : NamedTree N) : Type 0 where
   pub tree : IsTreeRead device (table named.on.blocks) named.on.index (numbers_of named.on.numbers) named.on.spare named.on.tree
   pub names : device.honest ≡ true → CoversNewest named.names device named.on.spare named.on.tree
 
 -- The device was only read, and has power if it had it; it is seen as it is trusted.
-pub record IsReadAs (told : Bool) (old new seen : Device) : Type 0 where
+pub record IsReadAs (reported : Bool) (old new seen : Device) : Type 0 where
   pub reads : OnlyReads old new
   pub power : old.gone ≡ false → new.gone ≡ false
-  pub seen_is : seen ≡ trusted_as told new
+  pub seen_is : seen ≡ trusted_as reported new
 
 -- The device was only read, and is trusted or not; it is, if its flash was true.
 pub record IsTrustedSince (old new seen : Device) : Type 0 where
-  pub told : Bool
-  pub read : IsReadAs told old new seen
-  pub trusted : HasTrueFlash old → told ≡ true
+  pub reported : Bool
+  pub read : IsReadAs reported old new seen
+  pub trusted : HasTrueFlash old → reported ≡ true

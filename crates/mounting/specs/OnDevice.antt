@@ -22,15 +22,15 @@ own_on state on = state (inner_of on.device)
 abbrev pub seen_on : {N : Type 0} → (N → Device) → TreeOn (TrustedNand N) → Device
 seen_on state on = seen_by state on.device
 
--- it was only read, and is trusted as is told
+-- it was only read, and is trusted as is reported
 abbrev pub IsOnAs : {N : Type 0} → (N → Device) → Bool → Device → TreeOn (TrustedNand N) → Type 0
-IsOnAs state told old on = IsReadAs told old (own_on state on) (seen_on state on)
+IsOnAs state reported old on = IsReadAs reported old (own_on state on) (seen_on state on)
 
 -- it was only read, and is trusted or not; it is, if its flash was true
 abbrev pub IsOnSince : {N : Type 0} → (N → Device) → Device → TreeOn (TrustedNand N) → Type 0
 IsOnSince state old on = IsTrustedSince old (own_on state on) (seen_on state on)
 
--- the tree's pages are kept by its tables, and nothing else
+-- the tree's pages are committed by its tables, and nothing else
 abbrev pub IsReadOn : {N : Type 0} → Device → TreeOn N → Type 0
 IsReadOn device on = IsTreeRead device (table on.blocks) on.index (numbers_of on.numbers) on.spare on.tree
 
@@ -60,7 +60,7 @@ ReadsScannedOn state old on = ReadsScanned old (state on.device) on.spare on.tre
 
 -- what is said of an honest device that is trusted
 abbrev pub OfTrusted : Device → Bool → Type 0 → Type 0
-OfTrusted device told A = (device.honest && told) ≡ true → A
+OfTrusted device reported A = (device.honest && reported) ≡ true → A
 
 -- what is said of an honest device each of whose whole checkpoints is right
 abbrev pub OfTrueFlash : Device → Type 0 → Type 0

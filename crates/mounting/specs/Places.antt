@@ -9,7 +9,7 @@ use Rattle.flash_tree.specs.Mount.{Answers, IsTreeOf, sizes_of}
 use Rattle.block_state.specs.Table.{Table}
 use Rattle.chunk_index.specs.declared.index.Index.{Index}
 use Rattle.chunk_index.specs.Free.{HasMarks}
-use Rattle.chunk_index.specs.Maps.{CountsAgree, kept_pages}
+use Rattle.chunk_index.specs.Maps.{CountsAgree, committed_pages}
 use Rattle.page_store.specs.FlashParts.{index_in, table_in}
 use Rattle.page_store.specs.declared.flash_pages.FlashPages.{FlashPages}
 use Rattle.mounting.specs.Mounted.{KeepsPlaces}
@@ -26,5 +26,5 @@ pub record HasTables {N : Type 0} {nand : Ghosts N} (flash : Flash) (x : Index) 
 pub record ArePlaced {N : Type 0} {nand : Ghosts N} (device : Device) (spare : ℕ) (pages : FlashPages N nand) : Type 0 where
   pub objects : Objects
   pub answers : Answers device.geometry device.flash (IsTreeOf spare objects)
-  pub places : KeepsPlaces device.flash (sizes_of device.geometry spare) objects (kept_pages (index_in pages))
+  pub places : KeepsPlaces device.flash (sizes_of device.geometry spare) objects (committed_pages (index_in pages))
   pub tables : HasTables device.flash (index_in pages) pages

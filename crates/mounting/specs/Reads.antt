@@ -10,7 +10,7 @@ use Rattle.chunk_index.specs.declared.index.Index.{Index}
 use Rattle.mount_scan.specs.FewReads.{AreCosts, AreSizes, sum_below}
 use Rattle.mount_scan.specs.Scanned.{good_pages}
 use Rattle.page_store.specs.Checked.{HasTrueFlash}
-use Rattle.page_store.specs.Shown.{kept_data}
+use Rattle.page_store.specs.Shown.{committed_data}
 use Rattle.pages.specs.Maps.{has}
 use Rattle.tree_walk.specs.Looked.{looked_pages}
 use Rattle.tree_walk.specs.Trees.{tree_pages}
@@ -91,9 +91,9 @@ pub record ReadsAtMost (old new : Device) : Type 0 where
   pub by_checkpoint : ReadsByCheckpoint old new
   pub without_checkpoint : ReadsWithoutCheckpoint old new
 
--- why no tree of the pages that an index keeps was gone through: what is told of them, and where the device failed it is gone
+-- why no tree of the pages that an index keeps was gone through: what is reported of them, and where the device failed it is gone
 abbrev pub WhyNotThrough : Index → Device → Device → RootFault → Type 0
-WhyNotThrough x old new fault = WhyNoTree old.geometry (has (kept_data x old.flash)) fault × (fault ≡ roots.Device → new.gone ≡ true)
+WhyNotThrough x old new fault = WhyNoTree old.geometry (has (committed_data x old.flash)) fault × (fault ≡ roots.Device → new.gone ≡ true)
 
 -- no scan follows: memory was refused, or the device is gone
 abbrev pub EndsMount : Device → RootFault → Type 0

@@ -1,4 +1,4 @@
--- The tables of a device that is mounted: the newest pages of a tree are kept, and nothing else.
+-- The tables of a device that is mounted: the newest pages of a tree are committed, and nothing else.
 -- From: this project.
 use Rattle.std.specs.Prelude.{◌≡◌, ◌<◌, ◌≤◌, ◌^◌, ℕ, Bool, true, false, Option, Some, None}
 use Rattle.nand_model.specs.Calls.{Device}
@@ -9,22 +9,22 @@ use Rattle.flash_tree.specs.Places.{numbers_of}
 use Rattle.block_state.specs.Table.{Table}
 use Rattle.block_state.specs.TableOf.{table}
 use Rattle.chunk_index.specs.declared.index.Index.{Index}
-use Rattle.chunk_index.specs.Maps.{kept_pages}
+use Rattle.chunk_index.specs.Maps.{committed_pages}
 use Rattle.page_store.specs.KnownFirsts.{KnowsFirsts}
-use Rattle.page_store.specs.Opened.{AreLeft, IsOpened, IsOpenedBy, kept_at}
+use Rattle.page_store.specs.Opened.{AreLeft, IsOpened, IsOpenedBy, committed_at}
 use Rattle.page_store.specs.declared.opening.Opened.{Opened}
 
 -- Of the keys that a test keeps an index has what the other had, and of no other key a page.
 pub record KeepsOnly (keeps : ℕ → ℕ → Bool) (old new : Index) : Type 0 where
-  pub same : (o c : ℕ) → keeps o c ≡ true → kept_pages new o c ≡ kept_pages old o c
-  pub none : (o c : ℕ) → keeps o c ≡ false → kept_pages new o c ≡ None
+  pub same : (o c : ℕ) → keeps o c ≡ true → committed_pages new o c ≡ committed_pages old o c
+  pub none : (o c : ℕ) → keeps o c ≡ false → committed_pages new o c ≡ None
 
 -- The tables are those of a device that was opened, by a checkpoint in the block that is noted or, with none noted, by a scan. Of an
--- honest device the newest pages of some keys are kept, of chunks that a tree may look up, and nothing else.
+-- honest device the newest pages of some keys are committed, of chunks that a tree may look up, and nothing else.
 pub record IsPruned (keeps : ℕ → ℕ → Bool) (device : Device) (t : Table) (x : Index) (n : Numbers) : Type 0 where
   pub tables : IsOpenedBy t.checkpoint device t x n
-  pub all : device.honest ≡ true → (o c : ℕ) (s : Spot) → c < 2 ^ 32 → keeps o c ≡ true → IsNewest device.flash o c s → kept_pages x o c ≡ Some (kept_at s)
-  pub others : (o c : ℕ) → keeps o c ≡ false → kept_pages x o c ≡ None
+  pub all : device.honest ≡ true → (o c : ℕ) (s : Spot) → c < 2 ^ 32 → keeps o c ≡ true → IsNewest device.flash o c s → committed_pages x o c ≡ Some (committed_at s)
+  pub others : (o c : ℕ) → keeps o c ≡ false → committed_pages x o c ≡ None
 
 -- of an honest device the table knows the first page of each block, where numbers are left and one was handed out
 abbrev pub KnowsScanned : Device → Table → Numbers → Type 0

@@ -11,18 +11,18 @@ use Rattle.flash_tree.specs.Tree.{Shows, InFootprint}
 use Rattle.flash_tree.specs.Mount.{Wrong, IsDamaged, Wrongly, Wholly, GoesThrough, sizes_of, IsVolume, HasWrongRoot, NamesTwice, IsWrong, IsTreeOf, Answers}
 use Rattle.pages.specs.Maps.{PageMap, has}
 use Rattle.block_state.specs.Table.{Table}
-use Rattle.block_state.specs.Kept.{unkept_count, bad_count}
-use Rattle.chunk_index.specs.declared.form.KeptPage.{KeptPage}
+use Rattle.block_state.specs.Committed.{uncommitted_count, bad_count}
+use Rattle.chunk_index.specs.declared.form.CommittedPage.{CommittedPage}
 use Rattle.chunk_index.specs.declared.index.Index.{Index}
 use Rattle.chunk_index.specs.Free.{HasMarks}
-use Rattle.chunk_index.specs.Maps.{KeptMap, kept_pages, CountsAgree, Retains}
+use Rattle.chunk_index.specs.Maps.{CommittedMap, committed_pages, CountsAgree, Retains}
 use Rattle.flash_tree.specs.declared.place.Key.{Key}
 use Rattle.tree_walk.specs.Broken.{Breaks, IsFirstBroken}
 use Rattle.tree_walk.specs.Trees.{IsLookedUp, IsWrongTree}
 use Rattle.tree_walk.specs.declared.broken.Broken.{Broken}
 use Rattle.tree_walk.specs.declared.broken.Rule.{Rule}
 use Rattle.mounting.specs.NewestMaps.{IsNewestMap}
-use Rattle.mounting.specs.KeptTrees.{LieNewest, KeepsAll, KeepsOnlyTree}
+use Rattle.mounting.specs.CommittedTrees.{LieNewest, KeepsAll, KeepsOnlyTree}
 use Rattle.mounting.specs.Footprints.{KeepsFootprint, IsFootprint}
 
 -- a wrong header of the root in the newest pages is the answer of the flash
@@ -85,19 +85,19 @@ FullTreesAreAnswered =
     (g : Geometry) (flash : Flash) (m : PageMap) (spare : ℕ) (objects : Objects) → IsNewestMap flash m → IsVolume g (has m) spare
     → Shows (sizes_of g spare) (has m) objects → capacity (sizes_of g spare) < charge (sizes_of g spare) objects → Answers g flash (IsWrong IsDamaged)
 
--- so it is where too few blocks are bad or without a kept page
+-- so it is where too few blocks are bad or without a committed page
 abbrev pub ScarceTreesAreAnswered : Type 0
 ScarceTreesAreAnswered =
     (g : Geometry) (flash : Flash) (m : PageMap) (spare : ℕ) (objects : Objects) (x : Index) (t : Table) → IsNewestMap flash m → IsVolume g (has m) spare
-    → Shows (sizes_of g spare) (has m) objects → t.geometry ≡ g → CountsAgree t x → HasMarks flash t → KeepsOnlyTree flash (sizes_of g spare) m objects (kept_pages x)
-    → bad_count t ≤ spare → unkept_count t + bad_count t < 1 + spare → Answers g flash (IsWrong IsDamaged)
+    → Shows (sizes_of g spare) (has m) objects → t.geometry ≡ g → CountsAgree t x → HasMarks flash t → KeepsOnlyTree flash (sizes_of g spare) m objects (committed_pages x)
+    → bad_count t ≤ spare → uncommitted_count t + bad_count t < 1 + spare → Answers g flash (IsWrong IsDamaged)
 
 -- else the answer is the tree
 abbrev pub RoomyTreesAreAnswered : Type 0
 RoomyTreesAreAnswered =
     (g : Geometry) (flash : Flash) (m : PageMap) (spare : ℕ) (objects : Objects) (x : Index) (t : Table) → IsNewestMap flash m → IsVolume g (has m) spare
-    → Shows (sizes_of g spare) (has m) objects → t.geometry ≡ g → CountsAgree t x → HasMarks flash t → KeepsOnlyTree flash (sizes_of g spare) m objects (kept_pages x)
-    → charge (sizes_of g spare) objects ≤ capacity (sizes_of g spare) → (bad_count t ≤ spare → 1 + spare ≤ unkept_count t + bad_count t)
+    → Shows (sizes_of g spare) (has m) objects → t.geometry ≡ g → CountsAgree t x → HasMarks flash t → KeepsOnlyTree flash (sizes_of g spare) m objects (committed_pages x)
+    → charge (sizes_of g spare) objects ≤ capacity (sizes_of g spare) → (bad_count t ≤ spare → 1 + spare ≤ uncommitted_count t + bad_count t)
     → Answers g flash (IsTreeOf spare objects)
 
 -- where all objects were gone through, the keys that are looked up to see those of the list are those of the tree that is shown
@@ -121,12 +121,12 @@ PartsAreFootprints =
 -- what it leaves of the places of the newest pages of all keys are the places of the tree, and no others
 abbrev pub PlacesAreOfTheTree : Type 0
 PlacesAreOfTheTree =
-    (flash : Flash) (z : Sizes) (m : PageMap) (objects : Objects) (keeps : ℕ → ℕ → Bool) (kept : KeptMap) → KeepsFootprint z m objects keeps → LieNewest flash kept
-    → ((o c : ℕ) (s : Spot) → keeps o c ≡ true → IsNewest flash o c s → (p : KeptPage) × (kept o c ≡ Some p)) → ((o c : ℕ) → keeps o c ≡ false → kept o c ≡ None)
-    → KeepsOnlyTree flash z m objects kept
+    (flash : Flash) (z : Sizes) (m : PageMap) (objects : Objects) (keeps : ℕ → ℕ → Bool) (committed : CommittedMap) → KeepsFootprint z m objects keeps → LieNewest flash committed
+    → ((o c : ℕ) (s : Spot) → keeps o c ≡ true → IsNewest flash o c s → (p : CommittedPage) × (committed o c ≡ Some p)) → ((o c : ℕ) → keeps o c ≡ false → committed o c ≡ None)
+    → KeepsOnlyTree flash z m objects committed
 
 -- and so of an index that keeps the newest pages
 abbrev pub IndexesAreOfTheTree : Type 0
 IndexesAreOfTheTree =
     (flash : Flash) (z : Sizes) (m : PageMap) (objects : Objects) (keeps : ℕ → ℕ → Bool) (old new : Index) → KeepsFootprint z m objects keeps
-    → Retains keeps old new → LieNewest flash (kept_pages old) → KeepsAll flash (kept_pages old) → KeepsOnlyTree flash z m objects (kept_pages new)
+    → Retains keeps old new → LieNewest flash (committed_pages old) → KeepsAll flash (committed_pages old) → KeepsOnlyTree flash z m objects (committed_pages new)

@@ -1,25 +1,29 @@
 // The pages that an index keeps, of which some may be lost.
 ghost use Rattle.std.specs.Prelude.{◌≡◌, ◌<◌, ℕ, length, true, Some, IfOk, IfErr, OnOk, ◌≤◌, ◌+◌};
 ghost use Rattle.nand_model.specs.Changes.{OnlyReads};
-ghost use Rattle.chunk_index.specs.Maps.{kept_pages};
-ghost use Rattle.chunk_index.specs.declared.form.KeptPage.{KeptPage};
+ghost use Rattle.chunk_index.specs.Maps.{committed_pages};
+ghost use Rattle.chunk_index.specs.declared.form.CommittedPage.{CommittedPage};
 ghost use Rattle.mounting.specs.Candidates.{candidates, read_on};
 ghost use Rattle.mounting.specs.Lending.{LieWithin};
 
-use chunk_index::{Index, KeptPage};
+use chunk_index::{CommittedPage, Index};
 use flash_tree::Key;
 use nand_model::{Nand, PageKind};
 use pages::{KnownPages, Pages, Presence, has_power};
 use std::alloc::{AllocError, Global};
 use volume_terms::StoreFault;
 
-/// Reads the page that is kept there. One that is not written reads as zeros.
-fn read_or_zeros<N: Nand>(device: &mut N, at: KeptPage, page: &mut [u8]) -> Result<(), StoreFault>
+/// Reads the page that is committed there. One that is not written reads as zeros.
+fn read_or_zeros<N: Nand>(
+    device: &mut N,
+    at: CommittedPage,
+    page: &mut [u8],
+) -> Result<(), StoreFault>
     requires block { at.block < (N.state device.old).geometry.blocks }
     requires page { at.page < (N.state device.old).geometry.pages }
     requires size { length page.old ≡ (N.state device.old).geometry.bytes }
     ensures reads { OnlyReads (N.state device.old) (N.state device.new) }
-    ensures asked { (N.state device.new).reads ≤ (N.state device.old).reads + 1 }
+    ensures issued { (N.state device.new).reads ≤ (N.state device.old).reads + 1 }
     ensures power { OnOk result ((N.state device.new).gone ≡ (N.state device.old).gone) }
     ensures size { length page.new ≡ length page.old }
     ensures bytes { (N.state device.old).honest ≡ true → OnOk result (page.new ≡ read_on (N.state device.old) at) }
@@ -81,12 +85,12 @@ impl<'a, N: Nand> CandidatePages<'a, N> {
         self.device
     }
 
-    /// Reads the page that is kept there.
-    fn read(&mut self, at: KeptPage) -> Result<Presence, StoreFault>
-        requires { (o : ℕ) × (c : ℕ) × (kept_pages self.old.index.now o c ≡ Some at) }
+    /// Reads the page that is committed there.
+    fn read(&mut self, at: CommittedPage) -> Result<Presence, StoreFault>
+        requires { (o : ℕ) × (c : ℕ) × (committed_pages self.old.index.now o c ≡ Some at) }
         ensures reads { OnlyReads (N.state self.old.device) (N.state self.new.device) }
         ensures index { self.new.index.now ≡ self.old.index.now }
-        ensures asked { (N.state self.new.device).reads ≤ (N.state self.old.device).reads + 1 }
+        ensures issued { (N.state self.new.device).reads ≤ (N.state self.old.device).reads + 1 }
         ensures power { OnOk result ((N.state self.new.device).gone ≡ (N.state self.old.device).gone) }
         ensures there { IfOk result (λ presence. presence ≡ Presence.Present) }
         ensures page { (N.state self.old.device).honest ≡ true
@@ -108,7 +112,7 @@ impl<N: Nand> Pages for CandidatePages<'_, N> {
     }
 
     fn find(&mut self, key: Key) -> Result<Presence, StoreFault> {
-        match self.index.kept(key) {
+        match self.index.committed(key) {
             Some(at) => self.read(at),
             None => Ok(Presence::Absent),
         }
@@ -133,6 +137,6 @@ impl<N: Nand> Pages for CandidatePages<'_, N> {
 
 impl<N: Nand> KnownPages for CandidatePages<'_, N> {
     fn has(&self, key: Key) -> bool {
-        self.index.kept(key).is_some()
+        self.index.committed(key).is_some()
     }
 }

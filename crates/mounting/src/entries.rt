@@ -18,29 +18,29 @@ use crate::reading::go_through;
 use crate::tree_on::{NamedTree, TreeOn};
 use mount_scan::{FirstPages, FoundCheckpoint};
 use nand_model::{Nand, TrustedNand};
-use page_store::{Opened, open_kept};
+use page_store::{Opened, open_committed};
 use std::alloc::Global;
-use tree_walk::{RootFault, the_headers_tell_the_keys};
+use tree_walk::{RootFault, the_headers_report_the_keys};
 
 /// Goes through the tree of a device by the tables of a checkpoint, and forgets all pages but the tree's. The device is trusted as
-/// is told.
+/// is reported.
 fn go_by<N: Nand>(
     alloc: Global,
     bounded: Bounded<N>,
     found: &FoundCheckpoint,
     opened: Opened,
 ) -> Result<NamedTree<TrustedNand<N>>, (N, RootFault)>
-    ghost told: { Bool }
-    requires { IsOpenedBy (Some found.now.block) (trusted_as told (N.state bounded.device)) (table opened.blocks) opened.index (numbers_of opened.numbers) }
-    ensures read { IfOk result (λ named. IsOnAs N.state told (N.state bounded.device) named.on) }
+    ghost reported: { Bool }
+    requires { IsOpenedBy (Some found.now.block) (trusted_as reported (N.state bounded.device)) (table opened.blocks) opened.index (numbers_of opened.numbers) }
+    ensures read { IfOk result (λ named. IsOnAs N.state reported (N.state bounded.device) named.on) }
     ensures named { IfOk result (λ named. IsNamedTree (seen_on N.state named.on) named) }
     ensures noted { IfOk result (λ named. (table named.on.blocks).checkpoint ≡ Some found.now.block) }
-    ensures firsts { KnowsFirstsIn (trusted_as told (N.state bounded.device)) opened → IfOk result (λ named. KnowsFirstsOn (seen_on N.state named.on) named.on) }
-    ensures few { OfTrusted (N.state bounded.device) told (IfOk result (λ named. ReadsOn N.state (N.state bounded.device) named.on)) }
+    ensures firsts { KnowsFirstsIn (trusted_as reported (N.state bounded.device)) opened → IfOk result (λ named. KnowsFirstsOn (seen_on N.state named.on) named.on) }
+    ensures few { OfTrusted (N.state bounded.device) reported (IfOk result (λ named. ReadsOn N.state (N.state bounded.device) named.on)) }
     ensures back { IfErr result (λ failed. OnlyReads (N.state bounded.device) (N.state failed.0)) }
-    ensures fault { OfTrusted (N.state bounded.device) told (IfErr result (λ failed. WhyNotThrough opened.index (N.state bounded.device) (N.state failed.0) failed.1)) }
+    ensures fault { OfTrusted (N.state bounded.device) reported (IfErr result (λ failed. WhyNotThrough opened.index (N.state bounded.device) (N.state failed.0) failed.1)) }
 {
-    the_headers_tell_the_keys();
+    the_headers_report_the_keys();
     let Bounded { device } = bounded;
     let Opened {
         blocks,
@@ -88,7 +88,7 @@ pub(crate) fn open_entries<N: Nand>(
     ensures back { IfErr result (λ failed. OnlyReads (N.state device) (N.state failed.0)) }
     ensures fault { HasTrueFlash (N.state device) → IfErr result (λ failed. EndsMount (N.state failed.0) failed.1) }
 {
-    match open_kept(alloc, &device, found, firsts) {
+    match open_committed(alloc, &device, found, firsts) {
         Ok(Some(opened)) => go_by(alloc, Bounded { device }, found, opened),
         Ok(None) => Err((device, RootFault::Damaged)),
         Err(_) => Err((device, RootFault::NoMemory)),

@@ -8,7 +8,7 @@ pub enum MountFault {
     /// The power is gone, and so is the device until the next power-up.
     #[error("power was lost in the mount: mount again after the next power-up")]
     Gone,
-    /// A growth was refused. What was asked can be asked again.
+    /// A growth was refused. The call can be made again.
     #[error("memory was refused in the mount: free some, then mount again")]
     NoMemory,
     /// There is no header of a root.

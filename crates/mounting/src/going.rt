@@ -27,10 +27,10 @@ use nand_model::{Nand, TrustedNand};
 use pages::has_power;
 use std::alloc::Global;
 use tree_walk::{
-    RootFault, the_headers_tell_the_keys, the_pages_of_a_tree_are_those_of_its_objects,
+    RootFault, the_headers_report_the_keys, the_pages_of_a_tree_are_those_of_its_objects,
 };
 
-/// Notes the block that may have a checkpoint, unless it is bad or holds a kept page.
+/// Notes the block that may have a checkpoint, unless it is bad or holds a committed page.
 fn note_free(blocks: &mut Blocks, noted: Option<u32>)
     requires block { (b : ℕ) → noted ≡ Some b → b < (table blocks.old).geometry.blocks }
     requires closed { (table blocks.old).open_block ≡ None }
@@ -38,7 +38,7 @@ fn note_free(blocks: &mut Blocks, noted: Option<u32>)
 {
     if let Some(block) = noted {
         let entry = blocks.entry(block);
-        if !entry.bad && entry.kept == 0 {
+        if !entry.bad && entry.committed == 0 {
             blocks.note_checkpoint(block);
         }
     }
@@ -98,7 +98,7 @@ fn by_summaries<N: Nand>(
     }
 }
 
-/// Goes on by a scan of all tags; the device is trusted. The first pages of blocks are noted, and the block that may have a checkpoint, unless kept pages lie in it.
+/// Goes on by a scan of all tags; the device is trusted. The first pages of blocks are noted, and the block that may have a checkpoint, unless committed pages lie in it.
 fn by_scan<N: Nand>(
     alloc: Global,
     device: N,
@@ -117,7 +117,7 @@ fn by_scan<N: Nand>(
     a_flash_has_one_answer_at_most();
     a_volume_has_sizes();
     the_pages_of_a_tree_are_those_of_its_objects();
-    the_headers_tell_the_keys();
+    the_headers_report_the_keys();
     the_counts_are_of_the_keys();
     the_tree_looks_up_its_footprint();
     let going = scan_going(alloc, device, firsts)?;
@@ -146,7 +146,7 @@ fn by_scan<N: Nand>(
 }
 
 /// Goes on by a scan after a checkpoint's entries or the summaries of blocks did not do, unless power went or memory was refused. This
-/// block is noted, unless kept pages lie in it.
+/// block is noted, unless committed pages lie in it.
 fn scan_after<N: Nand>(
     alloc: Global,
     device: N,
@@ -229,7 +229,7 @@ pub(crate) fn open_volume<N: Nand>(
 }
 
 /// Finds the tree with which a volume goes on by a scan of all tags, whatever a checkpoint or summaries say. The block of a whole
-/// checkpoint is noted, unless kept pages lie in it.
+/// checkpoint is noted, unless committed pages lie in it.
 pub(crate) fn open_scanned<N: Nand>(
     alloc: Global,
     device: N,

@@ -18,11 +18,11 @@ use crate::prune::{are_fitting, has_room};
 use crate::tree_on::TreeOn;
 use crate::{
     a_shown_tree_has_room_or_not, a_whole_list_shows_a_tree, the_footprint_holds_the_tree,
-    the_tree_looks_up_its_footprint, what_the_tree_looks_up_is_kept,
+    the_tree_looks_up_its_footprint, what_the_tree_looks_up_is_committed,
 };
-use chunk_index::{blocks_without_kept_pages_are_free, the_list_of_a_block_is_whole};
+use chunk_index::{blocks_without_committed_pages_are_free, the_list_of_a_block_is_whole};
 use nand_model::{Geometry, Nand};
-use tree_walk::{charge, the_headers_tell_the_keys};
+use tree_walk::{charge, the_headers_report_the_keys};
 use volume_terms::VolumeSizes;
 
 /// The sizes of a volume with so many spare blocks on a device of these sizes, if there may be one.
@@ -58,14 +58,14 @@ pub(crate) fn go_on<N: Nand>(on: &TreeOn<N>) -> Option<VolumeSizes>
     ensures tree { (N.state on.now.device).honest ≡ true → IfSome result (λ sizes. GoesOnBy (N.state on.now.device) on.now (volume.sizes_of sizes)) }
     ensures none { (N.state on.now.device).honest ≡ true → IfNone result (IsAmiss (N.state on.now.device)) }
 {
-    blocks_without_kept_pages_are_free();
+    blocks_without_committed_pages_are_free();
     the_list_of_a_block_is_whole();
     a_whole_list_shows_a_tree();
     the_footprint_holds_the_tree();
     a_shown_tree_has_room_or_not();
     the_tree_looks_up_its_footprint();
-    what_the_tree_looks_up_is_kept();
-    the_headers_tell_the_keys();
+    what_the_tree_looks_up_is_committed();
+    the_headers_report_the_keys();
     let sizes = match volume_sizes(on.device.geometry(), on.spare) {
         Some(sizes) => sizes,
         None => return None,

@@ -15,7 +15,7 @@ ghost use Rattle.tree_walk.specs.declared.broken.Rule.{Rule};
 ghost use Rattle.mounting.specs.NewestMaps.{IsNewestMap};
 ghost use Rattle.mounting.specs.TreeLaws.{WrongRootsAreAnswered, WrongObjectsAreAnswered, DoubleNamesAreAnswered, WrongTreesAreAnswered, RulesAreBrokenAlike, FirstBrokenAlike, VolumesAreAlike, WholeListsShow, FootprintsHold, FullTreesAreAnswered, ScarceTreesAreAnswered, RoomyTreesAreAnswered, TreesLookUpFootprints, TestsKeepFootprints, PartsAreFootprints, PlacesAreOfTheTree, IndexesAreOfTheTree};
 
-use chunk_index::{blocks_without_kept_pages_are_free, the_counts_are_of_the_keys};
+use chunk_index::{blocks_without_committed_pages_are_free, the_counts_are_of_the_keys};
 use flash_tree::a_flash_has_an_answer;
 
 /// What is wrong with a map of the newest pages of a flash is the flash's answer: there is no volume, the root's header
@@ -54,13 +54,13 @@ pub fn the_footprint_holds_the_tree()
 {}
 
 /// Where an index keeps the pages of a tree that is shown, and no others, the flash's answer is the tree, if it fits and
-/// blocks enough are bad or without a kept page; else something is amiss. More bad blocks than spare ones are no fault.
+/// blocks enough are bad or without a committed page; else something is amiss. More bad blocks than spare ones are no fault.
 pub fn a_shown_tree_has_room_or_not()
     ensures full { FullTreesAreAnswered }
     ensures scarce { ScarceTreesAreAnswered }
     ensures room { RoomyTreesAreAnswered }
 {
-    blocks_without_kept_pages_are_free();
+    blocks_without_committed_pages_are_free();
     the_counts_are_of_the_keys();
 }
 
@@ -73,8 +73,8 @@ pub fn the_tree_looks_up_its_footprint()
 
 /// Where a test keeps exactly the keys that are looked up to see a tree, what it leaves of a map are the tree's pages, and
 /// what it leaves of the newest pages of all keys, or of an index that keeps these, are the tree's, and no others.
-pub fn what_the_tree_looks_up_is_kept()
+pub fn what_the_tree_looks_up_is_committed()
     ensures part { PartsAreFootprints }
-    ensures kept { PlacesAreOfTheTree }
+    ensures committed { PlacesAreOfTheTree }
     ensures index { IndexesAreOfTheTree }
 {}

@@ -1,21 +1,21 @@
 // The newest pages of a device, over an index that stays.
 ghost use Rattle.std.specs.Prelude.{◌≡◌, ◌<◌, ◌&&◌, Bool, length, true, Some, IfOk, IfErr, OnOk, ◌≤◌, ◌+◌, ◌⊎◌};
 ghost use Rattle.nand_model.specs.Changes.{OnlyReads};
-ghost use Rattle.chunk_index.specs.Maps.{kept_pages};
-ghost use Rattle.chunk_index.specs.declared.form.KeptPage.{KeptPage};
+ghost use Rattle.chunk_index.specs.Maps.{committed_pages};
+ghost use Rattle.chunk_index.specs.declared.form.CommittedPage.{CommittedPage};
 ghost use Rattle.page_store.specs.Shown.{data_at};
-ghost use Rattle.mounting.specs.Lending.{LieWithin, TrustsKept, lent, IsNotReadAt};
+ghost use Rattle.mounting.specs.Lending.{LieWithin, TrustsCommitted, lent, IsNotReadAt};
 ghost use Rattle.mounting.specs.laws.OneProof.{trusts_prop};
 
 use crate::tagged::read_tagged;
-use chunk_index::{Index, KeptPage};
+use chunk_index::{CommittedPage, Index};
 use flash_tree::Key;
 use nand_model::{Nand, Trust};
 use pages::{KnownPages, Pages, Presence, has_power};
 use std::alloc::{AllocError, Global};
 use volume_terms::StoreFault;
 
-/// The kept pages of a device, which are read and not changed, over an index that is lent. They are known where the index is
+/// The committed pages of a device, which are read and not changed, over an index that is lent. They are known where the index is
 /// trusted.
 #[derive(Drop)]
 pub(crate) struct LentPages<'a, N: Nand> {
@@ -26,7 +26,7 @@ pub(crate) struct LentPages<'a, N: Nand> {
     pub(crate) trust: Trust,
     ghost size: { length page.items ≡ (N.state device).geometry.bytes },
     ghost lie: { LieWithin (N.state device) index.now },
-    ghost kept: { TrustsKept (N.state device) trust.told index.now } by { trusts_prop (N.state device) trust.told index.now },
+    ghost committed: { TrustsCommitted (N.state device) trust.reported index.now } by { trusts_prop (N.state device) trust.reported index.now },
 }
 
 impl<'a, N: Nand> LentPages<'a, N> {
@@ -36,12 +36,12 @@ impl<'a, N: Nand> LentPages<'a, N> {
         device: N,
         index: &'a Index,
     ) -> Result<LentPages<'a, N>, (N, AllocError)>
-        ghost told: { Bool }
+        ghost reported: { Bool }
         requires lie { LieWithin (N.state device) index.now }
-        requires kept { TrustsKept (N.state device) told index.now }
+        requires committed { TrustsCommitted (N.state device) reported index.now }
         ensures device { IfOk result (λ pages. N.state pages.device ≡ N.state device) }
         ensures index { IfOk result (λ pages. pages.index.now ≡ index.now) }
-        ensures trust { IfOk result (λ pages. pages.trust.told ≡ told) }
+        ensures trust { IfOk result (λ pages. pages.trust.reported ≡ reported) }
         ensures given_back { IfErr result (λ back. N.state back.0 ≡ N.state device) }
     {
         match vec![in alloc; 0u8; device.geometry().bytes() as usize] {
@@ -49,7 +49,7 @@ impl<'a, N: Nand> LentPages<'a, N> {
                 device,
                 index,
                 page,
-                trust: Trust::as_told(),
+                trust: Trust::as_reported(),
             }),
             Err(refused) => Err((device, refused)),
         }
@@ -62,13 +62,13 @@ impl<'a, N: Nand> LentPages<'a, N> {
         self.device
     }
 
-    /// Reads the page of a key that is kept there.
-    fn read(&mut self, key: Key, at: KeptPage) -> Result<Presence, StoreFault>
-        requires { kept_pages self.old.index.now key.object key.chunk ≡ Some at }
+    /// Reads the page of a key that is committed there.
+    fn read(&mut self, key: Key, at: CommittedPage) -> Result<Presence, StoreFault>
+        requires { committed_pages self.old.index.now key.object key.chunk ≡ Some at }
         ensures reads { OnlyReads (N.state self.old.device) (N.state self.new.device) }
         ensures index { self.new.index.now ≡ self.old.index.now }
-        ensures trust { self.new.trust.told ≡ self.old.trust.told }
-        ensures asked { (N.state self.new.device).reads ≤ (N.state self.old.device).reads + 1 }
+        ensures trust { self.new.trust.reported ≡ self.old.trust.reported }
+        ensures issued { (N.state self.new.device).reads ≤ (N.state self.old.device).reads + 1 }
         ensures power { OnOk result ((N.state self.new.device).gone ≡ (N.state self.old.device).gone) }
         ensures there { IfOk result (λ presence. presence ≡ Presence.Present) }
         ensures page { (N.state self.old.device).honest ≡ true → OnOk result (data_at (N.state self.old.device).flash at ≡ Some self.new.page.items) }
@@ -80,7 +80,7 @@ impl<'a, N: Nand> LentPages<'a, N> {
 }
 
 impl<N: Nand> Pages for LentPages<'_, N> {
-    ghost state = { λ s. lent s.trust.told (N.state s.device) s.index.now s.page.items };
+    ghost state = { λ s. lent s.trust.reported (N.state s.device) s.index.now s.page.items };
 
     ghost sized = { λ s. ((N.state s.device).geometry.least_bytes, (N.state s.device).geometry.most_bytes) };
 
@@ -89,7 +89,7 @@ impl<N: Nand> Pages for LentPages<'_, N> {
     }
 
     fn find(&mut self, key: Key) -> Result<Presence, StoreFault> {
-        match self.index.kept(key) {
+        match self.index.committed(key) {
             Some(at) => self.read(key, at),
             None => Ok(Presence::Absent),
         }
@@ -114,6 +114,6 @@ impl<N: Nand> Pages for LentPages<'_, N> {
 
 impl<N: Nand> KnownPages for LentPages<'_, N> {
     fn has(&self, key: Key) -> bool {
-        self.index.kept(key).is_some()
+        self.index.committed(key).is_some()
     }
 }

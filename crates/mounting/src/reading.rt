@@ -7,10 +7,10 @@ ghost use Rattle.page_store.specs.Opened.{IsOpened};
 ghost use Rattle.tree_walk.specs.declared.fault.RootFault.TheVariants as roots;
 ghost use Rattle.mounting.specs.Candidates.{candidate_pages};
 ghost use Rattle.mounting.specs.Faults.{WhyNotMounted};
-ghost use Rattle.mounting.specs.Lending.{LieWithin, TrustsKept};
+ghost use Rattle.mounting.specs.Lending.{LieWithin, TrustsCommitted};
 ghost use Rattle.mounting.specs.Reads.{ReadsThrough};
 ghost use Rattle.mounting.specs.OnDevice.{OfTrusted};
-ghost use Rattle.mounting.specs.FoundTrees.{HasNamesIn, IsFoundIn, WhyNoneIn, kept_on};
+ghost use Rattle.mounting.specs.FoundTrees.{HasNamesIn, IsFoundIn, WhyNoneIn, committed_on};
 
 use crate::a_map_of_the_newest_pages_answers;
 use crate::candidates::CandidatePages;
@@ -24,24 +24,24 @@ use page_store::the_opened_pages_are_the_newest;
 use std::alloc::Global;
 use tree_walk::RootFault;
 
-/// Goes through the tree of the pages that an index keeps on a device. What is found is told of the device where the index is
+/// Goes through the tree of the pages that an index keeps on a device. What is found is reported of the device where the index is
 /// trusted. The device is given back.
 pub(crate) fn go_through<N: Nand>(
     alloc: Global,
     device: N,
     index: &Index,
 ) -> Result<(N, FoundTree), (N, RootFault)>
-    ghost told: { Bool }
+    ghost reported: { Bool }
     requires lie { LieWithin (N.state device) index.now }
-    requires kept { TrustsKept (N.state device) told index.now }
+    requires committed { TrustsCommitted (N.state device) reported index.now }
     ensures reads { IfOk result (λ read. OnlyReads (N.state device) (N.state read.0)) }
-    ensures few { OfTrusted (N.state device) told (IfOk result (λ read. ReadsThrough (N.state device) (N.state read.0) read.1.spare read.1.tree)) }
+    ensures few { OfTrusted (N.state device) reported (IfOk result (λ read. ReadsThrough (N.state device) (N.state read.0) read.1.spare read.1.tree)) }
     ensures power { (N.state device).gone ≡ false → IfOk result (λ read. (N.state read.0).gone ≡ false) }
-    ensures tree { OfTrusted (N.state device) told (IfOk result (λ read. IsFoundIn (N.state device).geometry (kept_on (N.state device) index.now) read.1)) }
-    ensures names { OfTrusted (N.state device) told (IfOk result (λ read. HasNamesIn (N.state device).geometry (kept_on (N.state device) index.now) read.1)) }
+    ensures tree { OfTrusted (N.state device) reported (IfOk result (λ read. IsFoundIn (N.state device).geometry (committed_on (N.state device) index.now) read.1)) }
+    ensures names { OfTrusted (N.state device) reported (IfOk result (λ read. HasNamesIn (N.state device).geometry (committed_on (N.state device) index.now) read.1)) }
     ensures back { IfErr result (λ failed. OnlyReads (N.state device) (N.state failed.0)) }
-    ensures fault { OfTrusted (N.state device) told (IfErr result (λ failed. WhyNoneIn (N.state device).geometry (kept_on (N.state device) index.now) failed.1)) }
-    ensures why { IfErr result (λ failed. failed.1 ≡ roots.Device → ((N.state failed.0).gone ≡ true) ⊎ (((N.state device).honest && told) ≡ false)) }
+    ensures fault { OfTrusted (N.state device) reported (IfErr result (λ failed. WhyNoneIn (N.state device).geometry (committed_on (N.state device) index.now) failed.1)) }
+    ensures why { IfErr result (λ failed. failed.1 ≡ roots.Device → ((N.state failed.0).gone ≡ true) ⊎ (((N.state device).honest && reported) ≡ false)) }
 {
     let geometry = device.geometry();
     let mut pages = match LentPages::new(alloc, device, index) {
@@ -100,9 +100,9 @@ pub(crate) fn read_tree<N: Nand>(
     ensures few { (N.state device).honest ≡ true → IfOk result (λ read. ReadsThrough (N.state device) (N.state read.0) read.1.spare read.1.tree) }
     ensures power { (N.state device).gone ≡ false → IfOk result (λ read. (N.state read.0).gone ≡ false) }
     ensures tree { (N.state device).honest ≡ true
-        → IfOk result (λ read. IsFoundIn (N.state device).geometry (kept_on (N.state device) index.now) read.1) }
+        → IfOk result (λ read. IsFoundIn (N.state device).geometry (committed_on (N.state device) index.now) read.1) }
     ensures names { (N.state device).honest ≡ true
-        → IfOk result (λ read. HasNamesIn (N.state device).geometry (kept_on (N.state device) index.now) read.1) }
+        → IfOk result (λ read. HasNamesIn (N.state device).geometry (committed_on (N.state device) index.now) read.1) }
     ensures back { IfErr result (λ failed. OnlyReads (N.state device) (N.state failed.0)) }
     ensures fault { IfErr result (λ failed. WhyNotMounted (N.state failed.0) failed.1) }
 {

@@ -22,7 +22,7 @@ fn root_fault(fault: WalkFault) -> RootFault
     }
 }
 
-/// The first fault of a tree that a walk did not go through: that of the root's header, which is asked for again, or else the one that
+/// The first fault of a tree that a walk did not go through: that of the root's header, which is read again, or else the one that
 /// the walk found below it.
 pub fn first_fault<P: Pages>(pages: &mut P, geometry: Geometry, below: WalkFault) -> RootFault
     ensures finds { OnlyFinds (P.state pages.old) (P.state pages.new) }

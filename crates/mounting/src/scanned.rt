@@ -22,7 +22,7 @@ use nand_model::Nand;
 use page_store::{Opened, the_opened_pages_are_the_newest};
 use std::alloc::Global;
 
-/// Scans a device and goes through its tree, whose pages alone are kept then. The first pages of blocks are noted.
+/// Scans a device and goes through its tree, whose pages alone are committed then. The first pages of blocks are noted.
 fn open_tree<N: Nand>(
     alloc: Global,
     device: N,

@@ -47,7 +47,7 @@ pub(crate) fn scan<N: Nand>(
 ) -> Result<(N, Opened), (N, MountFault)>
     requires { AreFirstsOf (N.state device) firsts.now }
     ensures reads { IfOk result (λ scanned. OnlyReads (N.state device) (N.state scanned.0)) }
-    ensures asked { IfOk result (λ scanned. (N.state scanned.0).reads ≤ (N.state device).reads + all_pages (N.state device)) }
+    ensures issued { IfOk result (λ scanned. (N.state scanned.0).reads ≤ (N.state device).reads + all_pages (N.state device)) }
     ensures power { (N.state device).gone ≡ false → IfOk result (λ scanned. (N.state scanned.0).gone ≡ false) }
     ensures opened { IfOk result (λ scanned. IsOpenedIn (N.state scanned.0) scanned.1) }
     ensures firsts { IfOk result (λ scanned. KnowsScannedIn (N.state scanned.0) scanned.1) }

@@ -27,21 +27,21 @@ use mount_scan::FirstPages;
 use nand_model::{Nand, TrustedNand};
 use page_store::{Opened, open_summarized};
 use std::alloc::Global;
-use tree_walk::{RootFault, the_headers_tell_the_keys};
+use tree_walk::{RootFault, the_headers_report_the_keys};
 
-/// A tree that was gone through, on its device, which is trusted as is told, with the tables of its pages.
+/// A tree that was gone through, on its device, which is trusted as is reported, with the tables of its pages.
 fn on_trusted<N: Nand>(
     bounded: Bounded<N>,
     pruned: Opened,
     found: FoundTree,
 ) -> NamedTree<TrustedNand<N>>
-    ghost told: { Bool }
-    requires tree { IsTreeRead (trusted_as told (N.state bounded.device)) (table pruned.blocks) pruned.index (numbers_of pruned.numbers) found.spare found.tree }
-    requires names { ((N.state bounded.device).honest && told) ≡ true
-        → CoversNewest found.names (trusted_as told (N.state bounded.device)) found.spare found.tree }
-    requires blocks { KnowsBlocks (trusted_as told (N.state bounded.device)) (table pruned.blocks) (numbers_of pruned.numbers) }
+    ghost reported: { Bool }
+    requires tree { IsTreeRead (trusted_as reported (N.state bounded.device)) (table pruned.blocks) pruned.index (numbers_of pruned.numbers) found.spare found.tree }
+    requires names { ((N.state bounded.device).honest && reported) ≡ true
+        → CoversNewest found.names (trusted_as reported (N.state bounded.device)) found.spare found.tree }
+    requires blocks { KnowsBlocks (trusted_as reported (N.state bounded.device)) (table pruned.blocks) (numbers_of pruned.numbers) }
     ensures inner { N.state (inner_of result.on.device) ≡ N.state bounded.device }
-    ensures seen { ⟦<TrustedNand<N> as Nand>⟧.state result.on.device ≡ trusted_as told (N.state bounded.device) }
+    ensures seen { ⟦<TrustedNand<N> as Nand>⟧.state result.on.device ≡ trusted_as reported (N.state bounded.device) }
     ensures named { IsNamedTree (⟦<TrustedNand<N> as Nand>⟧.state result.on.device) result }
     ensures blocks { KnowsBlocks (⟦<TrustedNand<N> as Nand>⟧.state result.on.device) (table result.on.blocks) (numbers_of result.on.numbers) }
     ensures noted { (table result.on.blocks).checkpoint ≡ (table pruned.blocks).checkpoint }
@@ -88,7 +88,7 @@ fn go_by_summaries<N: Nand>(
     ensures back { IfErr result (λ failed. OnlyReads (N.state device) (N.state failed.0)) }
     ensures fault { HasTrueFlash (N.state device) → IfErr result (λ failed. EndsMount (N.state failed.0) failed.1) }
 {
-    the_headers_tell_the_keys();
+    the_headers_report_the_keys();
     the_list_of_a_block_is_whole();
     the_tree_looks_up_its_footprint();
     let Opened {

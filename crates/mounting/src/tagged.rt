@@ -1,17 +1,17 @@
-// A kept page, read with its tag.
+// A committed page, read with its tag.
 ghost use Rattle.std.specs.Prelude.{◌≡◌, ◌↔◌, ◌<◌, ◌≤◌, ◌+◌, ◌⊎◌, true, IsTrue, Some, length, OnOk, IfErr};
 ghost use Rattle.nand_model.specs.Changes.{OnlyReads};
 ghost use Rattle.page_store.specs.Shown.{data_at};
 ghost use Rattle.mounting.specs.Lending.{IsTagOf, IsNotReadAt};
 
-use chunk_index::KeptPage;
+use chunk_index::CommittedPage;
 use flash_tree::Key;
 use nand_model::{Nand, PageKind};
 use page_tags::{Tag, tags_differ};
 use volume_terms::StoreFault;
 
-/// Whether these bytes are the tag of a key's page in the version that is kept.
-fn is_tag_of(bytes: &[u8; 48], key: Key, at: KeptPage) -> bool
+/// Whether these bytes are the tag of a key's page in the version that is committed.
+fn is_tag_of(bytes: &[u8; 48], key: Key, at: CommittedPage) -> bool
     ensures { IsTrue result ↔ IsTagOf bytes.now key at }
 {
     tags_differ();
@@ -23,18 +23,18 @@ fn is_tag_of(bytes: &[u8; 48], key: Key, at: KeptPage) -> bool
     }
 }
 
-/// Reads the page of a key that is kept there. A page with another tag is not it.
+/// Reads the page of a key that is committed there. A page with another tag is not it.
 pub(crate) fn read_tagged<N: Nand>(
     device: &mut N,
     key: Key,
-    at: KeptPage,
+    at: CommittedPage,
     page: &mut [u8],
 ) -> Result<(), StoreFault>
     requires block { at.block < (N.state device.old).geometry.blocks }
     requires page { at.page < (N.state device.old).geometry.pages }
     requires size { length page.old ≡ (N.state device.old).geometry.bytes }
     ensures reads { OnlyReads (N.state device.old) (N.state device.new) }
-    ensures asked { (N.state device.new).reads ≤ (N.state device.old).reads + 1 }
+    ensures issued { (N.state device.new).reads ≤ (N.state device.old).reads + 1 }
     ensures power { OnOk result ((N.state device.new).gone ≡ (N.state device.old).gone) }
     ensures size { length page.new ≡ length page.old }
     ensures bytes { (N.state device.old).honest ≡ true → OnOk result (data_at (N.state device.old).flash at ≡ Some page.new) }

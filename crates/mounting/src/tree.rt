@@ -2,7 +2,7 @@
 ghost use Rattle.std.specs.Prelude.{◌≡◌, ◌≤◌, ◌+◌, OnOk, IfOk, IfErr};
 ghost use Rattle.pages.specs.State.{OnlyFinds, KeepsPower};
 ghost use Rattle.mounting.specs.TreeAnswers.{FailsTree};
-ghost use Rattle.mounting.specs.FoundTrees.{AsksForTree, HasNamesIn, IsFoundIn, OfSized, WhyNoneIn};
+ghost use Rattle.mounting.specs.FoundTrees.{IssuesForTree, HasNamesIn, IsFoundIn, OfSized, WhyNoneIn};
 
 use crate::first_fault;
 use name_index::NameIndex;
@@ -19,7 +19,7 @@ pub(crate) struct FoundTree {
     pub(crate) names: NameIndex,
 }
 
-/// Goes through the tree of a volume on a device of these sizes. Each header is asked for once, and so is each page of a
+/// Goes through the tree of a volume on a device of these sizes. Each header is looked up once, and so is each page of a
 /// directory's slots.
 pub(crate) fn find_tree<P: KnownPages>(
     alloc: Global,
@@ -28,7 +28,7 @@ pub(crate) fn find_tree<P: KnownPages>(
 ) -> Result<FoundTree, RootFault>
     ensures finds { OnlyFinds (P.state pages.old) (P.state pages.new) }
     ensures power { OnOk result (KeepsPower (P.state pages.old) (P.state pages.new)) }
-    ensures asked { OfSized geometry (P.state pages.old) (IfOk result (AsksForTree geometry (P.state pages.old) (P.state pages.new))) }
+    ensures issued { OfSized geometry (P.state pages.old) (IfOk result (IssuesForTree geometry (P.state pages.old) (P.state pages.new))) }
     ensures tree { OfSized geometry (P.state pages.old) (IfOk result (λ found. IsFoundIn geometry (P.state pages.old).present found)) }
     ensures names { OfSized geometry (P.state pages.old) (IfOk result (λ found. HasNamesIn geometry (P.state pages.old).present found)) }
     ensures fault { OfSized geometry (P.state pages.old) (IfErr result (WhyNoneIn geometry (P.state pages.old).present)) }

@@ -36,8 +36,8 @@ module _ (g : Geometry) (old mid new : Option (List ℕ)) (marks : List ℕ) (wi
             let row : place / g.pages ≡ k = div-mul-add k g.pages l few in
             let column : place % g.pages ≡ l = mod-mul-add k g.pages l few in
             let inside : place < g.blocks * g.pages = omega (arith, mul-add-lt k g.pages l g.blocks less few, mul_comm g.pages g.blocks) in
-            let told : page (place / g.pages) (place % g.pages) ≡ page_in g.bytes (drop (place * w) behind) = p.each place inside in
-            ap (λ f. f k l) same ∙ sym (ap (λ n. page n l) row) ∙ sym (ap (page (place / g.pages)) column) ∙ told
+            let reported : page (place / g.pages) (place % g.pages) ≡ page_in g.bytes (drop (place * w) behind) = p.each place inside in
+            ap (λ f. f k l) same ∙ sym (ap (λ n. page n l) row) ∙ sym (ap (page (place / g.pages)) column) ∙ reported
             ∙ ap (page_in g.bytes) (drop-drop (place * w) (length marks) left ∙ ap (λ n. drop (n + place * w) left) wide);
       }
 

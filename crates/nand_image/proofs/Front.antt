@@ -27,10 +27,10 @@ front_more a b d at n buffer part within fits first then =
     subst (Consumes a d) (sym (take_both at n buffer part within fits)) (Consumes-trans a b d (take at buffer) (take n part) first then)
 
 -- nothing more was read
-pub front_kept : (a b d : Option (List ℕ)) (at : ℕ) (buffer part : List ℕ) → at ≤ length buffer → Consumes a b (take at buffer) → Keeps b d
+pub front_committed : (a b d : Option (List ℕ)) (at : ℕ) (buffer part : List ℕ) → at ≤ length buffer → Consumes a b (take at buffer) → Keeps b d
     → Consumes a d (take at (put_mid at (length buffer - at) buffer part))
-front_kept a b d at buffer part within first kept =
-    subst (Consumes a d) (sym (take-put_mid_below at (length buffer - at) buffer part at (le_refl at) within)) (Consumes-kept a b d (take at buffer) first kept)
+front_committed a b d at buffer part within first committed =
+    subst (Consumes a d) (sym (take-put_mid_below at (length buffer - at) buffer part at (le_refl at) within)) (Consumes-kept a b d (take at buffer) first committed)
 
 -- a buffer that was filled to its end
 pub whole_of : (old now : Option (List ℕ)) (buffer : List ℕ) (n : ℕ) → n ≤ length buffer → length buffer ≤ n → FillsFront old now buffer n → FillsWhole old now buffer

@@ -47,12 +47,12 @@ pages_step size per n old mid new slot a b wide first whole put left is =
     record {
       within = omega (arith, more, so_far.within, part.within, wide, length-drop (n * w) left);
       each = below_more (λ i. b.flash.page (i / per) (i % per) ≡ page_in size (drop (i * w) left)) n
-          (λ i less. kept i less ∙ so_far.each i less) (put.here ∙ ap (page_in size) bytes ∙ page_in_front size behind);
+          (λ i less. committed i less ∙ so_far.each i less) (put.here ∙ ap (page_in size) bytes ∙ page_in_front size behind);
       rest = part.rest ∙ ap (λ k. Some (drop k behind)) wide ∙ ap Some (drop-drop w (n * w) left ∙ ap (λ k. drop k left) (sym more));
     }
   where
-    kept : (i : ℕ) → i < n → b.flash.page (i / per) (i % per) ≡ a.flash.page (i / per) (i % per)
-    kept i less = elim (cases_eq (i / per) (n / per)) [
+    committed : (i : ℕ) → i < n → b.flash.page (i / per) (i % per) ≡ a.flash.page (i / per) (i % per)
+    committed i less = elim (cases_eq (i / per) (n / per)) [
       | inr ne ↦ put.other_blocks (i / per) (i % per) ne
       | inl e ↦
           let ne : i % per ≢ n % per = λ at. let one = same_place i n per e at in absurd (omega (arith, one, less)) in

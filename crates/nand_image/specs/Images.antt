@@ -20,28 +20,28 @@ pub record HasHead (image : List ℕ) : Type 0 where
   pub magic : take 8 image ≡ magic
 
 -- the sizes that the head names: of a page's data, of a block, of the device
-abbrev pub told_bytes : List ℕ → ℕ
-told_bytes image = little_number 4 (drop 8 image)
+abbrev pub reported_bytes : List ℕ → ℕ
+reported_bytes image = little_number 4 (drop 8 image)
 
-abbrev pub told_pages : List ℕ → ℕ
-told_pages image = little_number 4 (drop 12 image)
+abbrev pub reported_pages : List ℕ → ℕ
+reported_pages image = little_number 4 (drop 12 image)
 
-abbrev pub told_blocks : List ℕ → ℕ
-told_blocks image = little_number 4 (drop 16 image)
+abbrev pub reported_blocks : List ℕ → ℕ
+reported_blocks image = little_number 4 (drop 16 image)
 
 -- the head names these sizes
 pub record HasSizes (g : Geometry) (image : List ℕ) : Type 0 where
-  pub bytes : told_bytes image ≡ g.bytes
-  pub pages : told_pages image ≡ g.pages
-  pub blocks : told_blocks image ≡ g.blocks
+  pub bytes : reported_bytes image ≡ g.bytes
+  pub pages : reported_pages image ≡ g.pages
+  pub blocks : reported_blocks image ≡ g.blocks
 
 -- the sizes that the head names are those of a device
-abbrev pub TellsSize : List ℕ → Type 0
-TellsSize image = IsSize (told_bytes image) (told_pages image) (told_blocks image)
+abbrev pub ReportsSize : List ℕ → Type 0
+ReportsSize image = IsSize (reported_bytes image) (reported_pages image) (reported_blocks image)
 
 -- the size that an image with these sizes has
-abbrev pub told_size : List ℕ → ℕ
-told_size image = 32 + told_blocks image + told_blocks image * told_pages image * (49 + told_bytes image)
+abbrev pub reported_size : List ℕ → ℕ
+reported_size image = 32 + reported_blocks image + reported_blocks image * reported_pages image * (49 + reported_bytes image)
 
 -- 0 is an erased page, 1 a written one, anything else is lost
 abbrev pub kind_of_byte : ℕ → PageKind

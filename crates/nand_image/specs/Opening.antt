@@ -1,7 +1,7 @@
 -- What opening an image answers where the bytes of the file are known.
 use Rattle.std.specs.Prelude.{◌≢◌, ℕ, List, length, Option, IfSome}
 use Rattle.nand_image.specs.ImageState.{device}
-use Rattle.nand_image.specs.Images.{HasHead, TellsSize, told_size, IsImage}
+use Rattle.nand_image.specs.Images.{HasHead, ReportsSize, reported_size, IsImage}
 use Rattle.nand_image.specs.declared.fault.ImageFault.{ImageFault}
 use Rattle.nand_image.specs.declared.fault.ImageFault.TheVariants as faults
 use Rattle.nand_image.specs.declared.device.ImageNand.{ImageNand}
@@ -16,6 +16,6 @@ abbrev pub Explains : Option (List ℕ) → ImageFault → Type 0
 Explains known faults.Read = Unit {0}
 Explains known faults.Write = ⊥
 Explains known faults.Magic = IfSome known (λ image. ¬ HasHead image)
-Explains known faults.BadGeometry = IfSome known (λ image. HasHead image × (¬ TellsSize image))
-Explains known faults.NoMemory = IfSome known (λ image. HasHead image × TellsSize image)
-Explains known faults.Size = IfSome known (λ image. HasHead image × TellsSize image × (length image ≢ told_size image))
+Explains known faults.BadGeometry = IfSome known (λ image. HasHead image × (¬ ReportsSize image))
+Explains known faults.NoMemory = IfSome known (λ image. HasHead image × ReportsSize image)
+Explains known faults.Size = IfSome known (λ image. HasHead image × ReportsSize image × (length image ≢ reported_size image))

@@ -1,6 +1,6 @@
 // A device whose flash stands in memory and is written through to a file.
 ghost use Rattle.std.specs.Prelude.{◌≡◌, ◌≢◌, ◌<◌, [], true, false, length, Some, None, IfOk, IfErr, IsOk, OnErr};
-ghost use Rattle.nand_model.specs.Calls.{Reads, ReadTells, Fills, bytes_of, tag_of, Programs, Erases, Marks};
+ghost use Rattle.nand_model.specs.Calls.{Reads, ReadReports, Fills, bytes_of, tag_of, Programs, Erases, Marks};
 ghost use Rattle.nand_model.specs.Changes.{PowersUp};
 ghost use Rattle.nand_model.specs.MemoryState as in_memory;
 ghost use Rattle.nand_image.specs.Quiet.{IsQuiet};
@@ -80,7 +80,7 @@ impl<F: WriteAt> Nand for ImageNand<F> {
         requires block { block < (device self.old).geometry.blocks }
         requires page { page < (device self.old).geometry.pages }
         ensures reads { Reads (device self.old) (device self.new) result }
-        ensures kind { ReadTells (device self.old).honest ((device self.old).flash.page block page) result }
+        ensures kind { ReadReports (device self.old).honest ((device self.old).flash.page block page) result }
         ensures tag { Fills (device self.old).honest (tag_of ((device self.old).flash.page block page) tag.old) result tag.old tag.new }
         ensures ok { (device self.old).gone ≡ false → IsOk result }
         ensures file { self.new.file ≡ self.old.file }
@@ -99,7 +99,7 @@ impl<F: WriteAt> Nand for ImageNand<F> {
         requires page { page < (device self.old).geometry.pages }
         requires size { length bytes.old ≡ (device self.old).geometry.bytes }
         ensures reads { Reads (device self.old) (device self.new) result }
-        ensures kind { ReadTells (device self.old).honest ((device self.old).flash.page block page) result }
+        ensures kind { ReadReports (device self.old).honest ((device self.old).flash.page block page) result }
         ensures bytes { Fills (device self.old).honest (bytes_of ((device self.old).flash.page block page) bytes.old) result bytes.old bytes.new }
         ensures tag { Fills (device self.old).honest (tag_of ((device self.old).flash.page block page) tag.old) result tag.old tag.new }
         ensures ok { (device self.old).gone ≡ false → IsOk result }
@@ -122,7 +122,7 @@ impl<F: WriteAt> Nand for ImageNand<F> {
         requires size { length bytes.now ≡ (device self.old).geometry.bytes }
         ensures programs { Programs block page bytes.now tag.now (device self.old) (device self.new) result }
         ensures fault { IfErr result (λ e. e ≡ ProgramFault.Gone) }
-        ensures kept { OnErr result ((device self.new).flash.page ≡ (device self.old).flash.page) }
+        ensures committed { OnErr result ((device self.new).flash.page ≡ (device self.old).flash.page) }
         ensures writes { WritesThrough (device self.old).gone (program_writes (device self.old).geometry block page bytes.now tag.now)
             (F.writes self.old.file) (F.writes self.new.file) result }
     {
@@ -140,7 +140,7 @@ impl<F: WriteAt> Nand for ImageNand<F> {
         requires { block < (device self.old).geometry.blocks }
         ensures erases { Erases block (device self.old) (device self.new) result }
         ensures fault { IfErr result (λ e. e ≡ EraseFault.Gone) }
-        ensures kept { OnErr result ((device self.new).flash.page ≡ (device self.old).flash.page) }
+        ensures committed { OnErr result ((device self.new).flash.page ≡ (device self.old).flash.page) }
         ensures writes { WritesThrough (device self.old).gone (erase_writes (device self.old).geometry block (device self.old).geometry.pages)
             (F.writes self.old.file) (F.writes self.new.file) result }
     {
@@ -155,7 +155,7 @@ impl<F: WriteAt> Nand for ImageNand<F> {
     fn mark_bad(&mut self, block: u32) -> Result<(), Gone>
         requires { block < (device self.old).geometry.blocks }
         ensures marks { Marks block (device self.old) (device self.new) result }
-        ensures kept { OnErr result ((device self.new).flash.bad ≡ (device self.old).flash.bad) }
+        ensures committed { OnErr result ((device self.new).flash.bad ≡ (device self.old).flash.bad) }
         ensures writes { WritesThrough (device self.old).gone (mark_writes block) (F.writes self.old.file) (F.writes self.new.file) result }
     {
         if !self.memory.gone() && write_mark(&mut self.file, block).is_err() {

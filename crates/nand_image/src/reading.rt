@@ -5,7 +5,7 @@ ghost use Rattle.nand_model.specs.Changes.{CountsNothing};
 ghost use Rattle.nand_model.specs.MemoryState.{device, plan};
 ghost use Rattle.nand_model.specs.Putting.{PutsPage};
 ghost use Rattle.nand_image.specs.ImageState as image;
-ghost use Rattle.nand_image.specs.Images.{HasSizes, TellsSize, page_in};
+ghost use Rattle.nand_image.specs.Images.{HasSizes, ReportsSize, page_in};
 ghost use Rattle.nand_image.specs.Opening.{OpensAs, Explains};
 ghost use Rattle.nand_image.specs.Quiet.{IsQuiet};
 ghost use Rattle.nand_image.specs.Readings.{FillsFront, FillsWhole, IsShort, TakesHead, IsNoHead, PutsMarks, PutsPages, TakesPages, IsEnded, IsLong, TakesBody, body_size, IsOfOtherSize};
@@ -19,7 +19,7 @@ use nand_model::{Geometry, MemNand, Nand, PageKind};
 use std::alloc::Global;
 use std::io::{ErrorKind, Read};
 
-/// Reads until the buffer is full or the file is at its end, and tells how many bytes it read. An interrupted read is
+/// Reads until the buffer is full or the file is at its end, and returns how many bytes it read. An interrupted read is
 /// tried again.
 fn fill<F: Read>(file: &mut F, buffer: &mut [u8]) -> Result<usize, ImageFault>
     ensures within { IfOk result (λ n. n ≤ length buffer.new) }
@@ -78,8 +78,8 @@ fn number_at(bytes: &[u8], place: usize) -> u32
 
 /// The sizes that a head names.
 fn geometry_in(head: &[u8; 32]) -> Result<Geometry, ImageFault>
-    ensures sizes { IfOk result (λ g. HasSizes g head.now × TellsSize head.now) }
-    ensures fault { IfErr result (λ e. (e ≡ ImageFault.BadGeometry) × (¬ TellsSize head.now)) }
+    ensures sizes { IfOk result (λ g. HasSizes g head.now × ReportsSize head.now) }
+    ensures fault { IfErr result (λ e. (e ≡ ImageFault.BadGeometry) × (¬ ReportsSize head.now)) }
 {
     let bytes = number_at(head, 8);
     let pages = number_at(head, 12);

@@ -11,7 +11,7 @@ pub trait WriteAt {
     /// The writes that were done, in their order, where they are known.
     ghost writes: { Self → Option (List FileWrite) } = { λ _. None };
 
-    /// Writes all the bytes from this place on, counted from the start.
+    /// Writes all the bytes from this place on, from the start.
     fn write_at(&mut self, place: u64, bytes: &[u8]) -> Result<()>
         ensures { WritesAll (record { place = place; bytes = bytes.now } ∷ []) (writes self.old) (writes self.new) result };
 }

@@ -15,11 +15,11 @@ use Rattle.nand_model.specs.declared.block.MemPage.{MemPage}
 use Rattle.nand_model.specs.declared.block.MemBlock.{MemBlock}
 
 -- the sizes stay
-pub whole_kept : (g : Geometry) (old new : List MemBlock) → IsWhole g old → length new ≡ length old
+pub whole_committed_pages : (g : Geometry) (old new : List MemBlock) → IsWhole g old → length new ≡ length old
     → ((k : ℕ) → length (pages_at new k) ≡ length (pages_at old k))
     → ((k l : ℕ) → size_at (pages_at new k) l ≡ size_at (pages_at old k) l)
     → IsClean (flash_of new) → ((b p : ℕ) → next_at new b ≡ Some p → p ≤ g.pages) → IsSized g.bytes (flash_of new) → IsWhole g new
-whole_kept g old new whole len lens sizes clean next sized = record {
+whole_committed_pages g old new whole len lens sizes clean next sized = record {
   count = len ∙ whole.count;
   pages = λ b lt. lens b ∙ whole.pages b lt;
   bytes = λ b p lt less. sizes b p ∙ whole.bytes b p lt less;
@@ -29,11 +29,11 @@ whole_kept g old new whole len lens sizes clean next sized = record {
 }
 
 -- where the pages stay, and no block has another next page
-pub clean_kept : (old new : Flash) → ((b l : ℕ) → new.page b l ≡ old.page b l) → ((b p : ℕ) → new.next b ≡ Some p → old.next b ≡ Some p) → IsClean old → IsClean new
-clean_kept old new pages nexts clean b p q is le = pages b q ∙ clean b p q (nexts b p is) le
+pub clean_committed : (old new : Flash) → ((b l : ℕ) → new.page b l ≡ old.page b l) → ((b p : ℕ) → new.next b ≡ Some p → old.next b ≡ Some p) → IsClean old → IsClean new
+clean_committed old new pages nexts clean b p q is le = pages b q ∙ clean b p q (nexts b p is) le
 
-pub sized_kept : (size : ℕ) (old new : Flash) → ((b l : ℕ) → new.page b l ≡ old.page b l) → IsSized size old → IsSized size new
-sized_kept size old new pages sized b p bytes tag is = sized b p bytes tag (sym (pages b p) ∙ is)
+pub sized_committed : (size : ℕ) (old new : Flash) → ((b l : ℕ) → new.page b l ≡ old.page b l) → IsSized size old → IsSized size new
+sized_committed size old new pages sized b p bytes tag is = sized b p bytes tag (sym (pages b p) ∙ is)
 
 module _ (old new : Flash) (b p : ℕ) (same : (l : ℕ) → l ≢ p → new.page b l ≡ old.page b l) (others : (k l : ℕ) → k ≢ b → new.page k l ≡ old.page k l) where
   -- a program makes the pages after its page the next, or none
@@ -47,7 +47,7 @@ module _ (old new : Flash) (b p : ℕ) (same : (l : ℕ) → l ≢ p → new.pag
     | inr ne ↦ others k l ne ∙ clean k q l (sym (nexts k ne) ∙ is) le
   ]
 
-  -- its page is as asked, or not written
+  -- its page is as wanted, or not written
   pub sized_programmed : (size : ℕ) (bytes tag : List ℕ) → IsSized size old → AreBytes size bytes → AreBytes 48 tag
       → (new.page b p ≡ Erased) ⊎ (new.page b p ≡ Written bytes tag) ⊎ (new.page b p ≡ Uncorrectable) → IsSized size new
   sized_programmed size bytes tag sized data_fits tag_fits page k l xs ys is = elim (cases_eq k b) [

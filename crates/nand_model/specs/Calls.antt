@@ -26,7 +26,7 @@ pub record Device : Type 0 where
   pub reads : ℕ
 
 -- What every call keeps, and so any number of them: the geometry, the honesty, marks that are set, and the whole of a
--- device that is gone. No count falls. Only a cut makes a device gone, and it does, so one cut is counted at most.
+-- device that is gone. No count falls. Only a cut makes a device gone, and it does, so there is one cut at most.
 pub record Lasts (old new : Device) : Type 0 where
   pub geometry : new.geometry ≡ old.geometry
   pub honest : new.honest ≡ old.honest
@@ -42,7 +42,7 @@ pub record Lasts (old new : Device) : Type 0 where
   pub once : new.cuts ≤ old.cuts + 1
   pub steady : old.steady ≡ true → (new.steady ≡ true) × (new.cuts ≡ old.cuts)
 
--- the call did what it was asked for
+-- the call did what it is for
 pub record Completes (old new : Device) : Type 0 where
   pub was : old.gone ≡ false
   pub is : new.gone ≡ false
@@ -76,7 +76,7 @@ pub record Reads (old new : Device) (result : Result PageKind Gone) : Type 0 whe
   pub next : new.flash.next ≡ old.flash.next
   pub page : old.honest ≡ true → new.flash.page ≡ old.flash.page
 
--- a page as a read tells it
+-- a page as a read reports it
 abbrev pub kind_of : Page → PageKind
 kind_of Erased = kinds.Erased
 kind_of (Written bytes tag) = kinds.Written
@@ -94,24 +94,24 @@ tag_of Erased was = was
 tag_of (Written bytes tag) was = tag
 tag_of Uncorrectable was = was
 
--- an honest device tells what the page is
-abbrev pub ReadTells : Bool → Page → Result PageKind Gone → Type 0
-ReadTells honest page (Ok kind) = honest ≡ true → kind ≡ kind_of page
-ReadTells honest page (Err gone) = Unit {0}
+-- an honest device returns what the page is
+abbrev pub ReadReports : Bool → Page → Result PageKind Gone → Type 0
+ReadReports honest page (Ok kind) = honest ≡ true → kind ≡ kind_of page
+ReadReports honest page (Err gone) = Unit {0}
 
--- A buffer after a read: it is filled only where the page was written, and by an honest device with what is told.
+-- A buffer after a read: it is filled only where the page was written, and by an honest device with what is reported.
 abbrev pub Fills : Bool → List ℕ → Result PageKind Gone → List ℕ → List ℕ → Type 0
-Fills honest told (Ok kinds.Written) old new = honest ≡ true → new ≡ told
-Fills honest told (Ok kinds.Erased) old new = new ≡ old
-Fills honest told (Ok kinds.Uncorrectable) old new = new ≡ old
-Fills honest told (Err gone) old new = new ≡ old
+Fills honest reported (Ok kinds.Written) old new = honest ≡ true → new ≡ reported
+Fills honest reported (Ok kinds.Erased) old new = new ≡ old
+Fills honest reported (Ok kinds.Uncorrectable) old new = new ≡ old
+Fills honest reported (Err gone) old new = new ≡ old
 
--- The data of a page that was read: of a page that was written an honest device tells it. In all other cases the buffer may hold anything.
+-- The data of a page that was read: of a page that was written an honest device returns it. In all other cases the buffer may hold anything.
 abbrev pub FillsData : Bool → List ℕ → Result PageKind Gone → List ℕ → Type 0
-FillsData honest told (Ok kinds.Written) new = honest ≡ true → new ≡ told
-FillsData honest told (Ok kinds.Erased) new = Unit {0}
-FillsData honest told (Ok kinds.Uncorrectable) new = Unit {0}
-FillsData honest told (Err gone) new = Unit {0}
+FillsData honest reported (Ok kinds.Written) new = honest ≡ true → new ≡ reported
+FillsData honest reported (Ok kinds.Erased) new = Unit {0}
+FillsData honest reported (Ok kinds.Uncorrectable) new = Unit {0}
+FillsData honest reported (Err gone) new = Unit {0}
 
 abbrev pub ProgramEnds : Device → Device → Result (Unit {0}) ProgramFault → Type 0
 ProgramEnds old new (Ok done) = Completes old new
@@ -123,7 +123,7 @@ abbrev pub ProgramNext : Bool → ℕ → Result (Unit {0}) ProgramFault → Opt
 ProgramNext was_gone p (Ok done) next = next ≡ Some (p + 1)
 ProgramNext was_gone p (Err fault) next = was_gone ≡ false → next ≡ None
 
--- what a program leaves of its page: all that was asked, and after a cut or a failure that, nothing, or a loss
+-- what a program leaves of its page: all that was wanted, and after a cut or a failure that, nothing, or a loss
 abbrev pub ProgramLeaves : List ℕ → List ℕ → Result (Unit {0}) ProgramFault → Page → Type 0
 ProgramLeaves bytes tag (Ok done) page = page ≡ Written bytes tag
 ProgramLeaves bytes tag (Err fault) page = (page ≡ Erased) ⊎ (page ≡ Written bytes tag) ⊎ (page ≡ Uncorrectable)

@@ -9,7 +9,7 @@ pub record IsBlank (flash : Flash) : Type 0 where
   pub good : (b : ℕ) → flash.bad b ≡ false
   pub nexts : (b : ℕ) → flash.next b ≡ None
 
--- nothing was counted since it was made
+-- every count is 0 since it was made
 pub record CountsNothing (device : Device) : Type 0 where
   pub cuts : device.cuts ≡ 0
   pub failures : device.failures ≡ 0

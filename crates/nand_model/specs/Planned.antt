@@ -1,7 +1,7 @@
 -- What the calls of a device in memory do beside what each device does: its plan says how they end.
 use Rattle.std.specs.Prelude.{◌≡◌, ◌<◌, ◌↔◌, ℕ, Bool, true, false, List, Result, IsErr, if◌then◌else◌}
 use Rattle.nand_model.specs.Calls.{Device}
-use Rattle.nand_model.specs.Plans.{Plan, counted, is_fused, change_end, change_fates, other_end, programmed, erased, marked, program_result, erase_result}
+use Rattle.nand_model.specs.Plans.{Plan, totaled, is_fused, change_end, change_fates, other_end, programmed, erased, marked, program_result, erase_result}
 use Rattle.nand_model.specs.declared.nand.PageKind.{PageKind}
 use Rattle.nand_model.specs.declared.nand.Gone.{Gone}
 use Rattle.nand_model.specs.declared.nand.ProgramFault.{ProgramFault}
@@ -9,15 +9,15 @@ use Rattle.nand_model.specs.declared.nand.EraseFault.{EraseFault}
 
 -- the number of the next call
 abbrev pub next_call : Plan → ℕ
-next_call plan = counted plan.calls
+next_call plan = totaled plan.calls
 
--- a read was counted
+-- a read came
 abbrev pub after_read : Plan → Plan
 after_read plan = record plan { calls = next_call plan }
 
--- a program, an erase or a mark was counted, as a change only where the device had power
+-- a program, an erase or a mark came, as a change only where the device had power
 abbrev pub after_change : Bool → Plan → Plan
-after_change gone plan = record plan { calls = next_call plan; changes = if gone then plan.changes else counted plan.changes }
+after_change gone plan = record plan { calls = next_call plan; changes = if gone then plan.changes else totaled plan.changes }
 
 -- a read of a device with power is cut exactly where the fuse is at it
 abbrev pub ReadsAsPlanned : Plan → Device → Result PageKind Gone → Type 0

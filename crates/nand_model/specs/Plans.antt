@@ -27,8 +27,8 @@ abbrev pub is_steady : Plan → Bool
 is_steady plan = not (is_some plan.fuse)
 
 -- one more, up to the greatest number of 64 bits
-abbrev pub counted : ℕ → ℕ
-counted n = min (n + 1) (2 ^ 64 - 1)
+abbrev pub totaled : ℕ → ℕ
+totaled n = min (n + 1) (2 ^ 64 - 1)
 
 -- the fuse is at this call
 abbrev pub is_fused : Option (ℕ × List Fate) → ℕ → Bool

@@ -29,14 +29,14 @@ pub record Begins (end : End) (old new : Power) : Type 0 where
   pub failures : new.failures.total ≡ failures_after end old.failures.total
   pub steady : is_steady (plan old.script) ≡ true → (is_steady (plan new.script) ≡ true) × (new.cuts.total ≡ old.cuts.total)
 
--- nothing was counted since the device was made
+-- every count is 0 since the device was made
 pub record IsUnused (power : Power) : Type 0 where
   pub cuts : power.cuts.total ≡ 0
   pub failures : power.failures.total ≡ 0
   pub changes : power.changes.total ≡ 0
   pub reads : power.reads.total ≡ 0
 
--- nothing is counted since the power-up, and no call is cut or fails
+-- every count is 0 since the power-up, and no call is cut or fails
 abbrev pub Restarts : Plan → Type 0
 Restarts plan = plan ≡ record { calls = 0; changes = 0; fuse = None; failures = [] }
 

@@ -9,4 +9,4 @@ inner_of d = d.inner
 
 -- the device as it is seen, by what is known of the device itself
 abbrev pub seen_by : {N : Type 0} → (N → Device) → TrustedNand N → Device
-seen_by state d = trusted_as d.trust.told (state d.inner)
+seen_by state d = trusted_as d.trust.reported (state d.inner)

@@ -15,7 +15,7 @@ impl Model for Count {
 }
 
 impl Count {
-    /// Nothing was counted.
+    /// every count is 0.
     pub fn new() -> Count
         ensures { result.total ≡ 0 }
     {

@@ -1,7 +1,7 @@
 // A device in memory, whose power can be cut at a call and whose calls can fail.
 ghost use Rattle.std.specs.Prelude.{◌≡◌, ◌<◌, [], true, false, length, Some, None, IfOk};
 ghost use Rattle.nand_model.specs.Flash.{IsClean, IsWithin, IsSized};
-ghost use Rattle.nand_model.specs.Calls.{Device, Reads, ReadTells, Fills, bytes_of, tag_of, Programs, Erases, Marks};
+ghost use Rattle.nand_model.specs.Calls.{Device, Reads, ReadReports, Fills, bytes_of, tag_of, Programs, Erases, Marks};
 ghost use Rattle.nand_model.specs.Changes.{IsBlank, CountsNothing, PowersUp};
 ghost use Rattle.nand_model.specs.Plans.{listed};
 ghost use Rattle.nand_model.specs.Planned.{after_read, after_change, ReadsAsPlanned, ProgramsAsPlanned, ErasesAsPlanned, MarksAsPlanned};
@@ -20,7 +20,7 @@ use crate::plan::{End, Fuse};
 use crate::power::Power;
 use std::alloc::{AllocError, Global};
 
-/// A device in memory. It is honest, and a call of its number can be cut or fail as asked.
+/// A device in memory. It is honest, and a call of its number can be cut or fail as wanted.
 ///
 /// Its memory is taken by `new` and `copy` alone.
 #[derive(Drop)]
@@ -34,7 +34,7 @@ pub struct MemNand {
 impl MemNand {
     ghost use Rattle.nand_model.specs.MemoryState.{device, plan};
 
-    /// All pages erased, no block bad, none with a next page, and nothing counted.
+    /// All pages erased, no block bad, none with a next page, and every count 0.
     pub fn new(alloc: Global, geometry: Geometry) -> Result<MemNand, AllocError>
         ensures geometry { IfOk result (λ d. (device d).geometry ≡ geometry) }
         ensures blank { IfOk result (λ d. IsBlank (device d).flash) }
@@ -52,7 +52,7 @@ impl MemNand {
     }
 
     /// Power comes back, also to a device that had it: pages and marks stay, no block has a next page, and the calls
-    /// and changes are counted anew. Fuse and failures are taken away.
+    /// and changes begin anew. Fuse and failures are taken away.
     pub fn power_up(&mut self)
         ensures power { PowersUp (device self.old) (device self.new) }
         ensures plan { plan self.new ≡ record { calls = 0; changes = 0; fuse = None; failures = [] } }
@@ -141,10 +141,10 @@ impl Nand for MemNand {
         requires block { block < (device self.old).geometry.blocks }
         requires page { page < (device self.old).geometry.pages }
         ensures reads { Reads (device self.old) (device self.new) result }
-        ensures kind { ReadTells (device self.old).honest ((device self.old).flash.page block page) result }
+        ensures kind { ReadReports (device self.old).honest ((device self.old).flash.page block page) result }
         ensures tag { Fills (device self.old).honest (tag_of ((device self.old).flash.page block page) tag.old) result tag.old tag.new }
         ensures planned { ReadsAsPlanned (plan self.old) (device self.old) result }
-        ensures counted { plan self.new ≡ after_read (plan self.old) }
+        ensures totaled { plan self.new ≡ after_read (plan self.old) }
     {
         self.power.script.count_call();
         if self.power.begin_read() == End::Cut {
@@ -168,11 +168,11 @@ impl Nand for MemNand {
         requires page { page < (device self.old).geometry.pages }
         requires size { length bytes.old ≡ (device self.old).geometry.bytes }
         ensures reads { Reads (device self.old) (device self.new) result }
-        ensures kind { ReadTells (device self.old).honest ((device self.old).flash.page block page) result }
+        ensures kind { ReadReports (device self.old).honest ((device self.old).flash.page block page) result }
         ensures bytes { Fills (device self.old).honest (bytes_of ((device self.old).flash.page block page) bytes.old) result bytes.old bytes.new }
         ensures tag { Fills (device self.old).honest (tag_of ((device self.old).flash.page block page) tag.old) result tag.old tag.new }
         ensures planned { ReadsAsPlanned (plan self.old) (device self.old) result }
-        ensures counted { plan self.new ≡ after_read (plan self.old) }
+        ensures totaled { plan self.new ≡ after_read (plan self.old) }
     {
         self.power.script.count_call();
         if self.power.begin_read() == End::Cut {
@@ -200,7 +200,7 @@ impl Nand for MemNand {
         requires size { length bytes.now ≡ (device self.old).geometry.bytes }
         ensures programs { Programs block page bytes.now tag.now (device self.old) (device self.new) result }
         ensures planned { ProgramsAsPlanned block page bytes.now tag.now (plan self.old) (device self.old) (device self.new) result }
-        ensures counted { plan self.new ≡ after_change (device self.old).gone (plan self.old) }
+        ensures totaled { plan self.new ≡ after_change (device self.old).gone (plan self.old) }
     {
         self.power.script.count_call();
         if self.power.gone {
@@ -234,7 +234,7 @@ impl Nand for MemNand {
         requires { block < (device self.old).geometry.blocks }
         ensures erases { Erases block (device self.old) (device self.new) result }
         ensures planned { ErasesAsPlanned block (plan self.old) (device self.old) (device self.new) result }
-        ensures counted { plan self.new ≡ after_change (device self.old).gone (plan self.old) }
+        ensures totaled { plan self.new ≡ after_change (device self.old).gone (plan self.old) }
     {
         self.power.script.count_call();
         if self.power.gone {
@@ -255,7 +255,7 @@ impl Nand for MemNand {
         requires { block < (device self.old).geometry.blocks }
         ensures marks { Marks block (device self.old) (device self.new) result }
         ensures planned { MarksAsPlanned block (plan self.old) (device self.old) (device self.new) result }
-        ensures counted { plan self.new ≡ after_change (device self.old).gone (plan self.old) }
+        ensures totaled { plan self.new ≡ after_change (device self.old).gone (plan self.old) }
     {
         self.power.script.count_call();
         if self.power.gone {

@@ -1,7 +1,7 @@
 // The interface of a NAND flash device.
 ghost use Rattle.std.specs.Prelude.{◌≡◌, ◌<◌, true, false, length, Some};
 ghost use Rattle.nand_model.specs.Flash.{IsClean, IsWithin, IsSized};
-ghost use Rattle.nand_model.specs.Calls.{Device, Reads, ReadTells, Fills, FillsData, bytes_of, tag_of, Programs, Erases, Marks};
+ghost use Rattle.nand_model.specs.Calls.{Device, Reads, ReadReports, Fills, FillsData, bytes_of, tag_of, Programs, Erases, Marks};
 
 use crate::geometry::Geometry;
 
@@ -53,7 +53,7 @@ pub trait Nand {
         requires block { block < (state self.old).geometry.blocks }
         requires page { page < (state self.old).geometry.pages }
         ensures reads { Reads (state self.old) (state self.new) result }
-        ensures kind { ReadTells (state self.old).honest ((state self.old).flash.page block page) result }
+        ensures kind { ReadReports (state self.old).honest ((state self.old).flash.page block page) result }
         ensures tag { Fills (state self.old).honest (tag_of ((state self.old).flash.page block page) tag.old) result tag.old tag.new };
 
     /// Reads the data and the tag of a page. The buffers are filled where the page is written; else the tag's stays, and that
@@ -69,7 +69,7 @@ pub trait Nand {
         requires page { page < (state self.old).geometry.pages }
         requires size { length bytes.old ≡ (state self.old).geometry.bytes }
         ensures reads { Reads (state self.old) (state self.new) result }
-        ensures kind { ReadTells (state self.old).honest ((state self.old).flash.page block page) result }
+        ensures kind { ReadReports (state self.old).honest ((state self.old).flash.page block page) result }
         ensures bytes { FillsData (state self.old).honest (bytes_of ((state self.old).flash.page block page) bytes.old) result bytes.new }
         ensures tag { Fills (state self.old).honest (tag_of ((state self.old).flash.page block page) tag.old) result tag.old tag.new };
 

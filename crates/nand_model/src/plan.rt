@@ -1,6 +1,6 @@
 // Which calls of a device in memory are cut or fail.
 ghost use Rattle.std.specs.Prelude.{◌≡◌, [], IfSome, IfNone, IfOk};
-ghost use Rattle.nand_model.specs.Plans.{listed, counted, is_fused, failure_at, change_end, change_fates, other_end, fate_at};
+ghost use Rattle.nand_model.specs.Plans.{listed, totaled, is_fused, failure_at, change_end, change_fates, other_end, fate_at};
 
 use crate::fate::Fate;
 use std::alloc::{AllocError, Global};
@@ -13,7 +13,7 @@ pub(crate) enum End {
     Cut,
 }
 
-/// The call that is cut, counted from the power-up, and what it leaves.
+/// The call that is cut, from the power-up, and what it leaves.
 #[derive(Drop)]
 pub(crate) struct Fuse {
     pub call: u64,
@@ -43,7 +43,7 @@ impl Script {
         }
     }
 
-    /// Begins anew: nothing is counted, no call is cut or fails.
+    /// Begins anew: every count is 0, no call is cut or fails.
     pub(crate) fn restart(&mut self)
         ensures { plan self.new ≡ record { calls = 0; changes = 0; fuse = None; failures = [] } }
     {
@@ -54,13 +54,13 @@ impl Script {
     }
 
     pub(crate) fn count_call(&mut self)
-        ensures { plan self.new ≡ record (plan self.old) { calls = counted (plan self.old).calls } }
+        ensures { plan self.new ≡ record (plan self.old) { calls = totaled (plan self.old).calls } }
     {
         self.calls = self.calls.saturating_add(1);
     }
 
     pub(crate) fn count_change(&mut self)
-        ensures { plan self.new ≡ record (plan self.old) { changes = counted (plan self.old).changes } }
+        ensures { plan self.new ≡ record (plan self.old) { changes = totaled (plan self.old).changes } }
     {
         self.changes = self.changes.saturating_add(1);
     }

@@ -1,6 +1,6 @@
 // Whether a device in memory has power, and what it counts.
 ghost use Rattle.std.specs.Prelude.{◌≡◌, ◌+◌, true, false, IfOk, if◌then◌else◌};
-ghost use Rattle.nand_model.specs.Plans.{counted, is_fused, change_end, other_end};
+ghost use Rattle.nand_model.specs.Plans.{totaled, is_fused, change_end, other_end};
 ghost use Rattle.nand_model.specs.declared.plan.End.TheVariants as ends;
 
 use crate::count::Count;
@@ -83,7 +83,7 @@ impl Power {
         false
     }
 
-    /// Begins a read, which was counted as a call. On a gone device it is as good as cut.
+    /// Begins a read, which is a call. On a gone device it is as good as cut.
     pub(crate) fn begin_read(&mut self) -> End
         ensures end { result ≡ (if self.old.gone then ends.Cut else other_end (plan self.old.script) (plan self.old.script).calls) }
         ensures gone { self.old.gone ≡ true → self.new ≡ self.old }
@@ -99,28 +99,28 @@ impl Power {
         if self.cut() { End::Cut } else { End::Whole }
     }
 
-    /// Begins a mark, which was counted as a call.
+    /// Begins a mark, which is a call.
     pub(crate) fn begin_mark(&mut self) -> End
         requires { self.old.gone ≡ false }
         ensures end { result ≡ other_end (plan self.old.script) (plan self.old.script).calls }
         ensures begins { Begins result self.old self.new }
         ensures reads { self.new.reads ≡ self.old.reads }
         ensures changes { self.new.changes.total ≡ self.old.changes.total + 1 }
-        ensures script { plan self.new.script ≡ record (plan self.old.script) { changes = counted (plan self.old.script).changes } }
+        ensures script { plan self.new.script ≡ record (plan self.old.script) { changes = totaled (plan self.old.script).changes } }
     {
         self.script.count_change();
         self.changes = self.changes.next();
         if self.cut() { End::Cut } else { End::Whole }
     }
 
-    /// Begins a program or an erase, which was counted as a call.
+    /// Begins a program or an erase, which is a call.
     pub(crate) fn begin_change(&mut self) -> End
         requires { self.old.gone ≡ false }
         ensures end { result ≡ change_end (plan self.old.script) (plan self.old.script).calls }
         ensures begins { Begins result self.old self.new }
         ensures reads { self.new.reads ≡ self.old.reads }
         ensures changes { self.new.changes.total ≡ self.old.changes.total + 1 }
-        ensures script { plan self.new.script ≡ record (plan self.old.script) { changes = counted (plan self.old.script).changes } }
+        ensures script { plan self.new.script ≡ record (plan self.old.script) { changes = totaled (plan self.old.script).changes } }
     {
         self.script.count_change();
         self.changes = self.changes.next();

@@ -7,7 +7,7 @@ use std::marker::Model;
 /// Whether something is trusted. It takes no memory.
 #[derive(Drop)]
 pub struct Trust {
-    pub ghost told: { Bool },
+    pub ghost reported: { Bool },
 }
 
 impl Model for Trust {
@@ -16,9 +16,9 @@ impl Model for Trust {
 
 impl Trust {
     /// Trust, or none, as a proof chooses at the call.
-    pub fn as_told() -> Trust
-        ghost told: { Bool }
-        ensures { result.told ≡ told }
+    pub fn as_reported() -> Trust
+        ghost reported: { Bool }
+        ensures { result.reported ≡ reported }
     {
         Trust {}
     }

@@ -18,19 +18,19 @@ impl<N: Nand> TrustedNand<N> {
 
     /// The device, trusted or not, as a proof chooses at the call.
     pub fn new(inner: N) -> TrustedNand<N>
-        ghost told: { Bool }
-        ensures state { ⟦<TrustedNand<N> as Nand>⟧.state result ≡ trusted_as told (N.state inner) }
+        ghost reported: { Bool }
+        ensures state { ⟦<TrustedNand<N> as Nand>⟧.state result ≡ trusted_as reported (N.state inner) }
         ensures inner { inner_of result ≡ inner }
     {
         TrustedNand {
             inner,
-            trust: Trust::as_told(),
+            trust: Trust::as_reported(),
         }
     }
 
     /// The device itself.
     pub fn into_inner(self) -> N
-        ensures state { (told : Bool) × (⟦<TrustedNand<N> as Nand>⟧.state self ≡ trusted_as told (N.state result)) }
+        ensures state { (reported : Bool) × (⟦<TrustedNand<N> as Nand>⟧.state self ≡ trusted_as reported (N.state result)) }
         ensures inner { result ≡ inner_of self }
     {
         self.inner
@@ -41,7 +41,7 @@ impl<N: Nand> Nand for TrustedNand<N> {
     ghost use Rattle.nand_model.specs.Trusting.{trusted_as};
     ghost use Rattle.nand_model.specs.laws.Trusted.{honest_of};
 
-    ghost state = { λ d. trusted_as d.trust.told (N.state d.inner) };
+    ghost state = { λ d. trusted_as d.trust.reported (N.state d.inner) };
 
     ghost clean = { λ d honest. N.clean d.inner (honest_of _ _ honest) };
 

@@ -1,4 +1,4 @@
-// Commands that are asked of a volume.
+// Commands on a volume.
 
 use crate::fault::ToolFault;
 use plain_volume::ask;

@@ -123,7 +123,7 @@ pub fn nanoseconds_in(text: &str) -> Result<u64, ToolFault> {
     }
 }
 
-/// Asks the lines of a fresh volume in memory, and measures them and the mounts after them.
+/// Issues the lines of a fresh volume in memory, and measures them and the mounts after them.
 pub fn bench<R: CpuClock>(
     rt: &R,
     alloc: Global,

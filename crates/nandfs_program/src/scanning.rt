@@ -65,7 +65,7 @@ fn can_have(metadata: &Metadata, directory: &[u8], name: &str, greatest: u64) ->
 }
 
 /// The name of an entry that a volume can have; another one is noted.
-fn kept_name<R: Files + Clone + Drop>(
+fn committed_name<R: Files + Clone + Drop>(
     alloc: Global,
     found: &mut Found,
     from: &Waiting,
@@ -92,7 +92,7 @@ fn names_in<R: Files + AllocGlobal + Clone + Drop>(
     for entry in fs::read_dir(rt, from.host.as_str())? {
         match entry {
             Ok(entry) => {
-                if let Some(name) = kept_name(alloc, found, from, &entry)? {
+                if let Some(name) = committed_name(alloc, found, from, &entry)? {
                     names.push(name)?;
                 }
             }

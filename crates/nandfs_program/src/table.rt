@@ -185,7 +185,7 @@ pub(crate) const SUBCOMMANDS: &[Subcommand] = &[
     },
     Subcommand {
         name: "bench",
-        about: "Asks lines of a shell, from standard input, of a fresh volume in memory, and reports the calls of its device, their time and the erases of each block. A line `mark` ends a part; lines from `repeat N` to `end` are asked N times, with the number of the turn in place of each #",
+        about: "Issues lines of a shell, from standard input, of a fresh volume in memory, and reports the calls of its device, their time and the erases of each block. A line `mark` ends a part; lines from `repeat N` to `end` are asked N times, with the number of the turn in place of each #",
         words: &[
             DATA,
             PAGES,

@@ -16,8 +16,8 @@ use Rattle.posix_profile.specs.declared.reply.Reply.TheVariants as replies
 use Rattle.object_store.specs.Stores.{Meaning, IsLawful, Has, KeepsOrSettles, settled}
 use Rattle.object_store.specs.laws.Store.{has_on}
 use Rattle.object_store.specs.declared.refusal.Refusal.{Refusal}
-use Rattle.command_plans.specs.Classes.{Class, Telling, Changing, Syncing, class_of, is_error}
-use Rattle.object_commands.specs.Endings.{IsAt, IsOnlyRead, StaysReading, Leaves, IsDone, CommandEnds, TellsRefusal}
+use Rattle.command_plans.specs.Classes.{Class, Reporting, Changing, Syncing, class_of, is_error}
+use Rattle.object_commands.specs.Endings.{IsAt, IsOnlyRead, StaysReading, Leaves, IsDone, CommandEnds, ReportsRefusal}
 use Rattle.object_commands.specs.laws.Steps.{leaves_shows}
 use Rattle.command_plans.specs.Plans.{IsPlan, Plans, Suits, Did, worked, planned, handled, does_nothing, frees}
 use Rattle.command_plans.specs.Tables.{handles_in}
@@ -30,13 +30,13 @@ use Rattle.command_plans.specs.laws.Plan.{plans_is}
 -- a plan for a command is one for the stamped command that it is
 pub plans_step : {S : Type 0} (m : Meaning S) (z : Sizes) (read_only : Bool) (s : State) (stamped : Stamped) (command : Command) (meant : Outcome) (a b : S) → stamped.command ≡ command
     → meant ≡ step_at z read_only s stamped.moment command → (r : Result Plan Refusal) → Plans m z (class_of read_only s command) s meant a b r → Plans m z (class_of read_only s stamped.command) s (step z read_only s stamped) a b r
-plans_step m z read_only s stamped command meant a b is means r told =
-    subst (λ c. Plans m z (class_of read_only s c) s (step_at z read_only s stamped.moment c) a b r) (sym is) (plans_is m z (class_of read_only s command) s meant (step_at z read_only s stamped.moment command) a b means r told)
+plans_step m z read_only s stamped command meant a b is means r reported =
+    subst (λ c. Plans m z (class_of read_only s c) s (step_at z read_only s stamped.moment c) a b r) (sym is) (plans_is m z (class_of read_only s command) s meant (step_at z read_only s stamped.moment command) a b means r reported)
 
 work_leaves : {S : Type 0} (m : Meaning S) (class : Class) (reply : Reply) (objects : Objects) (w : StoreWork) (a b : S) → Suits class reply w → Did m objects w a b → Leaves m class reply objects (worked objects w) a b
-work_leaves m Telling reply objects work.Nothing a b suits did = (refl, did)
-work_leaves m Telling reply objects (work.Change change) a b suits did = absurd suits
-work_leaves m Telling reply objects work.Commit a b suits did = absurd suits
+work_leaves m Reporting reply objects work.Nothing a b suits did = (refl, did)
+work_leaves m Reporting reply objects (work.Change change) a b suits did = absurd suits
+work_leaves m Reporting reply objects work.Commit a b suits did = absurd suits
 work_leaves m Changing reply objects work.Nothing a b suits did = inl (refl, did)
 work_leaves m Changing reply objects (work.Change change) a b suits did = inr (suits, did)
 work_leaves m Changing reply objects work.Commit a b suits did = absurd suits
@@ -45,12 +45,12 @@ work_leaves m Syncing reply objects (work.Change change) a b suits did = absurd 
 work_leaves m Syncing reply objects work.Commit a b suits did = (refl, inr (suits, did))
 
 error_leaves : {S : Type 0} (m : Meaning S) (class : Class) (e : Errno) (objects : Objects) (a b : S) → m.reads a b → Leaves m class (replies.Error e) objects objects a b
-error_leaves m Telling e objects a b reads = (refl, reads)
+error_leaves m Reporting e objects a b reads = (refl, reads)
 error_leaves m Changing e objects a b reads = inl (refl, reads)
 error_leaves m Syncing e objects a b reads = (refl, inl (refl, reads))
 
 leaves_on : {S : Type 0} (m : Meaning S) (law : IsLawful m) (class : Class) (reply : Reply) (old new : Objects) (a b c : S) → m.reads a b → Leaves m class reply old new b c → Leaves m class reply old new a c
-leaves_on m law Telling reply old new a b c reads left = (left.0, law.reads_on a b c reads left.1)
+leaves_on m law Reporting reply old new a b c reads left = (left.0, law.reads_on a b c reads left.1)
 leaves_on m law Changing reply old new a b c reads (inl same) = inl (same.0, law.reads_on a b c reads same.1)
 leaves_on m law Changing reply old new a b c reads (inr made) = inr (made.0, law.changes_on a b c old new reads made.1)
 leaves_on m law Syncing reply old new a b c reads left = (left.0, go left.1)
@@ -71,12 +71,12 @@ has_after m law z old s a b has lasts stands sound = record {
 
 -- the volume goes on to stand for a state
 pub at_on : {S : Type 0} (m : Meaning S) (law : IsLawful m) (z : Sizes) (s : State) (a b : Volume S) → m.reads a.store b.store → b.table ≡ a.table → b.read_only ≡ a.read_only → IsAt m z s a → IsAt m z s b
-at_on m law z s a b reads same kept at = record {
+at_on m law z s a b reads same committed at = record {
   has = has_on m law z s.objects a.store b.store reads at.has;
   handles = ap handles_in same ∙ at.handles;
   sound = at.sound;
   only_read = λ is.
-      let only = at.only_read (sym kept ∙ is) in
+      let only = at.only_read (sym committed ∙ is) in
       record { handles = only.handles; named = only.named; shown = law.reads_shows a.store b.store s.objects reads only.shown };
 }
 
@@ -95,7 +95,7 @@ still_only_read m old new a b only stays turns = record {
 pub is_done : {S : Type 0} (m : Meaning S) (law : IsLawful m) (z : Sizes) (class : Class) (s : State) (meant : Outcome) (plan : Plan) (a b : Volume S) → IsAt m z s a → IsPlan z class s meant plan → IsSound z meant.state → b.read_only ≡ a.read_only → (a.read_only ≡ true → StaysReading s meant.state)
     → m.lasts a.store b.store → m.stands b.store (worked s.objects plan.work) → Did m s.objects plan.work a.store b.store → handles_in b.table ≡ handled (handles_in a.table) plan.handles → b.stopped ≡ false
     → IsDone m z class s meant a b plan.reply
-is_done m law z class s meant plan a b at is sound kept stays lasts stands did same goes =
+is_done m law z class s meant plan a b at is sound committed stays lasts stands did same goes =
     let left = work_leaves m class plan.reply s.objects plan.work a.store b.store is.suits did in
     let stays' : a.read_only ≡ true → StaysReading s (planned s plan).state = subst (λ (o : Outcome). a.read_only ≡ true → StaysReading s o.state) (sym is.means) stays in
     let sound' : IsSound z (planned s plan).state = subst (λ (o : Outcome). IsSound z o.state) (sym is.means) sound in
@@ -106,46 +106,46 @@ is_done m law z class s meant plan a b at is sound kept stays lasts stands did s
         handles = same ∙ ap (λ h. handled h plan.handles) at.handles;
         sound = sound';
         only_read = λ only.
-            let was = sym kept ∙ only in
+            let was = sym committed ∙ only in
             still_only_read m s (planned s plan).state a.store b.store (at.only_read was) (stays' was) (leaves_shows m law class plan.reply s.objects (worked s.objects plan.work) a.store b.store left);
       };
       left = left;
       goes_on = goes;
     })
 
--- a plan of a command that tells, or that is meant to be answered by an error, is to do nothing
-suits_nothing : (class : Class) (reply : Reply) (w : StoreWork) → Suits class reply w → (class ≡ Telling) ⊎ (is_error reply ≡ true) → does_nothing w ≡ true
+-- a plan of a command that reports, or that is meant to be answered by an error, is to do nothing
+suits_nothing : (class : Class) (reply : Reply) (w : StoreWork) → Suits class reply w → (class ≡ Reporting) ⊎ (is_error reply ≡ true) → does_nothing w ≡ true
 suits_nothing class reply work.Nothing suits why = refl
-suits_nothing Telling reply (work.Change change) suits why = absurd suits
-suits_nothing Changing reply (work.Change change) suits (inl tells) = absurd cc
+suits_nothing Reporting reply (work.Change change) suits why = absurd suits
+suits_nothing Changing reply (work.Change change) suits (inl reports) = absurd cc
 suits_nothing Changing reply (work.Change change) suits (inr error) = absurd (true≢false (sym error ∙ suits))
 suits_nothing Syncing reply (work.Change change) suits why = absurd suits
-suits_nothing Telling reply work.Commit suits why = absurd suits
+suits_nothing Reporting reply work.Commit suits why = absurd suits
 suits_nothing Changing reply work.Commit suits why = absurd suits
-suits_nothing Syncing reply work.Commit suits (inl tells) = absurd cc
+suits_nothing Syncing reply work.Commit suits (inl reports) = absurd cc
 suits_nothing Syncing reply work.Commit suits (inr error) = let two : true ≡ false = sym error ∙ ap is_error suits in absurd cc
 
-pub plan_nothing : (z : Sizes) (class : Class) (s : State) (meant : Outcome) (plan : Plan) → IsPlan z class s meant plan → (class ≡ Telling) ⊎ (is_error meant.reply ≡ true) → does_nothing plan.work ≡ true
-plan_nothing z class s meant plan is why = suits_nothing class plan.reply plan.work is.suits (elim why [ inl tells ↦ inl tells | inr error ↦ inr (ap (λ (o : Outcome). is_error o.reply) is.means ∙ error) ])
+pub plan_nothing : (z : Sizes) (class : Class) (s : State) (meant : Outcome) (plan : Plan) → IsPlan z class s meant plan → (class ≡ Reporting) ⊎ (is_error meant.reply ≡ true) → does_nothing plan.work ≡ true
+plan_nothing z class s meant plan is why = suits_nothing class plan.reply plan.work is.suits (elim why [ inl reports ↦ inl reports | inr error ↦ inr (ap (λ (o : Outcome). is_error o.reply) is.means ∙ error) ])
 
 -- a command that is answered by an error
 pub error_ends : {S : Type 0} (m : Meaning S) (law : IsLawful m) (z : Sizes) (class : Class) (s : State) (meant : Outcome) (e : Errno) (a b : Volume S) → IsAt m z s a → refuse s e ≡ meant
     → m.reads a.store b.store → b.table ≡ a.table → b.read_only ≡ a.read_only → b.stopped ≡ false → IsDone m z class s meant a b (replies.Error e)
-error_ends m law z class s meant e a b at is reads same kept goes = subst (λ o. IsDone m z class s o a b (replies.Error e)) is (record {
+error_ends m law z class s meant e a b at is reads same committed goes = subst (λ o. IsDone m z class s o a b (replies.Error e)) is (record {
   reply = refl;
-  state = at_on m law z s a b reads same kept at;
+  state = at_on m law z s a b reads same committed at;
   left = error_leaves m class e s.objects a.store b.store reads;
   goes_on = goes;
 })
 
 -- a command for which memory was refused, from a volume whose store only read
-pub refused_ends : {S : Type 0} (m : Meaning S) (law : IsLawful m) (z : Sizes) (class : Class) (takes_none : Bool) (s : State) (meant : Outcome) (a b : Volume S) (told : Reply) → IsAt m z s a → takes_none ≡ false
-    → m.reads a.store b.store → b.table ≡ a.table → b.read_only ≡ a.read_only → TellsRefusal m b.store told → b.stopped ≡ is_stop told → CommandEnds m z class takes_none s meant a b told
-refused_ends m law z class takes_none s meant a b told at takes reads same kept (inl refused) stops = inr (inl (
+pub refused_ends : {S : Type 0} (m : Meaning S) (law : IsLawful m) (z : Sizes) (class : Class) (takes_none : Bool) (s : State) (meant : Outcome) (a b : Volume S) (reported : Reply) → IsAt m z s a → takes_none ≡ false
+    → m.reads a.store b.store → b.table ≡ a.table → b.read_only ≡ a.read_only → ReportsRefusal m b.store reported → b.stopped ≡ is_stop reported → CommandEnds m z class takes_none s meant a b reported
+refused_ends m law z class takes_none s meant a b reported at takes reads same committed (inl refused) stops = inr (inl (
   takes,
-  record { reply = refused.0; state = at_on m law z s a b reads same kept at; left = reads; power = refused.1; goes_on = stops ∙ ap is_stop refused.0 },
+  record { reply = refused.0; state = at_on m law z s a b reads same committed at; left = reads; power = refused.1; goes_on = stops ∙ ap is_stop refused.0 },
 ))
-refused_ends m law z class takes_none s meant a b told at takes reads same kept (inr lost) stops = inr (inr (record {
+refused_ends m law z class takes_none s meant a b reported at takes reads same committed (inr lost) stops = inr (inr (record {
   reply = lost.0;
   left = law.unread_fails a.store b.store s.objects meant.state.objects (law.powerless_unread a.store b.store reads lost.1);
   unread = λ _. law.powerless_unread a.store b.store reads lost.1;
@@ -153,42 +153,42 @@ refused_ends m law z class takes_none s meant a b told at takes reads same kept 
 }))
 
 -- such a store, where that stops the volume
-pub refused_unread : {S : Type 0} (m : Meaning S) (law : IsLawful m) (a b : S) (told : Reply) → m.reads a b → TellsRefusal m b told → is_stop told ≡ true → m.unread a b
-refused_unread m law a b told reads (inl refused) stop = absurd (true≢false (sym stop ∙ ap is_stop refused.0))
-refused_unread m law a b told reads (inr lost) stop = law.powerless_unread a b reads lost.1
+pub refused_unread : {S : Type 0} (m : Meaning S) (law : IsLawful m) (a b : S) (reported : Reply) → m.reads a b → ReportsRefusal m b reported → is_stop reported ≡ true → m.unread a b
+refused_unread m law a b reported reads (inl refused) stop = absurd (true≢false (sym stop ∙ ap is_stop refused.0))
+refused_unread m law a b reported reads (inr lost) stop = law.powerless_unread a b reads lost.1
 
 -- a plan that is carried out after calls that read; it takes memory only where the command may
-pub ends_on : {S : Type 0} (m : Meaning S) (law : IsLawful m) (z : Sizes) (class : Class) (frees takes_none : Bool) (s : State) (meant : Outcome) (a b c : Volume S) (told : Reply)
-    → m.reads a.store b.store → (takes_none ≡ true → frees ≡ true) → CommandEnds m z class frees s meant b c told → CommandEnds m z class takes_none s meant a c told
-ends_on m law z class frees takes_none s meant a b c told reads none (inl done) = inl (record {
+pub ends_on : {S : Type 0} (m : Meaning S) (law : IsLawful m) (z : Sizes) (class : Class) (frees takes_none : Bool) (s : State) (meant : Outcome) (a b c : Volume S) (reported : Reply)
+    → m.reads a.store b.store → (takes_none ≡ true → frees ≡ true) → CommandEnds m z class frees s meant b c reported → CommandEnds m z class takes_none s meant a c reported
+ends_on m law z class frees takes_none s meant a b c reported reads none (inl done) = inl (record {
   reply = done.reply;
   state = done.state;
   left = leaves_on m law class meant.reply s.objects meant.state.objects a.store b.store c.store reads done.left;
   goes_on = done.goes_on;
 })
-ends_on m law z class frees takes_none s meant a b c told reads none (inr (inl passed)) = inr (inl (
+ends_on m law z class frees takes_none s meant a b c reported reads none (inr (inl passed)) = inr (inl (
   false_from_ne_true takes_none (λ yes'. true≢false (sym (none yes') ∙ passed.0)),
   record { reply = passed.1.reply; state = passed.1.state; left = law.reads_on a.store b.store c.store reads passed.1.left; power = passed.1.power; goes_on = passed.1.goes_on },
 ))
-ends_on m law z class frees takes_none s meant a b c told reads none (inr (inr stopped)) = inr (inr (record {
+ends_on m law z class frees takes_none s meant a b c reported reads none (inr (inr stopped)) = inr (inr (record {
   reply = stopped.reply;
   left = law.fails_on a.store b.store c.store s.objects meant.state.objects reads stopped.left;
   unread = λ why. law.unread_on a.store b.store c.store reads (stopped.unread why);
   stops = stopped.stops;
 }))
 
--- a command that tells, and that stops the volume, was ended by a read that failed
-pub stop_unread : {S : Type 0} (m : Meaning S) (z : Sizes) (takes_none : Bool) (s : State) (meant : Outcome) (a b : Volume S) (told : Reply) → is_stop meant.reply ≡ false → is_stop told ≡ true
-    → CommandEnds m z Telling takes_none s meant a b told → m.unread a.store b.store
-stop_unread m z takes_none s meant a b told goes stop (inl done) = absurd (true≢false (sym stop ∙ ap is_stop done.reply ∙ goes))
-stop_unread m z takes_none s meant a b told goes stop (inr (inl passed)) = absurd (true≢false (sym stop ∙ ap is_stop passed.1.reply))
-stop_unread m z takes_none s meant a b told goes stop (inr (inr stopped)) = stopped.unread (inl refl)
+-- a command that reports, and that stops the volume, was ended by a read that failed
+pub stop_unread : {S : Type 0} (m : Meaning S) (z : Sizes) (takes_none : Bool) (s : State) (meant : Outcome) (a b : Volume S) (reported : Reply) → is_stop meant.reply ≡ false → is_stop reported ≡ true
+    → CommandEnds m z Reporting takes_none s meant a b reported → m.unread a.store b.store
+stop_unread m z takes_none s meant a b reported goes stop (inl done) = absurd (true≢false (sym stop ∙ ap is_stop done.reply ∙ goes))
+stop_unread m z takes_none s meant a b reported goes stop (inr (inl passed)) = absurd (true≢false (sym stop ∙ ap is_stop passed.1.reply))
+stop_unread m z takes_none s meant a b reported goes stop (inr (inr stopped)) = stopped.unread (inl refl)
 
--- a plan that is to do nothing is one of a command that tells
-pub nothing_tells : (z : Sizes) (class : Class) (s : State) (meant : Outcome) (plan : Plan) → IsPlan z class s meant plan → does_nothing plan.work ≡ true → IsPlan z Telling s meant plan
-nothing_tells z class s meant plan is none = record { means = is.means; can = is.can; range = is.range; suits = go plan.work none }
+-- a plan that is to do nothing is one of a command that reports
+pub nothing_reports : (z : Sizes) (class : Class) (s : State) (meant : Outcome) (plan : Plan) → IsPlan z class s meant plan → does_nothing plan.work ≡ true → IsPlan z Reporting s meant plan
+nothing_reports z class s meant plan is none = record { means = is.means; can = is.can; range = is.range; suits = go plan.work none }
   where
-    go : (w : StoreWork) → does_nothing w ≡ true → Suits Telling plan.reply w
+    go : (w : StoreWork) → does_nothing w ≡ true → Suits Reporting plan.reply w
     go work.Nothing none = tt
     go (work.Change change) none = let two : false ≡ true = none in absurd cc
     go work.Commit none = let two : false ≡ true = none in absurd cc

@@ -28,7 +28,7 @@ use Rattle.posix_profile.specs.declared.reply.Reply.{Reply}
 use Rattle.object_store.specs.Changes.{made, CanMake, IsAbsent, LeadsTo, NamesNothing}
 use Rattle.object_store.specs.declared.change.DirectoryEntry.{DirectoryEntry}
 use Rattle.object_store.specs.declared.change.ObjectChange.{ObjectChange}
-use Rattle.command_plans.specs.Classes.{Class, Changing, tells_if, is_error}
+use Rattle.command_plans.specs.Classes.{Class, Changing, reports_if, is_error}
 use Rattle.object_commands.specs.Names.{LeadsHere, EndsInName}
 use Rattle.object_commands.specs.Opens.{cut_by, opened}
 use Rattle.command_plans.specs.Plans.{IsPlan, CanDo, Suits, worked}
@@ -93,7 +93,7 @@ replaced_names_nothing s o there to x (Dir moment entries) is was none =
     (none ∙ ap (λ (v : Option Object). first_error ((is_file (map.get s.objects o) && is_directory v, errors.EISDIR) ∷ (is_directory (map.get s.objects o) && is_file v, errors.ENOTDIR)
     ∷ (is_directory (map.get s.objects o) && nat_lt 0 (map.len (entries_of (map.get s.objects there))), errors.ENOTEMPTY) ∷ [])) was))
 
--- an entry that is told by its parts
+-- an entry that is reported by its parts
 pub entry_is : {A : Type 0} (f : ℕ → Name → A) (e : DirectoryEntry) (d : ℕ) (name : Name) → e.directory ≡ d → e.name.now ≡ name → f e.directory e.name.now ≡ f d name
 entry_is f e d name is same = ap (λ d. f d e.name.now) is ∙ ap (f d) same
 
@@ -126,8 +126,8 @@ name_leads objects place o ends object = go place.last refl
     go (Some Dot) is = let two : true ≡ false = sym (ap is_dot is) ∙ ends.no_dot in absurd cc
     go (Some DotDot) is = let two : true ≡ false = sym (ap is_dot_dot is) ∙ ends.no_dot_dot in absurd cc
     go (Some (Named name)) is =
-        let told = subst (λ last. Ends objects place.directory last place.object) is ends.place.ends in
-        let names = entry_named objects place.directory o name ends.place.directory (sym told.1 ∙ object) in
+        let reported = subst (λ last. Ends objects place.directory last place.object) is ends.place.ends in
+        let names = entry_named objects place.directory o name ends.place.directory (sym reported.1 ∙ object) in
         subst (λ n. Names objects place.directory n o) (sym (ap last_name is)) names
 
 -- an open descriptor
@@ -140,7 +140,7 @@ pub cut_made : (objects : Objects) (o moment : ℕ) (b : Bool) → worked object
 cut_made objects o moment true = refl
 cut_made objects o moment false = refl
 
-pub cut_suits : (fd o moment : ℕ) (b : Bool) → Suits (tells_if (not b) Changing) (replies.Fd fd) (cut_by b o moment)
+pub cut_suits : (fd o moment : ℕ) (b : Bool) → Suits (reports_if (not b) Changing) (replies.Fd fd) (cut_by b o moment)
 cut_suits fd o moment true = refl
 cut_suits fd o moment false = tt
 

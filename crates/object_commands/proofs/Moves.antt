@@ -13,7 +13,7 @@ use Rattle.posix_profile.specs.Charge.{charge, fits}
 use Rattle.volume_terms.specs.Rounding.{ceiling}
 use Rattle.posix_profile.specs.laws.Charge.{fits_less, insert_less}
 use Rattle.posix_profile.specs.Changes.{with_name, without_name}
-use Rattle.posix_profile.specs.laws.Directory.{directory_after, without_kept}
+use Rattle.posix_profile.specs.laws.Directory.{directory_after, without_committed}
 use Rattle.posix_profile.specs.laws.Map.{cases_key, get_here, get_there, get_removed, removed_none}
 use Rattle.posix_profile.specs.laws.Name.{name_same, namer_directory, named_entry, one_object}
 use Rattle.posix_profile.specs.NameSteps.{rename_tests_onto}
@@ -106,7 +106,7 @@ named_less z objects moment q x y b names =
 pub onto_fits : (z : Sizes) (objects : Objects) (moment d q x y : ℕ) (a b : Name) → Names objects d a x → Names objects q b y → y ≢ x → fits z objects ≡ true → fits z (with_name (without_name objects moment d a) moment q b x) ≡ true
 onto_fits z objects moment d q x y a b from was ne fit =
     let dir = namer_directory objects d x a from in
-    let still = without_kept objects moment d a dir q y b was
+    let still = without_committed objects moment d a dir q y b was
     (λ is same. ne (one_object objects d y x a (subst (λ m. Names objects d m y) same (subst (λ r. Names objects r b y) is was)) from)) in
     fits_less z (without_name objects moment d a) (with_name (without_name objects moment d a) moment q b x) (named_less z (without_name objects moment d a) moment q x y b still) (removed_fits z objects moment d a dir fit)
 

@@ -12,9 +12,9 @@ use Rattle.posix_profile.specs.Changes.{with_name, without_name}
 use Rattle.posix_profile.specs.WellFormed.{IsNamed, IsOpen, IsWellFormed}
 use Rattle.posix_profile.specs.laws.Map.{Member, cases_key, insert_cases, get_removed}
 use Rattle.posix_profile.specs.laws.Name.{name_same, one_object, namer_directory}
-use Rattle.posix_profile.specs.laws.Directory.{with_from, with_kept, with_here, without_from, without_kept, directory_after}
+use Rattle.posix_profile.specs.laws.Directory.{with_from, with_committed, with_here, without_from, without_committed, directory_after}
 use Rattle.posix_profile.specs.laws.Link.{Lists, link_pairs_list}
-use Rattle.posix_profile.specs.laws.Prune.{IsKept}
+use Rattle.posix_profile.specs.laws.Prune.{IsCommittedKey}
 use Rattle.object_store.specs.Changes.{without}
 use Rattle.object_commands.specs.Names.{Unnames}
 use Rattle.object_commands.proofs.PruneOne.{prune_none, prune_one}
@@ -23,10 +23,10 @@ module _ (z : Sizes) (s : State) (sound : IsWellFormed z s) (left : Objects) (di
   abbrev after : State
   after = record s { objects = left }
 
-  others_kept : (k : ℕ) (x : Object) → k ≢ o → map.get left k ≡ Some x → IsKept after k
-  others_kept k x ne is = let y = lost.there k x is in go (sound.kept k y.0 y.1)
+  others_committed : (k : ℕ) (x : Object) → k ≢ o → map.get left k ≡ Some x → IsCommittedKey after k
+  others_committed k x ne is = let y = lost.there k x is in go (sound.committed k y.0 y.1)
     where
-      go : IsKept s k → IsKept after k
+      go : IsCommittedKey s k → IsCommittedKey after k
       go (inl top) = inl top
       go (inr (inl named)) = inr (inl (lost.others k ne named))
       go (inr (inr open')) = inr (inr open')
@@ -44,7 +44,7 @@ module _ (z : Sizes) (s : State) (sound : IsWellFormed z s) (left : Objects) (di
   ]
     where
       still : (pair : ℕ × Name) → Member (a ∷ b ∷ rest) pair → (pair.0 ≡ directory → pair.1 ≡ name → ⊥) → IsNamed left o
-      still pair in' else' = (pair.0, pair.1, lost.kept pair.0 pair.1 (lists.only pair in') else')
+      still pair in' else' = (pair.0, pair.1, lost.committed pair.0 pair.1 (lists.only pair in') else')
 
   -- of one name none is left
   no_other : (pairs : List (ℕ × Name)) → Lists (λ pair. Names s.objects pair.0 pair.1 o) pairs → length pairs ≤ 1 → IsNamed left o → ⊥
@@ -62,24 +62,24 @@ module _ (z : Sizes) (s : State) (sound : IsWellFormed z s) (left : Objects) (di
   -- one with another name, or a descriptor, stays
   pub name_lost_keeps : (nat_le 2 (length (link_pairs s.objects o)) ≡ true) ⊎ IsOpen s.handles o → without None left ≡ (prune after).objects
   name_lost_keeps why = sym (prune_none after (λ k x there. elim (cases_eq k o) [
-    | inl is ↦ subst (IsKept after) (sym is) (here why)
-    | inr ne ↦ others_kept k x ne there
+    | inl is ↦ subst (IsCommittedKey after) (sym is) (here why)
+    | inr ne ↦ others_committed k x ne there
   ]))
     where
-      here : (nat_le 2 (length (link_pairs s.objects o)) ≡ true) ⊎ IsOpen s.handles o → IsKept after o
+      here : (nat_le 2 (length (link_pairs s.objects o)) ≡ true) ⊎ IsOpen s.handles o → IsCommittedKey after o
       here (inl two) = inr (inl (other_name (link_pairs s.objects o) (link_pairs_list s.objects o) (leb-true 2 (length (link_pairs s.objects o)) two)))
       here (inr open') = inr (inr open')
 
   -- one without goes, and no other
   pub name_lost_drops : nat_le 2 (length (link_pairs s.objects o)) ≡ false → (IsOpen s.handles o → ⊥) → without (Some o) left ≡ (prune after).objects
-  name_lost_drops one closed = sym (prune_one after o (λ k x ne there. others_kept k x ne there) unkept)
+  name_lost_drops one closed = sym (prune_one after o (λ k x ne there. others_committed k x ne there) uncommitted)
     where
-      unkept : IsKept after o → ⊥
-      unkept (inl top) = sound.forest.root_unnamed directory name (subst (λ k. Names s.objects directory name k) top lost.was)
-      unkept (inr (inl named)) =
+      uncommitted : IsCommittedKey after o → ⊥
+      uncommitted (inl top) = sound.forest.root_unnamed directory name (subst (λ k. Names s.objects directory name k) top lost.was)
+      uncommitted (inr (inl named)) =
           let few : length (link_pairs s.objects o) < 2 = leb-false 2 (length (link_pairs s.objects o)) one in
           no_other (link_pairs s.objects o) (link_pairs_list s.objects o) (omega arith) named
-      unkept (inr (inr open')) = closed open'
+      uncommitted (inr (inr open')) = closed open'
 
 -- a directory that has changed was there
 there_before : (objects : Objects) (d : ℕ) (new : Object) → IsDirectory objects d → (k : ℕ) (x : Object) → map.get (map.insert objects d new) k ≡ Some x → (y : Object) × (map.get objects k ≡ Some y)
@@ -98,10 +98,10 @@ removed_unnames objects moment d o name names =
       others = λ k ne named. (
         named.0,
         named.1,
-        without_kept objects moment d name dir named.0 k named.1 named.2
+        without_committed objects moment d name dir named.0 k named.1 named.2
             (λ is same. ne (one_object objects d k o name (subst (λ m. Names objects d m k) same (subst (λ q. Names objects q named.1 k) is named.2)) names)),
       );
-      kept = λ p n old else'. without_kept objects moment d name dir p o n old else';
+      committed = λ p n old else'. without_committed objects moment d name dir p o n old else';
       only = λ p n new. without_from objects moment d name dir p o n new;
     }
 
@@ -124,9 +124,9 @@ module _ (objects : Objects) (moment d q x : ℕ) (a b : Name) (from : Names obj
   -- an object that has a name has one still, but for one whose name is given away
   moved_named : (k p : ℕ) (n : Name) → Names objects p n k → (p ≡ q → n ≡ b → ⊥) → IsNamed moved k
   moved_named k p n old other = elim (cases_eq p d) [
-    | inr ne ↦ (p, n, with_kept between moment q x b to_after p k n (without_kept objects moment d a dir p k n old (λ is same. ne is)) other)
+    | inr ne ↦ (p, n, with_committed between moment q x b to_after p k n (without_committed objects moment d a dir p k n old (λ is same. ne is)) other)
     | inl first ↦ elim (cases_key nat_list_cmp_total name_same n a) [
-      | inr ne ↦ (p, n, with_kept between moment q x b to_after p k n (without_kept objects moment d a dir p k n old (λ is same. ne same)) other)
+      | inr ne ↦ (p, n, with_committed between moment q x b to_after p k n (without_committed objects moment d a dir p k n old (λ is same. ne same)) other)
       | inl last ↦
           let same : k ≡ x = one_object objects d k x a (subst (λ m. Names objects d m k) last (subst (λ r. Names objects r n k) first old)) from in
           (q, b, subst (Names moved q b) (sym same) (with_here between moment q x b to_after))
@@ -140,7 +140,7 @@ module _ (objects : Objects) (moment d q x : ℕ) (a b : Name) (from : Names obj
     there = moved_there;
     others = λ k apart named. moved_named k named.0 named.1 named.2
         (λ is same. apart (one_object objects q k y b (subst (λ m. Names objects q m k) same (subst (λ r. Names objects r named.1 k) is named.2)) was));
-    kept = λ p n old else'. with_kept between moment q x b to_after p y n (without_kept objects moment d a dir p y n old
+    committed = λ p n old else'. with_committed between moment q x b to_after p y n (without_committed objects moment d a dir p y n old
         (λ is same. ne (one_object objects d y x a (subst (λ m. Names objects d m y) same (subst (λ r. Names objects r n y) is old)) from))) else';
     only = λ p n new. elim (with_from between moment q x b to_after p y n new) [
       | inl here ↦ absurd (ne here.2)
@@ -152,9 +152,9 @@ module _ (objects : Objects) (moment d q x : ℕ) (a b : Name) (from : Names obj
 pub moved_keeps : (z : Sizes) (s : State) → IsWellFormed z s → (moment d q x : ℕ) (a b : Name) (from : Names s.objects d a x) (to : IsDirectory s.objects q) → ((k : ℕ) → Names s.objects q b k → ⊥)
     → with_name (without_name s.objects moment d a) moment q b x ≡ (prune (record s { objects = with_name (without_name s.objects moment d a) moment q b x })).objects
 moved_keeps z s sound moment d q x a b from to absent = sym (prune_none (record s { objects = with_name (without_name s.objects moment d a) moment q b x }) (λ k v there.
-    let was = moved_there s.objects moment d q x a b from to k v there in go k (sound.kept k was.0 was.1)))
+    let was = moved_there s.objects moment d q x a b from to k v there in go k (sound.committed k was.0 was.1)))
   where
-    go : (k : ℕ) → IsKept s k → IsKept (record s { objects = with_name (without_name s.objects moment d a) moment q b x }) k
+    go : (k : ℕ) → IsCommittedKey s k → IsCommittedKey (record s { objects = with_name (without_name s.objects moment d a) moment q b x }) k
     go k (inl top) = inl top
     go k (inr (inl named)) = inr (inl (moved_named s.objects moment d q x a b from to k named.0 named.1 named.2
         (λ is same. absent k (subst (λ m. Names s.objects q m k) same (subst (λ r. Names s.objects r named.1 k) is named.2)))))
@@ -165,27 +165,27 @@ module _ (z : Sizes) (s : State) (sound : IsWellFormed z s) (fd : ℕ) (handle :
   abbrev closed : State
   closed = record s { handles = map.remove s.handles fd }
 
-  kept_else : (o : ℕ) → o ≢ handle.object → IsKept s o → IsKept closed o
-  kept_else o apart (inl top) = inl top
-  kept_else o apart (inr (inl named)) = inr (inl named)
-  kept_else o apart (inr (inr open')) =
+  committed_else : (o : ℕ) → o ≢ handle.object → IsCommittedKey s o → IsCommittedKey closed o
+  committed_else o apart (inl top) = inl top
+  committed_else o apart (inr (inl named)) = inr (inl named)
+  committed_else o apart (inr (inr open')) =
       inr (inr (open'.0, open'.1, get_removed nat_cmp_total map.nat_cmp-IsAntisymmetric s.handles fd open'.0 (λ same. apart (sym open'.3 ∙ other same)) ∙ open'.2, open'.3))
     where
       other : open'.0 ≡ fd → open'.1.object ≡ handle.object
       other same = let two : Some open'.1 ≡ Some handle = sym open'.2 ∙ ap (map.get s.handles) same ∙ stood in ap (λ (h : Handle). h.object) (let e : open'.1 ≡ handle = cc in e)
 
   -- one that something else keeps stays
-  pub closed_keeps : IsKept closed handle.object → s.objects ≡ (prune closed).objects
+  pub closed_keeps : IsCommittedKey closed handle.object → s.objects ≡ (prune closed).objects
   closed_keeps why = sym (prune_none closed (λ k x there. elim (cases_eq k handle.object) [
-    | inl is ↦ subst (IsKept closed) (sym is) why
-    | inr ne ↦ kept_else k ne (sound.kept k x there)
+    | inl is ↦ subst (IsCommittedKey closed) (sym is) why
+    | inr ne ↦ committed_else k ne (sound.committed k x there)
   ]))
 
   -- one without goes, and no other
   pub closed_drops : handle.object ≢ root_number → (IsNamed s.objects handle.object → ⊥) → (IsOpen (map.remove s.handles fd) handle.object → ⊥) → map.remove s.objects handle.object ≡ (prune closed).objects
-  closed_drops low unnamed alone = sym (prune_one closed handle.object (λ k x ne there. kept_else k ne (sound.kept k x there)) unkept)
+  closed_drops low unnamed alone = sym (prune_one closed handle.object (λ k x ne there. committed_else k ne (sound.committed k x there)) uncommitted)
     where
-      unkept : IsKept closed handle.object → ⊥
-      unkept (inl top) = low top
-      unkept (inr (inl named)) = unnamed named
-      unkept (inr (inr is)) = alone is
+      uncommitted : IsCommittedKey closed handle.object → ⊥
+      uncommitted (inl top) = low top
+      uncommitted (inr (inl named)) = unnamed named
+      uncommitted (inr (inr is)) = alone is

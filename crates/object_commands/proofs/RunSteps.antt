@@ -19,7 +19,7 @@ use Rattle.posix_profile.specs.declared.reply.Reply.TheVariants as replies
 use Rattle.object_store.specs.Stores.{Meaning, IsLawful}
 use Rattle.command_plans.specs.Classes.{class_of, makes_no_call}
 use Rattle.object_commands.specs.Endings.{IsAt, CommandEnds}
-use Rattle.object_commands.specs.Running.{StaysStopped, ends_refused, OnlyTells, WritesNothing, EachAnswered, InTurn, Failure, Ran, Runs}
+use Rattle.object_commands.specs.Running.{StaysStopped, ends_refused, OnlyReports, WritesNothing, EachAnswered, InTurn, Failure, Ran, Runs}
 use Rattle.object_commands.specs.laws.Steps.{One, one_ends, error_unsynced, at_shown}
 use Rattle.object_commands.specs.declared.volume.Volume.{Volume}
 
@@ -140,13 +140,13 @@ ran_more m z s cs rs c r a b d at ran goes lasts one only unread leaves law =
       failure = λ stop. fails_last m z a.read_only s cs rs c r a.store b.store d.store at lasts (one.fails (sym one.stops ∙ stop));
       state = λ still. subst (λ x. IsAt m z x d) (sym more) (one.state (sym one.stops ∙ still));
       power = λ refused. one.power (sym (refused_push rs r) ∙ refused);
-      tells = λ each. let parts = each_last OnlyTells z a.read_only s cs rs c r at each in law.reads_on a.store b.store d.store (ran.tells parts.0) (one.reads parts.1);
+      reports = λ each. let parts = each_last OnlyReports z a.read_only s cs rs c r at each in law.reads_on a.store b.store d.store (ran.reports parts.0) (one.reads parts.1);
       only = λ why. elim why [
         | inl is ↦ let reads = ran.only (inl is) in (suc reads.0, (b.store, reads.1, only is))
         | inr each ↦
             let parts = each_last WritesNothing z a.read_only s cs rs c r at each in
             let reads = ran.only (inr parts.0) in
-            (suc reads.0, (b.store, reads.1, elim parts.1 [ inl tells ↦ inl (one.reads tells) | inr none ↦ inr (leaves none) ]))
+            (suc reads.0, (b.store, reads.1, elim parts.1 [ inl reports ↦ inl (one.reads reports) | inr none ↦ inr (leaves none) ]))
       ];
       unread = λ is stop. (b.store, unread is (sym one.stops ∙ stop));
     }
@@ -154,17 +154,17 @@ ran_more m z s cs rs c r a b d at ran goes lasts one only unread leaves law =
 -- once it is stopped
 ran_stopped : {S : Type 0} (m : Meaning S) (z : Sizes) (s : State) (cs : List Stamped) (rs : List Reply) (c : Stamped) (r : Reply) (a b d : Volume S) → slice_get cs (length rs) ≡ Some c
     → Ran m z s cs rs a b → b.stopped ≡ true → r ≡ replies.Error errors.EIO → d ≡ b → Ran m z s cs (rs ++ r ∷ []) a d
-ran_stopped m z s cs rs c r a b d at ran stopped told same =
-    let stop : is_stop r ≡ true = ap is_stop told in
+ran_stopped m z s cs rs c r a b d at ran stopped reported same =
+    let stop : is_stop r ≡ true = ap is_stop reported in
     let some : list_any is_stop rs ≡ true = sym ran.stops ∙ stopped in
     subst (λ d. Ran m z s cs (rs ++ r ∷ []) a d) (sym same) (record {
       holds = holds_more z a.read_only s cs rs c r at ran.holds (inr (inr stop)) (λ _. stop);
-      losses = λ t shown. loss_more (m.shows b.store) (m.shows b.store) t z a.read_only s cs rs c r at (λ t is. inl is) (λ synced. absurd (error_unsynced c.command errors.EIO (ap (is_synced c.command) (sym told) ∙ synced))) (ran.losses t shown);
+      losses = λ t shown. loss_more (m.shows b.store) (m.shows b.store) t z a.read_only s cs rs c r at (λ t is. inl is) (λ synced. absurd (error_unsynced c.command errors.EIO (ap (is_synced c.command) (sym reported) ∙ synced))) (ran.losses t shown);
       stops = stopped ∙ sym (any_push is_stop rs r ∙ ap (λ b. b || is_stop r) some);
       failure = λ stop. fails_before m z a.read_only s cs rs r a.store b.store (ran.failure stop);
       state = λ goes. absurd (true≢false (sym stopped ∙ goes));
-      power = λ refused. absurd (true≢false (sym refused ∙ refused_push rs r ∙ ap is_no_memory told));
-      tells = λ each. ran.tells (each_last OnlyTells z a.read_only s cs rs c r at each).0;
+      power = λ refused. absurd (true≢false (sym refused ∙ refused_push rs r ∙ ap is_no_memory reported));
+      reports = λ each. ran.reports (each_last OnlyReports z a.read_only s cs rs c r at each).0;
       only = λ why. ran.only (elim why [ inl is ↦ inl is | inr each ↦ inr (each_last WritesNothing z a.read_only s cs rs c r at each).0 ]);
       unread = ran.unread;
     })
@@ -187,8 +187,8 @@ runs_more m law cs n before now next c r a b d runs is pushed same lasts stays s
       stops = any_or a.stopped b.stopped (list_any is_stop runs.answered) d.stopped (is_stop r) runs.stops (stops_on r b d stays stops) ∙ ap (λ x. a.stopped || x) (sym (any_push is_stop runs.answered r));
       stopped = λ stop.
           let was = runs.stopped stop in
-          let told = stays (ap (λ (v : Volume _). v.stopped) was.1 ∙ stop) in
-          (all_push runs.answered r was.0 (ap is_stop told.0), told.1 ∙ was.1);
+          let reported = stays (ap (λ (v : Volume _). v.stopped) was.1 ∙ stop) in
+          (all_push runs.answered r was.0 (ap is_stop reported.0), reported.1 ∙ was.1);
       leaves = λ all.
           let parts = all_last (λ (k : Stamped). makes_no_call k.command ≡ true) cs n c is all in
           turn_more m.leaves n a.store b.store d.store (runs.leaves parts.0) (leaves parts.1);
@@ -198,7 +198,7 @@ runs_more m law cs n before now next c r a b d runs is pushed same lasts stays s
       ran = λ going z s has.
           let ran = runs.ran going z s has in
           elim (cases_Bool b.stopped) [
-            | inl stop ↦ let told = stays stop in ran_stopped m z s cs runs.answered c r a b d at ran stop told.0 told.1
+            | inl stop ↦ let reported = stays stop in ran_stopped m z s cs runs.answered c r a b d at ran stop reported.0 reported.1
             | inr still ↦
                 let x = after z a.read_only s cs runs.answered in
                 let ended = goes still z x (ran.state still) in
@@ -229,7 +229,7 @@ runs_none m law cs before a = record {
     failure = λ stop. absurd (true≢false (sym stop ∙ going));
     state = λ _. has;
     power = λ refused. let two : false ≡ true = refused in absurd cc;
-    tells = λ each. law.reads_nothing a.store;
+    reports = λ each. law.reads_nothing a.store;
     only = λ why. (zero, refl);
     unread = λ is stop. absurd (true≢false (sym stop ∙ going));
   };

@@ -12,7 +12,7 @@ use Rattle.posix_profile.specs.declared.reply.Errno.TheVariants as errors
 use Rattle.posix_profile.specs.declared.reply.Reply.{Reply}
 use Rattle.posix_profile.specs.declared.reply.Reply.TheVariants as replies
 use Rattle.object_store.specs.Stores.{Meaning, Has, settled}
-use Rattle.command_plans.specs.Classes.{Class, Telling, Changing, Syncing, is_error}
+use Rattle.command_plans.specs.Classes.{Class, Reporting, Changing, Syncing, is_error}
 use Rattle.command_plans.specs.Plans.{IsPlan, frees}
 use Rattle.command_plans.specs.Tables.{handles_in}
 use Rattle.command_plans.specs.declared.plan.Plan.{Plan}
@@ -48,46 +48,46 @@ OfVolume m v A = (z : Sizes) (s : State) → IsAt m z s v → A z s
 abbrev pub ReadsOrLeaves : {S : Type 0} (m : Meaning S) → S → S → Type 0
 ReadsOrLeaves m a b = m.reads a b ⊎ m.leaves a b
 
--- what a done command leaves of a store: one that tells, and one that is answered by an error, only reads; one that may
+-- what a done command leaves of a store: one that reports, and one that is answered by an error, only reads; one that may
 -- change makes a change or only reads; a done sync commits
 abbrev pub Leaves : {S : Type 0} (m : Meaning S) → Class → Reply → Objects → Objects → S → S → Type 0
-Leaves m Telling reply old new a b = (new ≡ old) × m.reads a b
+Leaves m Reporting reply old new a b = (new ≡ old) × m.reads a b
 Leaves m Changing reply old new a b = ((new ≡ old) × m.reads a b) ⊎ ((is_error reply ≡ false) × m.changes old new a b)
 Leaves m Syncing reply old new a b = (new ≡ old) × (((is_error reply ≡ true) × m.reads a b) ⊎ ((reply ≡ replies.Done) × m.commits old a b))
 
 -- The command is done.
-pub record IsDone {S : Type 0} (m : Meaning S) (z : Sizes) (class : Class) (s : State) (meant : Outcome) (a b : Volume S) (told : Reply) : Type 0 where
-  pub reply : told ≡ meant.reply
+pub record IsDone {S : Type 0} (m : Meaning S) (z : Sizes) (class : Class) (s : State) (meant : Outcome) (a b : Volume S) (reported : Reply) : Type 0 where
+  pub reply : reported ≡ meant.reply
   pub state : IsAt m z meant.state b
   pub left : Leaves m class meant.reply s.objects meant.state.objects a.store b.store
   pub goes_on : b.stopped ≡ false
 
 -- Memory was refused, and nothing is done. The device has power.
-pub record IsPassedOver {S : Type 0} (m : Meaning S) (z : Sizes) (s : State) (a b : Volume S) (told : Reply) : Type 0 where
-  pub reply : told ≡ replies.Error errors.ENOMEM
+pub record IsPassedOver {S : Type 0} (m : Meaning S) (z : Sizes) (s : State) (a b : Volume S) (reported : Reply) : Type 0 where
+  pub reply : reported ≡ replies.Error errors.ENOMEM
   pub state : IsAt m z s b
   pub left : m.reads a.store b.store
   pub power : m.has_power b.store ≡ true
   pub goes_on : b.stopped ≡ false
 
 -- What is answered where memory was refused: that, of a store whose device has power, else the stop.
-abbrev pub TellsRefusal : {S : Type 0} (m : Meaning S) → S → Reply → Type 0
-TellsRefusal m b told = ((told ≡ replies.Error errors.ENOMEM) × (m.has_power b ≡ true)) ⊎ ((told ≡ replies.Error errors.EIO) × (m.has_power b ≡ false))
+abbrev pub ReportsRefusal : {S : Type 0} (m : Meaning S) → S → Reply → Type 0
+ReportsRefusal m b reported = ((reported ≡ replies.Error errors.ENOMEM) × (m.has_power b ≡ true)) ⊎ ((reported ≡ replies.Error errors.EIO) × (m.has_power b ≡ false))
 
--- The store has failed, and the volume is stopped. A command that tells, and one that is meant to be answered by an error, only
+-- The store has failed, and the volume is stopped. A command that reports, and one that is meant to be answered by an error, only
 -- read, and a read failed.
-pub record IsStopped {S : Type 0} (m : Meaning S) (class : Class) (s : State) (meant : Outcome) (a b : Volume S) (told : Reply) : Type 0 where
-  pub reply : told ≡ replies.Error errors.EIO
+pub record IsStopped {S : Type 0} (m : Meaning S) (class : Class) (s : State) (meant : Outcome) (a b : Volume S) (reported : Reply) : Type 0 where
+  pub reply : reported ≡ replies.Error errors.EIO
   pub left : m.fails s.objects meant.state.objects a.store b.store
-  pub unread : (class ≡ Telling) ⊎ (is_error meant.reply ≡ true) → m.unread a.store b.store
+  pub unread : (class ≡ Reporting) ⊎ (is_error meant.reply ≡ true) → m.unread a.store b.store
   pub stops : b.stopped ≡ true
 
 -- how a command that means this ends; one that takes no memory is not passed over for it
 abbrev pub CommandEnds : {S : Type 0} (m : Meaning S) → Sizes → Class → Bool → State → Outcome → Volume S → Volume S → Reply → Type 0
-CommandEnds m z class takes_none s meant a b told =
-    IsDone m z class s meant a b told
-    ⊎ ((takes_none ≡ false) × IsPassedOver m z s a b told)
-    ⊎ IsStopped m class s meant a b told
+CommandEnds m z class takes_none s meant a b reported =
+    IsDone m z class s meant a b reported
+    ⊎ ((takes_none ≡ false) × IsPassedOver m z s a b reported)
+    ⊎ IsStopped m class s meant a b reported
 
 -- From each state that the volume stands for it ends as the command does that the plan is for, whatever that is, if it leads to
 -- a sound state, is not answered by EIO, changes nothing by an error, and of a read-only volume nothing at all.

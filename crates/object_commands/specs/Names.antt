@@ -25,7 +25,7 @@ pub record Unnames (old left : Objects) (directory : ℕ) (name : Name) (o : ℕ
   pub was : Names old directory name o
   pub there : (k : ℕ) (x : Object) → map.get left k ≡ Some x → (y : Object) × (map.get old k ≡ Some y)
   pub others : (k : ℕ) → k ≢ o → IsNamed old k → IsNamed left k
-  pub kept : (d : ℕ) (n : Name) → Names old d n o → (d ≡ directory → n ≡ name → ⊥) → Names left d n o
+  pub committed : (d : ℕ) (n : Name) → Names old d n o → (d ≡ directory → n ≡ name → ⊥) → Names left d n o
   pub only : (d : ℕ) (n : Name) → Names left d n o → (d ≡ directory → n ≡ name → ⊥) × Names old d n o
 
 -- the place's name leads to the object
@@ -76,10 +76,10 @@ abbrev pub OfName : State → PathPlace → (Place → Type 0) → Type 0
 OfName s p A = EndsInName s.objects (place_of p) → A (place_of p)
 
 -- Whichever name the object loses: without what is to be dropped there is left what names and descriptors keep.
-abbrev pub DropsUnkept : State → ℕ → Option ℕ → Type 0
-DropsUnkept s o dropped = (left : Objects) (directory : ℕ) (name : Name) → Unnames s.objects left directory name o → without dropped left ≡ (prune (record s { objects = left })).objects
+abbrev pub DropsUncommitted : State → ℕ → Option ℕ → Type 0
+DropsUncommitted s o dropped = (left : Objects) (directory : ℕ) (name : Name) → Unnames s.objects left directory name o → without dropped left ≡ (prune (record s { objects = left })).objects
 
--- Where the place's name leads to the object, which names nothing: the plan removes the name, and what only it kept.
+-- Where the place's name leads to the object, which names nothing: the plan removes the name, and what only it committed.
 abbrev pub RemovesName : ℕ → PathPlace → ℕ → Plan → Sizes → State → Type 0
 RemovesName moment p o plan z s = LeadsHere s.objects (place_of p) o → NamesNothing s.objects o → IsPlan z Changing s (answer (name_removed moment s (place_of p)) replies.Done) plan
 

@@ -15,7 +15,7 @@ use Rattle.posix_profile.specs.declared.reply.Errno.{Errno}
 use Rattle.posix_profile.specs.declared.reply.Errno.TheVariants as errors
 use Rattle.posix_profile.specs.declared.reply.Reply.TheVariants as replies
 use Rattle.object_store.specs.declared.change.ObjectChange.TheVariants as changes
-use Rattle.command_plans.specs.Classes.{Class, Changing, is_there, tells_if}
+use Rattle.command_plans.specs.Classes.{Class, Changing, is_there, reports_if}
 use Rattle.command_plans.specs.Paths.{place_of}
 use Rattle.command_plans.specs.Plans.{Tries}
 use Rattle.command_plans.specs.declared.path.parts.PathPlace.{PathPlace}
@@ -51,16 +51,16 @@ opened fd object flags w = record { reply = replies.Fd fd; handles = handle_chan
 
 -- Open, which changes nothing where an object is there and is not cut
 abbrev pub open_task : Bool → ℕ → List ℕ → OpenFlags → Sizes → State → Class × Outcome
-open_task read_only moment path flags z s = (tells_if (is_there (resolve s.objects path) && not flags.trunc) Changing, open_step z read_only moment s path flags)
+open_task read_only moment path flags z s = (reports_if (is_there (resolve s.objects path) && not flags.trunc) Changing, open_step z read_only moment s path flags)
 
 -- Of a path's place: a plan for Open there, or the error that is meant; nothing changes where an object is there and is not cut.
 abbrev pub OpensAt : Bool → ℕ → OpenFlags → PathPlace → Result Plan Errno → Sizes → State → Type 0
 OpensAt read_only moment flags p r z s = IsPlace s.objects (place_of p)
-    → Tries z (tells_if (is_some (place_of p).object && not flags.trunc) Changing) s (open_at z read_only moment s flags (place_of p) (place_of p).object) r
+    → Tries z (reports_if (is_some (place_of p).object && not flags.trunc) Changing) s (open_at z read_only moment s flags (place_of p) (place_of p).object) r
 
 -- Of an object that is there, which changes only if it is cut: a plan for what is meant, or the error that is meant.
 abbrev pub TriesOpen : Sizes → State → OpenFlags → Outcome → Result Plan Errno → Type 0
-TriesOpen z s flags meant r = Tries z (tells_if (not flags.trunc) Changing) s meant r
+TriesOpen z s flags meant r = Tries z (reports_if (not flags.trunc) Changing) s meant r
 
 -- this holds at each sound state, on a descriptor that there is, if the object is a file where the flags cut it
 abbrev pub OfOpenable : OpenFlags → ℕ → ℕ → (Sizes → State → Type 0) → Type 0
@@ -70,6 +70,6 @@ OfOpenable flags o fd A = (z : Sizes) (s : State) → IsSound z s → fd < descr
 abbrev pub IfOpen : State → ℕ → ℕ → Type 0 → Type 0
 IfOpen s fd o A = (handle : Handle) → map.get s.handles fd ≡ Some handle → o ≡ handle.object → A
 
--- the state without the descriptor, and without what only it kept
+-- the state without the descriptor, and without what only it committed
 abbrev pub closed : State → ℕ → State
 closed s fd = prune (record s { handles = map.remove s.handles fd })

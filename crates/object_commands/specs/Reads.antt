@@ -19,15 +19,15 @@ use Rattle.command_plans.specs.declared.plan.HandleChange.TheVariants as handle_
 use Rattle.command_plans.specs.declared.plan.Plan.{Plan}
 use Rattle.command_plans.specs.declared.plan.StoreWork.TheVariants as work
 use Rattle.command_plans.specs.declared.table.OpenDescription.{OpenDescription}
-use Rattle.object_commands.specs.declared.telling.Filled.{Filled}
+use Rattle.object_commands.specs.declared.reporting.Filled.{Filled}
 
 -- these bytes, past which the offset moves
-abbrev pub read_told : State → ℕ → Handle → List ℕ → Outcome
-read_told s fd handle there = answer (with_offset s fd handle (handle.offset + length there)) (replies.Data there)
+abbrev pub read_reported : State → ℕ → Handle → List ℕ → Outcome
+read_reported s fd handle there = answer (with_offset s fd handle (handle.offset + length there)) (replies.Data there)
 
 -- the bytes from the offset, at most so many
 abbrev pub read_of : State → ℕ → Handle → ℕ → List ℕ → Outcome
-read_of s fd handle count bytes = read_told s fd handle (take count (drop handle.offset bytes))
+read_of s fd handle count bytes = read_reported s fd handle (take count (drop handle.offset bytes))
 
 -- the bytes of a file from the offset of a descriptor on, at most so many
 abbrev pub bytes_at : Objects → OpenDescription → ℕ → List ℕ

@@ -14,7 +14,7 @@ use Rattle.posix_profile.specs.declared.reply.Errno.{Errno}
 use Rattle.posix_profile.specs.declared.reply.Errno.TheVariants as errors
 use Rattle.posix_profile.specs.declared.reply.Reply.TheVariants as replies
 use Rattle.object_store.specs.Changes.{NamesNothing}
-use Rattle.command_plans.specs.Classes.{Class, Changing, is_one, lead_to_one, tells_if}
+use Rattle.command_plans.specs.Classes.{Class, Changing, is_one, lead_to_one, reports_if}
 use Rattle.command_plans.specs.Paths.{place_of}
 use Rattle.command_plans.specs.Plans.{Tries, IsPlan}
 use Rattle.command_plans.specs.declared.path.parts.PathPlace.{PathPlace}
@@ -42,11 +42,11 @@ rename_error s o to = first_error (rename_tests_onto s o to to.object)
 abbrev pub have_dots : Place → Place → Bool
 have_dots from to = is_dot from.last || is_dot_dot from.last || is_dot to.last || is_dot_dot to.last
 
--- It is told whether the objects fit once a name has gone from the one directory to the other, where it is absent.
+-- It is reported whether the objects fit once a name has gone from the one directory to the other, where it is absent.
 abbrev pub IsRoomForMove : ℕ → ℕ → Bool → Sizes → Objects → Type 0
-IsRoomForMove from to told z objects = IsDirectory objects to
+IsRoomForMove from to reported z objects = IsDirectory objects to
     → (moment o : ℕ) (a b : Name) → Names objects from a o → map.get (entries_of (map.get objects to)) b ≡ None
-    → told ≡ fits z (with_name (without_name objects moment from a) moment to b o)
+    → reported ≡ fits z (with_name (without_name objects moment from a) moment to b o)
 
 -- A rename of an object from a place to another.
 pub record Renaming : Type 0 where
@@ -86,13 +86,13 @@ RenamesOnto read_only moment r result z s = OfRename s r (is_object r.number r.t
 -- Of a rename between places that end in a name: a plan for it, or the error that is meant; nothing changes where the object has the name.
 abbrev pub RenamesTo : Bool → ℕ → Renaming → Result Plan Errno → Sizes → State → Type 0
 RenamesTo read_only moment r result z s =
-    OfRename s r (Tries z (tells_if (is_object r.number r.to.object) Changing) s (rename_to z read_only moment s r.from r.to r.number) result)
+    OfRename s r (Tries z (reports_if (is_object r.number r.to.object) Changing) s (rename_to z read_only moment s r.from r.to r.number) result)
 
 -- Of two places: a plan for the rename from the one to the other, or the error that is meant; nothing changes where both are of one object.
 abbrev pub RenamesPlaces : Bool → ℕ → PathPlace → PathPlace → Result Plan Errno → Sizes → State → Type 0
 RenamesPlaces read_only moment from to result z s = IsPlace s.objects (place_of from) → IsPlace s.objects (place_of to)
-    → Tries z (tells_if (is_one (place_of from).object (place_of to).object) Changing) s (rename_places z read_only moment s (place_of from) (place_of to)) result
+    → Tries z (reports_if (is_one (place_of from).object (place_of to).object) Changing) s (rename_places z read_only moment s (place_of from) (place_of to)) result
 
 -- Rename, which changes nothing where both paths lead to one object
 abbrev pub rename_task : Bool → ℕ → List ℕ → List ℕ → Sizes → State → Class × Outcome
-rename_task read_only moment old new z s = (tells_if (lead_to_one (resolve s.objects old) (resolve s.objects new)) Changing, rename_step z read_only moment s old new)
+rename_task read_only moment old new z s = (reports_if (lead_to_one (resolve s.objects old) (resolve s.objects new)) Changing, rename_step z read_only moment s old new)

@@ -9,7 +9,7 @@ use Rattle.posix_profile.specs.Steps.{step}
 use Rattle.posix_profile.specs.declared.command.Stamped.{Stamped}
 use Rattle.posix_profile.specs.declared.reply.Reply.{Reply}
 use Rattle.object_store.specs.Stores.{Meaning}
-use Rattle.command_plans.specs.Classes.{Telling, class_of, is_error, makes_no_call}
+use Rattle.command_plans.specs.Classes.{Reporting, class_of, is_error, makes_no_call}
 use Rattle.object_commands.specs.Volumes.{store_of, is_read_only, is_stopped}
 use Rattle.object_commands.specs.Endings.{IsAt, OfVolume, ReadsOrLeaves}
 use Rattle.object_commands.specs.declared.volume.Volume.{Volume}
@@ -26,12 +26,12 @@ ends_refused (reply ∷ []) = is_no_memory reply
 ends_refused (reply ∷ other ∷ replies) = ends_refused (other ∷ replies)
 
 -- a command that changes nothing, one that the profile answers by an error, or one for which memory was refused
-abbrev pub OnlyTells : Sizes → Bool → State → Stamped → Reply → Type 0
-OnlyTells z read_only s stamped reply = (class_of read_only s stamped.command ≡ Telling) ⊎ (is_error (step z read_only s stamped).reply ≡ true) ⊎ (is_no_memory reply ≡ true)
+abbrev pub OnlyReports : Sizes → Bool → State → Stamped → Reply → Type 0
+OnlyReports z read_only s stamped reply = (class_of read_only s stamped.command ≡ Reporting) ⊎ (is_error (step z read_only s stamped).reply ≡ true) ⊎ (is_no_memory reply ≡ true)
 
 -- such a command, or one that makes no call of the device
 abbrev pub WritesNothing : Sizes → Bool → State → Stamped → Reply → Type 0
-WritesNothing z read_only s stamped reply = OnlyTells z read_only s stamped reply ⊎ (makes_no_call stamped.command ≡ true)
+WritesNothing z read_only s stamped reply = OnlyReports z read_only s stamped reply ⊎ (makes_no_call stamped.command ≡ true)
 
 -- each of the commands that were answered is such, at its state
 abbrev pub EachAnswered : (Sizes → Bool → State → Stamped → Reply → Type 0) → Sizes → Bool → State → List Stamped → List Reply → Type 0
@@ -62,8 +62,8 @@ pub record Failure {S : Type 0} (m : Meaning S) (z : Sizes) (read_only : Bool) (
 -- From a state: the replies are right, a mount shows the tree after some of the commands, at least those that a sync covers,
 -- the volume is stopped exactly where a reply is EIO, and then for a failure of the store, and else it stands for the state
 -- after the commands that were answered. Where the last of them was refused memory the device has power. The store was only read
--- where each of them only tells at its state; and it was only read, or its device left, of a read-only volume, and where each of
--- them only tells or makes no call. A read-only volume is stopped only where a read failed.
+-- where each of them only reports at its state; and it was only read, or its device left, of a read-only volume, and where each of
+-- them only reports or makes no call. A read-only volume is stopped only where a read failed.
 pub record Ran {S : Type 0} (m : Meaning S) (z : Sizes) (s : State) (commands : List Stamped) (answered : List Reply) (a b : Volume S) : Type 0 where
   pub holds : RunHolds z (is_read_only a) s commands answered
   pub losses : (tree : Objects) → m.shows (store_of a) tree → LossLeaves (m.shows (store_of b)) tree z (is_read_only a) s commands answered
@@ -71,7 +71,7 @@ pub record Ran {S : Type 0} (m : Meaning S) (z : Sizes) (s : State) (commands : 
   pub failure : is_stopped b ≡ true → Failure m z (is_read_only a) s commands answered (store_of a) (store_of b)
   pub state : is_stopped b ≡ false → IsAt m z (after z (is_read_only a) s commands answered) b
   pub power : ends_refused answered ≡ true → m.has_power (store_of b) ≡ true
-  pub tells : EachAnswered OnlyTells z (is_read_only a) s commands answered → m.reads (store_of a) (store_of b)
+  pub reports : EachAnswered OnlyReports z (is_read_only a) s commands answered → m.reads (store_of a) (store_of b)
   pub only : (is_read_only a ≡ true) ⊎ EachAnswered WritesNothing z (is_read_only a) s commands answered → (n : ℕ) × ReadsInTurn m n (store_of a) (store_of b)
   pub unread : is_read_only a ≡ true → is_stopped b ≡ true → (x : S) × m.unread x (store_of b)
 

@@ -6,7 +6,7 @@ use Rattle.posix_profile.specs.Outcomes.{Outcome}
 use Rattle.posix_profile.specs.Requests.{command_of, stamped_of}
 use Rattle.posix_profile.specs.Steps.{step}
 use Rattle.posix_profile.specs.declared.reply.Errno.{Errno}
-use Rattle.posix_profile.specs.declared.request.Asked.{Asked}
+use Rattle.posix_profile.specs.declared.request.StampedRequest.{StampedRequest}
 use Rattle.object_store.specs.Stores.{Meaning}
 use Rattle.object_store.specs.declared.refusal.Refusal.{Refusal}
 use Rattle.command_plans.specs.Classes.{Class, Changing, class_of}
@@ -36,6 +36,6 @@ PlansAt m stores table task r = (z : Sizes) (s : State) → Holds m z s stores.0
 abbrev pub PlansFor : {S : Type 0} (m : Meaning S) → S × S → ℕ → Task → Result Plan Refusal → Type 0
 PlansFor m stores file task r = (z : Sizes) (s : State) → Holds m z s stores.0 → IsFile s.objects file → Plans m z (task z s).0 s (task z s).1 stores.0 stores.1 r
 
--- what is asked of a volume that may be read-only
-abbrev pub task_of : Bool → Asked → Sizes → State → Class × Outcome
-task_of read_only asked z s = (class_of read_only s (command_of asked.request), step z read_only s (stamped_of asked))
+-- the requests to a volume that may be read-only
+abbrev pub task_of : Bool → StampedRequest → Sizes → State → Class × Outcome
+task_of read_only issued z s = (class_of read_only s (command_of issued.request), step z read_only s (stamped_of issued))

@@ -7,7 +7,7 @@ use Rattle.posix_profile.specs.Outcomes.{Outcome}
 use Rattle.posix_profile.specs.State.{Handle, State, IsFile}
 use Rattle.posix_profile.specs.declared.reply.Errno.{Errno}
 use Rattle.object_store.specs.Facts.{bytes_of}
-use Rattle.command_plans.specs.Classes.{Changing, tells_if}
+use Rattle.command_plans.specs.Classes.{Changing, reports_if}
 use Rattle.command_plans.specs.Plans.{Tries}
 use Rattle.command_plans.specs.Tables.{handle_of}
 use Rattle.command_plans.specs.declared.plan.Plan.{Plan}
@@ -19,9 +19,9 @@ OfOpenFile s fd description A = IsFile s.objects description.object → fd < des
 
 -- Of a write of these bytes, which changes nothing where there are none: a plan for what is meant, or the error that is meant.
 abbrev pub TriesWrite : Sizes → State → List ℕ → Outcome → Result Plan Errno → Type 0
-TriesWrite z s new meant r = Tries z (tells_if (nat_eq (length new) 0) Changing) s meant r
+TriesWrite z s new meant r = Tries z (reports_if (nat_eq (length new) 0) Changing) s meant r
 
--- Of a file of this size: it is told how many of so many bytes are written, whatever they are, and at any moment.
-abbrev pub CountsWrite : OpenDescription → (size count told : ℕ) → Sizes → State → Type 0
-CountsWrite description size count told z s = IsFile s.objects description.object → size ≡ length (bytes_of (map.get s.objects description.object))
-    → (moment : ℕ) (new : List ℕ) → count ≡ length new → told ≡ write_count z moment s (handle_of description) (bytes_of (map.get s.objects description.object)) new
+-- Of a file of this size: it is known how many of so many bytes are written, whatever they are, and at any moment.
+abbrev pub CountsWrite : OpenDescription → (size count reported : ℕ) → Sizes → State → Type 0
+CountsWrite description size count reported z s = IsFile s.objects description.object → size ≡ length (bytes_of (map.get s.objects description.object))
+    → (moment : ℕ) (new : List ℕ) → count ≡ length new → reported ≡ write_count z moment s (handle_of description) (bytes_of (map.get s.objects description.object)) new

@@ -5,8 +5,8 @@ mod answering;
 mod naming;
 mod opening;
 mod rename;
+mod reporting;
 mod syncing;
-mod telling;
 mod volume;
 mod writing;
 

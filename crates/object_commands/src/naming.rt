@@ -5,7 +5,7 @@ ghost use Rattle.object_store.specs.Stores.{KeepsPower};
 ghost use Rattle.command_plans.specs.Classes.{Changing};
 ghost use Rattle.object_commands.specs.States.{OfStore, OfState, IfFile};
 ghost use Rattle.object_commands.specs.Tasks.{TriesTo, PlansOn, PlansAt, PlansFor};
-ghost use Rattle.object_commands.specs.Names.{OfPlace, OfAbsent, OfName, DropsUnkept, RemovesName, UnlinksObject, RemovesDirectory, rmdir_named, rmdir_at, link_to};
+ghost use Rattle.object_commands.specs.Names.{OfPlace, OfAbsent, OfName, DropsUncommitted, RemovesName, UnlinksObject, RemovesDirectory, rmdir_named, rmdir_at, link_to};
 
 use command_plans::facts::{has_other_name, is_directory};
 use command_plans::path::PathPlace;
@@ -79,9 +79,13 @@ pub(crate) fn mkdir<'a, S: ObjectStore>(
 }
 
 /// The object, if nothing keeps it but one name.
-pub(crate) fn unkept<S: ObjectStore>(store: &S, table: &DescriptorTable, number: u64) -> Option<u64>
+pub(crate) fn uncommitted<S: ObjectStore>(
+    store: &S,
+    table: &DescriptorTable,
+    number: u64,
+) -> Option<u64>
     ensures only { (result ≡ None) ⊎ (result ≡ Some number) }
-    ensures left { OfState S.meaning store.now table.now (λ z s. DropsUnkept s number result) }
+    ensures left { OfState S.meaning store.now table.now (λ z s. DropsUncommitted s number result) }
 {
     if has_other_name(store, number) {
         return None;
@@ -106,7 +110,7 @@ fn remove_at<'a, S: ObjectStore>(
         Reply::Done,
         ObjectChange::Remove {
             entry: entry_at(place),
-            dropped: unkept(store, table, number),
+            dropped: uncommitted(store, table, number),
             moment,
         },
     )

@@ -12,7 +12,7 @@ ghost use Rattle.object_commands.specs.Renames.{is_inside, replace_tests, rename
 ghost use Rattle.object_commands.specs.States.{OfObjects, OfStore, OfState, IfThere};
 ghost use Rattle.object_commands.specs.Tasks.{PlansAt};
 
-use crate::naming::unkept;
+use crate::naming::uncommitted;
 use command_plans::facts::is_directory;
 use command_plans::path::PathPlace;
 use command_plans::place::{ends_in_dot, ends_in_dot_dot, entry_at, find_place, is_only_slashes};
@@ -133,7 +133,7 @@ fn move_onto<'a, S: ObjectStore>(
             from: entry_at(from),
             to: entry_at(to),
             number,
-            dropped: unkept(store, table, there),
+            dropped: uncommitted(store, table, there),
             moment,
         },
     )

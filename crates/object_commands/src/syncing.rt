@@ -4,7 +4,7 @@ ghost use Rattle.posix_profile.specs.HandleSteps.{fsync_step};
 ghost use Rattle.posix_profile.specs.Outcomes.{answer};
 ghost use Rattle.volume_terms.specs.Sizes.{Sizes};
 ghost use Rattle.posix_profile.specs.State.{State};
-ghost use Rattle.command_plans.specs.Classes.{Syncing, tells_if};
+ghost use Rattle.command_plans.specs.Classes.{Syncing, reports_if};
 ghost use Rattle.command_plans.specs.Plans.{Tries, Frees, IsPlan, frees};
 ghost use Rattle.command_plans.specs.Tables.{handles_in};
 
@@ -14,7 +14,7 @@ use posix_profile::{Errno, Reply};
 
 /// Sync: all objects, whatever they are.
 pub(crate) fn sync<'a>(read_only: bool) -> Plan<'a>
-    ensures plans { (z : Sizes) (s : State) → IsPlan z (tells_if read_only Syncing) s (answer s Reply.Done) result }
+    ensures plans { (z : Sizes) (s : State) → IsPlan z (reports_if read_only Syncing) s (answer s Reply.Done) result }
     ensures memory { frees result.work ≡ true }
 {
     if read_only {
@@ -33,7 +33,7 @@ pub(crate) fn fsync<'a>(
     read_only: bool,
     fd: u32,
 ) -> Result<Plan<'a>, Errno>
-    ensures plans { (z : Sizes) (s : State) → handles_in table.now ≡ s.handles → Tries z (tells_if read_only Syncing) s (fsync_step s fd) result }
+    ensures plans { (z : Sizes) (s : State) → handles_in table.now ≡ s.handles → Tries z (reports_if read_only Syncing) s (fsync_step s fd) result }
     ensures memory { Frees result }
 {
     match table.get(fd) {

@@ -18,14 +18,14 @@ ghost use Rattle.object_commands.specs.Tasks.{PlansAt, task_of};
 use crate::naming::{link, mkdir, rmdir, unlink};
 use crate::opening::{close, open};
 use crate::rename::rename;
+use crate::reporting::{list, read, read_into, seek, space, stat};
 use crate::syncing::{fsync, sync};
-use crate::telling::{list, read, read_into, seek, space, stat};
 use crate::writing::{truncate, write};
 use command_plans::plan::{HandleChange, Plan, StoreWork, hand_on};
 use command_plans::stamp::is_stamped;
 use command_plans::table::DescriptorTable;
 use object_store::{ObjectStore, Refusal};
-use posix_profile::{Asked, Errno, Info, Reply, Request, Stamped};
+use posix_profile::{Errno, Info, Reply, Request, Stamped, StampedRequest};
 use std::alloc::{AllocError, Global};
 use volume_terms::StoreFault;
 
@@ -43,16 +43,16 @@ fn plan<'a, S: ObjectStore>(
     store: &mut S,
     table: &DescriptorTable,
     read_only: bool,
-    asked: &Asked<'a>,
+    issued: &StampedRequest<'a>,
 ) -> Result<Plan<'a>, Refusal>
     ensures reads { S.meaning.reads store.old store.new }
     ensures power { KeepsPower S.meaning store.old store.new result }
-    ensures plans { PlansAt S.meaning (store.old, store.new) table.now (task_of read_only asked.now) result }
-    ensures memory { takes_no_memory (command_of asked.now.request) ≡ true → TakesNone result }
-    ensures leaves { makes_no_call (command_of asked.now.request) ≡ true → (store.new ≡ store.old) × LeavesDevice result }
+    ensures plans { PlansAt S.meaning (store.old, store.new) table.now (task_of read_only issued.now) result }
+    ensures memory { takes_no_memory (command_of issued.now.request) ≡ true → TakesNone result }
+    ensures leaves { makes_no_call (command_of issued.now.request) ≡ true → (store.new ≡ store.old) × LeavesDevice result }
 {
-    let moment = asked.moment;
-    match &asked.request {
+    let moment = issued.moment;
+    match &issued.request {
         Request::Open { path, flags } => {
             open(alloc, store, table, read_only, moment, *path, *flags)
         }
@@ -81,18 +81,18 @@ fn plan<'a, S: ObjectStore>(
 }
 
 /// Does what a plan asks of the store.
-fn work<S: ObjectStore>(store: &mut S, asked: &StoreWork<'_>) -> Result<(), StoreFault>
+fn work<S: ObjectStore>(store: &mut S, issued: &StoreWork<'_>) -> Result<(), StoreFault>
     ensures lasts { S.meaning.lasts store.old store.new }
-    ensures reads { does_nothing asked.now ≡ true → S.meaning.reads store.old store.new }
+    ensures reads { does_nothing issued.now ≡ true → S.meaning.reads store.old store.new }
     ensures power { OnOk result (S.meaning.has_power store.new ≡ S.meaning.has_power store.old) }
-    ensures leaves { leaves_device asked.now ≡ true → S.meaning.leaves store.old store.new }
+    ensures leaves { leaves_device issued.now ≡ true → S.meaning.leaves store.old store.new }
     ensures works { OfObjects S.meaning store.old (λ z objects.
-        CanDo z objects asked.now → Works S.meaning objects asked.now store.old store.new result) }
-    ensures fails { IfErr result (λ fault. does_nothing asked.now ≡ false) }
+        CanDo z objects issued.now → Works S.meaning objects issued.now store.old store.new result) }
+    ensures fails { IfErr result (λ fault. does_nothing issued.now ≡ false) }
     ensures refused { result ≡ Err faults.NoMemory → S.meaning.reads store.old store.new }
-    ensures memory { frees asked.now ≡ true → result ≡ Err faults.NoMemory → ⊥ }
+    ensures memory { frees issued.now ≡ true → result ≡ Err faults.NoMemory → ⊥ }
 {
-    match asked {
+    match issued {
         StoreWork::Nothing => Ok(()),
         StoreWork::Change(change) => store.apply(change),
         StoreWork::Commit => store.commit(),
@@ -132,7 +132,7 @@ impl<S: ObjectStore> Volume<S> {
     ghost use Rattle.object_commands.specs.Volumes.{HasParts, ended, store_of, handles_of, is_read_only, is_stopped, with_stop, with_store};
     ghost use Rattle.object_commands.specs.contracts.volume.Volume.{the_row};
     ghost use Rattle.object_commands.specs.Serving.{EndsAs, IsServed, LeavesPower, StaysAsItWas, StopsUnread, is_refusal};
-    ghost use Rattle.object_commands.specs.Endings.{CarriesOut, OfVolume, ReadsOrLeaves, TellsRefusal};
+    ghost use Rattle.object_commands.specs.Endings.{CarriesOut, OfVolume, ReadsOrLeaves, ReportsRefusal};
     ghost use Rattle.object_commands.specs.Reads.{LeavesRest, asked_of, read_reply, reading};
     ghost use Rattle.object_commands.specs.Running.{OfFirst, Runs};
     ghost use Rattle.object_commands.specs.Describing.{Describes};
@@ -250,7 +250,7 @@ impl<S: ObjectStore> Volume<S> {
     fn pass_over(&mut self) -> Errno
         ensures same { self.new ≡ record self.old { store = store_of self.new } }
         ensures reads { S.meaning.reads (store_of self.old) (store_of self.new) }
-        ensures tells { TellsRefusal S.meaning (store_of self.new) (replies.Error result) }
+        ensures reports { ReportsRefusal S.meaning (store_of self.new) (replies.Error result) }
     {
         if self.store.has_power() {
             Errno::ENOMEM
@@ -285,26 +285,26 @@ impl<S: ObjectStore> Volume<S> {
     }
 
     /// Does a command and replies to it. Its caller stops the volume by the reply.
-    fn answer(&mut self, asked: &Asked<'_>) -> Reply
+    fn answer(&mut self, issued: &StampedRequest<'_>) -> Reply
         ensures keeps { is_read_only self.new ≡ is_read_only self.old }
         ensures lasts { S.meaning.lasts (store_of self.old) (store_of self.new) }
         // A reply other than EIO is given by a device that has not lost its power in the command.
         ensures power { LeavesPower S.meaning self.old result self.new }
-        ensures leaves { makes_no_call (command_of asked.now.request) ≡ true → S.meaning.leaves (store_of self.old) (store_of self.new) }
+        ensures leaves { makes_no_call (command_of issued.now.request) ≡ true → S.meaning.leaves (store_of self.old) (store_of self.new) }
         ensures refuses { is_refusal result ≡ true → StaysAsItWas S.meaning self.old self.new }
         ensures only { is_read_only self.old ≡ true → OfVolume S.meaning self.old (λ z s.
             ReadsOrLeaves S.meaning (store_of self.old) (store_of self.new)) }
         // A read-only volume stops only where a read failed.
         ensures unread { is_read_only self.old ≡ true → StopsUnread S.meaning self.old result self.new }
-        ensures ends { EndsAs S.meaning self.old (stamped_of asked.now) result (ended self.new result) }
+        ensures ends { EndsAs S.meaning self.old (stamped_of issued.now) result (ended self.new result) }
     {
-        is_stamped(asked);
+        is_stamped(issued);
         match plan(
             self.alloc,
             &mut self.store,
             &self.table,
             self.read_only,
-            asked,
+            issued,
         ) {
             Ok(plan) => self.carry_out(plan),
             Err(Refusal::Error(error)) => Reply::Error(error),
@@ -315,13 +315,13 @@ impl<S: ObjectStore> Volume<S> {
     }
 
     /// Does a command and replies to it.
-    pub fn ask(&mut self, asked: &Asked<'_>) -> Reply
-        ensures { IsServed S.meaning self.old (stamped_of asked.now) result self.new }
+    pub fn ask(&mut self, issued: &StampedRequest<'_>) -> Reply
+        ensures { IsServed S.meaning self.old (stamped_of issued.now) result self.new }
     {
         if self.stopped {
             return Reply::Error(Errno::EIO);
         }
-        let reply = self.answer(asked);
+        let reply = self.answer(issued);
         self.stopped = is_stop(&reply);
         reply
     }
@@ -330,7 +330,7 @@ impl<S: ObjectStore> Volume<S> {
     pub fn call(&mut self, stamped: &Stamped) -> Reply
         ensures { IsServed S.meaning self.old stamped.now result self.new }
     {
-        self.ask(&stamped.asked())
+        self.ask(&stamped.as_request())
     }
 
     /// Reads into a buffer. Its caller stops the volume by the answer.

@@ -16,7 +16,7 @@ use Rattle.posix_profile.specs.WellFormed.{IsForest, IsNamed}
 use Rattle.posix_profile.specs.declared.reply.Kind.{Kind}
 use Rattle.posix_profile.specs.declared.reply.Kind.TheVariants as kinds
 use Rattle.posix_profile.specs.laws.Charge.{insert_less, without_less}
-use Rattle.posix_profile.specs.laws.Directory.{with_from, without_from, without_kept, there_after, directory_after, directory_before}
+use Rattle.posix_profile.specs.laws.Directory.{with_from, without_from, without_committed, there_after, directory_after, directory_before}
 use Rattle.posix_profile.specs.laws.Fresh.{slots_some}
 use Rattle.posix_profile.specs.laws.Map.{cases_key, get_here, get_there, get_removed, removed_none}
 use Rattle.posix_profile.specs.laws.Name.{name_same, one_object, namer_directory, named_entry}
@@ -25,12 +25,12 @@ use Rattle.posix_profile.specs.laws.Total.{total_insert}
 use Rattle.posix_profile.specs.laws.Write.{ceiling_at_most}
 use Rattle.object_store.specs.Changes.{NamesNothing, empty_object}
 use Rattle.object_store.specs.TableFacts.{fresh_facts}
-use Rattle.object_store.specs.Counted.{IsCountable, FreshObject, CanGo, GetsName, LosesName}
-use Rattle.object_store.specs.Told.{GetsObject}
+use Rattle.object_store.specs.Totaled.{IsCountable, FreshObject, CanGo, GetsName, LosesName}
+use Rattle.object_store.specs.Reported.{GetsObject}
 use Rattle.object_store.specs.Stores.{CanHave}
 use Rattle.object_store.proofs.Edits.{fresh_facts_are, larger_from}
 
--- what a volume has room for can be counted
+-- what a volume has room for can be in the count
 pub fits_countable : (z : Sizes) (objects : Objects) → IsSizes z → fits z objects ≡ true → IsCountable z objects
 fits_countable z objects sizes fit = record { sizes = sizes; few = (let le = leb-true (charge z objects) (capacity z) fit in omega (arith, le, capacity_few z sizes)) }
 
@@ -190,7 +190,7 @@ module _ (z : Sizes) (objects : Objects) (can : CanHave z objects) (moment d q x
     moved = with_name between moment q b x
 
     still_named : Names between q b y
-    still_named = without_kept objects moment d a from_dir q y b was
+    still_named = without_committed objects moment d a from_dir q y b was
         (λ is same. ne (one_object objects d y x a (subst (λ m. Names objects d m y) same (subst (λ r. Names objects r b y) is was)) from))
 
     -- to clear a name and give it is to give it

@@ -15,15 +15,15 @@ use Rattle.posix_profile.specs.laws.Map.{get_here}
 use Rattle.posix_profile.specs.laws.Name.{not_both, namer_directory, named_entry}
 use Rattle.object_store.specs.Changes.{NamesNothing}
 use Rattle.object_store.specs.Built.{IsBare}
-use Rattle.object_store.specs.Counted.{Counts, CountsTheSame}
-use Rattle.object_store.specs.TableFacts.{bare_facts, AreFactsOf, IsTold}
+use Rattle.object_store.specs.Totaled.{Counts, CountsTheSame}
+use Rattle.object_store.specs.TableFacts.{bare_facts, AreFactsOf, IsStated}
 use Rattle.object_store.specs.declared.table_facts.ObjectFacts.{ObjectFacts}
 use Rattle.object_store.specs.declared.counted_facts.CountedFacts.{CountedFacts}
 use Rattle.object_store.proofs.Edits.{larger_from}
 
 pub counts_same : (old new : CountedFacts) (objects : Objects) → CountsTheSame old new → Counts old objects → Counts new objects
 counts_same old new objects same counts = record {
-  each = λ o. subst (λ (g : Option ObjectFacts). IsTold objects o (map.get objects o) g) (sym (same.each o)) (counts.each o);
+  each = λ o. subst (λ (g : Option ObjectFacts). IsStated objects o (map.get objects o) g) (sym (same.each o)) (counts.each o);
   charge = same.charge ∙ counts.charge ∙ ap (λ (z : Sizes). charge z objects) (sym same.sizes);
 }
 

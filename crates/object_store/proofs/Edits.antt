@@ -1,4 +1,4 @@
--- What counted facts stand for after a change.
+-- What facts in totals stand for after a change.
 use Rattle.std.specs.Prelude.{◌≡◌, ◌≢◌, ◌⊎◌, ◌<◌, ◌+◌, ◌-◌, ◌^◌, min, ℕ, List, [], length, map as list_map, Option, Some, None, is_some}
 use Rattle.std.proofs.Common.{refl, sym, ◌∙◌, ap, subst, inl, inr, arith}
 use Rattle.std.proofs.lemmas.Bool.{cases_eq, cond-true, cond-false}
@@ -18,36 +18,36 @@ use Rattle.posix_profile.specs.WellFormed.{IsNamed}
 use Rattle.posix_profile.specs.declared.reply.Kind.{Kind}
 use Rattle.posix_profile.specs.declared.reply.Kind.TheVariants as kinds
 use Rattle.posix_profile.specs.laws.Charge.{without_less}
-use Rattle.posix_profile.specs.laws.Directory.{with_from, with_kept, with_here, without_from, without_kept, directory_after, directory_before}
+use Rattle.posix_profile.specs.laws.Directory.{with_from, with_committed, with_here, without_from, without_committed, directory_after, directory_before}
 use Rattle.posix_profile.specs.laws.Entry.{no_name}
 use Rattle.posix_profile.specs.laws.Map.{cases_key, keys_fit, get_here, get_there, get_removed, removed_none, remove_cases}
 use Rattle.posix_profile.specs.laws.Name.{name_same, one_object, not_both, namer_directory, named_entry}
 use Rattle.posix_profile.specs.laws.Total.{total_insert, total_without, total_replace}
 use Rattle.object_store.specs.Changes.{NamesNothing, empty_object}
 use Rattle.object_store.specs.Facts.{NamedBy}
-use Rattle.object_store.specs.TableFacts.{facts_cost, unit_of, IsFileFacts, IsDirectoryFacts, AreFactsOf, IsTold, one_more, entry_added, entry_removed, name_added, name_removed, resized_facts, fresh_facts}
-use Rattle.object_store.specs.Counted.{told_at, sizes_in, charge_in, units_of, Counts, Puts, Drops, Edits, IsCountable, GetsName, LosesName}
+use Rattle.object_store.specs.TableFacts.{facts_cost, unit_of, IsFileFacts, IsDirectoryFacts, AreFactsOf, IsStated, one_more, entry_added, entry_removed, name_added, name_removed, resized_facts, fresh_facts}
+use Rattle.object_store.specs.Totaled.{reported_at, sizes_in, charge_in, units_of, Counts, Puts, Drops, Edits, IsCountable, GetsName, LosesName}
 use Rattle.object_store.specs.declared.table_facts.ObjectFacts.{ObjectFacts}
 use Rattle.object_store.specs.declared.counted_facts.CountedFacts.{CountedFacts}
 use Rattle.object_store.proofs.Counting.{list_other}
 use Rattle.object_store.proofs.Few.{entries_few, names_listed_few, children_few}
 use Rattle.object_store.proofs.OneName.{HasOneMore, IsOfKind, same_up, same_down, name_more, name_less, entry_more, entry_less, parent_more}
-use Rattle.object_store.proofs.Telling.{SameAt, keeps_same, told_same, facts_cost_is, bytes_names, directory_facts}
+use Rattle.object_store.proofs.Reporting.{SameAt, keeps_same, reported_same, facts_cost_is, bytes_names, directory_facts}
 
--- facts of what is there are told
-told_is : (objects : Objects) (k : ℕ) (told : Option ObjectFacts) (x : Object) (f : ObjectFacts) → map.get objects k ≡ Some x → told ≡ Some f → AreFactsOf objects k x f → IsTold objects k (map.get objects k) told
-told_is objects k told x f is was facts =
-    subst (λ (v : Option Object). IsTold objects k v told) (sym is) (subst (λ (g : Option ObjectFacts). IsTold objects k (Some x) g) (sym was) facts)
+-- facts of what is there are reported
+reported_is : (objects : Objects) (k : ℕ) (reported : Option ObjectFacts) (x : Object) (f : ObjectFacts) → map.get objects k ≡ Some x → reported ≡ Some f → AreFactsOf objects k x f → IsStated objects k (map.get objects k) reported
+reported_is objects k reported x f is was facts =
+    subst (λ (v : Option Object). IsStated objects k v reported) (sym is) (subst (λ (g : Option ObjectFacts). IsStated objects k (Some x) g) (sym was) facts)
 
--- and what is told of what is there are its facts
-pub told_there : (objects : Objects) (k : ℕ) (told : Option ObjectFacts) (x : Object) (f : ObjectFacts) → map.get objects k ≡ Some x → told ≡ Some f → IsTold objects k (map.get objects k) told → AreFactsOf objects k x f
-told_there objects k told x f is was all =
-    subst (λ (g : Option ObjectFacts). IsTold objects k (Some x) g) was (subst (λ (v : Option Object). IsTold objects k v told) is all)
+-- and what is reported of what is there are its facts
+pub reported_there : (objects : Objects) (k : ℕ) (reported : Option ObjectFacts) (x : Object) (f : ObjectFacts) → map.get objects k ≡ Some x → reported ≡ Some f → IsStated objects k (map.get objects k) reported → AreFactsOf objects k x f
+reported_there objects k reported x f is was all =
+    subst (λ (g : Option ObjectFacts). IsStated objects k (Some x) g) was (subst (λ (v : Option Object). IsStated objects k v reported) is all)
 
--- what is told of an object that stays as it is
-told_stays : (old new : Objects) (k : ℕ) (was now : Option ObjectFacts) → SameAt old new k → map.get new k ≡ map.get old k → now ≡ was → IsTold old k (map.get old k) was → IsTold new k (map.get new k) now
-told_stays old new k was now same here is all =
-    subst (λ (v : Option Object). IsTold new k v now) (sym here) (subst (λ (g : Option ObjectFacts). IsTold new k (map.get old k) g) (sym is) (told_same old new k same (map.get old k) was all))
+-- what is reported of an object that stays as it is
+reported_stays : (old new : Objects) (k : ℕ) (was now : Option ObjectFacts) → SameAt old new k → map.get new k ≡ map.get old k → now ≡ was → IsStated old k (map.get old k) was → IsStated new k (map.get new k) now
+reported_stays old new k was now same here is all =
+    subst (λ (v : Option Object). IsStated new k v now) (sym here) (subst (λ (g : Option ObjectFacts). IsStated new k (map.get old k) g) (sym is) (reported_same old new k same (map.get old k) was all))
 
 kind_is : (objects : Objects) (o : ℕ) (x : Object) (f : ObjectFacts) → map.get objects o ≡ Some x → AreFactsOf objects o x f → IsOfKind objects o f.kind
 kind_is objects o (File moment bytes) f is facts = subst (IsOfKind objects o) (sym facts.kind) (λ dir. not_both objects o (moment, bytes, is) dir)
@@ -62,32 +62,32 @@ removed_cost z kinds.File f = refl
 removed_cost z kinds.Directory f = refl
 
 -- the units after facts in place of others
-puts_charge : (old new : CountedFacts) (objects : Objects) (o : ℕ) (x y : Object) (f g : ObjectFacts) → Puts old new o g → told_at old o ≡ Some f → charge_in old ≡ charge (sizes_in old) objects → map.get objects o ≡ Some x
+puts_charge : (old new : CountedFacts) (objects : Objects) (o : ℕ) (x y : Object) (f g : ObjectFacts) → Puts old new o g → reported_at old o ≡ Some f → charge_in old ≡ charge (sizes_in old) objects → map.get objects o ≡ Some x
     → facts_cost (sizes_in old) f ≡ cost (sizes_in old) x → facts_cost (sizes_in old) g ≡ cost (sizes_in old) y → charge (sizes_in old) objects < 2 ^ 48 → charge (sizes_in old) (map.insert objects o y) < 2 ^ 48
     → charge_in new ≡ charge (sizes_in new) (map.insert objects o y)
 puts_charge old new objects o x y f g puts was is there cost_f cost_g small few =
     let z = sizes_in old in
     let before = total_without nat_cmp_total map.nat_cmp-IsAntisymmetric (cost (sizes_in old)) objects o x there in
     let after = total_replace nat_cmp_total map.nat_cmp-IsAntisymmetric (cost (sizes_in old)) objects o y in
-    let units : units_of (sizes_in old) (told_at old o) ≡ min (facts_cost (sizes_in old) f) (2 ^ 64 - 1) = ap (units_of (sizes_in old)) was in
+    let units : units_of (sizes_in old) (reported_at old o) ≡ min (facts_cost (sizes_in old) f) (2 ^ 64 - 1) = ap (units_of (sizes_in old)) was in
     let now : charge_in new ≡ charge (sizes_in old) (map.insert objects o y) = omega (arith, puts.charge, is, before, after, units, cost_f, cost_g, small, few) in
     now ∙ ap (λ (z : Sizes). charge z (map.insert objects o y)) (sym puts.sizes)
 
 -- the facts of one object change, and its units do not
 module _ (mid new : CountedFacts) (after : Objects) (o : ℕ) (change : ObjectFacts → ObjectFacts) (edit : Edits mid new o change)
     (is : charge_in mid ≡ charge (sizes_in mid) after) (small : charge (sizes_in mid) after < 2 ^ 48) (free : (f : ObjectFacts) → facts_cost (sizes_in mid) (change f) ≡ facts_cost (sizes_in mid) f) where
-  finish : (f : ObjectFacts) (x : Object) → told_at mid o ≡ Some f → map.get after o ≡ Some x → facts_cost (sizes_in mid) f ≡ cost (sizes_in mid) x → AreFactsOf after o x (change f)
-      → ((k : ℕ) → k ≢ o → IsTold after k (map.get after k) (told_at mid k)) → Counts new after
+  finish : (f : ObjectFacts) (x : Object) → reported_at mid o ≡ Some f → map.get after o ≡ Some x → facts_cost (sizes_in mid) f ≡ cost (sizes_in mid) x → AreFactsOf after o x (change f)
+      → ((k : ℕ) → k ≢ o → IsStated after k (map.get after k) (reported_at mid k)) → Counts new after
   finish f x was there paid facts others =
       let puts = edit.puts f was in
       record {
         each = λ k. elim (cases_eq k o) [
-          | inl same ↦ subst (λ j. IsTold after j (map.get after j) (told_at new j)) (sym same) (told_is after o (told_at new o) x (change f) there puts.here facts)
-          | inr ne ↦ subst (λ (g : Option ObjectFacts). IsTold after k (map.get after k) g) (sym (puts.others k ne)) (others k ne)
+          | inl same ↦ subst (λ j. IsStated after j (map.get after j) (reported_at new j)) (sym same) (reported_is after o (reported_at new o) x (change f) there puts.here facts)
+          | inr ne ↦ subst (λ (g : Option ObjectFacts). IsStated after k (map.get after k) g) (sym (puts.others k ne)) (others k ne)
         ];
         charge =
             let part = total_without nat_cmp_total map.nat_cmp-IsAntisymmetric (cost (sizes_in mid)) after o x there in
-            let units : units_of (sizes_in mid) (told_at mid o) ≡ min (facts_cost (sizes_in mid) f) (2 ^ 64 - 1) = ap (units_of (sizes_in mid)) was in
+            let units : units_of (sizes_in mid) (reported_at mid o) ≡ min (facts_cost (sizes_in mid) f) (2 ^ 64 - 1) = ap (units_of (sizes_in mid)) was in
             let now : charge_in new ≡ charge (sizes_in mid) after = omega (arith, puts.charge, is, part, units, paid, free f, small) in
             now ∙ ap (λ (z : Sizes). charge z after) (sym puts.sizes);
       }
@@ -97,7 +97,7 @@ with_more : (objects : Objects) (moment d o : ℕ) (name : Name) (dir : IsDirect
 with_more objects moment d o name dir absent = record {
   here = with_here objects moment d o name dir;
   absent = no_name objects d o name absent;
-  to = λ p c n names. with_kept objects moment d o name dir p c n names
+  to = λ p c n names. with_committed objects moment d o name dir p c n names
       (λ is same. no_name objects d c name absent (subst (λ m. Names objects d m c) same (subst (λ q. Names objects q n c) is names)));
   from = λ p c n names. elim (with_from objects moment d o name dir p c n names) [ inl new ↦ inl new | inr old ↦ inr old.1 ];
   directory = λ c. directory_after objects d moment _ dir c;
@@ -120,16 +120,16 @@ without_more objects moment d o name names = record {
 
     from : (p c : ℕ) (n : Name) → Names objects p n c → ((p ≡ d) × (n ≡ name) × (c ≡ o)) ⊎ Names (without_name objects moment d name) p n c
     from p c n old = elim (cases_eq p d) [
-      | inr ne ↦ inr (without_kept objects moment d name dir p c n old (λ is same. ne is))
+      | inr ne ↦ inr (without_committed objects moment d name dir p c n old (λ is same. ne is))
       | inl first ↦ elim (cases_key nat_list_cmp_total name_same n name) [
-        | inr ne ↦ inr (without_kept objects moment d name dir p c n old (λ is same. ne same))
+        | inr ne ↦ inr (without_committed objects moment d name dir p c n old (λ is same. ne same))
         | inl last ↦ inl (first, last, one_object objects d c o name (subst (λ m. Names objects d m c) last (subst (λ q. Names objects q n c) first old)) names)
       ]
     ]
 
 -- A directory gets a name.
 module _ (old mid new : CountedFacts) (objects : Objects) (moment d o : ℕ) (name : Name) (f : ObjectFacts) (counts : Counts old objects) (gets : GetsName (sizes_in old) objects moment d name o)
-    (told : told_at old o ≡ Some f) (first : Edits old mid d (entry_added f.kind moment)) (second : Edits mid new o (λ f. name_added f.kind d f)) where
+    (reported : reported_at old o ≡ Some f) (first : Edits old mid d (entry_added f.kind moment)) (second : Edits mid new o (λ f. name_added f.kind d f)) where
   abbrev es : Entries
   es = map.insert (entries_of (map.get objects d)) name o
 
@@ -154,8 +154,8 @@ module _ (old mid new : CountedFacts) (objects : Objects) (moment d o : ℕ) (na
       let same : map.len (entries_of (map.get objects d)) ≡ map.len dir.1 = ap (λ (x : Option Object). map.len (entries_of x)) dir.2 in
       omega (arith, more, same)
 
-  df : (facts : ObjectFacts) × (told_at old d ≡ Some facts) × IsDirectoryFacts objects d dir.0 (map.len dir.1) facts
-  df = directory_facts objects d (told_at old d) dir (counts.each d)
+  df : (facts : ObjectFacts) × (reported_at old d ≡ Some facts) × IsDirectoryFacts objects d dir.0 (map.len dir.1) facts
+  df = directory_facts objects d (reported_at old d) dir (counts.each d)
 
   abbrev grown_facts : ObjectFacts
   grown_facts = entry_added f.kind moment df.0
@@ -164,7 +164,7 @@ module _ (old mid new : CountedFacts) (objects : Objects) (moment d o : ℕ) (na
   put = first.puts df.0 df.1
 
   of_o : AreFactsOf objects o gets.there.0 f
-  of_o = told_there objects o (told_at old o) gets.there.0 f gets.there.1 told (counts.each o)
+  of_o = reported_there objects o (reported_at old o) gets.there.0 f gets.there.1 reported (counts.each o)
 
   fits_size : map.len dir.1 + 1 < 2 ^ 64
   fits_size = let few = entries_few (sizes_in old) objects gets.before d dir.0 dir.1 dir.2 in omega arith
@@ -175,8 +175,8 @@ module _ (old mid new : CountedFacts) (objects : Objects) (moment d o : ℕ) (na
   paid : facts_cost (sizes_in old) (entry_added f.kind moment df.0) ≡ cost (sizes_in old) (Dir moment es)
   paid = λ i. 1 + ceiling (sized i) (unit_of (sizes_in old) (df.2.kind i))
 
-  counted : charge_in mid ≡ charge (sizes_in mid) grown
-  counted = puts_charge old mid objects d (Dir dir.0 dir.1) (Dir moment es) df.0 (entry_added f.kind moment df.0) put df.1 counts.charge dir.2
+  totaled : charge_in mid ≡ charge (sizes_in mid) grown
+  totaled = puts_charge old mid objects d (Dir dir.0 dir.1) (Dir moment es) df.0 (entry_added f.kind moment df.0) put df.1 counts.charge dir.2
       (facts_cost_is (sizes_in old) objects d (Dir dir.0 dir.1) df.0 df.2) paid gets.before.few gets.after.few
 
   small : charge (sizes_in mid) grown < 2 ^ 48
@@ -189,21 +189,21 @@ module _ (old mid new : CountedFacts) (objects : Objects) (moment d o : ℕ) (na
       (entry_more objects grown d o name one gets.unnamed moment dir.0 (map.len dir.1) parent df.0 f.kind (kind_is objects o gets.there.0 f gets.there.1 of_o) df.2 named fits_size
       (λ children lists. let few = children_few (sizes_in old) objects gets.before d dir.0 dir.1 dir.2 children lists in omega arith))
 
-  others_mid : (k : ℕ) → k ≢ o → IsTold grown k (map.get grown k) (told_at mid k)
+  others_mid : (k : ℕ) → k ≢ o → IsStated grown k (map.get grown k) (reported_at mid k)
   others_mid k ne = elim (cases_eq k d) [
     | inl is ↦
         let apart : d ≢ o = λ same. ne (is ∙ same) in
-        subst (λ j. IsTold grown j (map.get grown j) (told_at mid j)) (sym is)
-        (told_is grown d (told_at mid d) (Dir moment es) (entry_added f.kind moment df.0) here put.here (facts_d df.0.parent (parent_more objects grown d o name one df.0.parent df.2.parent apart)))
-    | inr far ↦ told_stays objects grown k (told_at old k) (told_at mid k) (same_up objects grown d o name one k far ne) (there k far) (put.others k far) (counts.each k)
+        subst (λ j. IsStated grown j (map.get grown j) (reported_at mid j)) (sym is)
+        (reported_is grown d (reported_at mid d) (Dir moment es) (entry_added f.kind moment df.0) here put.here (facts_d df.0.parent (parent_more objects grown d o name one df.0.parent df.2.parent apart)))
+    | inr far ↦ reported_stays objects grown k (reported_at old k) (reported_at mid k) (same_up objects grown d o name one k far ne) (there k far) (put.others k far) (counts.each k)
   ]
 
   pub add_counts : Counts new grown
   add_counts = elim (cases_eq o d) [
-    | inr ne ↦ finish mid new grown o (λ f. name_added f.kind d f) second counted small (λ f. added_cost (sizes_in mid) f.kind d f) f gets.there.0 (put.others o ne ∙ told) (there o ne ∙ gets.there.1)
+    | inr ne ↦ finish mid new grown o (λ f. name_added f.kind d f) second totaled small (λ f. added_cost (sizes_in mid) f.kind d f) f gets.there.0 (put.others o ne ∙ reported) (there o ne ∙ gets.there.1)
         (subst (λ (z : Sizes). facts_cost z f ≡ cost z gets.there.0) (sym put.sizes) (facts_cost_is (sizes_in old) objects o gets.there.0 f of_o))
         (name_more objects grown d o name one gets.unnamed gets.there.0 f of_o ne (λ pairs lists. let few = names_listed_few (sizes_in old) objects gets.before o pairs lists in omega arith)) others_mid
-    | inl is ↦ finish mid new grown o (λ f. name_added f.kind d f) second counted small (λ f. added_cost (sizes_in mid) f.kind d f) grown_facts (Dir moment es) (ap (told_at mid) is ∙ put.here) (ap (map.get grown) is ∙ here)
+    | inl is ↦ finish mid new grown o (λ f. name_added f.kind d f) second totaled small (λ f. added_cost (sizes_in mid) f.kind d f) grown_facts (Dir moment es) (ap (reported_at mid) is ∙ put.here) (ap (map.get grown) is ∙ here)
         (subst (λ (z : Sizes). facts_cost z grown_facts ≡ cost z (Dir moment es)) (sym put.sizes) paid)
         (subst (λ k. AreFactsOf grown k (Dir moment es) (name_added grown_facts.kind d grown_facts)) (sym is)
         (subst (λ (kind : Kind). AreFactsOf grown d (Dir moment es) (name_added kind d grown_facts)) (sym df.2.kind)
@@ -212,7 +212,7 @@ module _ (old mid new : CountedFacts) (objects : Objects) (moment d o : ℕ) (na
 
 -- A directory loses a name.
 module _ (old mid new : CountedFacts) (objects : Objects) (moment d o : ℕ) (name : Name) (f : ObjectFacts) (counts : Counts old objects) (loses : LosesName (sizes_in old) objects d name o)
-    (told : told_at old o ≡ Some f) (first : Edits old mid d (entry_removed f.kind moment)) (second : Edits mid new o (λ f. name_removed f.kind f)) where
+    (reported : reported_at old o ≡ Some f) (first : Edits old mid d (entry_removed f.kind moment)) (second : Edits mid new o (λ f. name_removed f.kind f)) where
   abbrev less_rest : Entries
   less_rest = map.remove (entries_of (map.get objects d)) name
 
@@ -244,14 +244,14 @@ module _ (old mid new : CountedFacts) (objects : Objects) (moment d o : ℕ) (na
       let same : map.len (entries_of (map.get objects d)) ≡ map.len less_dir.1 = ap (λ (x : Option Object). map.len (entries_of x)) less_dir.2 in
       omega (arith, less, some, same)
 
-  less_df : (facts : ObjectFacts) × (told_at old d ≡ Some facts) × IsDirectoryFacts objects d less_dir.0 (map.len less_dir.1) facts
-  less_df = directory_facts objects d (told_at old d) less_dir (counts.each d)
+  less_df : (facts : ObjectFacts) × (reported_at old d ≡ Some facts) × IsDirectoryFacts objects d less_dir.0 (map.len less_dir.1) facts
+  less_df = directory_facts objects d (reported_at old d) less_dir (counts.each d)
 
   less_put : Puts old mid d (entry_removed f.kind moment less_df.0)
   less_put = first.puts less_df.0 less_df.1
 
   less_of_o : AreFactsOf objects o loses.there.0 f
-  less_of_o = told_there objects o (told_at old o) loses.there.0 f loses.there.1 told (counts.each o)
+  less_of_o = reported_there objects o (reported_at old o) loses.there.0 f loses.there.1 reported (counts.each o)
 
   less_sized : less_df.0.size - 1 ≡ map.len less_rest
   less_sized = let size = less_df.2.size in let l = less_long in omega arith
@@ -273,19 +273,19 @@ module _ (old mid new : CountedFacts) (objects : Objects) (moment d o : ℕ) (na
   kind_o (File moment bytes) is facts = subst (IsOfKind shrunk o) (sym facts.kind) (λ now. not_both objects o (moment, bytes, is) (less_one.directory o now))
   kind_o (Dir moment entries) is facts = subst (IsOfKind shrunk o) (sym facts.kind) (less_one.was o (moment, entries, is))
 
-  less_others_mid : (k : ℕ) → k ≢ o → IsTold shrunk k (map.get shrunk k) (told_at mid k)
+  less_others_mid : (k : ℕ) → k ≢ o → IsStated shrunk k (map.get shrunk k) (reported_at mid k)
   less_others_mid k ne = elim (cases_eq k d) [
     | inl is ↦
-        subst (λ j. IsTold shrunk j (map.get shrunk j) (told_at mid j)) (sym is)
-        (told_is shrunk d (told_at mid d) (Dir moment less_rest) (entry_removed f.kind moment less_df.0) less_here less_put.here
+        subst (λ j. IsStated shrunk j (map.get shrunk j) (reported_at mid j)) (sym is)
+        (reported_is shrunk d (reported_at mid d) (Dir moment less_rest) (entry_removed f.kind moment less_df.0) less_here less_put.here
         (entry_less shrunk objects d o name less_one less_unnamed moment less_dir.0 (map.len less_rest) less_df.0 f.kind (kind_o loses.there.0 loses.there.1 less_of_o) (subst (λ n. IsDirectoryFacts objects d less_dir.0 n less_df.0) less_long less_df.2) loses.apart))
-    | inr far ↦ told_stays objects shrunk k (told_at old k) (told_at mid k) (same_down shrunk objects d o name less_one k far ne) (less_there k far) (less_put.others k far) (counts.each k)
+    | inr far ↦ reported_stays objects shrunk k (reported_at old k) (reported_at mid k) (same_down shrunk objects d o name less_one k far ne) (less_there k far) (less_put.others k far) (counts.each k)
   ]
 
   pub remove_counts : Counts new shrunk
   remove_counts =
       let ne : o ≢ d = λ is. loses.apart (sym is) in
-      finish mid new shrunk o (λ f. name_removed f.kind f) second less_counted less_small (λ f. removed_cost (sizes_in mid) f.kind f) f loses.there.0 (less_put.others o ne ∙ told) (less_there o ne ∙ loses.there.1)
+      finish mid new shrunk o (λ f. name_removed f.kind f) second less_counted less_small (λ f. removed_cost (sizes_in mid) f.kind f) f loses.there.0 (less_put.others o ne ∙ reported) (less_there o ne ∙ loses.there.1)
       (subst (λ (z : Sizes). facts_cost z f ≡ cost z loses.there.0) (sym less_put.sizes) (facts_cost_is (sizes_in old) objects o loses.there.0 f less_of_o))
       (name_less shrunk objects d o name less_one less_unnamed loses.there.0 f loses.there.1 less_of_o ne) less_others_mid
 
@@ -304,21 +304,21 @@ file_resized objects after o moment size stamp before now f same is facts = reco
 
 -- A file has other bytes.
 pub bytes_counts : (old new : CountedFacts) (objects : Objects) (o moment size : ℕ) (bytes : List ℕ) (f : ObjectFacts) → Counts old objects → (file : IsFile objects o) → length bytes ≡ size
-    → IsCountable (sizes_in old) objects → IsCountable (sizes_in old) (with_bytes objects moment o bytes) → told_at old o ≡ Some f → Puts old new o (resized_facts size moment f) → Counts new (with_bytes objects moment o bytes)
-bytes_counts old new objects o moment size bytes f counts file is before after told puts =
-    let was : AreFactsOf objects o (File file.0 file.1) f = told_there objects o (told_at old o) (File file.0 file.1) f file.2 told (counts.each o) in
+    → IsCountable (sizes_in old) objects → IsCountable (sizes_in old) (with_bytes objects moment o bytes) → reported_at old o ≡ Some f → Puts old new o (resized_facts size moment f) → Counts new (with_bytes objects moment o bytes)
+bytes_counts old new objects o moment size bytes f counts file is before after reported puts =
+    let was : AreFactsOf objects o (File file.0 file.1) f = reported_there objects o (reported_at old o) (File file.0 file.1) f file.2 reported (counts.each o) in
     let keeps = bytes_names objects o moment bytes file in
     let now : map.get (with_bytes objects moment o bytes) o ≡ Some (File moment bytes) = get_here nat_cmp_total map.nat_cmp-IsAntisymmetric objects o (File moment bytes) in
     let here : AreFactsOf (with_bytes objects moment o bytes) o (File moment bytes) (resized_facts size moment f) =
     file_resized objects (with_bytes objects moment o bytes) o moment size file.0 (length file.1) (length bytes) f (keeps_same objects (with_bytes objects moment o bytes) keeps o) (sym is) was in
     record {
       each = λ k. elim (cases_eq k o) [
-        | inl same ↦ subst (λ j. IsTold (with_bytes objects moment o bytes) j (map.get (with_bytes objects moment o bytes) j) (told_at new j)) (sym same)
-            (told_is (with_bytes objects moment o bytes) o (told_at new o) (File moment bytes) (resized_facts size moment f) now puts.here here)
-        | inr ne ↦ told_stays objects (with_bytes objects moment o bytes) k (told_at old k) (told_at new k) (keeps_same objects (with_bytes objects moment o bytes) keeps k)
+        | inl same ↦ subst (λ j. IsStated (with_bytes objects moment o bytes) j (map.get (with_bytes objects moment o bytes) j) (reported_at new j)) (sym same)
+            (reported_is (with_bytes objects moment o bytes) o (reported_at new o) (File moment bytes) (resized_facts size moment f) now puts.here here)
+        | inr ne ↦ reported_stays objects (with_bytes objects moment o bytes) k (reported_at old k) (reported_at new k) (keeps_same objects (with_bytes objects moment o bytes) keeps k)
             (get_there nat_cmp_total map.nat_cmp-IsAntisymmetric objects o (File moment bytes) k ne) (puts.others k ne) (counts.each k)
       ];
-      charge = puts_charge old new objects o (File file.0 file.1) (File moment bytes) f (resized_facts size moment f) puts told counts.charge file.2
+      charge = puts_charge old new objects o (File file.0 file.1) (File moment bytes) f (resized_facts size moment f) puts reported counts.charge file.2
           (facts_cost_is (sizes_in old) objects o (File file.0 file.1) f was) (λ i. 1 + ceiling (sym is i) (unit_of (sizes_in old) (was.kind i))) before.few after.few;
     }
 
@@ -362,23 +362,23 @@ module _ (objects : Objects) (o : ℕ) (x : Object) (free : map.get objects o �
   pub fresh_counts : (old new : CountedFacts) (f : ObjectFacts) → Counts old objects → AreFactsOf larger o x f → charge (sizes_in old) larger < 2 ^ 48 → Puts old new o f → Counts new larger
   fresh_counts old new f counts facts few puts =
       let now : map.get larger o ≡ Some x = get_here nat_cmp_total map.nat_cmp-IsAntisymmetric objects o x in
-      let missing : told_at old o ≡ None = untold (told_at old o) (subst (λ (v : Option Object). IsTold objects o v (told_at old o)) free (counts.each o)) in
-      let units : units_of (sizes_in old) (told_at old o) ≡ 0 = ap (units_of (sizes_in old)) missing in
+      let missing : reported_at old o ≡ None = unreported (reported_at old o) (subst (λ (v : Option Object). IsStated objects o v (reported_at old o)) free (counts.each o)) in
+      let units : units_of (sizes_in old) (reported_at old o) ≡ 0 = ap (units_of (sizes_in old)) missing in
       let more = total_insert nat_cmp_total map.nat_cmp-IsAntisymmetric (cost (sizes_in old)) objects o x free in
       let paid = facts_cost_is (sizes_in old) larger o x f facts in
       let is = counts.charge in
       let sum' : charge_in new ≡ charge (sizes_in old) larger = omega (arith, puts.charge, units, more, paid, is, few) in
       record {
         each = λ k. elim (cases_eq k o) [
-          | inl same ↦ subst (λ j. IsTold larger j (map.get larger j) (told_at new j)) (sym same) (told_is larger o (told_at new o) x f now puts.here facts)
-          | inr ne ↦ told_stays objects larger k (told_at old k) (told_at new k) (larger_same k) (larger_there k ne) (puts.others k ne) (counts.each k)
+          | inl same ↦ subst (λ j. IsStated larger j (map.get larger j) (reported_at new j)) (sym same) (reported_is larger o (reported_at new o) x f now puts.here facts)
+          | inr ne ↦ reported_stays objects larger k (reported_at old k) (reported_at new k) (larger_same k) (larger_there k ne) (puts.others k ne) (counts.each k)
         ];
         charge = sum' ∙ ap (λ (z : Sizes). charge z larger) (sym puts.sizes);
       }
     where
-      untold : (g : Option ObjectFacts) → IsTold objects o None g → g ≡ None
-      untold None t = refl
-      untold (Some f) t = absurd t
+      unreported : (g : Option ObjectFacts) → IsStated objects o None g → g ≡ None
+      unreported None t = refl
+      unreported (Some f) t = absurd t
 
 -- An object goes.
 module _ (objects : Objects) (o : ℕ) (blank : NamesNothing objects o) (unnamed : IsDirectory objects o → IsNamed objects o → ⊥) where
@@ -416,7 +416,7 @@ module _ (objects : Objects) (o : ℕ) (blank : NamesNothing objects o) (unnamed
       gone : (c k : ℕ) (n : Name) → c ≡ o → IsDirectory objects c → Names objects k n c → ⊥
       gone c k n is dir names = unnamed (subst (IsDirectory objects) is dir) (k, n, subst (λ q. Names objects k n q) is names)
 
-  paid_for : (z : Sizes) (v : Option Object) (g : Option ObjectFacts) → map.get objects o ≡ v → IsTold objects o v g → charge z objects < 2 ^ 48 → charge z objects - units_of z g ≡ charge z smaller
+  paid_for : (z : Sizes) (v : Option Object) (g : Option ObjectFacts) → map.get objects o ≡ v → IsStated objects o v g → charge z objects < 2 ^ 48 → charge z objects - units_of z g ≡ charge z smaller
   paid_for z None None is t few =
       let same : smaller ≡ objects = map.same_map nat_cmp_total map.nat_cmp-IsAntisymmetric smaller objects (λ q. elim (cases_eq q o) [
         | inl e ↦ ap (map.get smaller) e ∙ smaller_none ∙ sym is ∙ ap (map.get objects) (sym e)
@@ -433,22 +433,22 @@ module _ (objects : Objects) (o : ℕ) (blank : NamesNothing objects o) (unnamed
   pub gone_counts : (old new : CountedFacts) → Counts old objects → charge (sizes_in old) objects < 2 ^ 48 → Drops old new o → Counts new smaller
   gone_counts old new counts few drops =
       let sum' : charge_in new ≡ charge (sizes_in old) smaller =
-      drops.charge ∙ ap (λ n. n - units_of (sizes_in old) (told_at old o)) counts.charge ∙ paid_for (sizes_in old) (map.get objects o) (told_at old o) refl (counts.each o) few in
+      drops.charge ∙ ap (λ n. n - units_of (sizes_in old) (reported_at old o)) counts.charge ∙ paid_for (sizes_in old) (map.get objects o) (reported_at old o) refl (counts.each o) few in
       record {
         each = λ k. elim (cases_eq k o) [
-          | inl same ↦ subst (λ j. IsTold smaller j (map.get smaller j) (told_at new j)) (sym same)
-              (subst (λ (v : Option Object). IsTold smaller o v (told_at new o)) (sym smaller_none) (subst (λ (g : Option ObjectFacts). IsTold smaller o None g) (sym drops.here) tt))
-          | inr ne ↦ told_stays objects smaller k (told_at old k) (told_at new k) (smaller_same k) (smaller_there k ne) (drops.others k ne) (counts.each k)
+          | inl same ↦ subst (λ j. IsStated smaller j (map.get smaller j) (reported_at new j)) (sym same)
+              (subst (λ (v : Option Object). IsStated smaller o v (reported_at new o)) (sym smaller_none) (subst (λ (g : Option ObjectFacts). IsStated smaller o None g) (sym drops.here) tt))
+          | inr ne ↦ reported_stays objects smaller k (reported_at old k) (reported_at new k) (smaller_same k) (smaller_there k ne) (drops.others k ne) (counts.each k)
         ];
         charge = sum' ∙ ap (λ (z : Sizes). charge z smaller) (sym drops.sizes);
       }
 
 -- no objects
-pub empty_counts : (counted : CountedFacts) → ((o : ℕ) → told_at counted o ≡ None) → charge_in counted ≡ 0 → Counts counted map.empty
-empty_counts counted none free = record {
+pub empty_counts : (totaled : CountedFacts) → ((o : ℕ) → reported_at totaled o ≡ None) → charge_in totaled ≡ 0 → Counts totaled map.empty
+empty_counts totaled none free = record {
   each = λ o.
-      subst (λ (v : Option Object). IsTold map.empty o v (told_at counted o)) (sym (map.get-empty nat_cmp o)) (subst (λ (g : Option ObjectFacts). IsTold map.empty o None g) (sym (none o)) tt);
-  charge = free ∙ sym (ap (λ es. sum_by (cost (sizes_in counted)) (list_map (λ (e : ℕ × Object). e.1) es))
+      subst (λ (v : Option Object). IsStated map.empty o v (reported_at totaled o)) (sym (map.get-empty nat_cmp o)) (subst (λ (g : Option ObjectFacts). IsStated map.empty o None g) (sym (none o)) tt);
+  charge = free ∙ sym (ap (λ es. sum_by (cost (sizes_in totaled)) (list_map (λ (e : ℕ × Object). e.1) es))
       (nil_from_length (map.entries (map.empty {X = Object} {R = nat_cmp})) (sym (map.len-entries (map.empty {X = Object} {R = nat_cmp})) ∙ map.len-empty nat_cmp Object)));
 }
 

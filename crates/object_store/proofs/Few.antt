@@ -19,7 +19,7 @@ use Rattle.posix_profile.specs.laws.Map.{Member, get_member, member_map}
 use Rattle.posix_profile.specs.laws.Name.{name_same}
 use Rattle.posix_profile.specs.laws.Total.{total_without}
 use Rattle.posix_profile.specs.laws.Write.{ceiling_at_most}
-use Rattle.object_store.specs.Counted.{IsCountable}
+use Rattle.object_store.specs.Totaled.{IsCountable}
 use Rattle.object_store.proofs.Counting.{short, same_length}
 
 -- an object has no more names of another than its cost allows entries

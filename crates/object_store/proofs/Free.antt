@@ -20,21 +20,17 @@ use Rattle.posix_profile.specs.State.{Objects, Object}
 use Rattle.posix_profile.specs.Changes.{new_number}
 use Rattle.posix_profile.specs.laws.Link.{AreDistinct}
 use Rattle.posix_profile.specs.laws.Map.{Member, same_key}
-use Rattle.object_store.specs.TableFacts.{IsTold}
+use Rattle.object_store.specs.TableFacts.{IsStated}
 use Rattle.object_store.specs.declared.table_facts.ObjectFacts.{ObjectFacts}
 use Rattle.object_store.specs.declared.free_numbers.FreeNumbers.{FreeNumbers}
 use Rattle.object_store.specs.Taken.{AllTaken, IsLeastFree, Takes, GivesBack, by_number, taken_in}
 use Rattle.object_store.specs.Numbers.{times, was_given_back, KnowsFree, first_or, next_number}
 use Rattle.object_store.proofs.Counting.{short}
-use Rattle.object_store.proofs.Telling.{new_unique}
+use Rattle.object_store.proofs.Reporting.{new_unique}
 
 -- one where the test holds, else none
 abbrev pub once : Bool → ℕ
 once b = cond b 1 0
-
--- what is known goes on to be where the same numbers are taken
-pub knows_same : (numbers : FreeNumbers) (before after : ℕ → Bool) → ((k : ℕ) → after k ≡ before k) → KnowsFree numbers before → KnowsFree numbers after
-knows_same numbers before after same knows = subst (KnowsFree numbers) (λ i k. sym (same k) i) knows
 
 times_cons : (n : ℕ) (r : Reverse ℕ) (rs : List (Reverse ℕ)) → times n (r ∷ rs) ≡ once (nat_eq n r.0) + times n rs
 times_cons n r rs = sum_by-cons (λ (r : Reverse ℕ). once (nat_eq n r.0)) r rs
@@ -95,7 +91,7 @@ all_taken numbers taken knows items k two lt = go (taken k) refl
         let none : times k (heap_items numbers.freed) ≡ 0 = ap (times k) items in
         absurd (omega (arith, one', none))
 
--- how often a number is counted, by what is taken
+-- how often a number is in the count, by what is taken
 counted_once : (before after : ℕ → Bool) (low n : ℕ) → after n ≡ before n → once (was_given_back after low n) ≡ once (was_given_back before low n)
 counted_once before after low n same = ap (λ b. once (nat_le 2 n && nat_lt n low && not b)) same
 
@@ -226,15 +222,15 @@ taken_few facts n all =
     )
 
 -- the least number that is free of facts is the one that a new object gets
-pub next_is_new : (objects : Objects) (told : ℕ → Option ObjectFacts) (n : ℕ) → ((o : ℕ) → IsTold objects o (map.get objects o) (told o)) → IsLeastFree (λ o. is_some (told o)) n → n ≡ new_number objects
-next_is_new objects told n each least = new_unique objects n (free (map.get objects n) (told n) (each n) least.free) least.low (λ k two lt. there k (map.get objects k) (told k) refl (each k) (least.below k two lt))
+pub next_is_new : (objects : Objects) (reported : ℕ → Option ObjectFacts) (n : ℕ) → ((o : ℕ) → IsStated objects o (map.get objects o) (reported o)) → IsLeastFree (λ o. is_some (reported o)) n → n ≡ new_number objects
+next_is_new objects reported n each least = new_unique objects n (free (map.get objects n) (reported n) (each n) least.free) least.low (λ k two lt. there k (map.get objects k) (reported k) refl (each k) (least.below k two lt))
   where
-    free : (v : Option Object) (g : Option ObjectFacts) → IsTold objects n v g → is_some g ≡ false → v ≡ None
+    free : (v : Option Object) (g : Option ObjectFacts) → IsStated objects n v g → is_some g ≡ false → v ≡ None
     free None g t is = refl
     free (Some x) None t is = absurd t
     free (Some x) (Some f) t is = absurd (true≢false is)
 
-    there : (k : ℕ) (v : Option Object) (g : Option ObjectFacts) → map.get objects k ≡ v → IsTold objects k v g → is_some g ≡ true → (x : Object) × (map.get objects k ≡ Some x)
+    there : (k : ℕ) (v : Option Object) (g : Option ObjectFacts) → map.get objects k ≡ v → IsStated objects k v g → is_some g ≡ true → (x : Object) × (map.get objects k ≡ Some x)
     there k None None e t is = absurd (false≢true is)
     there k None (Some f) e t is = absurd t
     there k (Some x) g e t is = (x, e)

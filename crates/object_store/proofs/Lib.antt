@@ -1,5 +1,5 @@
 pub mod Counting
-pub mod Telling
+pub mod Reporting
 pub mod Few
 pub mod OneName
 pub mod Edits

@@ -12,7 +12,7 @@ use Rattle.object_store.specs.Facts.{NamedBy}
 use Rattle.object_store.specs.TableFacts.{IsFileFacts, IsDirectoryFacts, AreFactsOf, one_more, links_with, entry_removed, name_added, name_removed}
 use Rattle.object_store.specs.declared.table_facts.ObjectFacts.{ObjectFacts}
 use Rattle.object_store.proofs.Counting.{same_length, without, length_without, list_with, list_without, list_other}
-use Rattle.object_store.proofs.Telling.{SameAt}
+use Rattle.object_store.proofs.Reporting.{SameAt}
 
 -- The directory d names o in the one, and not in the other; all else is named alike, and the same are directories.
 pub record HasOneMore (less more : Objects) (d o : ℕ) (name : Name) : Type 0 where

@@ -6,16 +6,16 @@ use Rattle.posix_profile.specs.State.{Object, File, Dir, Objects}
 use Rattle.posix_profile.specs.WellFormed.{IsNamed}
 use Rattle.posix_profile.specs.declared.reply.Kind.{Kind}
 use Rattle.posix_profile.specs.declared.reply.Kind.TheVariants as kinds
-use Rattle.object_store.specs.Counted.{sizes_in, Counts, IsCountable}
+use Rattle.object_store.specs.Totaled.{sizes_in, Counts, IsCountable}
 use Rattle.object_store.specs.declared.table_builder.TableBuilder.{TableBuilder}
 
 -- the numbers of the volume
 abbrev pub sizes_built : TableBuilder → Sizes
-sizes_built builder = sizes_in builder.counted
+sizes_built builder = sizes_in builder.totaled
 
--- the objects that came so far, with those of their names that were told
+-- the objects that came so far, with those of their names that were returned
 abbrev pub Builds : TableBuilder → Objects → Type 0
-Builds builder objects = Counts builder.counted objects
+Builds builder objects = Counts builder.totaled objects
 
 -- a file of this moment and length, or a directory of this moment without entries
 abbrev pub IsBare : Kind → ℕ → ℕ → Object → Type 0

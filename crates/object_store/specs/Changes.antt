@@ -20,7 +20,7 @@ abbrev pub empty_object : Kind → ℕ → Object
 empty_object kinds.File moment = File moment []
 empty_object kinds.Directory moment = Dir moment map.empty
 
--- the objects without the one that is told, if one is
+-- the objects without the one that is reported, if one is
 abbrev pub without : Option ℕ → Objects → Objects
 without None objects = objects
 without (Some o) objects = map.remove objects o

@@ -1,4 +1,4 @@
--- What is asked of an object.
+-- Questions on an object.
 use Rattle.std.specs.Prelude.{ℕ, List, [], take, drop, Option, Some, None, Result, Ok, Err}
 use Rattle.std.specs.FinMap as map
 use Rattle.posix_profile.specs.State.{Name, Object, File, Dir, Objects}
@@ -7,7 +7,7 @@ use Rattle.posix_profile.specs.NameSteps.{info}
 use Rattle.posix_profile.specs.WellFormed.{IsNamed}
 use Rattle.posix_profile.specs.declared.reply.Info.{Info}
 
--- what is told of an object, if there is one
+-- what is reported of an object, if there is one
 abbrev pub info_of : Objects → ℕ → Option Object → Option Info
 info_of objects o None = None
 info_of objects o (Some object) = Some (info objects o object)

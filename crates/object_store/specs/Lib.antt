@@ -6,6 +6,6 @@ pub mod TableFacts
 pub mod Packed
 pub mod Taken
 pub mod Numbers
-pub mod Counted
-pub mod Told
+pub mod Totaled
+pub mod Reported
 pub mod Built

@@ -24,6 +24,6 @@ abbrev pub first_or : List (Reverse ℕ) → ℕ → ℕ
 first_or [] low = low
 first_or (r ∷ rs) low = r.0
 
--- the number that is told to be next
+-- the number that is reported to be next
 abbrev pub next_number : FreeNumbers → ℕ
 next_number numbers = first_or (heap_items numbers.freed) numbers.low

@@ -1,8 +1,8 @@
 -- What a store of objects stands for, and what its calls leave.
-use Rattle.std.specs.Prelude.{◌≡◌, ◌⊎◌, Bool, true, false, Result, Ok, Err}
+use Rattle.std.specs.Prelude.{◌≡◌, ◌⊎◌, Bool, true, false, Result, Ok, Err, ℕ}
 use Rattle.std.specs.FinMap as map
 use Rattle.volume_terms.specs.Sizes.{Sizes, IsSizes}
-use Rattle.posix_profile.specs.State.{Objects}
+use Rattle.posix_profile.specs.State.{Objects, IsDirectory, IsFile}
 use Rattle.posix_profile.specs.Names.{settle}
 use Rattle.posix_profile.specs.Charge.{fits}
 use Rattle.posix_profile.specs.WellFormed.{IsForest}
@@ -102,14 +102,30 @@ abbrev pub Commits : {S : Type 0} (m : Meaning S) → Objects → S → S → Re
 Commits m objects a b (Ok done) = m.stands b objects × m.commits objects a b
 Commits m objects a b (Err fault) = Faults m objects objects a b fault
 
--- what is told of a value, or of an error, unless a read failed or was refused memory
-abbrev pub Tells : {S A : Type 0} (m : Meaning S) → S → S → (A → Type 0) → (Errno → Type 0) → Result A Refusal → Type 0
-Tells m a b P Q (Ok x) = P x
-Tells m a b P Q (Err (refusals.Fault fault)) = ReadFaults m a b fault
-Tells m a b P Q (Err (refusals.Error error)) = Q error
+-- what is reported of a value, or of an error, unless a read failed or was refused memory
+abbrev pub Reports : {S A : Type 0} (m : Meaning S) → S → S → (A → Type 0) → (Errno → Type 0) → Result A Refusal → Type 0
+Reports m a b P Q (Ok x) = P x
+Reports m a b P Q (Err (refusals.Fault fault)) = ReadFaults m a b fault
+Reports m a b P Q (Err (refusals.Error error)) = Q error
 
 -- the device has power where it had it, unless the store has a fault
 abbrev pub KeepsPower : {S A : Type 0} (m : Meaning S) → S → S → Result A Refusal → Type 0
 KeepsPower m a b (Ok x) = m.has_power b ≡ m.has_power a
 KeepsPower m a b (Err (refusals.Fault fault)) = Unit {0}
 KeepsPower m a b (Err (refusals.Error error)) = m.has_power b ≡ m.has_power a
+
+-- what is true of the tree that a store has, whichever that is
+abbrev pub OfTree : {S : Type 0} → Meaning S → S → (Sizes → Objects → Type 0) → Type 0
+OfTree m a A = (z : Sizes) (objects : Objects) → Has m z objects a → A z objects
+
+-- and of a directory in it
+abbrev pub OfDirectory : {S : Type 0} → Meaning S → S → ℕ → (Sizes → Objects → Type 0) → Type 0
+OfDirectory m a d A = (z : Sizes) (objects : Objects) → Has m z objects a → IsDirectory objects d → A z objects
+
+-- and of a file in it
+abbrev pub OfFile : {S : Type 0} → Meaning S → S → ℕ → (Sizes → Objects → Type 0) → Type 0
+OfFile m a file A = (z : Sizes) (objects : Objects) → Has m z objects a → IsFile objects file → A z objects
+
+-- and of whichever file in it
+abbrev pub OfAnyFile : {S : Type 0} → Meaning S → S → (Sizes → Objects → ℕ → Type 0) → Type 0
+OfAnyFile m a A = (z : Sizes) (objects : Objects) (file : ℕ) → Has m z objects a → IsFile objects file → A z objects file

@@ -5,7 +5,7 @@ use Rattle.volume_terms.specs.Sizes.{Sizes, page_slots}
 use Rattle.volume_terms.specs.Rounding.{ceiling}
 use Rattle.posix_profile.specs.State.{Name, Object, File, Dir, Objects}
 use Rattle.posix_profile.specs.Names.{Names}
-use Rattle.posix_profile.specs.NameSteps.{told_size}
+use Rattle.posix_profile.specs.NameSteps.{reported_size}
 use Rattle.posix_profile.specs.declared.reply.Kind.{Kind}
 use Rattle.posix_profile.specs.declared.reply.Kind.TheVariants as kinds
 use Rattle.posix_profile.specs.declared.reply.Info.{Info}
@@ -36,9 +36,9 @@ unit_of z kinds.Directory = page_slots z
 abbrev pub facts_cost : Sizes → ObjectFacts → ℕ
 facts_cost z f = 1 + ceiling f.size (unit_of z f.kind)
 
--- what is told of an object with these facts
-abbrev pub told_info : ℕ → ObjectFacts → Info
-told_info o f = record { kind = f.kind; object = o; links = f.links; size = told_size f.kind f.size; moment = f.moment }
+-- what is reported of an object with these facts
+abbrev pub reported_info : ℕ → ObjectFacts → Info
+reported_info o f = record { kind = f.kind; object = o; links = f.links; size = reported_size f.kind f.size; moment = f.moment }
 
 -- one more, as far as numbers of 64 bits go
 abbrev pub one_more : ℕ → ℕ
@@ -97,8 +97,8 @@ AreFactsOf objects o (File moment bytes) f = IsFileFacts objects o moment (lengt
 AreFactsOf objects o (Dir moment entries) f = IsDirectoryFacts objects o moment (map.len entries) f
 
 -- there are facts exactly where there is an object, and they are of it
-abbrev pub IsTold : Objects → ℕ → Option Object → Option ObjectFacts → Type 0
-IsTold objects o None None = Unit {0}
-IsTold objects o None (Some f) = ⊥
-IsTold objects o (Some x) None = ⊥
-IsTold objects o (Some x) (Some f) = AreFactsOf objects o x f
+abbrev pub IsStated : Objects → ℕ → Option Object → Option ObjectFacts → Type 0
+IsStated objects o None None = Unit {0}
+IsStated objects o None (Some f) = ⊥
+IsStated objects o (Some x) None = ⊥
+IsStated objects o (Some x) (Some f) = AreFactsOf objects o x f

@@ -23,13 +23,13 @@ pub enum ObjectChange<'a> {
         number: u64,
         moment: u64,
     },
-    /// A name goes, and the object that is told.
+    /// A name goes, and the object that is returned.
     Remove {
         entry: DirectoryEntry<'a>,
         dropped: Option<u64>,
         moment: u64,
     },
-    /// The object gets the second name in place of the first, and what is told of what had that name goes.
+    /// The object gets the second name in place of the first, and what is reported of what had that name goes.
     Move {
         from: DirectoryEntry<'a>,
         to: DirectoryEntry<'a>,

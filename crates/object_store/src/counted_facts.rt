@@ -1,15 +1,14 @@
 // The facts of objects, and what the objects cost.
-ghost use Rattle.std.specs.Prelude.{◌≡◌, ◌≢◌, ◌<◌, ◌≤◌, ◌+◌, ℕ, Bool, Some, None, is_some, IsSome, OnOk, List, length, true};
+ghost use Rattle.std.specs.Prelude.{◌≡◌, ◌≢◌, ◌<◌, ◌+◌, ℕ, Some, None, IsSome, OnOk, List, length, true};
 ghost use Rattle.std.specs.FinMap as map;
 ghost use Rattle.std.specs.Ordering.{nat_cmp};
 ghost use Rattle.std.specs.BTreeMap.{get};
 ghost use Rattle.volume_terms.specs.VolumeSizes as volume;
-ghost use Rattle.posix_profile.specs.State.{Objects, Object, IsFile};
+ghost use Rattle.posix_profile.specs.State.{Objects, Object};
 ghost use Rattle.posix_profile.specs.Changes.{with_bytes, with_name, without_name};
-ghost use Rattle.object_store.specs.Changes.{NamesNothing};
-ghost use Rattle.object_store.specs.TableFacts.{facts_cost, entry_added, entry_removed, name_added, name_removed, resized_facts};
+ghost use Rattle.object_store.specs.TableFacts.{entry_added, entry_removed, name_added, name_removed};
 ghost use Rattle.object_store.specs.Taken.{facts_in};
-ghost use Rattle.object_store.specs.Counted.{told_at, sizes_in, charge_in, HasRoomIn, units_of, Counts, CountsTheSame, Puts, Drops, KeepsNumbers, GetsName, LosesName, IsCountable, Edits, FreshObject, CanGo};
+ghost use Rattle.object_store.specs.Totaled.{reported_at, sizes_in, HasRoomIn, units_of, Counts, CountsTheSame, Puts, Drops, KeepsNumbers, GetsName, LosesName, Edits, FreshObject, CanGo, OfCountedFile, CountsCountable};
 
 use crate::packed_facts::PackedFacts;
 use crate::table_facts::ObjectFacts;
@@ -83,7 +82,7 @@ impl CountedFacts {
 
     /// The facts at a number, if there are any.
     pub(crate) fn at(&self, number: u64) -> Option<ObjectFacts>
-        ensures { result ≡ told_at self.now number }
+        ensures { result ≡ reported_at self.now number }
     {
         facts_at(&self.facts, number)
     }
@@ -246,9 +245,8 @@ impl CountedFacts {
     /// A file has so many bytes now.
     pub(crate) fn set_length(&mut self, number: u64, size: u64, moment: u64)
         ensures keeps { KeepsNumbers self.old self.new }
-        ensures counts { (objects : Objects) (bytes : List ℕ) → Counts self.old objects → IsFile objects number → length bytes ≡ size
-            → IsCountable (sizes_in self.old) objects → IsCountable (sizes_in self.old) (with_bytes objects moment number bytes)
-            → Counts self.new (with_bytes objects moment number bytes) }
+        ensures counts { OfCountedFile self.old number (λ objects bytes. length bytes ≡ size
+            → CountsCountable self.old self.new objects (with_bytes objects moment number bytes)) }
     {
         match self.at(number) {
             Some(facts) => self.put(number, facts.with_size(size, moment)),

@@ -1,16 +1,16 @@
 // The table of objects.
-ghost use Rattle.std.specs.Prelude.{◌≡◌, ◌≤◌, ◌<◌, ◌+◌, ◌^◌, ℕ, Option, Some, None, OnOk, IfOk, List, length};
+ghost use Rattle.std.specs.Prelude.{◌≡◌, ◌<◌, ◌+◌, ◌^◌, ℕ, Option, Some, None, OnOk, IfOk, length};
 ghost use Rattle.std.specs.FinMap as map;
 ghost use Rattle.volume_terms.specs.VolumeSizes as volume;
-ghost use Rattle.posix_profile.specs.State.{Objects, IsFile, IsDirectory, entries_of};
+ghost use Rattle.posix_profile.specs.State.{Objects, IsDirectory, entries_of};
 ghost use Rattle.posix_profile.specs.Charge.{charge};
-ghost use Rattle.posix_profile.specs.Changes.{new_number, with_bytes, with_name, with_object, without_name, written};
+ghost use Rattle.posix_profile.specs.Changes.{new_number, with_bytes, written};
 ghost use Rattle.posix_profile.specs.WellFormed.{IsForest};
 ghost use Rattle.object_store.specs.Facts.{info_of, bytes_of, NamedBy};
 ghost use Rattle.object_store.specs.Changes.{made, without, empty_object, CanMake};
 ghost use Rattle.object_store.specs.Numbers.{KnowsFree};
 ghost use Rattle.object_store.specs.Taken.{taken_in};
-ghost use Rattle.object_store.specs.Counted.{sizes_in, Counts, CanGo, GetsName, LosesName, IsCountable};
+ghost use Rattle.object_store.specs.Totaled.{sizes_in, Counts, CanGo};
 
 use crate::ObjectChange;
 use crate::counted_facts::CountedFacts;
@@ -21,52 +21,52 @@ use posix_profile::{Info, Kind};
 use std::alloc::{AllocError, Global};
 use volume_terms::VolumeSizes;
 
-/// What is told of each object without reading a page. It knows no names and no bytes.
+/// What is reported of each object without reading a page. It knows no names and no bytes.
 ///
 /// A new object needs room, which `prepare` makes; no other change takes memory.
 #[derive(Drop)]
 pub struct ObjectTable {
-    counted: CountedFacts,
+    totaled: CountedFacts,
     numbers: FreeNumbers,
-    ghost free: { KnowsFree numbers (taken_in counted.facts) },
+    ghost free: { KnowsFree numbers (taken_in totaled.facts) },
 }
 
 impl ObjectTable {
-    ghost use Rattle.object_store.specs.Told.{table_sizes, next_of, HasRoomAt, IsReadyFor, LedBefore, GetsObject, Tells, TellsTheSame};
+    ghost use Rattle.object_store.specs.Reported.{table_sizes, next_of, HasRoomAt, IsReadyFor, LedBefore, Reports, ReportsTheSame, OfReported, OfReportedFile, ReportsCountable, ReportsCreated, ReportsNamed, ReportsUnnamed};
     ghost use Rattle.object_store.specs.Stores.{CanHave};
 
-    /// A table that tells no objects.
+    /// A table that reports no objects.
     pub fn new(alloc: Global, sizes: VolumeSizes) -> ObjectTable
         ensures size { table_sizes result ≡ volume.sizes_of sizes }
-        ensures tells { Tells result map.empty }
+        ensures reports { Reports result map.empty }
     {
-        let counted = CountedFacts::new(alloc, sizes);
-        let numbers = FreeNumbers::new(alloc, &counted.facts);
-        ObjectTable { counted, numbers }
+        let totaled = CountedFacts::new(alloc, sizes);
+        let numbers = FreeNumbers::new(alloc, &totaled.facts);
+        ObjectTable { totaled, numbers }
     }
 
     /// A table of these facts.
-    pub(crate) fn of(alloc: Global, counted: CountedFacts) -> Result<ObjectTable, AllocError>
-        ensures size { IfOk result (λ table. table_sizes table ≡ sizes_in counted) }
-        ensures tells { (objects : Objects) → Counts counted objects → IfOk result (λ table. Tells table objects) }
+    pub(crate) fn of(alloc: Global, totaled: CountedFacts) -> Result<ObjectTable, AllocError>
+        ensures size { IfOk result (λ table. table_sizes table ≡ sizes_in totaled) }
+        ensures reports { (objects : Objects) → Counts totaled objects → IfOk result (λ table. Reports table objects) }
     {
-        let mut numbers = FreeNumbers::new(alloc, &counted.facts);
+        let mut numbers = FreeNumbers::new(alloc, &totaled.facts);
         numbers.make_list()?;
-        Ok(ObjectTable { counted, numbers })
+        Ok(ObjectTable { totaled, numbers })
     }
 
     /// The numbers of the volume.
     pub fn sizes(&self) -> VolumeSizes
         ensures { volume.sizes_of result ≡ table_sizes self.now }
     {
-        self.counted.sizes
+        self.totaled.sizes
     }
 
-    /// What is told of the object at this number, if there is one.
+    /// What is reported of the object at this number, if there is one.
     pub fn info(&self, number: u64) -> Option<Info>
-        ensures { (objects : Objects) → Tells self.now objects → IsForest (table_sizes self.now) objects → result ≡ info_of objects number (map.get objects number) }
+        ensures { (objects : Objects) → Reports self.now objects → IsForest (table_sizes self.now) objects → result ≡ info_of objects number (map.get objects number) }
     {
-        match self.counted.at(number) {
+        match self.totaled.at(number) {
             Some(facts) => Some(facts.info(number)),
             None => None,
         }
@@ -74,9 +74,9 @@ impl ObjectTable {
 
     /// The directory that names a directory, if one does.
     pub fn parent(&self, directory: u64) -> Option<u64>
-        ensures { (objects : Objects) → Tells self.now objects → IsDirectory objects directory → NamedBy objects directory result }
+        ensures { (objects : Objects) → Reports self.now objects → IsDirectory objects directory → NamedBy objects directory result }
     {
-        match self.counted.at(directory) {
+        match self.totaled.at(directory) {
             Some(facts) => facts.parent,
             None => None,
         }
@@ -84,9 +84,9 @@ impl ObjectTable {
 
     /// How many entries a directory has.
     pub fn entry_count(&self, directory: u64) -> u64
-        ensures { (objects : Objects) → Tells self.now objects → IsDirectory objects directory → result ≡ map.len (entries_of (map.get objects directory)) }
+        ensures { (objects : Objects) → Reports self.now objects → IsDirectory objects directory → result ≡ map.len (entries_of (map.get objects directory)) }
     {
-        match self.counted.at(directory) {
+        match self.totaled.at(directory) {
             Some(facts) => facts.size,
             None => 0,
         }
@@ -94,24 +94,24 @@ impl ObjectTable {
 
     /// The units that the objects cost.
     pub fn charge(&self) -> u64
-        ensures { (objects : Objects) → Tells self.now objects → result ≡ charge (table_sizes self.now) objects }
+        ensures { (objects : Objects) → Reports self.now objects → result ≡ charge (table_sizes self.now) objects }
     {
-        self.counted.charge
+        self.totaled.charge
     }
 
     /// The number that the next new object gets.
     pub fn new_number(&self) -> u64
-        ensures { (objects : Objects) → Tells self.now objects → result ≡ new_number objects }
+        ensures { (objects : Objects) → Reports self.now objects → result ≡ new_number objects }
     {
         self.numbers.next()
     }
 
     /// Makes room for the next new object.
     pub fn prepare(&mut self) -> Result<(), AllocError>
-        ensures same { TellsTheSame self.old self.new }
+        ensures same { ReportsTheSame self.old self.new }
         ensures room { OnOk result (HasRoomAt self.new (next_of self.new)) }
     {
-        self.counted.make_room_ahead(self.numbers.next())
+        self.totaled.make_room_ahead(self.numbers.next())
     }
 
     /// Makes a change, in the room that was made. `replaced` is what the name led to that a removal takes away, or that
@@ -119,8 +119,8 @@ impl ObjectTable {
     pub fn apply(&mut self, change: &ObjectChange<'_>, replaced: Option<u64>)
         requires { IsReadyFor self.old change.now }
         ensures size { table_sizes self.new ≡ table_sizes self.old }
-        ensures tells { (objects : Objects) → Tells self.old objects → CanHave (table_sizes self.old) objects → CanMake (table_sizes self.old) objects change.now
-            → LedBefore objects change.now replaced → Tells self.new (made objects change.now) }
+        ensures reports { OfReported self.old (λ objects. CanHave (table_sizes self.old) objects → CanMake (table_sizes self.old) objects change.now
+            → LedBefore objects change.now replaced → Reports self.new (made objects change.now)) }
     {
         match *change {
             ObjectChange::Create {
@@ -172,33 +172,29 @@ impl ObjectTable {
     fn create(&mut self, directory: u64, kind: Kind, moment: u64)
         requires { HasRoomAt self.old (next_of self.old) }
         ensures size { table_sizes self.new ≡ table_sizes self.old }
-        ensures tells { (objects : Objects) (name : List ℕ) → Tells self.old objects → CanHave (table_sizes self.old) objects
-            → GetsObject (table_sizes self.old) objects moment directory name (empty_object kind moment)
-            → Tells self.new (with_object objects moment directory name (empty_object kind moment)) }
+        ensures reports { ReportsCreated self.old self.new moment directory (empty_object kind moment) }
     {
         let facts = ObjectFacts::fresh(kind, moment);
-        let number = add_object(&mut self.counted, &mut self.numbers, facts);
+        let number = add_object(&mut self.totaled, &mut self.numbers, facts);
         self.add_name(directory, number, moment);
     }
 
     /// A name of a directory leads to an object.
     fn add_name(&mut self, directory: u64, number: u64, moment: u64)
         ensures size { table_sizes self.new ≡ table_sizes self.old }
-        ensures tells { (objects : Objects) (name : List ℕ) → Tells self.old objects → GetsName (table_sizes self.old) objects moment directory name number
-            → Tells self.new (with_name objects moment directory name number) }
+        ensures reports { ReportsNamed self.old self.new moment directory number }
     {
-        self.counted.add_name(directory, number, moment);
+        self.totaled.add_name(directory, number, moment);
     }
 
     /// A name of a directory goes, if it led anywhere.
     fn remove_name(&mut self, directory: u64, number: Option<u64>, moment: u64)
         ensures size { table_sizes self.new ≡ table_sizes self.old }
-        ensures some { (objects : Objects) (name : List ℕ) (o : ℕ) → number ≡ Some o → Tells self.old objects → LosesName (table_sizes self.old) objects directory name o
-            → Tells self.new (without_name objects moment directory name) }
-        ensures none { (objects : Objects) → number ≡ None → Tells self.old objects → Tells self.new objects }
+        ensures some { ReportsUnnamed self.old self.new moment directory number }
+        ensures none { (objects : Objects) → number ≡ None → Reports self.old objects → Reports self.new objects }
     {
         match number {
-            Some(number) => self.counted.remove_name(directory, number, moment),
+            Some(number) => self.totaled.remove_name(directory, number, moment),
             None => {}
         }
     }
@@ -206,10 +202,10 @@ impl ObjectTable {
     /// An object goes, if there is one to go.
     fn forget(&mut self, dropped: Option<u64>)
         ensures size { table_sizes self.new ≡ table_sizes self.old }
-        ensures tells { (objects : Objects) → Tells self.old objects → ((o : ℕ) → dropped ≡ Some o → CanGo (table_sizes self.old) objects o) → Tells self.new (without dropped objects) }
+        ensures reports { (objects : Objects) → Reports self.old objects → ((o : ℕ) → dropped ≡ Some o → CanGo (table_sizes self.old) objects o) → Reports self.new (without dropped objects) }
     {
         match dropped {
-            Some(number) => drop_object(&mut self.counted, &mut self.numbers, number),
+            Some(number) => drop_object(&mut self.totaled, &mut self.numbers, number),
             None => {}
         }
     }
@@ -217,15 +213,13 @@ impl ObjectTable {
     /// So many bytes of a file are written at an offset.
     fn write(&mut self, number: u64, offset: u64, count: u64, moment: u64)
         ensures size { table_sizes self.new ≡ table_sizes self.old }
-        ensures tells { (objects : Objects) (bytes : List ℕ) → Tells self.old objects → IsFile objects number → length bytes ≡ count → offset + count < 2 ^ 64
-            → IsCountable (table_sizes self.old) objects
-            → IsCountable (table_sizes self.old) (with_bytes objects moment number (written (bytes_of (map.get objects number)) offset bytes))
-            → Tells self.new (with_bytes objects moment number (written (bytes_of (map.get objects number)) offset bytes)) }
+        ensures reports { OfReportedFile self.old number (λ objects bytes. length bytes ≡ count → offset + count < 2 ^ 64
+            → ReportsCountable self.old self.new objects (with_bytes objects moment number (written (bytes_of (map.get objects number)) offset bytes))) }
     {
-        match self.counted.at(number) {
+        match self.totaled.at(number) {
             Some(facts) => {
                 let end = offset.saturating_add(count);
-                self.counted.set_length(number, facts.size.max(end), moment);
+                self.totaled.set_length(number, facts.size.max(end), moment);
             }
             None => {}
         }
@@ -234,10 +228,9 @@ impl ObjectTable {
     /// A file has so many bytes now.
     fn set_length(&mut self, number: u64, size: u64, moment: u64)
         ensures size { table_sizes self.new ≡ table_sizes self.old }
-        ensures tells { (objects : Objects) (bytes : List ℕ) → Tells self.old objects → IsFile objects number → length bytes ≡ size
-            → IsCountable (table_sizes self.old) objects → IsCountable (table_sizes self.old) (with_bytes objects moment number bytes)
-            → Tells self.new (with_bytes objects moment number bytes) }
+        ensures reports { OfReportedFile self.old number (λ objects bytes. length bytes ≡ size
+            → ReportsCountable self.old self.new objects (with_bytes objects moment number bytes)) }
     {
-        self.counted.set_length(number, size, moment);
+        self.totaled.set_length(number, size, moment);
     }
 }

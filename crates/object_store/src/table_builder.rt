@@ -4,8 +4,8 @@ ghost use Rattle.std.specs.FinMap as map;
 ghost use Rattle.volume_terms.specs.VolumeSizes as volume;
 ghost use Rattle.posix_profile.specs.State.{Object, Objects};
 ghost use Rattle.posix_profile.specs.Changes.{with_name};
-ghost use Rattle.object_store.specs.Counted.{GetsName};
-ghost use Rattle.object_store.specs.Told.{table_sizes, Tells};
+ghost use Rattle.object_store.specs.Totaled.{GetsName};
+ghost use Rattle.object_store.specs.Reported.{table_sizes, Reports};
 
 use crate::counted_facts::CountedFacts;
 use crate::table::ObjectTable;
@@ -17,7 +17,7 @@ use volume_terms::VolumeSizes;
 /// A table of objects that come one by one, each before its names, as a mount reads a tree.
 #[derive(Drop)]
 pub struct TableBuilder {
-    counted: CountedFacts,
+    totaled: CountedFacts,
 }
 
 impl TableBuilder {
@@ -29,7 +29,7 @@ impl TableBuilder {
         ensures builds { Builds result map.empty }
     {
         TableBuilder {
-            counted: CountedFacts::new(alloc, sizes),
+            totaled: CountedFacts::new(alloc, sizes),
         }
     }
 
@@ -38,7 +38,7 @@ impl TableBuilder {
         ensures size { sizes_built self.new ≡ sizes_built self.old }
         ensures same { (objects : Objects) → Builds self.old objects → Builds self.new objects }
     {
-        self.counted.make_room(number)
+        self.totaled.make_room(number)
     }
 
     /// An object comes: a file of so many bytes, or a directory, whose entries come later as names.
@@ -54,8 +54,8 @@ impl TableBuilder {
             → OnOk result (Builds self.new (map.insert objects number x)) }
         ensures same { (objects : Objects) → Builds self.old objects → OnErr result (Builds self.new objects) }
     {
-        self.counted.make_room(number)?;
-        self.counted
+        self.totaled.make_room(number)?;
+        self.totaled
             .add(number, ObjectFacts::bare(kind, moment, length));
         Ok(())
     }
@@ -66,14 +66,14 @@ impl TableBuilder {
         ensures names { (objects : Objects) (name : List ℕ) → Builds self.old objects → GetsName (sizes_built self.old) objects moment directory name number
             → Builds self.new (with_name objects moment directory name number) }
     {
-        self.counted.add_name(directory, number, moment);
+        self.totaled.add_name(directory, number, moment);
     }
 
     /// The table of the objects that came.
     pub fn finish(self, alloc: Global) -> Result<ObjectTable, AllocError>
         ensures size { IfOk result (λ table. table_sizes table ≡ sizes_built self) }
-        ensures tells { (objects : Objects) → Builds self objects → IfOk result (λ table. Tells table objects) }
+        ensures reports { (objects : Objects) → Builds self objects → IfOk result (λ table. Reports table objects) }
     {
-        ObjectTable::of(alloc, self.counted)
+        ObjectTable::of(alloc, self.totaled)
     }
 }

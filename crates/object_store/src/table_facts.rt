@@ -5,7 +5,7 @@ ghost use Rattle.volume_terms.specs.Rounding.{ceiling};
 use posix_profile::{Info, Kind};
 use volume_terms::VolumeSizes;
 
-/// What is told of an object without reading. `size` counts the bytes of a file, or the entries of a directory; a file has
+/// What is reported of an object without reading. `size` counts the bytes of a file, or the entries of a directory; a file has
 /// as many links as names, a directory 2 and one for each directory in it; `parent` is the directory that names a directory.
 #[derive(Clone, Copy, Debug, PartialEq, Eq)]
 pub struct ObjectFacts {
@@ -18,7 +18,7 @@ pub struct ObjectFacts {
 
 impl ObjectFacts {
     ghost use Rattle.volume_terms.specs.VolumeSizes.{sizes_of};
-    ghost use Rattle.object_store.specs.TableFacts.{facts_cost, fresh_facts, bare_facts, told_info, entry_added, entry_removed, name_added, name_removed, resized_facts};
+    ghost use Rattle.object_store.specs.TableFacts.{facts_cost, fresh_facts, bare_facts, reported_info, entry_added, entry_removed, name_added, name_removed, resized_facts};
 
     /// An object without content and without a name.
     pub fn fresh(kind: Kind, moment: u64) -> ObjectFacts
@@ -146,7 +146,7 @@ impl ObjectFacts {
     }
 
     pub(crate) fn info(&self, number: u64) -> Info
-        ensures { result ≡ told_info number self.now }
+        ensures { result ≡ reported_info number self.now }
     {
         Info {
             kind: self.kind,

@@ -13,7 +13,7 @@ use Rattle.pages.specs.laws.Changes.{cuts_append, cuts_same, cuts_nothing}
 use Rattle.chunk_index.specs.declared.form.Present.TheVariants as presents
 use Rattle.chunk_index.specs.declared.index.Index.{Index}
 use Rattle.chunk_index.specs.Shelves.{Differs}
-use Rattle.chunk_index.specs.Maps.{present, Cuts, SameKept, StaysPrepared}
+use Rattle.chunk_index.specs.Maps.{present, Cuts, SameCommitted, StaysPrepared}
 use Rattle.page_store.specs.Shown.{data_by, present_data}
 use Rattle.page_store.specs.Buffering.{Buffers, lacks, new_keys, with_new, DropsSlot, DropsCut, CutsPages, IsTaken}
 use Rattle.page_store.proofs.Keys.{Holding, object_is, chunk_is, new_less, new_same, lacks_one}
@@ -21,7 +21,7 @@ use Rattle.page_store.proofs.Keys.{Holding, object_is, chunk_is, new_less, new_s
 -- What stands while the pages are gone through that a cut may take: below a place none is taken.
 pub record Dropping (cut : Cut) (i : ℕ) (x y : Index) (old new : List FreshPage) : Type 0 where
   pub buffers : Buffers y new
-  pub kept : SameKept x y
+  pub committed : SameCommitted x y
   pub prepared : StaysPrepared x y
   pub below : (o c k : ℕ) → k < i → IsPageOf new o c k → IsTaken cut o c → ⊥
   pub others : (flash : Flash) (o c : ℕ) → (IsTaken cut o c → ⊥) → present_data y new flash o c ≡ present_data x old flash o c
@@ -31,7 +31,7 @@ pub record Dropping (cut : Cut) (i : ℕ) (x y : Index) (old new : List FreshPag
 pub dropping_starts : (cut : Cut) (x : Index) (pages : List FreshPage) → Buffers x pages → Dropping cut 0 x x pages pages
 dropping_starts cut x pages b = record {
   buffers = b;
-  kept = record { kept = λ o c. refl; counts = λ k. refl };
+  committed = record { committed = λ o c. refl; counts = λ k. refl };
   prepared = λ o c is. is;
   below = λ o c k lt. absurd (omega (arith, lt));
   others = λ flash o c none. refl;
@@ -44,7 +44,7 @@ pub dropping_passes : (cut : Cut) (i : ℕ) (x y : Index) (old new : List FreshP
     → Dropping cut i x y old new → Dropping cut (i + 1) x y old new
 dropping_passes cut i x y old new p at stays d = record {
   buffers = d.buffers;
-  kept = d.kept;
+  committed = d.committed;
   prepared = d.prepared;
   below = λ o c k lt of taken. elim (cases_eq k i) [
     | inr ne ↦ d.below o c k (omega (arith, lt, ne)) of taken
@@ -62,10 +62,10 @@ dropping_passes cut i x y old new p at stays d = record {
 
 -- a page that is taken goes
 pub dropping_goes : (cut : Cut) (i : ℕ) (x y z : Index) (old mid new : List FreshPage) (p : FreshPage) → slice_get mid i ≡ Some p → takes cut p.key.object p.key.chunk ≡ true
-    → Dropping cut i x y old mid → Buffers z new → SameKept y z → StaysPrepared y z → DropsSlot i y z mid new → Dropping cut i x z old new
-dropping_goes cut i x y z old mid new p at taken d b kept prepared drops = record {
+    → Dropping cut i x y old mid → Buffers z new → SameCommitted y z → StaysPrepared y z → DropsSlot i y z mid new → Dropping cut i x z old new
+dropping_goes cut i x y z old mid new p at taken d b committed prepared drops = record {
   buffers = b;
-  kept = record { kept = λ o c. kept.kept o c ∙ d.kept.kept o c; counts = λ k. kept.counts k ∙ d.kept.counts k };
+  committed = record { committed = λ o c. committed.committed o c ∙ d.committed.committed o c; counts = λ k. committed.counts k ∙ d.committed.counts k };
   prepared = λ o c is. prepared o c (d.prepared o c is);
   below = λ o c k lt of. d.below o c k lt (drops.below o c k lt of);
   others = λ flash o c none. drops.others flash o c (λ of. none (is_taken o c of)) ∙ d.others flash o c none;
@@ -97,7 +97,7 @@ taken_cases cut o c = elim (cut_cases cut o c) [
   | inr no' ↦ inr (λ is. no'.1 is.0 is.1)
 ]
 
--- once no page of the buffer is one that is taken, the index is told of the cut
+-- once no page of the buffer is one that is taken, the index is reported of the cut
 module _ (cut : Cut) (x y : Index) (pages : List FreshPage) (b : Holding x pages) (gone : (o c i : ℕ) → IsTaken cut o c → IsPageOf pages o c i → ⊥) (cuts : Cuts cut.object cut.from x y) where
   same : (o c : ℕ) → (IsTaken cut o c → ⊥) → present y o c ≡ present x o c
   same o c none = cuts.others o c (elim (cases_eq o cut.object) [
@@ -114,7 +114,7 @@ module _ (cut : Cut) (x y : Index) (pages : List FreshPage) (b : Holding x pages
       | inl taken ↦ let both : presents.Absent ≡ presents.InBuffer i = sym (none_is o c taken) ∙ is in absurd cc
       | inr none ↦ b.there o c i (sym (same o c none) ∙ is)
     ];
-    told = λ o c i of. same o c (λ taken. gone o c i taken of) ∙ b.told o c i of;
+    reported = λ o c i of. same o c (λ taken. gone o c i taken of) ∙ b.reported o c i of;
   }
 
   pub cut_gone : (flash : Flash) (o c : ℕ) → IsTaken cut o c → present_data y pages flash o c ≡ None
@@ -132,25 +132,16 @@ module _ (cut : Cut) (x y : Index) (pages : List FreshPage) (b : Holding x pages
 -- What stands after the first n of the cuts.
 pub record CuttingAll (cuts : List Cut) (n : ℕ) (x y : Index) (old new : List FreshPage) : Type 0 where
   pub buffers : Buffers y new
-  pub kept : SameKept x y
+  pub committed : SameCommitted x y
   pub prepared : StaysPrepared x y
   pub shown : (flash : Flash) (o c : ℕ) → present_data y new flash o c ≡ without_cuts (take n cuts) (present_data x old flash) o c
   pub room : (ps : List FreshPage) → AreApart ps → with_new y new ps ≤ with_new x old ps
 
-pub cutting_starts : (cuts : List Cut) (x : Index) (pages : List FreshPage) → Buffers x pages → CuttingAll cuts 0 x x pages pages
-cutting_starts cuts x pages b = record {
-  buffers = b;
-  kept = record { kept = λ o c. refl; counts = λ k. refl };
-  prepared = λ o c is. is;
-  shown = λ flash o c. refl;
-  room = λ ps apart. omega arith;
-}
-
 pub cutting_more : (cuts : List Cut) (n : ℕ) (cut : Cut) (x y z : Index) (old mid new : List FreshPage) → take (n + 1) cuts ≡ take n cuts ++ cut ∷ [] → CuttingAll cuts n x y old mid
-    → Buffers z new → SameKept y z → StaysPrepared y z → CutsPages cut y z mid new → ((ps : List FreshPage) → AreApart ps → with_new z new ps ≤ with_new y mid ps) → CuttingAll cuts (n + 1) x z old new
-cutting_more cuts n cut x y z old mid new next d b kept prepared is room = record {
+    → Buffers z new → SameCommitted y z → StaysPrepared y z → CutsPages cut y z mid new → ((ps : List FreshPage) → AreApart ps → with_new z new ps ≤ with_new y mid ps) → CuttingAll cuts (n + 1) x z old new
+cutting_more cuts n cut x y z old mid new next d b committed prepared is room = record {
   buffers = b;
-  kept = record { kept = λ o c. kept.kept o c ∙ d.kept.kept o c; counts = λ k. kept.counts k ∙ d.kept.counts k };
+  committed = record { committed = λ o c. committed.committed o c ∙ d.committed.committed o c; counts = λ k. committed.counts k ∙ d.committed.counts k };
   prepared = λ o c was. prepared o c (d.prepared o c was);
   shown = λ flash o c. shown flash o c ∙ sym (ap (λ (xs : List Cut). without_cuts xs (present_data x old flash) o c) next ∙ cuts_append (take n cuts) (cut ∷ []) (present_data x old flash) o c);
   room = λ ps apart. omega (arith, room ps apart, d.room ps apart);

@@ -184,8 +184,8 @@ same_slots old new size is = record {
   each = λ p q. ap (λ (s : LruCache (ℕ × ℕ) Slot). option_map held_in (lookup (is_key p q) s.entries)) is;
 }
 
-pub kept_same : (old new : PageCache) → KeepsSlots old new → HasTheSame old new
-kept_same old new keeps = same_slots old new keeps.page_bytes keeps.slots
+pub committed_same : (old new : PageCache) → KeepsSlots old new → HasTheSame old new
+committed_same old new keeps = same_slots old new keeps.page_bytes keeps.slots
 
 -- a page in a frame of so many bytes, and a place
 pub page_has : (bytes : ℕ) (frame : Vec ℕ Global) → length frame.items ≡ bytes → HasSize bytes (slots.Page frame)

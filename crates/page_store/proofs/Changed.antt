@@ -14,7 +14,7 @@ use Rattle.transactions.specs.Handing.{HandsOut}
 use Rattle.transactions.specs.laws.Handing.{hands_nothing}
 use Rattle.volume_terms.specs.declared.fault.StoreFault.{StoreFault}
 use Rattle.volume_terms.specs.declared.fault.StoreFault.TheVariants as faults
-use Rattle.chunk_index.specs.Maps.{SameKept}
+use Rattle.chunk_index.specs.Maps.{SameCommitted}
 use Rattle.pages.specs.declared.change.Change.{Change}
 use Rattle.page_store.specs.Changing.{ChangeEnds, CommitsEither, CommitsNone, SamePlaces, IsBroken, HasNothingLeft, IsCommitFault, Prepares, SameBeside, StaysCarried, StaysOrKeepsOpen, StaysWhole, StoreLasts}
 use Rattle.page_store.specs.Counts.{IsRefused}
@@ -23,8 +23,8 @@ use Rattle.page_store.specs.declared.counts.StoreCounts.{StoreCounts}
 use Rattle.page_store.specs.Carrying.{CarriesFound}
 use Rattle.flash_log.specs.Mountable.{IsMountable}
 use Rattle.page_store.proofs.Carried.{either_same}
-use Rattle.page_store.proofs.Findable.{mountable_kept}
-use Rattle.page_store.proofs.Steps.{same_back, same_on, kept_map_same, present_map_same}
+use Rattle.page_store.proofs.Findable.{mountable_committed}
+use Rattle.page_store.proofs.Steps.{same_back, same_on, committed_map_same, present_map_same}
 
 -- nothing is done
 pub pays_here : {T E : Type 0} (count spare : ℕ) (a : LogState) (result : Result T E) → PaysUpTo count spare a a result
@@ -86,7 +86,7 @@ module _ (a b c d : StoreState) (before : Prepares a b) (after : SameBeside c d)
   refused_after = ap (λ (k : StoreCounts). k.refused.total) after.counts
 
   committed_before : SamePages (committed_in b) (committed_in a)
-  committed_before = kept_map_same a.log.device b.log.device a.index b.index still before.committed
+  committed_before = committed_map_same a.log.device b.log.device a.index b.index still before.committed_map
 
   pub current_before : SamePages (current_in b) (current_in a)
   current_before = present_map_same a.log.device b.log.device a.index b.index a.buffer b.buffer still before.current before.buffer
@@ -111,12 +111,12 @@ module _ (a b c d : StoreState) (before : Prepares a b) (after : SameBeside c d)
 
   pub carried_made : StaysCarried b c → StaysCarried a d
   carried_made stays = λ whole honest.
-      let told : b.log.device.honest ≡ true = ap (λ (x : Device). x.honest) still ∙ honest in
+      let reported : b.log.device.honest ≡ true = ap (λ (x : Device). x.honest) still ∙ honest in
       let mounts : IsMountable a.log a.index → IsMountable b.log b.index =
-      λ was. mountable_kept b.log a.index b.index before.committed (subst (λ (l : LogState). IsMountable l a.index) (sym before.log.log) was) in
+      λ was. mountable_committed b.log a.index b.index before.committed_map (subst (λ (l : LogState). IsMountable l a.index) (sym before.log.log) was) in
       subst (λ (k : Device). CarriesFound a.log a.index k a.spare (committed_in a) ⊎ CarriesFound a.log a.index k a.spare (current_in a)) (sym still_after)
       (either_same b.log a.log b.index a.index c.log.device a.spare (committed_in b) (current_in b) (committed_in a) (current_in a) mounts (same_back _ _ committed_before) (same_back _ _ current_before)
-      (subst (λ n. CarriesFound b.log b.index c.log.device n (committed_in b) ⊎ CarriesFound b.log b.index c.log.device n (current_in b)) before.log.spare (stays (before.log.broken ∙ whole) told)))
+      (subst (λ n. CarriesFound b.log b.index c.log.device n (committed_in b) ⊎ CarriesFound b.log b.index c.log.device n (current_in b)) before.log.spare (stays (before.log.broken ∙ whole) reported)))
 
   pub whole_made : StaysWhole b c → StaysWhole a d
   whole_made whole = record {
@@ -126,7 +126,7 @@ module _ (a b c d : StoreState) (before : Prepares a b) (after : SameBeside c d)
   }
 
   pub committed_made : SamePages (committed_in d) (committed_in c) → CommitsEither b c → CommitsEither a d
-  committed_made same (inl kept) = inl (same_on _ _ _ same (same_on _ _ _ kept committed_before))
+  committed_made same (inl committed) = inl (same_on _ _ _ same (same_on _ _ _ committed committed_before))
   committed_made same (inr all) = inr (same_on _ _ _ same (same_on _ _ _ all current_before))
 
   pub open_made : StaysOrKeepsOpen b c → StaysOrKeepsOpen a d
@@ -164,7 +164,7 @@ module _ (a b : StoreState) (before : Prepares a b) where
     device = ap (λ (l : LogState). l.device) before.log.log;
     table = ap (λ (l : LogState). l.table) before.log.log;
     broken = before.log.broken;
-    committed = kept_map_same a.log.device b.log.device a.index b.index (ap (λ (l : LogState). l.device) before.log.log) before.committed;
+    committed_map = committed_map_same a.log.device b.log.device a.index b.index (ap (λ (l : LogState). l.device) before.log.log) before.committed_map;
     current = present_map_same a.log.device b.log.device a.index b.index a.buffer b.buffer (ap (λ (l : LogState). l.device) before.log.log) before.current before.buffer;
   })
 
@@ -172,7 +172,7 @@ module _ (a b : StoreState) (before : Prepares a b) where
   commits_none = record {
     device = ap (λ (l : LogState). l.device) before.log.log;
     table = ap (λ (l : LogState). l.table) before.log.log;
-    committed = kept_map_same a.log.device b.log.device a.index b.index (ap (λ (l : LogState). l.device) before.log.log) before.committed;
+    committed_map = committed_map_same a.log.device b.log.device a.index b.index (ap (λ (l : LogState). l.device) before.log.log) before.committed_map;
     commits = before.log.commits;
   }
 
@@ -186,7 +186,7 @@ module _ (a b c : StoreState) (before : Prepares a b) (same : SamePlaces b c) wh
   commits_not = record {
     device = ap (λ (l : LogState). l.device) (same.log ∙ before.log.log);
     table = ap (λ (l : LogState). l.table) (same.log ∙ before.log.log);
-    committed = kept_map_same a.log.device c.log.device a.index c.index (ap (λ (l : LogState). l.device) (same.log ∙ before.log.log)) (subst (SameKept a.index) (sym same.index) before.committed);
+    committed_map = committed_map_same a.log.device c.log.device a.index c.index (ap (λ (l : LogState). l.device) (same.log ∙ before.log.log)) (subst (SameCommitted a.index) (sym same.index) before.committed_map);
     commits = same.commits ∙ before.log.commits;
   }
 
@@ -195,7 +195,7 @@ pub commits_not_after : (a c d : StoreState) → CommitsNone a c → SameBeside 
 commits_not_after a c d none after same = record {
   device = ap (λ (l : LogState). l.device) after.log ∙ none.device;
   table = ap (λ (l : LogState). l.table) after.log ∙ none.table;
-  committed = same_on _ _ _ same none.committed;
+  committed_map = same_on _ _ _ same none.committed_map;
   commits = ap (λ (k : StoreCounts). k.commits.total) after.counts ∙ none.commits;
 }
 

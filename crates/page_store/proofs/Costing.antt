@@ -6,9 +6,9 @@ use Rattle.nand_model.specs.Calls.{Device, Lasts}
 use Rattle.nand_model.specs.Counts.{Costs, ReadsFew}
 use Rattle.nand_model.specs.declared.geometry.Geometry.{Geometry}
 use Rattle.flash_tree.specs.declared.place.FreshPage.{FreshPage}
-use Rattle.block_state.specs.Kept.{bad_count}
+use Rattle.block_state.specs.Committed.{bad_count}
 use Rattle.block_state.specs.Table.{Table, room}
-use Rattle.transactions.specs.Checking.{LogState, log_of}
+use Rattle.transactions.specs.Checking.{LogState}
 use Rattle.transactions.specs.Ready.{IsReady}
 use Rattle.transactions.specs.laws.Ready.{none_waits}
 use Rattle.flash_log.specs.Moving.{MarksFailures}
@@ -30,7 +30,7 @@ each_more k m a b few le =
     let right : m * b ≡ m * a + m * (b - a) = ap (λ n. m * n) more ∙ (omega arith) in
     omega (arith, times, left, right)
 
--- more may be counted for each failure
+-- more may be in the count for each failure
 pub costs_each : (n k m : ℕ) (d e : Device) → k ≤ m → Lasts d e → Costs n k 0 d e → Costs n m 0 d e
 costs_each n k m d e few lasts costs =
     let more = each_more k m d.failures e.failures few lasts.failures in
@@ -112,7 +112,7 @@ attempt_short count a b fault bad rise few reads = record {
 
 -- ---- all turns
 
--- The last turn comes after others: it is the first one, or each before it counted a failure.
+-- The last turn comes after others: it is the first one, or each before it in the count a failure.
 module _ (count now spare : ℕ) (a b c : LogState) (same : now ≡ count) (first : Lasts a.device b.device) (then : Lasts b.device c.device) (here : b.device.failures ≡ a.device.failures → b ≡ a)
     (costs : Costs 0 (3 * a.device.geometry.pages + 3) 0 a.device b.device) where
   at_first : c.device.failures ≡ a.device.failures → b ≡ a
@@ -140,10 +140,6 @@ had_failure d e more marks = omega (arith, more, marks)
 -- and so it is not as if none had been
 pub had_none : (a d e : Device) → e.failures ≡ a.failures → a.failures ≤ d.failures → d.failures < e.failures → ⊥
 had_none a d e still rise failed = omega (arith, still, rise, failed)
-
--- a log of the same parts is the same
-pub same_log : (d e : Device) (t u : Table) → e ≡ d → u ≡ t → log_of e u ≡ log_of d t
-same_log d e t u device table = λ i. record { device = device i; table = table i }
 
 -- where the open block has room, no block may have a checkpoint
 pub none_with_room : (n : ℕ) (d : Device) (t : Table) → IsReady d t → 1 ≤ n → n ≤ room t → t.checkpoint ≡ None

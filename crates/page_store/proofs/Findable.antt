@@ -23,7 +23,7 @@ use Rattle.chunk_index.specs.declared.form.Present.TheVariants as presents
 use Rattle.chunk_index.specs.declared.form.WrittenGroup.{WrittenGroup}
 use Rattle.chunk_index.specs.declared.index.Index.{Index}
 use Rattle.chunk_index.specs.Counts.{Recounts}
-use Rattle.chunk_index.specs.Maps.{kept_pages, kept_in, present, once_written, CountsAgree, Settles, SameKept}
+use Rattle.chunk_index.specs.Maps.{committed_pages, count_committed_in, present, once_written, CountsAgree, Settles, SameCommitted}
 use Rattle.transactions.specs.Checking.{LogState, log_of}
 use Rattle.transactions.specs.Committing.{fresh_name, fresh_bytes, no_key}
 use Rattle.transactions.specs.Groups.{AddsPages, GroupsAfter, OkTable, TableEnds, WritesOpen, next_group}
@@ -40,8 +40,8 @@ use Rattle.transactions.specs.laws.Newest.{commit_comes_last}
 use Rattle.flash_log.specs.Erased.{KnowsErased, LeadsErased, TracksErased}
 use Rattle.flash_log.specs.Mountable.{IsMountable, IsMountableSince, KeepsMountable}
 use Rattle.flash_log.specs.Snapshots.{Snapshot}
-use Rattle.flash_log.specs.Standing.{AreFound, IsKept}
-use Rattle.flash_log.specs.Steps.{MovesKept}
+use Rattle.flash_log.specs.Standing.{AreFound, IsCommittedKey}
+use Rattle.flash_log.specs.Steps.{MovesCommitted}
 use Rattle.flash_log.specs.laws.Erased.{erased_written}
 use Rattle.flash_log.specs.laws.Keeping.{same_ends}
 use Rattle.flash_log.specs.laws.Mountable.{mountable_on}
@@ -49,12 +49,12 @@ use Rattle.pages.specs.Maps.{PageMap}
 use Rattle.pages.specs.Stores.{FindsAll}
 use Rattle.page_store.specs.Buffering.{Buffers}
 use Rattle.page_store.specs.Carrying.{AreWritable}
-use Rattle.page_store.specs.Shown.{data_by, kept_data, present_data}
-use Rattle.page_store.proofs.Carried.{kept_of_data}
-use Rattle.page_store.proofs.Following.{on_flash_kept}
+use Rattle.page_store.specs.Shown.{data_by, committed_data, present_data}
+use Rattle.page_store.proofs.Carried.{committed_of_data}
+use Rattle.page_store.proofs.Following.{on_flash_committed}
 use Rattle.page_store.proofs.GroupCounts.{ListsAreWhole, settled_elsewhere, settled_most}
 use Rattle.page_store.proofs.Grouping.{named_once, not_named}
-use Rattle.page_store.proofs.Settling.{kept_before}
+use Rattle.page_store.proofs.Settling.{was_committed_before}
 
 -- ---- maps of keys
 
@@ -62,24 +62,24 @@ use Rattle.page_store.proofs.Settling.{kept_before}
 pub finds_same : (d : Device) (m n : PageMap) → ((o c : ℕ) → m o c ≡ n o c) → FindsAll d m → FindsAll d n
 finds_same d m n same all o c (xs, is) = all o c (xs, same o c ∙ is)
 
--- each page of which the data were known is of a kept key
-pub finds_kept : (d : Device) (x : Index) (f : Flash) → AreFound d.geometry d.flash (kept_pages x) → FindsAll d (kept_data x f)
-finds_kept d x f found o c (xs, is) = found o c (kept_of_data f (kept_pages x o c) xs is)
+-- each page of which the data were known is of a committed key
+pub finds_committed : (d : Device) (x : Index) (f : Flash) → AreFound d.geometry d.flash (committed_pages x) → FindsAll d (committed_data x f)
+finds_committed d x f found o c (xs, is) = found o c (committed_of_data f (committed_pages x o c) xs is)
 
--- keys that were moved were kept
-pub found_unmoved : (d : Device) (x y : Index) → MovesKept x y → AreFound d.geometry d.flash (kept_pages y) → AreFound d.geometry d.flash (kept_pages x)
+-- keys that were moved were committed
+pub found_unmoved : (d : Device) (x y : Index) → MovesCommitted x y → AreFound d.geometry d.flash (committed_pages y) → AreFound d.geometry d.flash (committed_pages x)
 found_unmoved d x y moves found o c (p, is) = let m = moves.moved o c p is in found o c (m.at, m.is)
 
--- no kept page changes
-pub mountable_kept : (log : LogState) (x y : Index) → SameKept x y → IsMountable log x → IsMountable log y
-mountable_kept log x y same was = record {
+-- no committed page changes
+pub mountable_committed : (log : LogState) (x y : Index) → SameCommitted x y → IsMountable log x → IsMountable log y
+mountable_committed log x y same was = record {
   summaries = was.summaries;
   erased = was.erased;
-  found = λ o c (p, is). was.found o c (p, sym (same.kept o c) ∙ is);
+  found = λ o c (p, is). was.found o c (p, sym (same.committed o c) ∙ is);
 }
 
-pub mountable_kept_since : (first : Option Snapshot) (log : LogState) (x y : Index) → SameKept x y → IsMountableSince first log x → IsMountableSince first log y
-mountable_kept_since first log x y same = mountable_on first log log x y (lasts_here log.device) (λ honest. mountable_kept log x y same)
+pub mountable_committed_since : (first : Option Snapshot) (log : LogState) (x y : Index) → SameCommitted x y → IsMountableSince first log x → IsMountableSince first log y
+mountable_committed_since first log x y same = mountable_on first log log x y (lasts_here log.device) (λ honest. mountable_committed log x y same)
 
 -- the device is only read
 mountable_read : (a b : Device) (t : Table) (x : Index) → OnlyReads a b → KeepsMountable (log_of a t) (log_of b t) x x
@@ -93,7 +93,7 @@ mountable_read a b t x reads honest was =
         leads = subst (λ (f : Flash). LeadsErased f t) flash was.erased.leads;
         known = λ power. subst (λ (f : Flash). KnowsErased f t) flash (was.erased.known (had_power a b reads.lasts power));
       };
-      found = subst (λ (z : Geometry). AreFound z b.flash (kept_pages x)) geometry (subst (λ (f : Flash). AreFound a.geometry f (kept_pages x)) flash was.found);
+      found = subst (λ (z : Geometry). AreFound z b.flash (committed_pages x)) geometry (subst (λ (f : Flash). AreFound a.geometry f (committed_pages x)) flash was.found);
     }
 
 pub mountable_read_since : (first : Option Snapshot) (a b : Device) (t : Table) (x : Index) → OnlyReads a b → IsMountableSince first (log_of a t) x → IsMountableSince first (log_of b t) x
@@ -102,7 +102,7 @@ mountable_read_since first a b t x reads = mountable_on first (log_of a t) (log_
 -- ---- a table of which only counts change
 
 pub tracks_counted : (d : Device) (t v : Table) (before after : ℕ → ℕ) → Recounts before after t v
-    → ((b : ℕ) → BeginsErased d.flash b → (t.entry b).kept ≡ 0 → (v.entry b).kept ≡ 0) → TracksErased d t → TracksErased d v
+    → ((b : ℕ) → BeginsErased d.flash b → (t.entry b).committed ≡ 0 → (v.entry b).committed ≡ 0) → TracksErased d t → TracksErased d v
 tracks_counted d t v before after counts none was = record {
   first = was.first;
   leads = record {
@@ -115,7 +115,7 @@ tracks_counted d t v before after counts none was = record {
   recounted knows = record {
     unwritten = λ b within begins.
         let is = knows.unwritten b (subst (λ (z : Geometry). b < z.blocks) counts.geometry within) begins in
-        record { next = counts.next b ∙ is.next; kept = none b begins is.kept };
+        record { next = counts.next b ∙ is.next; committed = none b begins is.committed };
     torn = λ b l u begins has.
         let is = knows.torn b l u begins has in
         record {
@@ -137,7 +137,7 @@ tracks_counted d t v before after counts none was = record {
 
 module _ (d e : Device) (t : Table) (x : Index) (pages : List FreshPage) (o : ℕ) (ready : IsReady d t) (opened : t.open_block ≡ Some o) (buffers : Buffers x pages)
     (writable : AreWritable d pages) (lasts : Lasts d e) (honest : d.honest ≡ true) (writes : WritesOpen t d.flash e.flash)
-    (right : AreSummariesRight d.geometry d.flash) (found : AreFound d.geometry d.flash (kept_pages x)) where
+    (right : AreSummariesRight d.geometry d.flash) (found : AreFound d.geometry d.flash (committed_pages x)) where
   abbrev g : Group
   g = next_group t (length pages) o
 
@@ -151,9 +151,9 @@ module _ (d e : Device) (t : Table) (x : Index) (pages : List FreshPage) (o : �
   afterwards q c = subst (λ (z : Geometry). IsFindable z e.flash q c) (sym lasts.geometry)
 
   -- it is not added
-  pub found_still : SameGroups d.flash e.flash → AreFound e.geometry e.flash (kept_pages x)
-  found_still same q c kept =
-      afterwards q c (findable_same d.geometry d.flash e.flash o t.next_group (t.entry o).seq written right (IsKey q c) same (found q c kept))
+  pub found_still : SameGroups d.flash e.flash → AreFound e.geometry e.flash (committed_pages x)
+  found_still same q c committed =
+      afterwards q c (findable_same d.geometry d.flash e.flash o t.next_group (t.entry o).seq written right (IsKey q c) same (found q c committed))
 
   -- it is added
   module _ (adds : AddsPages g name (fresh_bytes pages) d.flash e.flash) where
@@ -176,10 +176,10 @@ module _ (d e : Device) (t : Table) (x : Index) (pages : List FreshPage) (o : �
     commits = record { versions = λ i lt. refl; seq = t.next_seq; below = ready.below honest }
 
     -- a key that it does not name is found by the page that it had
-    finds_other : (q c : ℕ) → ((i : ℕ) → present x q c ≡ presents.InBuffer i → ⊥) → IsKept (kept_pages x) q c → IsFindable e.geometry e.flash q c
-    finds_other q c out kept =
+    finds_other : (q c : ℕ) → ((i : ℕ) → present x q c ≡ presents.InBuffer i → ⊥) → IsCommittedKey (committed_pages x) q c → IsFindable e.geometry e.flash q c
+    finds_other q c out committed =
         afterwards q c (unnamed_findable d.geometry g (tag_in g name) (fresh_bytes pages) d.flash e.flash named right q c
-        (λ i lt object chunk. not_named t x pages buffers q c out i lt (record { object = object; chunk = chunk })) (found q c kept))
+        (λ i lt object chunk. not_named t x pages buffers q c out i lt (record { object = object; chunk = chunk })) (found q c committed))
 
     -- and one that it names by its page
     finds_named : (q c i : ℕ) → present x q c ≡ presents.InBuffer i → IsFindable e.geometry e.flash q c
@@ -196,12 +196,12 @@ module _ (d e : Device) (t : Table) (x : Index) (pages : List FreshPage) (o : �
         (record { within = once.within; object = once.named.object; chunk = once.named.chunk; once = λ j lt object chunk. once.once j lt (record { object = object; chunk = chunk }) })
         (record { ordinary = ordinary i once.within; last = commit_comes_last g name d.flash commits k n i own; version = inl refl }))
 
-    -- so is each key that was kept
-    pub found_kept : AreFound e.geometry e.flash (kept_pages x)
-    found_kept q c kept = go (present x q c) refl where
+    -- so is each key that was committed
+    pub found_committed : AreFound e.geometry e.flash (committed_pages x)
+    found_committed q c committed = go (present x q c) refl where
       go : (r : Present) → present x q c ≡ r → IsFindable e.geometry e.flash q c
-      go presents.Absent at = finds_other q c (λ i there. let two : presents.Absent ≡ presents.InBuffer i = sym at ∙ there in cc) kept
-      go (presents.OnFlash k) at = finds_other q c (λ i there. let two : presents.OnFlash k ≡ presents.InBuffer i = sym at ∙ there in cc) kept
+      go presents.Absent at = finds_other q c (λ i there. let two : presents.Absent ≡ presents.InBuffer i = sym at ∙ there in cc) committed
+      go (presents.OnFlash k) at = finds_other q c (λ i there. let two : presents.OnFlash k ≡ presents.InBuffer i = sym at ∙ there in cc) committed
       go (presents.InBuffer i) at = finds_named q c i at
 
     -- each that is present
@@ -209,24 +209,24 @@ module _ (d e : Device) (t : Table) (x : Index) (pages : List FreshPage) (o : �
     finds_present q c (xs, is) = go (present x q c) refl where
       go : (r : Present) → present x q c ≡ r → IsFindable e.geometry e.flash q c
       go presents.Absent at = let two : None ≡ Some xs = sym (ap (data_by d.flash pages) at) ∙ is in absurd cc
-      go (presents.OnFlash k) at = finds_other q c (λ i there. let two : presents.OnFlash k ≡ presents.InBuffer i = sym at ∙ there in cc) (k, on_flash_kept x q c k at)
+      go (presents.OnFlash k) at = finds_other q c (λ i there. let two : presents.OnFlash k ≡ presents.InBuffer i = sym at ∙ there in cc) (k, on_flash_committed x q c k at)
       go (presents.InBuffer i) at = finds_named q c i at
 
-    -- and each that is kept once the index is settled
-    pub found_settled : (w : WrittenGroup) (y : Index) → Settles w x y → AreFound e.geometry e.flash (kept_pages y)
+    -- and each that is committed once the index is settled
+    pub found_settled : (w : WrittenGroup) (y : Index) → Settles w x y → AreFound e.geometry e.flash (committed_pages y)
     found_settled w y settles q c (p, is) = go (present x q c) refl where
       go : (r : Present) → present x q c ≡ r → IsFindable e.geometry e.flash q c
-      go presents.Absent at = let two : None ≡ Some p = sym (settles.kept q c ∙ ap (once_written w) at) ∙ is in absurd cc
-      go (presents.OnFlash k) at = finds_other q c (λ i there. let two : presents.OnFlash k ≡ presents.InBuffer i = sym at ∙ there in cc) (k, on_flash_kept x q c k at)
+      go presents.Absent at = let two : None ≡ Some p = sym (settles.committed q c ∙ ap (once_written w) at) ∙ is in absurd cc
+      go (presents.OnFlash k) at = finds_other q c (λ i there. let two : presents.OnFlash k ≡ presents.InBuffer i = sym at ∙ there in cc) (k, on_flash_committed x q c k at)
       go (presents.InBuffer i) at = finds_named q c i at
 
   -- however its writing ends short
-  pub found_short : (fault : GroupFault) → GroupsAfter g name (fresh_bytes pages) d.flash e.flash (Err fault) → AreFound e.geometry e.flash (kept_pages x)
+  pub found_short : (fault : GroupFault) → GroupsAfter g name (fresh_bytes pages) d.flash e.flash (Err fault) → AreFound e.geometry e.flash (committed_pages x)
   found_short group_faults.NoRoom same = found_still same
   found_short group_faults.Failed same = found_still same
   found_short group_faults.Lost same = found_still same
   found_short group_faults.Gone (inl same) = found_still same
-  found_short group_faults.Gone (inr adds) = found_kept adds
+  found_short group_faults.Gone (inr adds) = found_committed adds
 
 -- ---- the log
 
@@ -256,37 +256,37 @@ module _ (d e : Device) (t u : Table) (x : Index) (pages : List FreshPage) (o : 
         ((writes honest).within o opened).begun ((t.entry o).next + 0) _ first begins.1
 
     -- and the index is settled
-    pub mountable_whole : ListsAreWhole → (v : Table) (y : Index) (w : WrittenGroup) → w.block ≡ o → Settles w x y → CountsAgree t x → CountsAgree v y → Recounts (kept_in x) (kept_in y) u v
+    pub mountable_whole : ListsAreWhole → (v : Table) (y : Index) (w : WrittenGroup) → w.block ≡ o → Settles w x y → CountsAgree t x → CountsAgree v y → Recounts (count_committed_in x) (count_committed_in y) u v
         → OkTable placed.suspect (length pages) t u → KeepsMountable (log_of d t) (log_of e v) x y
     mountable_whole lists v y w there settles before agree counts table honest was = record {
       summaries = numbers.truth.summaries honest was.summaries;
-      erased = tracks_counted e u v (kept_in x) (kept_in y) counts none
+      erased = tracks_counted e u v (count_committed_in x) (count_committed_in y) counts none
           (erased_written d e t o (length pages) (fresh_name pages t.next_group) (fresh_bytes pages) ready opened lasts writes u (Ok placed) groups table honest was.erased);
       found = found_settled d e t x pages o ready opened buffers writable lasts honest (writes honest) was.summaries was.found (groups honest) w y settles;
     } where
-      none : (b : ℕ) → BeginsErased e.flash b → (u.entry b).kept ≡ 0 → (v.entry b).kept ≡ 0
-      none b begins zero_kept = elim (cases_eq b w.block) [
+      none : (b : ℕ) → BeginsErased e.flash b → (u.entry b).committed ≡ 0 → (v.entry b).committed ≡ 0
+      none b begins zero_committed = elim (cases_eq b w.block) [
         | inl is ↦ absurd (begun honest (subst (BeginsErased e.flash) (is ∙ there) begins))
         | inr ne ↦
             let few = settled_elsewhere lists w x y pages settles buffers b ne in
             let now = agree.counts b in
             let then = before.counts b in
-            let same = (same_ends (length pages) t u (Ok placed) table).kept b in
-            omega (arith, few, now, then, same, zero_kept)
+            let same = (same_ends (length pages) t u (Ok placed) table).committed b in
+            omega (arith, few, now, then, same, zero_committed)
       ]
 
--- nothing is buffered: what was dropped is not kept any more
+-- nothing is buffered: what was dropped is not committed any more
 pub mountable_empty : ListsAreWhole → (w : WrittenGroup) (d : Device) (t v : Table) (x y : Index) (pages : List FreshPage) → pages ≡ [] → Buffers x pages → Settles w x y
-    → CountsAgree t x → CountsAgree v y → Recounts (kept_in x) (kept_in y) t v → KeepsMountable (log_of d t) (log_of d v) x y
+    → CountsAgree t x → CountsAgree v y → Recounts (count_committed_in x) (count_committed_in y) t v → KeepsMountable (log_of d t) (log_of d v) x y
 mountable_empty lists w d t v x y pages none buffers settles before agree counts honest was = record {
   summaries = was.summaries;
-  erased = tracks_counted d t v (kept_in x) (kept_in y) counts fewer was.erased;
-  found = λ q c (p, is). was.found q c (p, kept_before w x y pages none buffers settles q c p is);
+  erased = tracks_counted d t v (count_committed_in x) (count_committed_in y) counts fewer was.erased;
+  found = λ q c (p, is). was.found q c (p, was_committed_before w x y pages none buffers settles q c p is);
 } where
-  fewer : (b : ℕ) → BeginsErased d.flash b → (t.entry b).kept ≡ 0 → (v.entry b).kept ≡ 0
-  fewer b begins zero_kept =
+  fewer : (b : ℕ) → BeginsErased d.flash b → (t.entry b).committed ≡ 0 → (v.entry b).committed ≡ 0
+  fewer b begins zero_committed =
       let few = settled_most lists w x y pages settles buffers b in
       let now = agree.counts b in
       let then = before.counts b in
       let zero_long : length pages ≡ 0 = ap length none in
-      omega (arith, few, now, then, zero_long, zero_kept)
+      omega (arith, few, now, then, zero_long, zero_committed)

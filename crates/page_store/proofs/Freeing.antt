@@ -4,8 +4,8 @@ use Rattle.std.proofs.lemmas.Bool.{eq-eqb, eqb-true}
 use Rattle.nand_model.specs.declared.geometry.Geometry.{Geometry}
 use Rattle.block_state.specs.Counting.{how_many}
 use Rattle.block_state.specs.laws.Counting.{one_if, sum_below-suc, counts_same}
-use Rattle.block_state.specs.Kept.{bad_count, free_count, unkept_count, is_unkept}
-use Rattle.block_state.specs.laws.Kept.{unkept_if}
+use Rattle.block_state.specs.Committed.{bad_count, free_count, uncommitted_count, is_uncommitted}
+use Rattle.block_state.specs.laws.Committed.{uncommitted_if}
 use Rattle.block_state.specs.Table.{Table, is_bad, is_free, is_open}
 use Rattle.flash_log.specs.Standing.{HasFreeBlocks}
 
@@ -30,23 +30,23 @@ parts false false z is = absurd cc
 parts true y z is = absurd cc
 
 joined : (x y z : Bool) → x ≡ false → y ≡ true → z ≡ false → (not x && (y && not z)) ≡ true
-joined x y z good unkept closed = ap (λ v. not v && (y && not z)) good ∙ ap (λ v. v && not z) unkept ∙ ap not closed
+joined x y z good uncommitted closed = ap (λ v. not v && (y && not z)) good ∙ ap (λ v. v && not z) uncommitted ∙ ap not closed
 
 -- what a free block is
-pub free_is : (t : Table) (b : ℕ) → is_free t b ≡ true → ((t.entry b).bad ≡ false) × ((t.entry b).kept ≡ 0) × (is_open t.open_block b ≡ false)
-free_is t b is = let p = parts (t.entry b).bad (nat_eq (t.entry b).kept 0) (is_open t.open_block b) is in (p.0, eqb-true (t.entry b).kept 0 p.1, p.2)
+pub free_is : (t : Table) (b : ℕ) → is_free t b ≡ true → ((t.entry b).bad ≡ false) × ((t.entry b).committed ≡ 0) × (is_open t.open_block b ≡ false)
+free_is t b is = let p = parts (t.entry b).bad (nat_eq (t.entry b).committed 0) (is_open t.open_block b) is in (p.0, eqb-true (t.entry b).committed 0 p.1, p.2)
 
--- there are no more free blocks than such without a kept page
-pub free_unkept : (t : Table) → free_count t ≤ unkept_count t
-free_unkept t = counts_more (is_free t) (is_unkept t) t.geometry.blocks (λ b is. let p = free_is t b is in unkept_if t b p.0 p.1)
+-- there are no more free blocks than such without a committed page
+pub free_uncommitted : (t : Table) → free_count t ≤ uncommitted_count t
+free_uncommitted t = counts_more (is_free t) (is_uncommitted t) t.geometry.blocks (λ b is. let p = free_is t b is in uncommitted_if t b p.0 p.1)
 
-module _ (t u : Table) (geometry : u.geometry ≡ t.geometry) (bad : (b : ℕ) → (u.entry b).bad ≡ (t.entry b).bad) (less : (b : ℕ) → is_free t b ≡ true → (u.entry b).kept ≤ (t.entry b).kept)
+module _ (t u : Table) (geometry : u.geometry ≡ t.geometry) (bad : (b : ℕ) → (u.entry b).bad ≡ (t.entry b).bad) (less : (b : ℕ) → is_free t b ≡ true → (u.entry b).committed ≤ (t.entry b).committed)
     (opened : (u.open_block ≡ t.open_block) ⊎ (u.open_block ≡ None)) where
   free_still : (b : ℕ) → is_free t b ≡ true → is_free u b ≡ true
   free_still b is =
       let p = free_is t b is in
       let fewer = less b is in
-      joined (u.entry b).bad (nat_eq (u.entry b).kept 0) (is_open u.open_block b) (bad b ∙ p.0) (eq-eqb (u.entry b).kept 0 (omega (arith, fewer, p.1))) (shut p.2 opened) where
+      joined (u.entry b).bad (nat_eq (u.entry b).committed 0) (is_open u.open_block b) (bad b ∙ p.0) (eq-eqb (u.entry b).committed 0 (omega (arith, fewer, p.1))) (shut p.2 opened) where
         shut : is_open t.open_block b ≡ false → (u.open_block ≡ t.open_block) ⊎ (u.open_block ≡ None) → is_open u.open_block b ≡ false
         shut was (inl same) = ap (λ o. is_open o b) same ∙ was
         shut was (inr none) = ap (λ o. is_open o b) none
@@ -61,5 +61,5 @@ module _ (t u : Table) (geometry : u.geometry ≡ t.geometry) (bad : (b : ℕ) �
       let same = bad_still in
       omega (arith, more, size, same, free)
 
-  pub has_unkept : (spare : ℕ) → HasFreeBlocks t spare → 1 + spare ≤ unkept_count u + bad_count u
-  has_unkept spare free = let still = has_free spare free in let few = free_unkept u in omega (arith, still, few)
+  pub has_uncommitted : (spare : ℕ) → HasFreeBlocks t spare → 1 + spare ≤ uncommitted_count u + bad_count u
+  has_uncommitted spare free = let still = has_free spare free in let few = free_uncommitted u in omega (arith, still, few)

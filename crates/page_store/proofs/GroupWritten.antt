@@ -8,16 +8,16 @@ use Rattle.flash_tree.specs.Keeping.{KeepsNewest}
 use Rattle.flash_tree.specs.declared.place.FreshPage.{FreshPage}
 use Rattle.block_state.specs.Counting.{how_many}
 use Rattle.block_state.specs.laws.Counting.{counts_same}
-use Rattle.block_state.specs.laws.Kept.{same_bad_count}
-use Rattle.block_state.specs.Kept.{bad_count, SameCounts}
+use Rattle.block_state.specs.laws.Committed.{same_bad_count}
+use Rattle.block_state.specs.Committed.{bad_count, SameCounts}
 use Rattle.block_state.specs.Table.{Table, is_bad, room}
 use Rattle.chunk_index.specs.declared.form.WrittenGroup.{WrittenGroup}
 use Rattle.chunk_index.specs.declared.index.Index.{Index}
 use Rattle.chunk_index.specs.Counts.{Recounts}
-use Rattle.chunk_index.specs.Maps.{kept_in, kept_pages, CountsAgree, Settles}
+use Rattle.chunk_index.specs.Maps.{count_committed_in, committed_pages, CountsAgree, Settles}
 use Rattle.page_store.specs.Buffering.{Buffers}
 use Rattle.transactions.specs.Committing.{fresh_name, fresh_bytes}
-use Rattle.transactions.specs.Groups.{AddsPages, GroupsAfter, OkTable, TellsGroup, WritesOpen, closed, next_group}
+use Rattle.transactions.specs.Groups.{AddsPages, GroupsAfter, OkTable, ReportsGroup, WritesOpen, closed, next_group}
 use Rattle.transactions.specs.Handing.{HandsOut}
 use Rattle.transactions.specs.Newest.{ShowsGroup}
 use Rattle.transactions.specs.Ready.{IsReady}
@@ -26,7 +26,7 @@ use Rattle.transactions.specs.declared.group.Placed.{Placed}
 use Rattle.flash_log.specs.Erased.{KeepsErased}
 use Rattle.flash_log.specs.Mountable.{IsMountable, KeepsMountable}
 use Rattle.flash_log.specs.Passing.{KeepsFound}
-use Rattle.flash_log.specs.Standing.{AreFound, AreHeld, HasFreeBlocks, HasVersion, IsKept, Stands, TablesAgree}
+use Rattle.flash_log.specs.Standing.{AreFound, AreHeld, HasFreeBlocks, HasVersion, IsCommittedKey, Stands, TablesAgree}
 use Rattle.flash_log.specs.laws.Keeping.{same_ends, same_closed, limits_ends}
 use Rattle.page_store.specs.Buffered.{BufferedLog}
 use Rattle.pages.specs.Stores.{FindsAll}
@@ -37,15 +37,15 @@ use Rattle.flash_log.specs.Steps.{Step}
 use Rattle.page_store.specs.CommitKeeping.{Leaves}
 use Rattle.page_store.specs.GroupWriting.{IsWhole, WasOpen}
 use Rattle.page_store.proofs.GroupCounts.{ListsAreWhole, held_lists}
-use Rattle.flash_log.specs.laws.Steps.{moves_kept_none}
-use Rattle.page_store.proofs.Grouping.{carries_present, free_group, free_present, keeps_group, newest_written, same_kept_pages, shows_written, tables_closed}
+use Rattle.flash_log.specs.laws.Steps.{moves_committed_none}
+use Rattle.page_store.proofs.Grouping.{carries_present, free_group, free_present, keeps_group, newest_written, same_committed_pages, shows_written, tables_closed}
 use Rattle.page_store.proofs.Findable.{current_found, finds_present, found_short, mountable_short, mountable_whole}
 use Rattle.page_store.proofs.Settling.{commits_whole, free_whole, open_after}
 
 -- the counts agree still, where no count changes
 pub agree_still : (t u : Table) (x : Index) → SameCounts t u → CountsAgree t x → CountsAgree u x
 agree_still t u x same agree = record {
-  counts = λ b. same.kept b ∙ agree.counts b;
+  counts = λ b. same.committed b ∙ agree.counts b;
   within = λ b le. agree.within b (subst (λ (g : Geometry). g.blocks ≤ b) same.geometry le);
 }
 
@@ -91,7 +91,7 @@ leaves_gone spare d e t u x pages o lists stands free less opened buffers writab
     mountable = mountable_short d e t u x pages o ready opened buffers writable lasts numbers writes group_faults.Gone groups is;
   };
   buffers = buffers;
-  waits = inl (refl, moves_kept_none x);
+  waits = inl (refl, moves_committed_none x);
   keys = λ o k is. is;
   newest = λ honest. newest honest (cases_Bool d.gone);
 } where
@@ -104,14 +104,14 @@ leaves_gone spare d e t u x pages o lists stands free less opened buffers writab
   a : BufferedLog
   a = record { log = log_of d t; index = x; pages = pages; last = last }
 
-  found : (honest : d.honest ≡ true) → IsMountable (log_of d t) x → AreFound e.geometry e.flash (kept_pages x)
+  found : (honest : d.honest ≡ true) → IsMountable (log_of d t) x → AreFound e.geometry e.flash (committed_pages x)
   found honest was = found_short d e t x pages o ready opened buffers writable lasts honest (writes honest) was.summaries was.found group_faults.Gone (groups honest)
 
   after : (honest : d.honest ≡ true) → d.gone ≡ false
       → GroupsAfter (next_group t (length pages) o) (fresh_name pages t.next_group) (fresh_bytes pages) d.flash e.flash (Err group_faults.Gone) → StaysOrShows spare a e
   after honest power (inl none) =
       let keeps : KeepsNewest d.flash e.flash = newest_written d e t pages o ready honest (writes honest).grows (Err group_faults.Failed) none in
-      inl (record { same_data = same_kept_pages x d.flash e.flash keeps; free = free_group spare d e t u x stands held is lasts then (λ _. keeps) honest; found = found honest })
+      inl (record { same_data = same_committed_pages x d.flash e.flash keeps; free = free_group spare d e t u x stands held is lasts then (λ _. keeps) honest; found = found honest })
   after honest power (inr adds) =
       let shows = shows_written d e t pages o ready honest (writes honest).grows adds in
       inr (record {
@@ -125,7 +125,7 @@ leaves_gone spare d e t u x pages o lists stands free less opened buffers writab
   newest : d.honest ≡ true → (d.gone ≡ true) ⊎ (d.gone ≡ false) → StaysOrShows spare a e
   newest honest (inl was) = inl (record {
     same_data = λ o c p xs at v. subst (λ (z : Device). HasVersion z.flash o c p.version xs) (sym (lasts.gone was)) v;
-    free = λ before. subst (λ (z : Device). LeavesFree z.geometry z.flash spare (IsKept (kept_pages x))) (sym (lasts.gone was)) before;
+    free = λ before. subst (λ (z : Device). LeavesFree z.geometry z.flash spare (IsCommittedKey (committed_pages x))) (sym (lasts.gone was)) before;
     found = found honest;
   })
   newest honest (inr power) = after honest power (groups honest)
@@ -135,11 +135,11 @@ module _ (spare : ℕ) (lists : ListsAreWhole) (d e : Device) (t u v : Table) (x
     (buffers : Buffers x pages) (is : t.open_block ≡ Some o) (ready : IsReady d t) (stands : Stands spare d t x) (free : HasFreeBlocks t spare)
     (writable : AreWritable d pages) (ranges : HaveRanges pages) (fit : length pages ≤ room t) (less : t.next_group < 2 ^ 62)
     (lasts : Lasts d e) (then : IsReady e u) (numbers : HandsOut d e t u) (writes : d.honest ≡ true → WritesOpen t d.flash e.flash) (table : OkTable placed.suspect (length pages) t u) (power : e.gone ≡ false)
-    (tells : TellsGroup (next_group t (length pages) o) placed)
+    (reports : ReportsGroup (next_group t (length pages) o) placed)
     (groups : d.honest ≡ true → AddsPages (next_group t (length pages) o) (fresh_name pages t.next_group) (fresh_bytes pages) d.flash e.flash)
-    (settles : Settles (record { block = placed.block; first = placed.first; number = placed.group }) x y) (agree : CountsAgree v y) (counts : Recounts (kept_in x) (kept_in y) u v) where
+    (settles : Settles (record { block = placed.block; first = placed.first; number = placed.group }) x y) (agree : CountsAgree v y) (counts : Recounts (count_committed_in x) (count_committed_in y) u v) where
   same_group : record { block = placed.block; first = placed.first; number = placed.group } ≡ (let w : WrittenGroup = record { block = o; first = (t.entry o).next; number = t.next_group } in w)
-  same_group = λ i. record { block = tells.block i; first = tells.first i; number = tells.group i }
+  same_group = λ i. record { block = reports.block i; first = reports.first i; number = reports.group i }
 
   settles_there : Settles (record { block = o; first = (t.entry o).next; number = t.next_group }) x y
   settles_there = subst (λ (w : WrittenGroup). Settles w x y) same_group settles

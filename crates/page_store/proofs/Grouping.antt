@@ -14,14 +14,14 @@ use Rattle.flash_tree.specs.Newest.{Spot, IsNewest, HasNewest}
 use Rattle.flash_tree.specs.declared.place.FreshPage.{FreshPage}
 use Rattle.flash_tree.specs.declared.place.Key.{Key}
 use Rattle.block_state.specs.Counting.{how_many}
-use Rattle.block_state.specs.Kept.{bad_count, free_count, kept_count}
+use Rattle.block_state.specs.Committed.{bad_count, free_count, committed_count}
 use Rattle.block_state.specs.Table.{Table, is_bad, is_free, is_open}
 use Rattle.block_state.specs.laws.Counting.{counts_same}
-use Rattle.chunk_index.specs.declared.form.KeptPage.{KeptPage}
+use Rattle.chunk_index.specs.declared.form.CommittedPage.{CommittedPage}
 use Rattle.chunk_index.specs.declared.form.Present.{Present}
 use Rattle.chunk_index.specs.declared.form.Present.TheVariants as presents
 use Rattle.chunk_index.specs.declared.index.Index.{Index}
-use Rattle.chunk_index.specs.Maps.{kept_pages, present}
+use Rattle.chunk_index.specs.Maps.{committed_pages, present}
 use Rattle.page_store.specs.Buffering.{Buffers, key_at}
 use Rattle.page_store.specs.laws.Buffering.{place_within}
 use Rattle.page_store.specs.Shown.{data_of, data_at, data_by, data_in, present_data}
@@ -36,8 +36,8 @@ use Rattle.transactions.specs.declared.group.GroupFault.{GroupFault}
 use Rattle.transactions.specs.declared.group.Placed.{Placed}
 use Rattle.transactions.specs.laws.Newest.{added_shows, commit_comes_last, newest_after}
 use Rattle.transactions.specs.declared.group.GroupFault.TheVariants as group_faults
-use Rattle.flash_log.specs.Standing.{AreHeld, AreKept, HasFreeBlocks, IsKept, IsKeptAt, KeepsFree, SameData, Stands, TablesAgree}
-use Rattle.flash_log.specs.laws.FreeBlocks.{leaves_unkept, newest_where_kept}
+use Rattle.flash_log.specs.Standing.{AreHeld, AreCommitted, HasFreeBlocks, IsCommittedKey, IsCommittedAt, KeepsFree, SameData, Stands, TablesAgree}
+use Rattle.flash_log.specs.laws.FreeBlocks.{leaves_uncommitted, newest_where_committed}
 use Rattle.flash_tree.specs.laws.Place.{had_power}
 use Rattle.flash_log.specs.laws.Keeping.{limits_ends}
 use Rattle.flash_log.specs.Erased.{KeepsErased}
@@ -47,8 +47,8 @@ use Rattle.flash_log.specs.laws.Moves.{may_lie_later}
 use Rattle.pages.specs.Stores.{Carries, HasPage}
 use Rattle.transactions.specs.Checking.{log_of}
 use Rattle.flash_log.specs.Steps.{Step}
-use Rattle.flash_log.specs.laws.Steps.{moves_kept_none}
-use Rattle.page_store.proofs.Following.{on_flash_kept, kept_reads}
+use Rattle.flash_log.specs.laws.Steps.{moves_committed_none}
+use Rattle.page_store.proofs.Following.{on_flash_committed, committed_reads}
 use Rattle.page_store.proofs.Freeing.{free_is}
 
 -- ---- a group that does not count
@@ -60,27 +60,27 @@ tables_closed spare t x a = record {
   within = λ o c p is. may_lie_later t (closed t) o c p refl (omega arith) (a.within o c p is);
   fits = a.fits;
   written = λ o is. let two : None ≡ Some o = is in absurd cc;
-  unkept = a.unkept;
+  uncommitted = a.uncommitted;
   apart = a.apart;
 }
 
-pub same_kept_pages : (x : Index) (f g : Flash) → KeepsNewest f g → SameData (kept_pages x) f g
-same_kept_pages x f g keeps o c p xs is v =
+pub same_committed_pages : (x : Index) (f g : Flash) → KeepsNewest f g → SameData (committed_pages x) f g
+same_committed_pages x f g keeps o c p xs is v =
     let s = keeps o c v.spot v.newest in
     record { spot = v.spot; newest = s.newest; version_is = v.version_is; stored = s.page ∙ v.stored }
 
-pub kept_group : (x : Index) (f g : Flash) → KeepsNewest f g → AreKept f (kept_pages x) → AreKept g (kept_pages x)
-kept_group x f g keeps kept o c p at =
-    let k = kept o c p at in
+pub committed_group : (x : Index) (f g : Flash) → KeepsNewest f g → AreCommitted f (committed_pages x) → AreCommitted g (committed_pages x)
+committed_group x f g keeps committed o c p at =
+    let k = committed o c p at in
     let spot : Spot = record { block = p.block; page = p.page; tag = k.tag } in
     record { tag = k.tag; newest = (keeps o c spot k.newest).newest; version = k.version }
 
--- blocks that were free of kept pages are it still
+-- blocks that were free of committed pages are it still
 pub free_group : (spare : ℕ) (d e : Device) (t u : Table) (x : Index) → Stands spare d t x → AreHeld t x → u ≡ closed t → Lasts d e → IsReady e u → (d.honest ≡ true → KeepsNewest d.flash e.flash) → KeepsFree spare d e x x
 free_group spare d e t u x stands held is lasts ready newest honest free = elim (cases_Bool d.gone) [
-  | inl gone ↦ subst (λ (z : Device). LeavesFree z.geometry z.flash spare (IsKept (kept_pages x))) (sym (lasts.gone gone)) free
-  | inr power ↦ leaves_unkept spare e u x ready (subst (λ (s : Table). TablesAgree spare s x) (sym is) (tables_closed spare t x stands.tables))
-      (subst (λ (s : Table). AreHeld s x) (sym is) held) (kept_group x d.flash e.flash (newest honest) (stands.newest honest power))
+  | inl gone ↦ subst (λ (z : Device). LeavesFree z.geometry z.flash spare (IsCommittedKey (committed_pages x))) (sym (lasts.gone gone)) free
+  | inr power ↦ leaves_uncommitted spare e u x ready (subst (λ (s : Table). TablesAgree spare s x) (sym is) (tables_closed spare t x stands.tables))
+      (subst (λ (s : Table). AreHeld s x) (sym is) held) (committed_group x d.flash e.flash (newest honest) (stands.newest honest power))
 ]
 
 pub keeps_group : (spare : ℕ) (d e : Device) (t u : Table) (x : Index) → Stands spare d t x → AreHeld t x → t.next_group < 2 ^ 62 → u ≡ closed t → Lasts d e → IsReady e u → HandsOut d e t u
@@ -93,16 +93,16 @@ keeps_group spare d e t u x stands held less is lasts ready numbers newest found
     tables = subst (λ (s : Table). TablesAgree spare s x) (sym is) (tables_closed spare t x stands.tables);
     newest = λ honest power.
         let was : d.honest ≡ true = sym lasts.honest ∙ honest in
-        kept_group x d.flash e.flash (newest was) (stands.newest was (had_power d e lasts power));
+        committed_group x d.flash e.flash (newest was) (stands.newest was (had_power d e lasts power));
     ordinary = λ honest. stands.ordinary (sym lasts.honest ∙ honest);
     limits = limits_ends 0 t u (Err group_faults.Failed) is less stands.limits;
   };
   numbers = numbers;
   geometry = ap (λ (s : Table). s.geometry) is;
   marks = λ b bad. ap (λ (s : Table). (s.entry b).bad) is ∙ bad;
-  kept_count = ap kept_count is;
-  index = moves_kept_none x;
-  same_data = λ honest. same_kept_pages x d.flash e.flash (newest honest);
+  committed_count = ap committed_count is;
+  index = moves_committed_none x;
+  same_data = λ honest. same_committed_pages x d.flash e.flash (newest honest);
   free = free_group spare d e t u x stands held is lasts ready newest;
   findable = findable_still spare d e t x held lasts stands found;
   erased = erased;
@@ -158,7 +158,7 @@ shows_written d e t pages o ready honest grows =
 module _ (t : Table) (x : Index) (pages : List FreshPage) (buffers : Buffers x pages) where
   -- it does not name a key that is not present in the buffer
   pub not_named : (q c : ℕ) → ((i : ℕ) → present x q c ≡ presents.InBuffer i → ⊥) → (i : ℕ) → i < length pages → IsNamed (fresh_name pages t.next_group) q c i → ⊥
-  not_named q c out i lt named = out i (buffers.told q c i (named_key pages t.next_group q c i lt named))
+  not_named q c out i lt named = out i (buffers.reported q c i (named_key pages t.next_group q c i lt named))
 
 -- and once one that is present there
 pub named_once : (t : Table) (x : Index) (pages : List FreshPage) (o : ℕ) → Buffers x pages → (q c i : ℕ) → present x q c ≡ presents.InBuffer i
@@ -169,17 +169,17 @@ named_once t x pages o buffers q c i is =
     record {
       within = lt;
       named = key_named pages t.next_group q c i lt key;
-      once = λ k l named. let two : presents.InBuffer k ≡ presents.InBuffer i = sym (buffers.told q c k (named_key pages t.next_group q c k l named)) ∙ is in cc;
+      once = λ k l named. let two : presents.InBuffer k ≡ presents.InBuffer i = sym (buffers.reported q c k (named_key pages t.next_group q c k l named)) ∙ is in cc;
     }
 
 module _ (t : Table) (x : Index) (pages : List FreshPage) (o : ℕ) (buffers : Buffers x pages) (f g : Flash)
     (shows : ShowsGroup (next_group t (length pages) o) (fresh_name pages t.next_group) (fresh_bytes pages) f g) where
-  unnamed : (q c : ℕ) (k : KeptPage) → present x q c ≡ presents.OnFlash k → (i : ℕ) → i < length pages → IsNamed (fresh_name pages t.next_group) q c i → ⊥
+  unnamed : (q c : ℕ) (k : CommittedPage) → present x q c ≡ presents.OnFlash k → (i : ℕ) → i < length pages → IsNamed (fresh_name pages t.next_group) q c i → ⊥
   unnamed q c k is = not_named t x pages buffers q c (λ i there. let two : presents.OnFlash k ≡ presents.InBuffer i = sym is ∙ there in cc)
 
   -- a page of the buffer is the newest of its key
-  pub kept_buffered : (q c i : ℕ) → present x q c ≡ presents.InBuffer i → IsKeptAt g q c (record { block = o; page = (t.entry o).next + i; version = t.next_group })
-  kept_buffered q c i is =
+  pub committed_buffered : (q c i : ℕ) → present x q c ≡ presents.InBuffer i → IsCommittedAt g q c (record { block = o; page = (t.entry o).next + i; version = t.next_group })
+  committed_buffered q c i is =
       let there = shows.named q c i (named_once t x pages o buffers q c i is) in
       record { tag = tag_in (next_group t (length pages) o) (fresh_name pages t.next_group) i; newest = there.newest; version = refl }
 
@@ -188,41 +188,41 @@ module _ (t : Table) (x : Index) (pages : List FreshPage) (o : ℕ) (buffers : B
   reads_buffered i lt =
       let there = slice_get_there pages i lt in
       let key : key_at pages i ≡ Some there.0.key = ap (option_map (λ (p : FreshPage). p.key)) there.1 in
-      let is = buffers.told there.0.key.object there.0.key.chunk i key in
+      let is = buffers.reported there.0.key.object there.0.key.chunk i key in
       let with = shows.named there.0.key.object there.0.key.chunk i (named_once t x pages o buffers there.0.key.object there.0.key.chunk i is) in
       ap data_of with.stored ∙ sym (bytes_is pages i lt)
 
-  module _ (kept : AreKept f (kept_pages x)) where
-    -- a kept page that is present stays the newest, and its data stay
-    pub kept_on_flash : (q c : ℕ) (k : KeptPage) → present x q c ≡ presents.OnFlash k → IsKeptAt g q c k
-    kept_on_flash q c k is =
-        let a = kept q c k (on_flash_kept x q c k is) in
+  module _ (committed : AreCommitted f (committed_pages x)) where
+    -- a committed page that is present stays the newest, and its data stay
+    pub committed_on_flash : (q c : ℕ) (k : CommittedPage) → present x q c ≡ presents.OnFlash k → IsCommittedAt g q c k
+    committed_on_flash q c k is =
+        let a = committed q c k (on_flash_committed x q c k is) in
         let s = shows.others q c (record { block = k.block; page = k.page; tag = a.tag }) (unnamed q c k is) a.newest in
         record { tag = a.tag; newest = s.newest; version = a.version }
 
-    pub reads_on_flash : (q c : ℕ) (k : KeptPage) → present x q c ≡ presents.OnFlash k → data_at g k ≡ data_at f k
+    pub reads_on_flash : (q c : ℕ) (k : CommittedPage) → present x q c ≡ presents.OnFlash k → data_at g k ≡ data_at f k
     reads_on_flash q c k is =
-        let a = kept q c k (on_flash_kept x q c k is) in
+        let a = committed q c k (on_flash_committed x q c k is) in
         let s = shows.others q c (record { block = k.block; page = k.page; tag = a.tag }) (unnamed q c k is) a.newest in
         ap data_of s.page
 
     -- the present pages are the newest of their keys
     pub carries_present : Carries g (present_data x pages f)
     carries_present q c xs is = go (present x q c) refl where
-      carried : (k : KeptPage) → IsKeptAt g q c k → data_at g k ≡ Some xs → HasNewest g q c xs
+      carried : (k : CommittedPage) → IsCommittedAt g q c k → data_at g k ≡ Some xs → HasNewest g q c xs
       carried k at has =
-          let reads = kept_reads g q c k at in
+          let reads = committed_reads g q c k at in
           let both : Some reads.0 ≡ Some xs = sym reads.1 ∙ has in
           let e : reads.0 ≡ xs = cc in
           subst (HasNewest g q c) e (record { spot = reads.2.spot; newest = reads.2.newest; stored = reads.2.stored })
 
       go : (r : Present) → present x q c ≡ r → HasNewest g q c xs
       go presents.Absent at = let two : None ≡ Some xs = sym (ap (data_by f pages) at) ∙ is in absurd cc
-      go (presents.OnFlash k) at = carried k (kept_on_flash q c k at) (reads_on_flash q c k at ∙ sym (ap (data_by f pages) at) ∙ is)
+      go (presents.OnFlash k) at = carried k (committed_on_flash q c k at) (reads_on_flash q c k at ∙ sym (ap (data_by f pages) at) ∙ is)
       go (presents.InBuffer i) at =
           let key = buffers.there q c i at in
           let lt : i < length pages = place_within pages i (record { object = q; chunk = c }) key in
-          carried (record { block = o; page = (t.entry o).next + i; version = t.next_group }) (kept_buffered q c i at) (reads_buffered i lt ∙ sym (ap (data_by f pages) at) ∙ is)
+          carried (record { block = o; page = (t.entry o).next + i; version = t.next_group }) (committed_buffered q c i at) (reads_buffered i lt ∙ sym (ap (data_by f pages) at) ∙ is)
 
     -- and none of them lies in a free block of the table that was
     pub free_present : (spare : ℕ) (z : Geometry) → z ≡ t.geometry → ((b : ℕ) → g.bad b ≡ (t.entry b).bad) → t.open_block ≡ Some o → AreHeld t x → HasFreeBlocks t spare → LeavesFree z g spare (HasPage (present_data x pages f))
@@ -243,11 +243,11 @@ module _ (t : Table) (x : Index) (pages : List FreshPage) (o : ℕ) (buffers : B
       apart : (b : ℕ) → is_free t b ≡ true → (q c : ℕ) (s : Spot) (xs : List ℕ) → present_data x pages f q c ≡ Some xs → IsNewest g q c s → (r : Present) → present x q c ≡ r → s.block ≢ b
       apart b is q c s xs has newest presents.Absent at = let two : None ≡ Some xs = sym (ap (data_by f pages) at) ∙ has in absurd cc
       apart b is q c s xs has newest (presents.OnFlash k) at = λ here.
-          let there : s.block ≡ k.block = newest_where_kept g q c k s (kept_on_flash q c k at) newest in
-          let some = held q c k (on_flash_kept x q c k at) in
+          let there : s.block ≡ k.block = newest_where_committed g q c k s (committed_on_flash q c k at) newest in
+          let some = held q c k (on_flash_committed x q c k at) in
           let none = (free_is t b is).1 in
-          let same : (t.entry k.block).kept ≡ (t.entry b).kept = ap (λ n. (t.entry n).kept) (sym there ∙ here) in
+          let same : (t.entry k.block).committed ≡ (t.entry b).committed = ap (λ n. (t.entry n).committed) (sym there ∙ here) in
           omega (arith, some, none, same)
       apart b is q c s xs has newest (presents.InBuffer i) at = λ here.
-          let there : s.block ≡ o = newest_where_kept g q c (record { block = o; page = (t.entry o).next + i; version = t.next_group }) s (kept_buffered q c i at) newest in
+          let there : s.block ≡ o = newest_where_committed g q c (record { block = o; page = (t.entry o).next + i; version = t.next_group }) s (committed_buffered q c i at) newest in
           not_open b is (sym there ∙ here)

@@ -17,7 +17,7 @@ use Rattle.flash_tree.specs.laws.Truth.{true_same}
 use Rattle.transactions.specs.laws.Handing.{below_greater}
 use Rattle.pages.specs.State.{PagesState}
 use Rattle.pages.specs.Refreshing.{CostsAMove}
-use Rattle.pages.specs.Stores.{GoesOn, HasPage, HasNumbersLeft, KeptAs, bad_on}
+use Rattle.pages.specs.Stores.{GoesOn, HasPage, HasNumbersLeft, CommittedAs, bad_on}
 use Rattle.pages.specs.laws.Mountable.{mountable_read}
 use Rattle.page_store.specs.ReadOnly.{IsWorn, HasGreatest, IsCarrying, only_read}
 
@@ -36,15 +36,15 @@ too_many_bad p n spare worn greatest honest left =
     let least = (greatest honest).least (record { version = number_limit; group = number_limit; seq = number_limit }) left in
     worn (omega (arith, least.1)) (omega (arith, least.2))
 
--- what is there is kept, where no flash is remembered
+-- what is there is committed, where no flash is remembered
 pub keeps_all : (p : PagesState) (n : Numbers) (spare most : ℕ) (refused_change : Bool) → IsWorn p.device n spare → HasGreatest p.device n → IsCarrying p → p.first ≡ None
-    → KeptAs (only_read p n spare most refused_change) p.present
+    → CommittedAs (only_read p n spare most refused_change) p.present
 keeps_all p n spare most refused_change worn greatest carrying first = record {
   carried = λ honest. record {
     newest = carrying honest;
     free = λ left. none_free p.device.geometry p.device.flash spare (HasPage p.present) (too_many_bad p n spare worn greatest honest left);
   };
-  kept = λ sound o c. refl;
+  committed = λ sound o c. refl;
   found = λ begun. absurd (subst (λ (f : Option Flash). BeganMountable p.device.geometry f) first begun.1);
 }
 
@@ -65,7 +65,7 @@ goes_on p n spare most was is = record {
     seqs = omega arith;
     groups = λ honest power. omega arith;
     below = λ honest below. below;
-    written = λ honest below more counted. below_greater p.device.flash (n.group + 1) (n.seq + 1) _ _ (omega arith) (omega arith) below;
+    written = λ honest below more totaled. below_greater p.device.flash (n.group + 1) (n.seq + 1) _ _ (omega arith) (omega arith) below;
   };
   marks = omega arith;
   limits = λ honest left. left;
@@ -74,8 +74,8 @@ goes_on p n spare most was is = record {
 }
 
 -- on a worn device a number is missing, or too many blocks are bad
-pub worn_told : (d : Device) (n : Numbers) (spare : ℕ) → IsWorn d n spare → (number_end ≤ n.group + 1) ⊎ (number_end ≤ n.seq + 1) ⊎ (spare < bad_on d)
-worn_told d n spare worn = elim (cases_lt n.group number_end) [
+pub worn_reported : (d : Device) (n : Numbers) (spare : ℕ) → IsWorn d n spare → (number_end ≤ n.group + 1) ⊎ (number_end ≤ n.seq + 1) ⊎ (spare < bad_on d)
+worn_reported d n spare worn = elim (cases_lt n.group number_end) [
   | inr group ↦ inl (omega (arith, group))
   | inl group ↦ elim (cases_lt n.seq number_end) [
     | inr seq ↦ inr (inl (omega (arith, seq)))

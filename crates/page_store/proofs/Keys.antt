@@ -10,11 +10,11 @@ use Rattle.pages.specs.Changes.{AreApart}
 use Rattle.chunk_index.specs.declared.entry.KeyEntry.{KeyEntry}
 use Rattle.chunk_index.specs.declared.entry.State.{State}
 use Rattle.chunk_index.specs.declared.entry.State.TheVariants as states
-use Rattle.chunk_index.specs.declared.form.KeptPage.{KeptPage}
+use Rattle.chunk_index.specs.declared.form.CommittedPage.{CommittedPage}
 use Rattle.chunk_index.specs.declared.form.Present.{Present}
 use Rattle.chunk_index.specs.declared.form.Present.TheVariants as presents
 use Rattle.chunk_index.specs.declared.index.Index.{Index}
-use Rattle.chunk_index.specs.Entries.{as_kept, present_by, present_of, stays_state, stays_of}
+use Rattle.chunk_index.specs.Entries.{as_committed, present_by, present_of, stays_state, stays_of}
 use Rattle.chunk_index.specs.Shelves.{look, Differs}
 use Rattle.chunk_index.specs.Maps.{present, IsReadyKey, IsPrepared}
 use Rattle.page_store.specs.Shown.{data_by}
@@ -24,7 +24,7 @@ use Rattle.page_store.specs.Buffering.{Buffers, key_at, lacks, new_keys}
 -- what holds of an index and its buffer, page by page
 pub record Holding (x : Index) (pages : List FreshPage) : Type 0 where
   pub there : (o c i : ℕ) → present x o c ≡ presents.InBuffer i → IsPageOf pages o c i
-  pub told : (o c i : ℕ) → IsPageOf pages o c i → present x o c ≡ presents.InBuffer i
+  pub reported : (o c i : ℕ) → IsPageOf pages o c i → present x o c ≡ presents.InBuffer i
 
 page_of : (pages : List FreshPage) (o c i : ℕ) → key_at pages i ≡ Some (record { object = o; chunk = c }) → IsPageOf pages o c i
 page_of pages o c i is = go (slice_get pages i) refl where
@@ -40,10 +40,10 @@ key_of pages o c i of = ap (option_map (λ (p : FreshPage). p.key)) of.there
     ∙ ap (λ n. Some (record { object = n; chunk = of.page.key.chunk })) of.object ∙ ap (λ n. Some (record { object = o; chunk = n })) of.chunk
 
 pub holding : (x : Index) (pages : List FreshPage) → Buffers x pages → Holding x pages
-holding x pages b = record { there = λ o c i is. page_of pages o c i (b.there o c i is); told = λ o c i of. b.told o c i (key_of pages o c i of) }
+holding x pages b = record { there = λ o c i is. page_of pages o c i (b.there o c i is); reported = λ o c i of. b.reported o c i (key_of pages o c i of) }
 
 pub buffers : (x : Index) (pages : List FreshPage) → Holding x pages → Buffers x pages
-buffers x pages h = record { there = λ o c i is. key_of pages o c i (h.there o c i is); told = λ o c i is. h.told o c i (page_of pages o c i is) }
+buffers x pages h = record { there = λ o c i is. key_of pages o c i (h.there o c i is); reported = λ o c i is. h.reported o c i (page_of pages o c i is) }
 
 -- two keys are one or differ
 pub key_cases : (o c k l : ℕ) → ((k ≡ o) × (l ≡ c)) ⊎ Differs o c k l
@@ -56,20 +56,20 @@ pub differs_not : (o c k l : ℕ) → Differs o c k l → k ≡ o → l ≡ c �
 differs_not o c k l (inl ne) e d = ne e
 differs_not o c k l (inr ne) e d = ne d
 
--- what is kept is in no buffer
-not_kept : (p : Option KeptPage) (i : ℕ) → as_kept p ≡ presents.InBuffer i → ⊥
-not_kept None i is = absurd cc
-not_kept (Some p) i is = absurd cc
+-- what is committed is in no buffer
+not_committed : (p : Option CommittedPage) (i : ℕ) → as_committed p ≡ presents.InBuffer i → ⊥
+not_committed None i is = absurd cc
+not_committed (Some p) i is = absurd cc
 
-stays_buffered : (p : Option KeptPage) (s : State) (i : ℕ) → present_by p s ≡ presents.InBuffer i → IsTrue (stays_state s)
-stays_buffered p states.Same i is = absurd (not_kept p i is)
+stays_buffered : (p : Option CommittedPage) (s : State) (i : ℕ) → present_by p s ≡ presents.InBuffer i → IsTrue (stays_state s)
+stays_buffered p states.Same i is = absurd (not_committed p i is)
 stays_buffered p (states.Buffered j) i is = refl
 stays_buffered p states.Dropped i is = absurd cc
 stays_buffered p states.Vacant i is = absurd cc
 
 ready_of : (m : Option KeyEntry) (i : ℕ) → present_of m ≡ presents.InBuffer i → IsTrue (stays_of m)
 ready_of None i is = absurd cc
-ready_of (Some e) i is = stays_buffered e.kept e.state i is
+ready_of (Some e) i is = stays_buffered e.committed e.state i is
 
 -- there is room for a key that is present in the buffer, also once it is written
 pub buffered_ready : (x : Index) (o c i : ℕ) → present x o c ≡ presents.InBuffer i → IsReadyKey x o c
@@ -85,7 +85,7 @@ ready_prepared x o c is = prepared_of (look x.shelf.objects o c) is
 -- no two pages of a buffer are of one key
 pub buffer_apart : (x : Index) (pages : List FreshPage) → Holding x pages → AreApart pages
 buffer_apart x pages b o c i j a d =
-    let both : presents.InBuffer i ≡ presents.InBuffer j = sym (b.told o c i a) ∙ b.told o c j d in
+    let both : presents.InBuffer i ≡ presents.InBuffer j = sym (b.reported o c i a) ∙ b.reported o c j d in
     cc
 
 -- the page at a place, of its key

@@ -157,10 +157,10 @@ module _ (d : Device) (c : Checkpoint) (t0 t1 t2 t3 : Table) (form : HasForm d c
     some = let some = form.tag.seq in let next = is.seq left in omega (arith, some, next);
   }
 
-  pub kept_firsts : d.honest ≡ true → AreAbove d.flash (numbers_at c) → AreLeft (numbers_at c) → KnowsFirsts d.flash t3
-  kept_firsts honest above left =
-      let counted = known_counted d.flash (λ b. 0) after t1 t2 recounts (knows (unwritten_of honest above left)) in
-      subst (KnowsFirsts d.flash) (sym last) (record { erased = counted.erased; written = counted.written; tagged = counted.tagged; aged = counted.aged })
+  pub committed_firsts : d.honest ≡ true → AreAbove d.flash (numbers_at c) → AreLeft (numbers_at c) → KnowsFirsts d.flash t3
+  committed_firsts honest above left =
+      let totaled = known_counted d.flash (λ b. 0) after t1 t2 recounts (knows (unwritten_of honest above left)) in
+      subst (KnowsFirsts d.flash) (sym last) (record { erased = totaled.erased; written = totaled.written; tagged = totaled.tagged; aged = totaled.aged })
 
 -- ---- the blocks that begin erased
 
@@ -171,7 +171,7 @@ erased_or Uncorrectable = inr (λ same. absurd cc)
 
 knows_erased : (d : Device) (t : Table) → KnowsFirsts d.flash t → MayKnowErased d t → KnowsErased d.flash t
 knows_erased d t known may = record {
-  unwritten = λ b lt begins. record { next = (known.erased b lt begins).0; kept = may.kept b begins };
+  unwritten = λ b lt begins. record { next = (known.erased b lt begins).0; committed = may.committed b begins };
   torn = λ b l u begins has. record {
     within =
         let lt = (tag_placed d.geometry.pages d.geometry.blocks d.flash b l u may.within has).0 in

@@ -1,10 +1,10 @@
 pub mod ReadOnly
 pub mod Shown
-pub mod Kept
+pub mod Committed
 pub mod Carried
 pub mod Steps
 pub mod Changed
-pub mod Told
+pub mod Reported
 pub mod Sealed
 pub mod Following
 pub mod GroupCounts
@@ -20,7 +20,7 @@ pub mod Staying
 pub mod Lookups
 pub mod CachedPages
 pub mod Spares
-pub mod Counted
+pub mod Totaled
 pub mod Slots
 pub mod Preparing
 pub mod Keys

@@ -122,8 +122,8 @@ module _ {K V : Type 0} (eq : K → K → Bool) (laws : IsEquivalence eq) (c : L
 
 -- How many keys there are after a value was put under one.
 module _ {K V : Type 0} (eq : K → K → Bool) (c : LruCache K V) (k : K) (v : V) where
-  counted : (P : ℕ → Type 0) → P (length (take (c.cap - 1) c.entries) + 1) → P (length c.entries) → P (length (put_entries eq c k v))
-  counted P put set = go (lookup_entry (eq k) c.entries) refl
+  totaled : (P : ℕ → Type 0) → P (length (take (c.cap - 1) c.entries) + 1) → P (length c.entries) → P (length (put_entries eq c k v))
+  totaled P put set = go (lookup_entry (eq k) c.entries) refl
     where
       go : (f : Option (K × V)) → lookup_entry (eq k) c.entries ≡ f → P (length (option_map_or (λ e. (e.0, v) ∷ remove_entry (eq k) c.entries) f ((k, v) ∷ take (c.cap - 1) c.entries)))
       go None is = subst P (omega arith) put
@@ -133,7 +133,7 @@ module _ {K V : Type 0} (eq : K → K → Bool) (c : LruCache K V) (k : K) (v : 
           subst P (omega (arith, gone)) set
 
   pub put_no_fewer : length c.entries ≤ c.cap → length c.entries ≤ length (put_entries eq c k v)
-  put_no_fewer fits = counted (λ n. length c.entries ≤ n) (take_all_but_one (c.cap - 1) c.entries (omega (arith, fits))) (omega arith)
+  put_no_fewer fits = totaled (λ n. length c.entries ≤ n) (take_all_but_one (c.cap - 1) c.entries (omega (arith, fits))) (omega arith)
 
   pub put_one_more : length (put_entries eq c k v) ≤ length c.entries + 1
-  put_one_more = counted (λ n. n ≤ length c.entries + 1) (let short = take_no_longer (c.cap - 1) c.entries in omega (arith, short)) (omega arith)
+  put_one_more = totaled (λ n. n ≤ length c.entries + 1) (let short = take_no_longer (c.cap - 1) c.entries in omega (arith, short)) (omega arith)

@@ -16,7 +16,7 @@ pub record Noted (pages : List FirstPage) (n : ℕ) (old new : Table) : Type 0 w
 
 pub noted_none : (pages : List FirstPage) (t : Table) → Noted pages 0 t t
 noted_none pages t = record {
-  only = record { bad = λ b. refl; kept = λ b. refl; geometry = refl; open_block = refl; checkpoint = refl; next_group = refl; next_seq = refl };
+  only = record { bad = λ b. refl; committed = λ b. refl; geometry = refl; open_block = refl; checkpoint = refl; next_group = refl; next_seq = refl };
   notes = record {
     numbered = λ b seq is. let lt = is.within in absurd (omega (arith, lt));
     others = λ b not. refl;
@@ -59,10 +59,10 @@ entry_bad k seq t t' sets b = elim (cases_eq b k) [
   | inr ne ↦ ap (λ (e : BlockEntry). e.bad) (sets.others b ne)
 ]
 
-entry_kept : (k seq : ℕ) (t t' : Table) → Sets k (record (t.entry k) { seq = seq; next = t.geometry.pages }) t t' → (b : ℕ) → (t'.entry b).kept ≡ (t.entry b).kept
-entry_kept k seq t t' sets b = elim (cases_eq b k) [
-  | inl here ↦ ap (λ j. (t'.entry j).kept) here ∙ ap (λ (e : BlockEntry). e.kept) sets.here ∙ ap (λ j. (t.entry j).kept) (sym here)
-  | inr ne ↦ ap (λ (e : BlockEntry). e.kept) (sets.others b ne)
+entry_committed : (k seq : ℕ) (t t' : Table) → Sets k (record (t.entry k) { seq = seq; next = t.geometry.pages }) t t' → (b : ℕ) → (t'.entry b).committed ≡ (t.entry b).committed
+entry_committed k seq t t' sets b = elim (cases_eq b k) [
+  | inl here ↦ ap (λ j. (t'.entry j).committed) here ∙ ap (λ (e : BlockEntry). e.committed) sets.here ∙ ap (λ j. (t.entry j).committed) (sym here)
+  | inr ne ↦ ap (λ (e : BlockEntry). e.committed) (sets.others b ne)
 ]
 
 -- a block more, which gets this number
@@ -74,7 +74,7 @@ numbers pages n k first old t t' at number below one before =
     record {
       only = record {
         bad = λ b. entry_bad n k t t' sets b ∙ before.only.bad b;
-        kept = λ b. entry_kept n k t t' sets b ∙ before.only.kept b;
+        committed = λ b. entry_committed n k t t' sets b ∙ before.only.committed b;
         geometry = sets.geometry ∙ before.only.geometry;
         open_block = one.open_block ∙ before.only.open_block;
         checkpoint = one.checkpoint ∙ before.only.checkpoint;

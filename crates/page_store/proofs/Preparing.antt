@@ -1,7 +1,7 @@
--- Calls that keep the kept pages.
+-- Calls that keep the committed pages.
 use Rattle.std.proofs.Common.{◌∙◌}
 use Rattle.chunk_index.specs.declared.index.Index.{Index}
-use Rattle.chunk_index.specs.Maps.{SameKept}
+use Rattle.chunk_index.specs.Maps.{SameCommitted}
 
-pub kept_on : (x y z : Index) → SameKept x y → SameKept y z → SameKept x z
-kept_on x y z first then = record { kept = λ o c. then.kept o c ∙ first.kept o c; counts = λ b. then.counts b ∙ first.counts b }
+pub committed_on : (x y z : Index) → SameCommitted x y → SameCommitted y z → SameCommitted x z
+committed_on x y z first then = record { committed = λ o c. then.committed o c ∙ first.committed o c; counts = λ b. then.counts b ∙ first.counts b }

@@ -18,7 +18,7 @@ use Rattle.chunk_index.specs.declared.form.Present.TheVariants as presents
 use Rattle.chunk_index.specs.declared.form.Form.TheVariants as forms
 use Rattle.chunk_index.specs.declared.index.Index.{Index}
 use Rattle.chunk_index.specs.Shelves.{Differs}
-use Rattle.chunk_index.specs.Maps.{present, Places, IsPrepared, SameKept, StaysPrepared}
+use Rattle.chunk_index.specs.Maps.{present, Places, IsPrepared, SameCommitted, StaysPrepared}
 use Rattle.page_store.specs.Shown.{data_by, present_data}
 use Rattle.page_store.specs.Buffering.{Buffers, lacks, new_keys, with_new, PutsPage, ArePrepared}
 use Rattle.page_store.proofs.Keys.{Holding, key_cases, here, object_is, chunk_is, data_same, lacks_none, new_same, apart_tail}
@@ -43,8 +43,8 @@ module _ (x : Index) (pages : List FreshPage) (p : FreshPage) (slot : ℕ) (b : 
           let key = slot_key o c (subst (IsPageOf pages o c) e (b.there o c i at)) in
           record { page = p; there = ap (slice_get (set pages slot p)) e ∙ set_here pages slot p within; object = sym key.0; chunk = sym key.1 }
     ];
-    told = λ o c i of. elim (get_set pages slot i p of.page of.there) [
-      | inl other ↦ b.told o c i (record { page = of.page; there = other.1; object = of.object; chunk = of.chunk })
+    reported = λ o c i of. elim (get_set pages slot i p of.page of.there) [
+      | inl other ↦ b.reported o c i (record { page = of.page; there = other.1; object = of.object; chunk = of.chunk })
       | inr filled ↦
           let object : o ≡ p.key.object = sym of.object ∙ ap (λ (q : FreshPage). q.key.object) filled.1 in
           let chunk : c ≡ p.key.chunk = sym of.chunk ∙ ap (λ (q : FreshPage). q.key.chunk) filled.1 in
@@ -70,7 +70,7 @@ module _ (x y : Index) (pages : List FreshPage) (p : FreshPage) (b : Holding x p
   none_is o c i of = elim (key_cases p.key.object p.key.chunk o c) [
     | inr differs ↦ differs
     | inl same ↦ absurd (lacks_none (present x p.key.object p.key.chunk) i lacking
-        (ap (λ k. present x k p.key.chunk) (sym same.0) ∙ ap (present x o) (sym same.1) ∙ b.told o c i of))
+        (ap (λ k. present x k p.key.chunk) (sym same.0) ∙ ap (present x o) (sym same.1) ∙ b.reported o c i of))
   ]
 
   put_here : (o c : ℕ) → o ≡ p.key.object → c ≡ p.key.chunk → present y o c ≡ presents.InBuffer (length pages)
@@ -87,10 +87,10 @@ module _ (x y : Index) (pages : List FreshPage) (p : FreshPage) (b : Holding x p
           let of = b.there o c i (sym (place.others o c differs) ∙ is) in
           record { page = of.page; there = push_before pages p i of.page of.there; object = of.object; chunk = of.chunk }
     ];
-    told = λ o c i of. elim (get_push pages p i of.page of.there) [
+    reported = λ o c i of. elim (get_push pages p i of.page of.there) [
       | inl before ↦
           let was : IsPageOf pages o c i = record { page = of.page; there = before.1; object = of.object; chunk = of.chunk } in
-          place.others o c (none_is o c i was) ∙ b.told o c i was
+          place.others o c (none_is o c i was) ∙ b.reported o c i was
       | inr last ↦ put_here o c (sym of.object ∙ ap (λ (q : FreshPage). q.key.object) last.1) (sym of.chunk ∙ ap (λ (q : FreshPage). q.key.chunk) last.1) ∙ ap presents.InBuffer (sym last.0)
     ];
   }
@@ -113,7 +113,7 @@ module _ (x y : Index) (pages : List FreshPage) (p : FreshPage) (b : Holding x p
 -- What stands while pages are put one after the other, of which `rest` are left, of `all`.
 pub record PuttingAll (most bytes : ℕ) (all rest : List FreshPage) (x y : Index) (old new : List FreshPage) : Type 0 where
   pub buffers : Buffers y new
-  pub kept : SameKept x y
+  pub committed : SameCommitted x y
   pub prepared : StaysPrepared x y
   pub left : ArePrepared y rest
   pub apart : AreApart rest
@@ -125,7 +125,7 @@ pub putting_starts : (most bytes : ℕ) (all : List FreshPage) (x : Index) (page
     → PuttingAll most bytes all all x x pages pages
 putting_starts most bytes all x pages b prepared sized apart room = record {
   buffers = b;
-  kept = record { kept = λ o c. refl; counts = λ k. refl };
+  committed = record { committed = λ o c. refl; counts = λ k. refl };
   prepared = λ o c is. is;
   left = prepared;
   apart = apart;
@@ -141,10 +141,10 @@ head_differs p rest apart i of =
     omega (arith, two)
 
 pub putting_more : (most bytes : ℕ) (all rest : List FreshPage) (p : FreshPage) (x y z : Index) (old mid new : List FreshPage) → PuttingAll most bytes all (p ∷ rest) x y old mid
-    → Buffers z new → SameKept y z → StaysPrepared y z → PutsPage p y z mid new → PuttingAll most bytes all rest x z old new
-putting_more most bytes all rest p x y z old mid new d b kept prepared puts = record {
+    → Buffers z new → SameCommitted y z → StaysPrepared y z → PutsPage p y z mid new → PuttingAll most bytes all rest x z old new
+putting_more most bytes all rest p x y z old mid new d b committed prepared puts = record {
   buffers = b;
-  kept = record { kept = λ o c. kept.kept o c ∙ d.kept.kept o c; counts = λ k. kept.counts k ∙ d.kept.counts k };
+  committed = record { committed = λ o c. committed.committed o c ∙ d.committed.committed o c; counts = λ k. committed.counts k ∙ d.committed.counts k };
   prepared = λ o c is. prepared o c (d.prepared o c is);
   left = λ o c i of. prepared o c (d.left o c (suc i) (record { page = of.page; there = of.there; object = of.object; chunk = of.chunk }));
   apart = apart_tail p rest d.apart;
@@ -161,10 +161,6 @@ putting_more most bytes all rest p x y z old mid new d b kept prepared puts = re
         ∙ ap (λ k. present_data z new flash k c) (sym is.1) ∙ ap (present_data z new flash p.key.object) (sym is.2)
         ∙ puts.here flash ∙ sym (cond-true (is_of p o c) _ _ is.0)
   ]
-
-pub putting_ends : (most bytes : ℕ) (all rest : List FreshPage) (x y : Index) (old new : List FreshPage) → rest ≡ [] → PuttingAll most bytes all rest x y old new
-    → (flash : Flash) (o c : ℕ) → present_data y new flash o c ≡ with_pages all (present_data x old flash) o c
-putting_ends most bytes all rest x y old new none d flash o c = ap (λ (xs : List FreshPage). with_pages xs (present_data y new flash) o c) (sym none) ∙ d.shown flash o c
 
 -- the first of the pages that are left
 pub first_prepared : (most bytes : ℕ) (all rest : List FreshPage) (p : FreshPage) (x y : Index) (old new : List FreshPage) → PuttingAll most bytes all (p ∷ rest) x y old new → IsPrepared y p.key.object p.key.chunk

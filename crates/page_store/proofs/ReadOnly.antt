@@ -10,7 +10,7 @@ use Rattle.flash_tree.specs.laws.Place.{same_flash, had_power}
 use Rattle.block_state.specs.Table.{Table}
 use Rattle.transactions.specs.Ready.{IsReady}
 use Rattle.flash_log.specs.Snapshots.{Snapshot, remembered_flash}
-use Rattle.flash_log.specs.Standing.{IsKeptAt, AreKept, MayLie, Stands}
+use Rattle.flash_log.specs.Standing.{IsCommittedAt, AreCommitted, MayLie, Stands}
 use Rattle.nand_model.specs.Changes.{OnlyReads}
 use Rattle.nand_model.specs.declared.geometry.Geometry.{Geometry}
 use Rattle.flash_tree.specs.declared.place.FreshPage.{FreshPage}
@@ -18,13 +18,13 @@ use Rattle.flash_tree.specs.declared.place.Key.{Key}
 use Rattle.chunk_index.specs.declared.entry.KeyEntry.{KeyEntry}
 use Rattle.chunk_index.specs.declared.entry.State.{State}
 use Rattle.chunk_index.specs.declared.entry.State.TheVariants as states
-use Rattle.chunk_index.specs.declared.form.KeptPage.{KeptPage}
+use Rattle.chunk_index.specs.declared.form.CommittedPage.{CommittedPage}
 use Rattle.chunk_index.specs.declared.form.Present.TheVariants as presents
 use Rattle.chunk_index.specs.declared.index.Index.{Index}
-use Rattle.chunk_index.specs.Entries.{as_kept, present_by, present_of, kept_of}
+use Rattle.chunk_index.specs.Entries.{as_committed, present_by, present_of, committed_of}
 use Rattle.chunk_index.specs.Shelves.{look}
-use Rattle.chunk_index.specs.Maps.{kept_pages, present}
-use Rattle.page_store.specs.Shown.{data_of, data_at, data_by, data_in, kept_data, present_data}
+use Rattle.chunk_index.specs.Maps.{committed_pages, present}
+use Rattle.page_store.specs.Shown.{data_of, data_at, data_by, data_in, committed_data, present_data}
 use Rattle.page_store.specs.declared.cache.PageCache.{PageCache}
 use Rattle.pages.specs.Maps.{known_pages}
 use Rattle.pages.specs.laws.Known.{known_same}
@@ -43,29 +43,29 @@ use Rattle.page_store.specs.StoreOf.{next_numbers, is_near}
 use Rattle.page_store.specs.StoreState.{StoreState, current_in, seen_of}
 use Rattle.page_store.specs.laws.Sound.{sound_whole}
 
--- a page that is present on the flash is the kept one
-on_flash : (p : Option KeptPage) (k : KeptPage) → as_kept p ≡ presents.OnFlash k → p ≡ Some k
+-- a page that is present on the flash is the committed one
+on_flash : (p : Option CommittedPage) (k : CommittedPage) → as_committed p ≡ presents.OnFlash k → p ≡ Some k
 on_flash None k is = absurd cc
 on_flash (Some q) k is = cc
 
-by_state : (p : Option KeptPage) (s : State) (k : KeptPage) → present_by p s ≡ presents.OnFlash k → p ≡ Some k
+by_state : (p : Option CommittedPage) (s : State) (k : CommittedPage) → present_by p s ≡ presents.OnFlash k → p ≡ Some k
 by_state p states.Same k is = on_flash p k is
 by_state p (states.Buffered i) k is = absurd cc
 by_state p states.Dropped k is = absurd cc
 by_state p states.Vacant k is = absurd cc
 
-of_entry : (m : Option KeyEntry) (k : KeptPage) → present_of m ≡ presents.OnFlash k → kept_of m ≡ Some k
+of_entry : (m : Option KeyEntry) (k : CommittedPage) → present_of m ≡ presents.OnFlash k → committed_of m ≡ Some k
 of_entry None k is = absurd cc
-of_entry (Some e) k is = by_state e.kept e.state k is
+of_entry (Some e) k is = by_state e.committed e.state k is
 
-pub kept_there : (x : Index) (o c : ℕ) (k : KeptPage) → present x o c ≡ presents.OnFlash k → kept_pages x o c ≡ Some k
-kept_there x o c k is = of_entry (look x.shelf.objects o c) k is
+pub committed_there : (x : Index) (o c : ℕ) (k : CommittedPage) → present x o c ≡ presents.OnFlash k → committed_pages x o c ≡ Some k
+committed_there x o c k is = of_entry (look x.shelf.objects o c) k is
 
 -- a page that is present on the flash lies on the device
-pub lies : (spare : ℕ) (d : Device) (t : Table) (x : Index) (o c : ℕ) (k : KeptPage) → IsReady d t → Stands spare d t x → present x o c ≡ presents.OnFlash k
+pub lies : (spare : ℕ) (d : Device) (t : Table) (x : Index) (o c : ℕ) (k : CommittedPage) → IsReady d t → Stands spare d t x → present x o c ≡ presents.OnFlash k
     → (k.block < d.geometry.blocks) × (k.page < d.geometry.pages)
 lies spare d t x o c k ready stands is =
-    let at : MayLie t o c k = stands.tables.within o c k (kept_there x o c k is) in
+    let at : MayLie t o c k = stands.tables.within o c k (committed_there x o c k is) in
     (subst (λ (g : Geometry). k.block < g.blocks) ready.geometry at.block, subst (λ (g : Geometry). k.page < g.pages) ready.geometry at.page)
 
 -- what stands still does
@@ -74,16 +74,16 @@ stands_read spare a b t x reads stands = record {
   tables = stands.tables;
   newest = λ honest power.
       let before : a.honest ≡ true = sym reads.lasts.honest ∙ honest in
-      subst (λ (f : Flash). AreKept f (kept_pages x)) (sym (same_flash a b reads before)) (stands.newest before (had_power a b reads.lasts power));
+      subst (λ (f : Flash). AreCommitted f (committed_pages x)) (sym (same_flash a b reads before)) (stands.newest before (had_power a b reads.lasts power));
   ordinary = λ honest. stands.ordinary (sym reads.lasts.honest ∙ honest);
   limits = stands.limits;
 }
 
--- kept pages are still the newest of their keys
-pub newest_read : (a b : Device) (x : Index) → OnlyReads a b → (a.honest ≡ true → AreKept a.flash (kept_pages x)) → b.honest ≡ true → AreKept b.flash (kept_pages x)
-newest_read a b x reads kept honest =
+-- committed pages are still the newest of their keys
+pub newest_read : (a b : Device) (x : Index) → OnlyReads a b → (a.honest ≡ true → AreCommitted a.flash (committed_pages x)) → b.honest ≡ true → AreCommitted b.flash (committed_pages x)
+newest_read a b x reads committed honest =
     let before : a.honest ≡ true = sym reads.lasts.honest ∙ honest in
-    subst (λ (f : Flash). AreKept f (kept_pages x)) (sym (same_flash a b reads before)) (kept before)
+    subst (λ (f : Flash). AreCommitted f (committed_pages x)) (sym (same_flash a b reads before)) (committed before)
 
 -- what is cached is still what is present
 pub still_shown : (a b : Device) (x : Index) (pages : List FreshPage) (cache : PageCache) → OnlyReads a b → (a.honest ≡ true → Shows cache (present_data x pages a.flash)) → b.honest ≡ true → Shows cache (present_data x pages b.flash)
@@ -92,7 +92,7 @@ still_shown a b x pages cache reads same honest =
     subst (λ (f : Flash). Shows cache (present_data x pages f)) (sym (same_flash a b reads before)) (same before)
 
 -- and with a page that was read and put there
-pub shown_read : (a b : Device) (x : Index) (pages : List FreshPage) (key : Key) (at : KeptPage) (old new : PageCache) → OnlyReads a b → present x key.object key.chunk ≡ presents.OnFlash at
+pub shown_read : (a b : Device) (x : Index) (pages : List FreshPage) (key : Key) (at : CommittedPage) (old new : PageCache) → OnlyReads a b → present x key.object key.chunk ≡ presents.OnFlash at
     → Caches a key at old new → (a.honest ≡ true → Shows old (present_data x pages a.flash)) → b.honest ≡ true → Shows new (present_data x pages b.flash)
 shown_read a b x pages key at old new reads there caches same honest o c xs is =
     let before : a.honest ≡ true = sym reads.lasts.honest ∙ honest in
@@ -101,15 +101,15 @@ shown_read a b x pages key at old new reads there caches same honest o c xs is =
       | inr put ↦ ap (λ n. present_data x pages a.flash n c) put.0.0 ∙ ap (λ n. present_data x pages a.flash key.object n) put.0.1 ∙ ap (data_by a.flash pages) there ∙ put.1 before
     ])
 
--- a kept page of an honest device that has power is written
-pub kept_written : (f : Flash) (x : Index) (o c : ℕ) (k : KeptPage) → AreKept f (kept_pages x) → kept_pages x o c ≡ Some k → data_at f k ≡ None → ⊥
-kept_written f x o c k kept is none =
-    let at : IsKeptAt f o c k = kept o c k is in
+-- a committed page of an honest device that has power is written
+pub committed_written : (f : Flash) (x : Index) (o c : ℕ) (k : CommittedPage) → AreCommitted f (committed_pages x) → committed_pages x o c ≡ Some k → data_at f k ≡ None → ⊥
+committed_written f x o c k committed is none =
+    let at : IsCommittedAt f o c k = committed o c k is in
     let two : None ≡ Some at.newest.holds.has.bytes = sym none ∙ ap data_of at.newest.holds.has.page in
     absurd cc
 
 -- each fault of a load has its cause
-pub load_fails : (a b : StoreState) (o c : ℕ) (at : KeptPage) (fault : StoreFault) → OnlyReads a.log.device b.log.device → Stands a.spare a.log.device a.log.table a.index
+pub load_fails : (a b : StoreState) (o c : ℕ) (at : CommittedPage) (fault : StoreFault) → OnlyReads a.log.device b.log.device → Stands a.spare a.log.device a.log.table a.index
     → present a.index o c ≡ presents.OnFlash at → IsLoadFault a.log.device b.log.device at fault → (fault ≡ faults.NoMemory → IsRefused a.counts b.counts) → IsFindFault a b fault
 load_fails a b o c at faults.NoMemory reads stands there why is = is refl
 load_fails a b o c at faults.Worn reads stands there why is = why
@@ -119,7 +119,7 @@ load_fails a b o c at faults.Device reads stands there why is = elim why [
     | inr lies' ↦ inr (inl (reads.lasts.honest ∙ lies'))
     | inl honest ↦ elim (cases_Bool a.log.device.gone) [
       | inl gone ↦ inl (ap (λ (d : Device). d.gone) (reads.lasts.gone gone) ∙ gone)
-      | inr power ↦ absurd (kept_written a.log.device.flash a.index o c at (stands.newest honest power) (kept_there a.index o c at there) (none honest))
+      | inr power ↦ absurd (committed_written a.log.device.flash a.index o c at (stands.newest honest power) (committed_there a.index o c at there) (none honest))
     ]
   ]
 ]
@@ -132,13 +132,13 @@ finds_seen a b lent lent' looks = record {
   present = ap (λ i. known_pages e.honest (present_data i (buffered b.buffer) e.flash)) looks.index
       ∙ ap (λ i. known_pages e.honest (present_data a.index (buffered i) e.flash)) looks.buffer
       ∙ known_same d e (present_data a.index (buffered a.buffer)) looks.reads;
-  kept = ap (λ i. known_pages e.honest (kept_data i e.flash)) looks.index ∙ known_same d e (kept_data a.index) looks.reads;
+  committed = ap (λ i. known_pages e.honest (committed_data i e.flash)) looks.index ∙ known_same d e (committed_data a.index) looks.reads;
   buffered = ap (λ (i : Buffer). length (buffered i)) looks.buffer;
   sound = ap (λ h. h && not b.broken) lasts.honest ∙ ap (λ w. d.honest && not w) looks.broken;
   failed = failed;
   refused = looks.counts.refused;
   commits = looks.commits;
-  asked = lasts.reads;
+  issued = lasts.reads;
   device = looks.reads;
   next = ap next_numbers looks.table;
   spare = looks.spare;
@@ -189,27 +189,27 @@ buffered_lent a x pages scratch o c i broken is within sound =
     ∙ ap (data_by a.flash pages) is ∙ some_bytes (data_in pages i) there.0 scratch there.1
 
 -- a key that is present on the flash has the page that is lent
-pub kept_lent : (a : StoreState) (lent : List ℕ) (o c : ℕ) (at : KeptPage) (result : Result Presence StoreFault) → present a.index o c ≡ presents.OnFlash at
+pub committed_lent : (a : StoreState) (lent : List ℕ) (o c : ℕ) (at : CommittedPage) (result : Result Presence StoreFault) → present a.index o c ≡ presents.OnFlash at
     → (a.log.device.honest && not a.broken) ≡ true → IfOk result (λ presence. presence ≡ presences.Present) → Lends a at lent result → IfOk result (FindsPage (current_in a) o c lent)
-kept_lent a lent o c at (Err fault) is sound there page = tt
-kept_lent a lent o c at (Ok told) is sound there page =
+committed_lent a lent o c at (Err fault) is sound there page = tt
+committed_lent a lent o c at (Ok reported) is sound there page =
     let d : Device = a.log.device in
     let honest = sound_honest d.honest a.broken sound in
     subst (FindsPage (current_in a) o c lent) (sym there)
     (ap (λ h. known_pages h (present_data a.index (buffered a.buffer) d.flash) o c) honest ∙ ap (data_by d.flash (buffered a.buffer)) is ∙ page (sound_whole d.honest a.broken sound) honest)
 
 -- and so it has one
-pub not_absent : (a : Device) (x : Index) (pages : List FreshPage) (o c : ℕ) (at : KeptPage) (broken : Bool) → present x o c ≡ presents.OnFlash at
-    → (broken ≡ false → a.honest ≡ true → AreKept a.flash (kept_pages x)) → (a.honest && not broken) ≡ true → known_pages a.honest (present_data x pages a.flash) o c ≡ None → ⊥
-not_absent a x pages o c at broken is kept sound none =
+pub not_absent : (a : Device) (x : Index) (pages : List FreshPage) (o c : ℕ) (at : CommittedPage) (broken : Bool) → present x o c ≡ presents.OnFlash at
+    → (broken ≡ false → a.honest ≡ true → AreCommitted a.flash (committed_pages x)) → (a.honest && not broken) ≡ true → known_pages a.honest (present_data x pages a.flash) o c ≡ None → ⊥
+not_absent a x pages o c at broken is committed sound none =
     let honest : a.honest ≡ true = sound_honest a.honest broken sound in
     let here : known_pages a.honest (present_data x pages a.flash) o c ≡ data_at a.flash at =
     ap (λ h. known_pages h (present_data x pages a.flash) o c) honest ∙ ap (data_by a.flash pages) is in
-    kept_written a.flash x o c at (kept (sound_whole a.honest broken sound) honest) (kept_there x o c at is) (sym here ∙ none)
+    committed_written a.flash x o c at (committed (sound_whole a.honest broken sound) honest) (committed_there x o c at is) (sym here ∙ none)
 
 -- each fault has its cause
 pub fault_seen : (a b : StoreState) (lent lent' : List ℕ) (result : Result Presence StoreFault) → IfErr result (IsFindFault a b) → IfErr result (FailsBy (seen_of a lent) (seen_of b lent'))
-fault_seen a b lent lent' (Ok told) why = tt
+fault_seen a b lent lent' (Ok reported) why = tt
 fault_seen a b lent lent' (Err faults.NoMemory) why = why
 fault_seen a b lent lent' (Err faults.Worn) why = why
 fault_seen a b lent lent' (Err faults.Device) why = elim why [
@@ -221,7 +221,7 @@ fault_seen a b lent lent' (Err faults.Device) why = elim why [
 ]
 
 -- a page on the flash that is near is in the cache
-pub near_cached : (p : Present) (at : KeptPage) (held : Option (List ℕ)) → p ≡ presents.OnFlash at → is_near p held ≡ true → IsSome held
+pub near_cached : (p : Present) (at : CommittedPage) (held : Option (List ℕ)) → p ≡ presents.OnFlash at → is_near p held ≡ true → IsSome held
 near_cached p at held is near = sym (ap (λ (q : Present). is_near q held) is) ∙ near
 
 -- a page of the buffer is near

@@ -9,66 +9,66 @@ use Rattle.flash_tree.specs.laws.Newest.{one_spot}
 use Rattle.flash_tree.specs.laws.Place.{had_power}
 use Rattle.flash_tree.specs.declared.place.FreshPage.{FreshPage}
 use Rattle.block_state.specs.Table.{Table}
-use Rattle.chunk_index.specs.Kept.{HoldsNone}
-use Rattle.chunk_index.specs.Maps.{kept_pages, kept_in}
-use Rattle.chunk_index.specs.declared.form.KeptPage.{KeptPage}
+use Rattle.chunk_index.specs.Committed.{HoldsNone}
+use Rattle.chunk_index.specs.Maps.{committed_pages, count_committed_in}
+use Rattle.chunk_index.specs.declared.form.CommittedPage.{CommittedPage}
 use Rattle.chunk_index.specs.declared.index.Index.{Index}
 use Rattle.transactions.specs.Checking.{LogState, log_of}
 use Rattle.transactions.specs.Ready.{IsReady}
 use Rattle.flash_log.specs.Bills.{PaysCollection}
 use Rattle.flash_log.specs.Moving.{WhyNotMoved}
 use Rattle.flash_log.specs.Refreshing.{IsClearedOut, IsWrittenAnew, MovesNothing}
-use Rattle.flash_log.specs.Standing.{AreHeld, AreKept, IsKept, Stands}
+use Rattle.flash_log.specs.Standing.{AreHeld, AreCommitted, IsCommittedKey, Stands}
 use Rattle.flash_log.specs.Steps.{Step}
 use Rattle.flash_log.specs.declared.fault.MoveFault.{MoveFault}
 use Rattle.flash_log.specs.declared.fault.MoveFault.TheVariants as moves
-use Rattle.flash_log.specs.laws.Costs.{costs_kept}
-use Rattle.flash_log.specs.laws.FreeBlocks.{leaves_fewer, leaves_unkept, same_bad_blocks}
-use Rattle.flash_log.specs.laws.KeptPages.{spot_of}
+use Rattle.flash_log.specs.laws.Costs.{costs_committed}
+use Rattle.flash_log.specs.laws.FreeBlocks.{leaves_fewer, leaves_uncommitted, same_bad_blocks}
+use Rattle.flash_log.specs.laws.CommittedPages.{spot_of}
 use Rattle.flash_log.specs.laws.Mountable.{mountable_step}
 use Rattle.flash_log.specs.laws.Moves.{are_held}
 use Rattle.pages.specs.Maps.{PageMap, known_pages}
 use Rattle.pages.specs.Refreshing as refreshing
 use Rattle.pages.specs.Refreshing.{KeepsNone, LeavesBlock, RefreshFailsBy}
-use Rattle.pages.specs.Stores.{HasPage, IsCarried, KeptAs, SamePages}
+use Rattle.pages.specs.Stores.{HasPage, IsCarried, CommittedAs, SamePages}
 use Rattle.page_store.specs.Carrying.{CarriesFound}
-use Rattle.page_store.specs.Shown.{kept_data, present_data}
+use Rattle.page_store.specs.Shown.{committed_data, present_data}
 use Rattle.page_store.specs.Refreshing.{IsRefreshed, IsRefreshFault, PaysRefresh, RefreshEnds, moved_fault}
 use Rattle.page_store.specs.StoreState.{StoreState, committed_in, seen_of}
 use Rattle.volume_terms.specs.declared.fault.StoreFault.{StoreFault}
 use Rattle.volume_terms.specs.declared.fault.StoreFault.TheVariants as faults
 use Rattle.page_store.proofs.Carried.{has_page, known_there}
-use Rattle.page_store.proofs.Findable.{finds_kept, found_unmoved}
-use Rattle.page_store.proofs.Following.{carries_kept, same_kept, same_present}
-use Rattle.page_store.proofs.Told.{CarriesSince, is_sound, kept_still, not_sound}
-use Rattle.page_store.proofs.Turning.{data_kept, kept_moved}
+use Rattle.page_store.proofs.Findable.{finds_committed, found_unmoved}
+use Rattle.page_store.proofs.Following.{carries_committed, same_committed, same_present}
+use Rattle.page_store.proofs.Reported.{CarriesSince, is_sound, committed_still, not_sound}
+use Rattle.page_store.proofs.Turning.{data_committed, committed_moved}
 
 -- a step of the log from one state to another, with the committed pages where they were
 module _ (spare : ℕ) (d e : Device) (t u : Table) (x y : Index) (step : Step spare (log_of d t) (log_of e u) x y) (ready : IsReady d t) (stands : Stands spare d t x)
-    (law : (z : Index) (b : ℕ) → kept_in z b ≡ 0 → HoldsNone (kept_pages z) b) (honest : d.honest ≡ true) (was : AreKept d.flash (kept_pages x)) where
+    (law : (z : Index) (b : ℕ) → count_committed_in z b ≡ 0 → HoldsNone (committed_pages z) b) (honest : d.honest ≡ true) (was : AreCommitted d.flash (committed_pages x)) where
   held : AreHeld t x
   held = are_held t x (law x) stands.tables.counts
 
   -- the committed pages are carried, perhaps elsewhere
-  carried_moved : IsCarried e spare (kept_data x d.flash)
+  carried_moved : IsCarried e spare (committed_data x d.flash)
   carried_moved = record {
-    newest = carries_kept x d.flash e.flash was (step.same_data honest);
-    free = λ left. leaves_fewer e.geometry e.flash spare (IsKept (kept_pages y)) (HasPage (kept_data x d.flash))
-        (λ o c has. kept_moved x y step.index o c (data_kept x d.flash o c has)) (step.free honest (leaves_unkept spare d t x ready stands.tables held was));
+    newest = carries_committed x d.flash e.flash was (step.same_data honest);
+    free = λ left. leaves_fewer e.geometry e.flash spare (IsCommittedKey (committed_pages y)) (HasPage (committed_data x d.flash))
+        (λ o c has. committed_moved x y step.index o c (data_committed x d.flash o c has)) (step.free honest (leaves_uncommitted spare d t x ready stands.tables held was));
   }
 
   -- and a mount by summaries finds them
-  pub found_moved : CarriesFound (log_of d t) x e spare (kept_data x d.flash)
+  pub found_moved : CarriesFound (log_of d t) x e spare (committed_data x d.flash)
   found_moved = record {
     carried = carried_moved;
-    found = λ before. finds_kept e x d.flash (found_unmoved e x y step.index (mountable_step spare (log_of d t) (log_of e u) x y step honest before).found);
+    found = λ before. finds_committed e x d.flash (found_unmoved e x y step.index (mountable_step spare (log_of d t) (log_of e u) x y step honest before).found);
   }
 
   -- no committed page lies in a block from which nothing is to be moved
-  pub none_idle : (v : ℕ) → MovesNothing v t → (o c : ℕ) (p : KeptPage) → kept_pages x o c ≡ Some p → p.block ≢ v
+  pub none_idle : (v : ℕ) → MovesNothing v t → (o c : ℕ) (p : CommittedPage) → committed_pages x o c ≡ Some p → p.block ≢ v
   none_idle v (inl none) o c p at here =
       let some = held o c p at in
-      let same : (t.entry p.block).kept ≡ (t.entry v).kept = ap (λ b. (t.entry b).kept) here in
+      let same : (t.entry p.block).committed ≡ (t.entry v).committed = ap (λ b. (t.entry b).committed) here in
       omega (arith, some, same, none)
   none_idle v (inr bad) o c p at here =
       let k = was o c p at in
@@ -77,19 +77,19 @@ module _ (spare : ℕ) (d e : Device) (t u : Table) (x y : Index) (step : Step s
       cc
 
   -- the newest page of a committed key lies where that is committed
-  lies_there : (o c : ℕ) (s : Spot) (p : KeptPage) → kept_pages x o c ≡ Some p → IsNewest d.flash o c s → s.block ≡ p.block
+  lies_there : (o c : ℕ) (s : Spot) (p : CommittedPage) → committed_pages x o c ≡ Some p → IsNewest d.flash o c s → s.block ≡ p.block
   lies_there o c s p at newest = let k = was o c p at in ap (λ (z : Spot). z.block) (one_spot d.flash o c s (spot_of p k.tag) newest k.newest)
 
-  pub leaves_none : (v : ℕ) → HoldsNone (kept_pages x) v → LeavesBlock v d.flash e.flash (kept_data x d.flash)
+  pub leaves_none : (v : ℕ) → HoldsNone (committed_pages x) v → LeavesBlock v d.flash e.flash (committed_data x d.flash)
   leaves_none v none o c s has newest here again =
-      let (p, at) = data_kept x d.flash o c has in
+      let (p, at) = data_committed x d.flash o c has in
       none o c p at (sym (lies_there o c s p at newest) ∙ here)
 
-  module _ (now : AreKept e.flash (kept_pages y)) where
+  module _ (now : AreCommitted e.flash (committed_pages y)) where
     -- what was committed in the block was written anew
-    leaves_anew : (v : ℕ) → e.gone ≡ false → IsWrittenAnew v (log_of d t) (log_of e u) y → LeavesBlock v d.flash e.flash (kept_data x d.flash)
+    leaves_anew : (v : ℕ) → e.gone ≡ false → IsWrittenAnew v (log_of d t) (log_of e u) y → LeavesBlock v d.flash e.flash (committed_data x d.flash)
     leaves_anew v power anew o c s has newest here again =
-        let (p, at) = data_kept x d.flash o c has in
+        let (p, at) = data_committed x d.flash o c has in
         let m = step.index.moved o c p at in
         let k = now o c m.at m.is in
         let same : spot_of m.at k.tag ≡ s = one_spot e.flash o c (spot_of m.at k.tag) s k.newest again in
@@ -99,29 +99,29 @@ module _ (spare : ℕ) (d e : Device) (t u : Table) (x y : Index) (step : Step s
         let below = (ready.below honest s.block s.page s.tag good newest.holds.has).1 in
         omega (arith, above, below)
 
-    pub leaves_refreshed : (v : ℕ) → MovesNothing v t ⊎ (IsClearedOut v u × (e.gone ≡ false)) → IsWrittenAnew v (log_of d t) (log_of e u) y → LeavesBlock v d.flash e.flash (kept_data x d.flash)
+    pub leaves_refreshed : (v : ℕ) → MovesNothing v t ⊎ (IsClearedOut v u × (e.gone ≡ false)) → IsWrittenAnew v (log_of d t) (log_of e u) y → LeavesBlock v d.flash e.flash (committed_data x d.flash)
     leaves_refreshed v (inl idle) anew = leaves_none v (none_idle v idle)
     leaves_refreshed v (inr (left, power)) anew = leaves_anew v power anew
 
-    pub kept_refreshed : SamePages (kept_data y e.flash) (kept_data x d.flash)
-    kept_refreshed = same_kept x y d.flash e.flash step.index was now (step.same_data honest)
+    pub committed_refreshed : SamePages (committed_data y e.flash) (committed_data x d.flash)
+    committed_refreshed = same_committed x y d.flash e.flash step.index was now (step.same_data honest)
 
     pub current_refreshed : (pages : List FreshPage) → SamePages (present_data y pages e.flash) (present_data x pages d.flash)
     current_refreshed pages = same_present x y d.flash e.flash step.index was now (step.same_data honest) pages
 
 -- no committed page lies past the last block
-pub none_outside : (spare : ℕ) (d : Device) (t : Table) (x : Index) (block : ℕ) → IsReady d t → Stands spare d t x → d.geometry.blocks ≤ block → HoldsNone (kept_pages x) block
+pub none_outside : (spare : ℕ) (d : Device) (t : Table) (x : Index) (block : ℕ) → IsReady d t → Stands spare d t x → d.geometry.blocks ≤ block → HoldsNone (committed_pages x) block
 none_outside spare d t x block ready stands past o c p at here =
     let inside : p.block < d.geometry.blocks = subst (λ (g : Geometry). p.block < g.blocks) ready.geometry (stands.tables.within o c p at).block in
     omega (arith, past, inside, here)
 
 -- nothing was moved, or the device has power: what is committed is the newest of its keys
-pub kept_now : (v : ℕ) (a b : LogState) (x y : Index) → (MovesNothing v a.table → (b ≡ a) × (y ≡ x)) → AreKept a.device.flash (kept_pages x) → (b.device.gone ≡ false → AreKept b.device.flash (kept_pages y))
-    → MovesNothing v a.table ⊎ (IsClearedOut v b.table × (b.device.gone ≡ false)) → AreKept b.device.flash (kept_pages y)
-kept_now v a b x y idle was now (inl none) =
+pub committed_now : (v : ℕ) (a b : LogState) (x y : Index) → (MovesNothing v a.table → (b ≡ a) × (y ≡ x)) → AreCommitted a.device.flash (committed_pages x) → (b.device.gone ≡ false → AreCommitted b.device.flash (committed_pages y))
+    → MovesNothing v a.table ⊎ (IsClearedOut v b.table × (b.device.gone ≡ false)) → AreCommitted b.device.flash (committed_pages y)
+committed_now v a b x y idle was now (inl none) =
     let same = idle none in
-    subst (λ (l : LogState). AreKept l.device.flash (kept_pages y)) (sym same.0) (subst (λ (z : Index). AreKept a.device.flash (kept_pages z)) (sym same.1) was)
-kept_now v a b x y idle was now (inr moved) = now moved.1
+    subst (λ (l : LogState). AreCommitted l.device.flash (committed_pages y)) (sym same.0) (subst (λ (z : Index). AreCommitted a.device.flash (committed_pages z)) (sym same.1) was)
+committed_now v a b x y idle was now (inr moved) = now moved.1
 
 -- and it has as much power as before
 pub power_now : (v : ℕ) (a b : LogState) (x y : Index) → Lasts a.device b.device → (MovesNothing v a.table → (b ≡ a) × (y ≡ x)) → MovesNothing v a.table ⊎ (IsClearedOut v b.table × (b.device.gone ≡ false))
@@ -130,11 +130,11 @@ power_now v a b x y lasts idle (inl none) = ap (λ (l : LogState). l.device.gone
 power_now v a b x y lasts idle (inr moved) = moved.1 ∙ sym (had_power a.device b.device lasts moved.1)
 
 -- a block keeps no more pages than it has
-pub pays_refresh : (v : ℕ) (a b : LogState) (fault : MoveFault) (other : StoreFault) → a.table.geometry ≡ a.device.geometry → (a.table.entry v).kept ≤ a.table.geometry.pages → PaysCollection v a b (Err fault) → PaysRefresh a b (Err other)
-pays_refresh v a b fault other same fits pays = record { costs = costs_kept v 0 a.device b.device a.table same fits pays.costs; marks = pays.marks; answers = tt; reads = pays.reads }
+pub pays_refresh : (v : ℕ) (a b : LogState) (fault : MoveFault) (other : StoreFault) → a.table.geometry ≡ a.device.geometry → (a.table.entry v).committed ≤ a.table.geometry.pages → PaysCollection v a b (Err fault) → PaysRefresh a b (Err other)
+pays_refresh v a b fault other same fits pays = record { costs = costs_committed v 0 a.device b.device a.table same fits pays.costs; marks = pays.marks; answers = tt; reads = pays.reads }
 
-pub pays_refreshed : (v : ℕ) (a b : LogState) → a.table.geometry ≡ a.device.geometry → (a.table.entry v).kept ≤ a.table.geometry.pages → PaysCollection v a b (Ok tt) → PaysRefresh a b (Ok tt)
-pays_refreshed v a b same fits pays = record { costs = costs_kept v 0 a.device b.device a.table same fits pays.costs; marks = pays.marks; answers = pays.answers; reads = pays.reads }
+pub pays_refreshed : (v : ℕ) (a b : LogState) → a.table.geometry ≡ a.device.geometry → (a.table.entry v).committed ≤ a.table.geometry.pages → PaysCollection v a b (Ok tt) → PaysRefresh a b (Ok tt)
+pays_refreshed v a b same fits pays = record { costs = costs_committed v 0 a.device b.device a.table same fits pays.costs; marks = pays.marks; answers = pays.answers; reads = pays.reads }
 
 -- each fault has its cause
 pub refresh_fails : (a b : StoreState) (fault : MoveFault) → WhyNotMoved a.spare b.log.device b.log.table fault → IsRefreshFault a b (moved_fault fault)
@@ -161,28 +161,28 @@ pub breaks_refreshed : (result : Result (Unit {0}) StoreFault) (block : ℕ) (a 
 breaks_refreshed (Ok done) block a b ends is = absurd (let two : true ≡ false = sym is ∙ ends.whole.was in cc)
 breaks_refreshed (Err fault) block a b ends is = ends.0
 
--- what was kept is kept
-pub kept_seen : (result : Result (Unit {0}) StoreFault) (block : ℕ) (a b : StoreState) (lent : List ℕ) → RefreshEnds block a b result → CarriesSince (seen_of b lent) (committed_in a) → KeptAs (seen_of b lent) (committed_in a)
-kept_seen (Ok done) block a b lent ends carries = record { carried = λ _. carries.carried; kept = λ _. ends.committed; found = carries.found }
-kept_seen (Err fault) block a b lent ends carries = kept_still (seen_of b lent) (committed_in a) (not_sound b.log.device.honest b.broken ends.0) carries
+-- what was committed is committed
+pub committed_seen : (result : Result (Unit {0}) StoreFault) (block : ℕ) (a b : StoreState) (lent : List ℕ) → RefreshEnds block a b result → CarriesSince (seen_of b lent) (committed_in a) → CommittedAs (seen_of b lent) (committed_in a)
+committed_seen (Ok done) block a b lent ends carries = record { carried = λ _. carries.carried; committed = λ _. ends.committed_map; found = carries.found }
+committed_seen (Err fault) block a b lent ends carries = committed_still (seen_of b lent) (committed_in a) (not_sound b.log.device.honest b.broken ends.0) carries
 
 pub refreshed_seen : (result : Result (Unit {0}) StoreFault) (block : ℕ) (a b : StoreState) (lent lent' : List ℕ) → Lasts a.log.device b.log.device → a.log.device.honest ≡ true → RefreshEnds block a b result
     → OnOk result (refreshing.IsRefreshed block (seen_of a lent) (seen_of b lent'))
 refreshed_seen (Ok done) block a b lent lent' lasts honest ends = record { sound = is_sound b.log.device.honest b.broken (lasts.honest ∙ honest) ends.whole.is; present = ends.current; leaves = ends.leaves honest }
 refreshed_seen (Err fault) block a b lent lent' lasts honest ends = tt
 
-pub refresh_told : (result : Result (Unit {0}) StoreFault) (block : ℕ) (a b : StoreState) (lent : List ℕ) → b.spare ≡ a.spare → IsReady b.log.device b.log.table → a.broken ≡ false → RefreshEnds block a b result
+pub refresh_reported : (result : Result (Unit {0}) StoreFault) (block : ℕ) (a b : StoreState) (lent : List ℕ) → b.spare ≡ a.spare → IsReady b.log.device b.log.table → a.broken ≡ false → RefreshEnds block a b result
     → IfErr result (RefreshFailsBy (seen_of b lent))
-refresh_told (Ok done) block a b lent spare ready whole ends = tt
-refresh_told (Err faults.NoMemory) block a b lent spare ready whole ends = ends.1
-refresh_told (Err faults.Device) block a b lent spare ready whole ends = elim ends.1 [
+refresh_reported (Ok done) block a b lent spare ready whole ends = tt
+refresh_reported (Err faults.NoMemory) block a b lent spare ready whole ends = ends.1
+refresh_reported (Err faults.Device) block a b lent spare ready whole ends = elim ends.1 [
   | inl gone ↦ inl gone
   | inr rest ↦ elim rest [
     | inl lies ↦ inr lies
     | inr broken ↦ absurd (let two : true ≡ false = sym broken ∙ whole in cc)
   ]
 ]
-refresh_told (Err faults.Worn) block a b lent spare ready whole ends = elim ends.1 [
+refresh_reported (Err faults.Worn) block a b lent spare ready whole ends = elim ends.1 [
   | inl seq ↦ inr (inl seq)
   | inr rest ↦ elim rest [
     | inl group ↦ inl group
@@ -191,7 +191,7 @@ refresh_told (Err faults.Worn) block a b lent spare ready whole ends = elim ends
 ]
 
 -- a block that keeps no page has no committed one
-pub none_held : (block : ℕ) (a : StoreState) (lent : List ℕ) → a.log.device.honest ≡ true → AreKept a.log.device.flash (kept_pages a.index) → KeepsNone block (seen_of a lent) → HoldsNone (kept_pages a.index) block
-none_held block a lent honest kept none o c p at here =
-    let k = kept o c p at in
-    none o c (spot_of p k.tag) (has_page a.log.device a.index o c p honest kept at) k.newest here
+pub none_held : (block : ℕ) (a : StoreState) (lent : List ℕ) → a.log.device.honest ≡ true → AreCommitted a.log.device.flash (committed_pages a.index) → KeepsNone block (seen_of a lent) → HoldsNone (committed_pages a.index) block
+none_held block a lent honest committed none o c p at here =
+    let k = committed o c p at in
+    none o c (spot_of p k.tag) (has_page a.log.device a.index o c p honest committed at) k.newest here

@@ -9,12 +9,12 @@ use Rattle.nand_model.specs.Calls.{Device}
 use Rattle.nand_model.specs.laws.Calls.{lasts_here}
 use Rattle.nand_model.specs.laws.Changes.{only_reads_here}
 use Rattle.flash_tree.specs.Newest.{HasNewest}
-use Rattle.block_state.specs.Kept.{bad_count}
+use Rattle.block_state.specs.Committed.{bad_count}
 use Rattle.block_state.specs.Table.{Table}
-use Rattle.chunk_index.specs.declared.form.KeptPage.{KeptPage}
+use Rattle.chunk_index.specs.declared.form.CommittedPage.{CommittedPage}
 use Rattle.chunk_index.specs.declared.index.Index.{Index}
-use Rattle.chunk_index.specs.Kept.{HoldsNone}
-use Rattle.chunk_index.specs.Maps.{kept_pages, kept_in}
+use Rattle.chunk_index.specs.Committed.{HoldsNone}
+use Rattle.chunk_index.specs.Maps.{committed_pages, count_committed_in}
 use Rattle.transactions.specs.Checking.{LogState, log_of}
 use Rattle.transactions.specs.Handing.{HandsNumbers}
 use Rattle.transactions.specs.Ready.{IsReady}
@@ -22,13 +22,13 @@ use Rattle.transactions.specs.laws.Handing.{hands_nothing}
 use Rattle.posix_profile.specs.State.{Objects}
 use Rattle.flash_log.specs.Mountable.{IsMountable, IsMountableSince}
 use Rattle.flash_log.specs.Moving.{MarksFailures}
-use Rattle.flash_log.specs.Standing.{AreKept, IsKept, IsKeptAt, HasVersion, SameData, Stands}
-use Rattle.flash_log.specs.laws.FreeBlocks.{leaves_fewer, leaves_unkept, same_bad_blocks}
+use Rattle.flash_log.specs.Standing.{AreCommitted, IsCommittedKey, IsCommittedAt, HasVersion, SameData, Stands}
+use Rattle.flash_log.specs.laws.FreeBlocks.{leaves_fewer, leaves_uncommitted, same_bad_blocks}
 use Rattle.flash_log.specs.laws.Mountable.{mountable_on, mountable_seals}
 use Rattle.flash_log.specs.laws.Moves.{are_held}
-use Rattle.page_store.specs.Shown.{data_of, data_at, kept_data}
+use Rattle.page_store.specs.Shown.{data_of, data_at, committed_data}
 use Rattle.pages.specs.State.{PagesState}
-use Rattle.pages.specs.Stores.{Carries, FindsSince, HandsOutNumbers, HasPage, IsCarried, KeptAs, StaysMountable, StaysSame, bad_on}
+use Rattle.pages.specs.Stores.{Carries, FindsSince, HandsOutNumbers, HasPage, IsCarried, CommittedAs, StaysMountable, StaysSame, bad_on}
 use Rattle.pages.specs.laws.Mountable.{begun_on, mountable_read}
 use Rattle.flash_log.specs.CheckpointDue.{IsDue}
 use Rattle.flash_log.specs.CheckpointKeeping as writing
@@ -38,19 +38,19 @@ use Rattle.flash_log.specs.declared.seal_fault.SealFault.TheVariants as causes
 use Rattle.volume_terms.specs.declared.fault.StoreFault.{StoreFault}
 use Rattle.volume_terms.specs.declared.fault.StoreFault.TheVariants as faults
 use Rattle.page_store.specs.Sealing.{IsExact, IsSealed, KeepsTree, LeavesOne, SealEnds, StaysRight, seal_fault_of, EndsOn}
-use Rattle.page_store.specs.StoreOf.{kept_map, next_numbers}
+use Rattle.page_store.specs.StoreOf.{committed_data_map, next_numbers}
 use Rattle.page_store.specs.StoreState.{StoreState, seen_of}
-use Rattle.page_store.proofs.Carried.{carried_known, has_page, kept_of_data, known_there}
-use Rattle.page_store.proofs.Findable.{finds_kept}
+use Rattle.page_store.proofs.Carried.{carried_known, has_page, committed_of_data, known_there}
+use Rattle.page_store.proofs.Findable.{finds_committed}
 use Rattle.page_store.proofs.ReadOnly.{sound_honest}
-use Rattle.page_store.proofs.Told.{hands_told, is_sound, limits_told, marks_told, not_sound}
+use Rattle.page_store.proofs.Reported.{hands_reported, is_sound, limits_reported, marks_reported, not_sound}
 
 -- the pages of a store that is given up, with its device and its numbers as they are then
 abbrev pub left_by : PagesState → Device → Table → PagesState
-left_by p device t = record p { failed = p.failed || device.gone; asked = device.reads; device = device; next = next_numbers t; checkpoint = t.checkpoint }
+left_by p device t = record p { failed = p.failed || device.gone; issued = device.reads; device = device; next = next_numbers t; checkpoint = t.checkpoint }
 
-numbers_told : (d e : Device) (t u : Table) → HandsNumbers d e t u → HandsOutNumbers d e (next_numbers t) (next_numbers u)
-numbers_told d e t u hands = record {
+numbers_reported : (d e : Device) (t u : Table) → HandsNumbers d e t u → HandsOutNumbers d e (next_numbers t) (next_numbers u)
+numbers_reported d e t u hands = record {
   groups_rise = hands.groups_rise;
   seqs_rise = hands.seqs_rise;
   seqs = hands.seqs;
@@ -59,14 +59,14 @@ numbers_told d e t u hands = record {
   written = hands.written;
 }
 
--- kept pages of which the data stay are carried
-carries_still : (f g : Flash) (x : Index) → AreKept f (kept_pages x) → SameData (kept_pages x) f g → Carries g (kept_data x f)
-carries_still f g x kept same o c xs is = go (kept_pages x o c) refl
+-- committed pages of which the data stay are carried
+carries_still : (f g : Flash) (x : Index) → AreCommitted f (committed_pages x) → SameData (committed_pages x) f g → Carries g (committed_data x f)
+carries_still f g x committed same o c xs is = go (committed_pages x o c) refl
   where
-    go : (m : Option KeptPage) → kept_pages x o c ≡ m → HasNewest g o c xs
+    go : (m : Option CommittedPage) → committed_pages x o c ≡ m → HasNewest g o c xs
     go None none = absurd (let two : None ≡ Some xs = sym (ap (option_and_then (data_at f)) none) ∙ is in cc)
     go (Some p) there =
-        let at : IsKeptAt f o c p = kept o c p there in
+        let at : IsCommittedAt f o c p = committed o c p there in
         let has = at.newest.holds.has in
         let two : Some has.bytes ≡ Some xs = sym (ap data_of has.page) ∙ sym (ap (option_and_then (data_at f)) there) ∙ is in
         let bytes : has.bytes ≡ xs = cc in
@@ -93,9 +93,9 @@ module _ (a : StoreState) (lent : List ℕ) where
   abbrev seen : PagesState
   seen = seen_of a lent
 
-  -- what is kept is what the log keeps
-  pub exact_kept : broken ≡ false → (broken ≡ false → d.honest ≡ true → AreKept d.flash (kept_pages x)) → IsExact seen → writing.IsExact d x
-  exact_kept whole newest exact honest =
+  -- what is committed is what the log keeps
+  pub exact_committed : broken ≡ false → (broken ≡ false → d.honest ≡ true → AreCommitted d.flash (committed_pages x)) → IsExact seen → writing.IsExact d x
+  exact_committed whole newest exact honest =
       let tree : Objects = (exact (is_sound d.honest broken honest whole) honest).0 in
       let is : KeepsTree seen tree = (exact (is_sound d.honest broken honest whole) honest).1 in (
         spare,
@@ -103,8 +103,8 @@ module _ (a : StoreState) (lent : List ℕ) where
         record {
           volume = is.volume;
           shows = is.shows;
-          all = λ o c foot. let has = is.all o c foot in kept_of_data d.flash (kept_pages x o c) has.0 (known_there d.honest (kept_data x d.flash) o c has.0 has.1);
-          only = λ o c kept. is.only o c (has_page d x o c kept.0 honest (newest whole honest) kept.1);
+          all = λ o c foot. let has = is.all o c foot in committed_of_data d.flash (committed_pages x o c) has.0 (known_there d.honest (committed_data x d.flash) o c has.0 has.1);
+          only = λ o c committed. is.only o c (has_page d x o c committed.0 honest (newest whole honest) committed.1);
         },
       )
 
@@ -122,28 +122,28 @@ module _ (a : StoreState) (lent : List ℕ) where
       commits = omega arith;
       failed = λ yes. yes;
       device = lasts_here d;
-      numbers = hands_told d d t t (hands_nothing d t);
+      numbers = hands_reported d d t t (hands_nothing d t);
       marks = omega arith;
       limits = λ honest left. left;
       summaries = λ honest right. right;
       mountable = mountable_read seen seen (only_reads_here d) refl refl;
     };
     checked = λ _ honest was. was;
-    kept = λ sound. absurd (let two : false ≡ true = sym (not_sound d.honest broken is) ∙ sound in cc);
+    committed = λ sound. absurd (let two : false ≡ true = sym (not_sound d.honest broken is) ∙ sound in cc);
     few = λ _. tt;
     ends = inr (not_sound d.honest broken is);
   }
 
-  module _ (e : Device) (u : Table) (before : IsReady d t) (stands : Stands spare d t x) (whole : broken ≡ false) (newest : broken ≡ false → d.honest ≡ true → AreKept d.flash (kept_pages x)) (none : (y : Index) (b : ℕ) → kept_in y b ≡ 0 → HoldsNone (kept_pages y) b)
+  module _ (e : Device) (u : Table) (before : IsReady d t) (stands : Stands spare d t x) (whole : broken ≡ false) (newest : broken ≡ false → d.honest ≡ true → AreCommitted d.flash (committed_pages x)) (none : (y : Index) (b : ℕ) → count_committed_in y b ≡ 0 → HoldsNone (committed_pages y) b)
       (seals : writing.Seals spare x (log_of d t) (log_of e u)) (marks : MarksFailures 0 0 d e t u) (was : IsMountableSince a.first (log_of d t) x) where
-    still_carried : d.honest ≡ true → IsCarried e spare (kept_map d x)
-    still_carried honest = carried_known d.honest e spare (kept_data x d.flash) (record {
+    still_carried : d.honest ≡ true → IsCarried e spare (committed_data_map d x)
+    still_carried honest = carried_known d.honest e spare (committed_data x d.flash) (record {
       newest = carries_still d.flash e.flash x (newest whole honest) (seals.same_data honest);
-      free = λ left. leaves_fewer e.geometry e.flash spare (IsKept (kept_pages x)) (HasPage (kept_data x d.flash)) (λ o c has. kept_of_data d.flash (kept_pages x o c) has.0 has.1)
-          (seals.free honest (leaves_unkept spare d t x before stands.tables (are_held t x (none x) stands.tables.counts) (newest whole honest)));
+      free = λ left. leaves_fewer e.geometry e.flash spare (IsCommittedKey (committed_pages x)) (HasPage (committed_data x d.flash)) (λ o c has. committed_of_data d.flash (committed_pages x o c) has.0 has.1)
+          (seals.free honest (leaves_uncommitted spare d t x before stands.tables (are_held t x (none x) stands.tables.counts) (newest whole honest)));
     })
 
-    -- the blocks that begin erased are ordered, and the kept pages are found
+    -- the blocks that begin erased are ordered, and the committed pages are found
     since : IsMountableSince a.first (log_of e u) x
     since = mountable_on a.first (log_of d t) (log_of e u) x x seals.keeps.lasts (mountable_seals spare x (log_of d t) (log_of e u) seals) was
 
@@ -156,10 +156,10 @@ module _ (a : StoreState) (lent : List ℕ) where
       reads = λ worn. let two : false ≡ true = worn in absurd cc;
     }
 
-    left_found : FindsSince (left_by seen e u) (kept_map d x)
+    left_found : FindsSince (left_by seen e u) (committed_data_map d x)
     left_found begun =
         ∥∥₁_elim (since begun.1 begun.0) (λ m n. squash₁ m n) (λ (is : IsMountable (log_of e u) x).
-        ∣ (λ o c (xs, has). finds_kept e x d.flash is.found o c (xs, known_there d.honest (kept_data x d.flash) o c xs has)) ∣₁)
+        ∣ (λ o c (xs, has). finds_committed e x d.flash is.found o c (xs, known_there d.honest (committed_data x d.flash) o c xs has)) ∣₁)
 
     left_on : EndsOn seen (left_by seen e u)
     left_on = record {
@@ -171,23 +171,23 @@ module _ (a : StoreState) (lent : List ℕ) where
       commits = omega arith;
       failed = λ yes. or_left seen.failed e.gone yes;
       device = seals.keeps.lasts;
-      numbers = numbers_told d e t u seals.keeps.numbers;
-      marks = marks_told d e t u before seals.keeps.ready marks;
-      limits = λ honest left. limits_told e u seals.keeps.ready seals.stands.limits (seals.keeps.lasts.honest ∙ honest);
+      numbers = numbers_reported d e t u seals.keeps.numbers;
+      marks = marks_reported d e t u before seals.keeps.ready marks;
+      limits = λ honest left. limits_reported e u seals.keeps.ready seals.stands.limits (seals.keeps.lasts.honest ∙ honest);
       summaries = seals.keeps.summaries;
       mountable = left_mountable;
     }
 
     left_right : IsExact seen → StaysRight seen (left_by seen e u)
-    left_right exact honest = seals.checked (exact_kept whole newest exact) honest
+    left_right exact honest = seals.checked (exact_committed whole newest exact) honest
 
-    left_kept : seen.sound ≡ true → KeptAs (left_by seen e u) seen.kept
-    left_kept sound = record { carried = λ honest. still_carried (sound_honest d.honest broken sound); kept = λ yes o c. refl; found = left_found }
+    left_committed : seen.sound ≡ true → CommittedAs (left_by seen e u) seen.committed
+    left_committed sound = record { carried = λ honest. still_carried (sound_honest d.honest broken sound); committed = λ yes o c. refl; found = left_found }
 
     stays_same : log_of e u ≡ log_of d t → StaysSame seen (left_by seen e u)
     stays_same same = record {
       present = λ o c. refl;
-      kept = λ o c. refl;
+      committed = λ o c. refl;
       sound = refl;
       device = ap (λ (l : LogState). l.device) same;
       next = ap (λ (l : LogState). next_numbers l.table) same;
@@ -217,15 +217,15 @@ module _ (a : StoreState) (lent : List ℕ) where
         omega (arith, is, new)
 
     pub sealed_done : (bad_count t ≤ spare → bad_count u ≤ spare) → endings.SealEnds spare x (log_of d t) (log_of e u) (Ok tt) → IsSealed (IsDue spare t) seen e (Ok tt)
-    sealed_done few ends = record { pages = left_by seen e u; device_is = refl; ends_on = left_on; checked = left_right; kept = left_kept; few = few_sealed few; ends = ends_done ends }
+    sealed_done few ends = record { pages = left_by seen e u; device_is = refl; ends_on = left_on; checked = left_right; committed = left_committed; few = few_sealed few; ends = ends_done ends }
 
-    pub sealed_failed : (fault : SealFault) (told : StoreFault) → told ≡ seal_fault_of fault → endings.SealEnds spare x (log_of d t) (log_of e u) (Err fault) → IsSealed (IsDue spare t) seen e (Err told)
-    sealed_failed fault told same ends = record {
+    pub sealed_failed : (fault : SealFault) (reported : StoreFault) → reported ≡ seal_fault_of fault → endings.SealEnds spare x (log_of d t) (log_of e u) (Err fault) → IsSealed (IsDue spare t) seen e (Err reported)
+    sealed_failed fault reported same ends = record {
       pages = left_by seen e u;
       device_is = refl;
       ends_on = left_on;
       checked = left_right;
-      kept = left_kept;
+      committed = left_committed;
       few = λ _. tt;
       ends = subst (λ (f : StoreFault). SealEnds (IsDue spare t) seen (left_by seen e u) (Err f)) (sym same) (ends_failed fault ends);
     }

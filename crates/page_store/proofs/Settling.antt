@@ -9,19 +9,19 @@ use Rattle.nand_model.specs.declared.geometry.Geometry.{Geometry}
 use Rattle.flash_tree.specs.declared.place.FreshPage.{FreshPage}
 use Rattle.flash_tree.specs.declared.place.Key.{Key}
 use Rattle.block_state.specs.declared.blocks.BlockEntry.{BlockEntry}
-use Rattle.block_state.specs.Kept.{bad_count, SameCounts}
+use Rattle.block_state.specs.Committed.{bad_count, SameCounts}
 use Rattle.block_state.specs.Table.{Table, is_free, is_open, room}
-use Rattle.chunk_index.specs.declared.form.KeptPage.{KeptPage}
+use Rattle.chunk_index.specs.declared.form.CommittedPage.{CommittedPage}
 use Rattle.chunk_index.specs.declared.form.Present.{Present}
 use Rattle.chunk_index.specs.declared.form.Present.TheVariants as presents
 use Rattle.chunk_index.specs.declared.form.WrittenGroup.{WrittenGroup}
 use Rattle.chunk_index.specs.declared.index.Index.{Index}
 use Rattle.chunk_index.specs.Counts.{Recounts}
 use Rattle.chunk_index.specs.Entries.{written_page}
-use Rattle.chunk_index.specs.Maps.{kept_pages, kept_in, present, once_written, CountsAgree, Settles}
+use Rattle.chunk_index.specs.Maps.{committed_pages, count_committed_in, present, once_written, CountsAgree, Settles}
 use Rattle.page_store.specs.Buffering.{Buffers}
-use Rattle.page_store.specs.laws.Buffering.{place_within, written_kept}
-use Rattle.page_store.specs.Shown.{data_at, data_by, kept_data, present_data}
+use Rattle.page_store.specs.laws.Buffering.{place_within, written_committed}
+use Rattle.page_store.specs.Shown.{data_at, data_by, committed_data, present_data}
 use Rattle.transactions.specs.Committing.{fresh_name, fresh_bytes}
 use Rattle.transactions.specs.Groups.{OkTable, next_group}
 use Rattle.transactions.specs.Handing.{HandsOut}
@@ -33,7 +33,7 @@ use Rattle.flash_tree.specs.Slots.{check_object}
 use Rattle.flash_tree.specs.laws.Truth.{none_after}
 use Rattle.transactions.specs.laws.Ready.{none_waits}
 use Rattle.flash_log.specs.Mountable.{IsMountable, KeepsMountable}
-use Rattle.flash_log.specs.Standing.{AreKept, KeepsOrdinary, HasFreeBlocks, IsKeptAt, IsWithinLimits, MayLie, Stands, TablesAgree}
+use Rattle.flash_log.specs.Standing.{AreCommitted, KeepsOrdinary, HasFreeBlocks, IsCommittedAt, IsWithinLimits, MayLie, Stands, TablesAgree}
 use Rattle.flash_log.specs.laws.FreeBlocks.{leaves_fewer}
 use Rattle.flash_tree.specs.laws.Place.{had_power}
 use Rattle.flash_log.specs.laws.Moves.{may_lie_later}
@@ -42,9 +42,9 @@ use Rattle.pages.specs.Stores.{FindsAll, HasPage, IsCarried}
 use Rattle.page_store.specs.CommitKeeping.{Commits}
 use Rattle.transactions.specs.Checking.{log_of}
 use Rattle.page_store.proofs.GroupCounts.{ListsAreWhole, held_lists, settled_most, settled_elsewhere}
-use Rattle.page_store.proofs.Following.{on_flash_kept}
-use Rattle.page_store.proofs.Freeing.{bad_still, free_is, has_free, has_unkept}
-use Rattle.page_store.proofs.Grouping.{kept_buffered, reads_buffered, kept_on_flash, reads_on_flash, carries_present, free_present}
+use Rattle.page_store.proofs.Following.{on_flash_committed}
+use Rattle.page_store.proofs.Freeing.{bad_still, free_is, has_free, has_uncommitted}
+use Rattle.page_store.proofs.Grouping.{committed_buffered, reads_buffered, committed_on_flash, reads_on_flash, carries_present, free_present}
 
 -- the table is ready still, since only counts changed
 pub ready_counted : (d : Device) (t u : Table) (before after : ℕ → ℕ) → Recounts before after t u → IsReady d t → IsReady d u
@@ -84,21 +84,21 @@ hands_counted d e t u v before after counts hands = hands_same d e t u v counts.
 -- Tables where the index was settled: pages of the buffer may lie where the group says, its block has room for them, and
 -- it was not free.
 module _ (spare : ℕ) (lists : ListsAreWhole) (w : WrittenGroup) (t u v : Table) (x y : Index) (pages : List FreshPage) (settles : Settles w x y) (buffers : Buffers x pages)
-    (agree : CountsAgree v y) (counts : Recounts (kept_in x) (kept_in y) u v) (same : SameCounts t u) (tables : TablesAgree spare t x) (free : HasFreeBlocks t spare) (rises : t.next_group ≤ u.next_group)
+    (agree : CountsAgree v y) (counts : Recounts (count_committed_in x) (count_committed_in y) u v) (same : SameCounts t u) (tables : TablesAgree spare t x) (free : HasFreeBlocks t spare) (rises : t.next_group ≤ u.next_group)
     (lies : (q c i : ℕ) → present x q c ≡ presents.InBuffer i → MayLie v q c (written_page w i))
-    (fills : (t.entry w.block).kept + length pages ≤ t.geometry.pages)
-    (opened : (b : ℕ) → u.open_block ≡ Some b → (t.entry b).kept + length pages ≤ (u.entry b).next)
+    (fills : (t.entry w.block).committed + length pages ≤ t.geometry.pages)
+    (opened : (b : ℕ) → u.open_block ≡ Some b → (t.entry b).committed + length pages ≤ (u.entry b).next)
     (not_free : is_free t w.block ≡ true → length pages ≡ 0)
     (shut : (u.open_block ≡ t.open_block) ⊎ (u.open_block ≡ None))
     (noted : (c : ℕ) → u.checkpoint ≡ Some c → (t.checkpoint ≡ Some c) × (length pages ≡ 0)) where
-  most : (b : ℕ) → (v.entry b).kept ≤ (t.entry b).kept + length pages
+  most : (b : ℕ) → (v.entry b).committed ≤ (t.entry b).committed + length pages
   most b =
       let now = agree.counts b in
       let was = tables.counts.counts b in
       let few = settled_most lists w x y pages settles buffers b in
       omega (arith, now, was, few)
 
-  elsewhere : (b : ℕ) → b ≢ w.block → (v.entry b).kept ≤ (t.entry b).kept
+  elsewhere : (b : ℕ) → b ≢ w.block → (v.entry b).committed ≤ (t.entry b).committed
   elsewhere b ne =
       let now = agree.counts b in
       let was = tables.counts.counts b in
@@ -108,7 +108,7 @@ module _ (spare : ℕ) (lists : ListsAreWhole) (w : WrittenGroup) (t u v : Table
   geometry : v.geometry ≡ t.geometry
   geometry = counts.geometry ∙ same.geometry
 
-  less : (b : ℕ) → is_free t b ≡ true → (v.entry b).kept ≤ (t.entry b).kept
+  less : (b : ℕ) → is_free t b ≡ true → (v.entry b).committed ≤ (t.entry b).committed
   less b is = elim (cases_eq b w.block) [
     | inr ne ↦ elsewhere b ne
     | inl e ↦
@@ -133,58 +133,58 @@ module _ (spare : ℕ) (lists : ListsAreWhole) (w : WrittenGroup) (t u v : Table
   tables_settled = record {
     counts = agree;
     within = λ q c p is. within q c p is (present x q c) refl;
-    fits = λ b. subst (λ (z : Geometry). (v.entry b).kept ≤ z.pages) (sym geometry) (fits b);
+    fits = λ b. subst (λ (z : Geometry). (v.entry b).committed ≤ z.pages) (sym geometry) (fits b);
     written = λ o is.
         let few = most o in
         let next = counts.next o in
         let fit = opened o (sym counts.open_block ∙ is) in
         omega (arith, few, next, fit);
-    unkept = has_unkept t v geometry marks less closes spare free;
+    uncommitted = has_uncommitted t v geometry marks less closes spare free;
     apart = λ c is.
         let was = noted c (sym counts.checkpoint ∙ is) in
         let few = most c in
         let none = tables.apart c was.0 in
         omega (arith, few, none, was.1);
   } where
-    fits : (b : ℕ) → (v.entry b).kept ≤ t.geometry.pages
+    fits : (b : ℕ) → (v.entry b).committed ≤ t.geometry.pages
     fits b = elim (cases_eq b w.block) [
       | inr ne ↦ let few = elsewhere b ne in let fit = tables.fits b in omega (arith, few, fit)
-      | inl e ↦ let few = most b in let there : (t.entry b).kept ≡ (t.entry w.block).kept = ap (λ k. (t.entry k).kept) e in omega (arith, few, there, fills)
+      | inl e ↦ let few = most b in let there : (t.entry b).committed ≡ (t.entry w.block).committed = ap (λ k. (t.entry k).committed) e in omega (arith, few, there, fills)
     ]
 
-    within : (q c : ℕ) (p : KeptPage) → kept_pages y q c ≡ Some p → (r : Present) → present x q c ≡ r → MayLie v q c p
-    within q c p is presents.Absent at = let two : None ≡ Some p = sym (settles.kept q c ∙ ap (once_written w) at) ∙ is in absurd cc
+    within : (q c : ℕ) (p : CommittedPage) → committed_pages y q c ≡ Some p → (r : Present) → present x q c ≡ r → MayLie v q c p
+    within q c p is presents.Absent at = let two : None ≡ Some p = sym (settles.committed q c ∙ ap (once_written w) at) ∙ is in absurd cc
     within q c p is (presents.OnFlash k) at =
-        let both : Some k ≡ Some p = sym (settles.kept q c ∙ ap (once_written w) at) ∙ is in
+        let both : Some k ≡ Some p = sym (settles.committed q c ∙ ap (once_written w) at) ∙ is in
         let e : k ≡ p = cc in
         let group = counts.next_group in
-        subst (MayLie v q c) e (may_lie_later t v q c k geometry (omega (arith, group, rises)) (tables.within q c k (on_flash_kept x q c k at)))
+        subst (MayLie v q c) e (may_lie_later t v q c k geometry (omega (arith, group, rises)) (tables.within q c k (on_flash_committed x q c k at)))
     within q c p is (presents.InBuffer i) at =
-        let both : Some (written_page w i) ≡ Some p = sym (settles.kept q c ∙ ap (once_written w) at) ∙ is in
+        let both : Some (written_page w i) ≡ Some p = sym (settles.committed q c ∙ ap (once_written w) at) ∙ is in
         let e : written_page w i ≡ p = cc in
         subst (MayLie v q c) e (lies q c i at)
 
--- the newest pages are kept, where those of the buffer are newest and all others that are present stay so
-pub newest_settled : (w : WrittenGroup) (f : Flash) (x y : Index) → Settles w x y → ((q c i : ℕ) → present x q c ≡ presents.InBuffer i → IsKeptAt f q c (written_page w i))
-    → ((q c : ℕ) (k : KeptPage) → present x q c ≡ presents.OnFlash k → IsKeptAt f q c k) → AreKept f (kept_pages y)
+-- the newest pages are committed, where those of the buffer are newest and all others that are present stay so
+pub newest_settled : (w : WrittenGroup) (f : Flash) (x y : Index) → Settles w x y → ((q c i : ℕ) → present x q c ≡ presents.InBuffer i → IsCommittedAt f q c (written_page w i))
+    → ((q c : ℕ) (k : CommittedPage) → present x q c ≡ presents.OnFlash k → IsCommittedAt f q c k) → AreCommitted f (committed_pages y)
 newest_settled w f x y settles buffered on_flash q c p is = go (present x q c) refl where
-  go : (r : Present) → present x q c ≡ r → IsKeptAt f q c p
-  go presents.Absent at = let two : None ≡ Some p = sym (settles.kept q c ∙ ap (once_written w) at) ∙ is in absurd cc
+  go : (r : Present) → present x q c ≡ r → IsCommittedAt f q c p
+  go presents.Absent at = let two : None ≡ Some p = sym (settles.committed q c ∙ ap (once_written w) at) ∙ is in absurd cc
   go (presents.OnFlash k) at =
-      let both : Some k ≡ Some p = sym (settles.kept q c ∙ ap (once_written w) at) ∙ is in
+      let both : Some k ≡ Some p = sym (settles.committed q c ∙ ap (once_written w) at) ∙ is in
       let e : k ≡ p = cc in
-      subst (IsKeptAt f q c) e (on_flash q c k at)
+      subst (IsCommittedAt f q c) e (on_flash q c k at)
   go (presents.InBuffer i) at =
-      let both : Some (written_page w i) ≡ Some p = sym (settles.kept q c ∙ ap (once_written w) at) ∙ is in
+      let both : Some (written_page w i) ≡ Some p = sym (settles.committed q c ∙ ap (once_written w) at) ∙ is in
       let e : written_page w i ≡ p = cc in
-      subst (IsKeptAt f q c) e (buffered q c i at)
+      subst (IsCommittedAt f q c) e (buffered q c i at)
 
 -- no page is of the object of checkpoints, where none was and no page of the buffer is
 pub ordinary_settled : (w : WrittenGroup) (x y : Index) → Settles w x y → ((q c i : ℕ) → present x q c ≡ presents.InBuffer i → q ≢ check_object) → KeepsOrdinary x → KeepsOrdinary y
-ordinary_settled w x y settles buffered kept q c p is = go (present x q c) refl where
+ordinary_settled w x y settles buffered committed q c p is = go (present x q c) refl where
   go : (r : Present) → present x q c ≡ r → q ≢ check_object
-  go presents.Absent at = let two : None ≡ Some p = sym (settles.kept q c ∙ ap (once_written w) at) ∙ is in absurd cc
-  go (presents.OnFlash k) at = kept q c k (on_flash_kept x q c k at)
+  go presents.Absent at = let two : None ≡ Some p = sym (settles.committed q c ∙ ap (once_written w) at) ∙ is in absurd cc
+  go (presents.OnFlash k) at = committed q c k (on_flash_committed x q c k at)
   go (presents.InBuffer i) at = buffered q c i at
 
 -- ---- the table after a group that counts
@@ -204,7 +204,7 @@ module _ (spare : ℕ) (lists : ListsAreWhole) (d e : Device) (t u v : Table) (x
     (writable : AreWritable d pages) (ranges : HaveRanges pages) (fit : length pages ≤ room t)
     (lasts : Lasts d e) (then : IsReady e u) (numbers : HandsOut d e t u) (same : SameCounts t u) (after : StaysOrCloses (length pages) o t u) (limits : IsWithinLimits t → IsWithinLimits u) (power : e.gone ≡ false)
     (shows : d.honest ≡ true → ShowsGroup (next_group t (length pages) o) (fresh_name pages t.next_group) (fresh_bytes pages) d.flash e.flash)
-    (settles : Settles (record { block = o; first = (t.entry o).next; number = t.next_group }) x y) (agree : CountsAgree v y) (counts : Recounts (kept_in x) (kept_in y) u v) where
+    (settles : Settles (record { block = o; first = (t.entry o).next; number = t.next_group }) x y) (agree : CountsAgree v y) (counts : Recounts (count_committed_in x) (count_committed_in y) u v) where
   abbrev group : WrittenGroup
   group = record { block = o; first = (t.entry o).next; number = t.next_group }
 
@@ -240,18 +240,18 @@ module _ (spare : ℕ) (lists : ListsAreWhole) (d e : Device) (t u v : Table) (x
         };
       }
 
-  fills : (t.entry o).kept + length pages ≤ t.geometry.pages
+  fills : (t.entry o).committed + length pages ≤ t.geometry.pages
   fills = let few = stands.tables.written o is in let fits = pages_fit in omega (arith, few, fits)
 
-  opened : (b : ℕ) → u.open_block ≡ Some b → (t.entry b).kept + length pages ≤ (u.entry b).next
+  opened : (b : ℕ) → u.open_block ≡ Some b → (t.entry b).committed + length pages ≤ (u.entry b).next
   opened b at = elim after [
     | inr none ↦ let two : None ≡ Some b = sym none ∙ at in absurd cc
     | inl (still, next) ↦
         let both : Some o ≡ Some b = sym is ∙ sym still ∙ at in
         let one : o ≡ b = cc in
         let few = stands.tables.written o is in
-        let here : (t.entry o).kept + length pages ≤ (u.entry o).next = omega (arith, few, next) in
-        subst (λ k. (t.entry k).kept + length pages ≤ (u.entry k).next) one here
+        let here : (t.entry o).committed + length pages ≤ (u.entry o).next = omega (arith, few, next) in
+        subst (λ k. (t.entry k).committed + length pages ≤ (u.entry k).next) one here
   ]
 
   not_free : is_free t o ≡ true → length pages ≡ 0
@@ -284,38 +284,38 @@ module _ (spare : ℕ) (lists : ListsAreWhole) (d e : Device) (t u v : Table) (x
   commits_whole found mountable last rest written = record {
     log = record {
       lasts = lasts;
-      ready = ready_counted e u v (kept_in x) (kept_in y) counts then;
+      ready = ready_counted e u v (count_committed_in x) (count_committed_in y) counts then;
       stands = record {
         tables = tables_settled spare lists group t u v x y pages settles buffers agree counts same stands.tables free numbers.numbers.groups_rise lies fills opened not_free shut noted_none;
         newest = λ honest on.
             let was : d.honest ≡ true = sym lasts.honest ∙ honest in
-            newest_settled group e.flash x y settles (kept_buffered t x pages o buffers d.flash e.flash (shows was)) (kept_on_flash t x pages o buffers d.flash e.flash (shows was) (kept was));
+            newest_settled group e.flash x y settles (committed_buffered t x pages o buffers d.flash e.flash (shows was)) (committed_on_flash t x pages o buffers d.flash e.flash (shows was) (committed was));
         ordinary = λ honest. ordinary_settled group x y settles (buffered_ordinary (sym lasts.honest ∙ honest)) (stands.ordinary (sym lasts.honest ∙ honest));
-        limits = limits_counted u v (kept_in x) (kept_in y) counts (limits stands.limits);
+        limits = limits_counted u v (count_committed_in x) (count_committed_in y) counts (limits stands.limits);
       };
-      numbers = hands_counted d e t u v (kept_in x) (kept_in y) counts numbers;
+      numbers = hands_counted d e t u v (count_committed_in x) (count_committed_in y) counts numbers;
       mountable = mountable;
     };
     settled = settles.presents;
     keys = settles.ready;
-    kept = λ honest on. written_kept group x y pages d.flash e.flash settles buffers (reads_buffered t x pages o buffers d.flash e.flash (shows honest)) (reads_on_flash t x pages o buffers d.flash e.flash (shows honest) (kept honest));
+    committed = λ honest on. written_committed group x y pages d.flash e.flash settles buffers (reads_buffered t x pages o buffers d.flash e.flash (shows honest)) (reads_on_flash t x pages o buffers d.flash e.flash (shows honest) (committed honest));
     newest = λ honest. record {
       carries = record {
-        newest = carries_present t x pages o buffers d.flash e.flash (shows honest) (kept honest);
-        free = free_present t x pages o buffers d.flash e.flash (shows honest) (kept honest) spare e.geometry (sym then.geometry ∙ same.geometry) (λ b. sym (then.marks b) ∙ same.bad b) is
+        newest = carries_present t x pages o buffers d.flash e.flash (shows honest) (committed honest);
+        free = free_present t x pages o buffers d.flash e.flash (shows honest) (committed honest) spare e.geometry (sym then.geometry ∙ same.geometry) (λ b. sym (then.marks b) ∙ same.bad b) is
             (held_lists lists t x stands.tables.counts) free;
       };
       found = found honest;
     };
   } where
-    kept : d.honest ≡ true → AreKept d.flash (kept_pages x)
-    kept honest = stands.newest honest (had_power d e lasts power)
+    committed : d.honest ≡ true → AreCommitted d.flash (committed_pages x)
+    committed honest = stands.newest honest (had_power d e lasts power)
 
 -- ---- nothing is buffered
 
 module _ (spare : ℕ) (lists : ListsAreWhole) (w : WrittenGroup) (d : Device) (t v : Table) (x y : Index) (pages : List FreshPage) (none : pages ≡ [])
     (buffers : Buffers x pages) (ready : IsReady d t) (stands : Stands spare d t x) (free : HasFreeBlocks t spare)
-    (settles : Settles w x y) (agree : CountsAgree v y) (counts : Recounts (kept_in x) (kept_in y) t v) where
+    (settles : Settles w x y) (agree : CountsAgree v y) (counts : Recounts (count_committed_in x) (count_committed_in y) t v) where
   no_page : length pages ≡ 0
   no_page = ap length none
 
@@ -326,12 +326,12 @@ module _ (spare : ℕ) (lists : ListsAreWhole) (w : WrittenGroup) (d : Device) (
       omega (arith, lt, zero_long)
 
   here : SameCounts t t
-  here = record { bad = λ b. refl; kept = λ b. refl; geometry = refl }
+  here = record { bad = λ b. refl; committed = λ b. refl; geometry = refl }
 
-  full : (t.entry w.block).kept + length pages ≤ t.geometry.pages
+  full : (t.entry w.block).committed + length pages ≤ t.geometry.pages
   full = let fit = stands.tables.fits w.block in let zero_long = no_page in omega (arith, fit, zero_long)
 
-  written_is : (b : ℕ) → t.open_block ≡ Some b → (t.entry b).kept + length pages ≤ (t.entry b).next
+  written_is : (b : ℕ) → t.open_block ≡ Some b → (t.entry b).committed + length pages ≤ (t.entry b).next
   written_is b at = let fit = stands.tables.written b at in let zero_long = no_page in omega (arith, fit, zero_long)
 
   pub free_empty : HasFreeBlocks v spare
@@ -343,35 +343,35 @@ module _ (spare : ℕ) (lists : ListsAreWhole) (w : WrittenGroup) (d : Device) (
   pub stands_empty : Stands spare d v y
   stands_empty = record {
     tables = tables_settled spare lists w t t v x y pages settles buffers agree counts here stands.tables free (omega arith) (λ q c i at. absurd (not_there q c i at)) full written_is (λ _. no_page) (inl refl) (λ c at. (at, no_page));
-    newest = λ honest power. newest_settled w d.flash x y settles (λ q c i at. absurd (not_there q c i at)) (λ q c k at. stands.newest honest power q c k (on_flash_kept x q c k at));
+    newest = λ honest power. newest_settled w d.flash x y settles (λ q c i at. absurd (not_there q c i at)) (λ q c k at. stands.newest honest power q c k (on_flash_committed x q c k at));
     ordinary = λ honest. ordinary_settled w x y settles (λ q c i at. absurd (not_there q c i at)) (stands.ordinary honest);
-    limits = limits_counted t v (kept_in x) (kept_in y) counts stands.limits;
+    limits = limits_counted t v (count_committed_in x) (count_committed_in y) counts stands.limits;
   }
 
-  -- what is present is what is kept of it
-  shown_was_kept : (q c : ℕ) (xs : List ℕ) → present_data x pages d.flash q c ≡ Some xs → kept_data x d.flash q c ≡ Some xs
-  shown_was_kept q c xs is = go (present x q c) refl where
-    go : (r : Present) → present x q c ≡ r → kept_data x d.flash q c ≡ Some xs
+  -- what is present is what is committed of it
+  shown_was_committed : (q c : ℕ) (xs : List ℕ) → present_data x pages d.flash q c ≡ Some xs → committed_data x d.flash q c ≡ Some xs
+  shown_was_committed q c xs is = go (present x q c) refl where
+    go : (r : Present) → present x q c ≡ r → committed_data x d.flash q c ≡ Some xs
     go presents.Absent at = let two : None ≡ Some xs = sym (ap (data_by d.flash pages) at) ∙ is in absurd cc
-    go (presents.OnFlash k) at = ap (option_and_then (data_at d.flash)) (on_flash_kept x q c k at) ∙ sym (ap (data_by d.flash pages) at) ∙ is
+    go (presents.OnFlash k) at = ap (option_and_then (data_at d.flash)) (on_flash_committed x q c k at) ∙ sym (ap (data_by d.flash pages) at) ∙ is
     go (presents.InBuffer i) at = absurd (not_there q c i at)
 
-  pub carries_empty : IsCarried d spare (kept_data x d.flash) → IsCarried d spare (present_data x pages d.flash)
+  pub carries_empty : IsCarried d spare (committed_data x d.flash) → IsCarried d spare (present_data x pages d.flash)
   carries_empty was = record {
-    newest = λ q c xs is. was.newest q c xs (shown_was_kept q c xs is);
-    free = λ left. leaves_fewer d.geometry d.flash spare (HasPage (kept_data x d.flash)) (HasPage (present_data x pages d.flash)) (λ q c (xs, is). (xs, shown_was_kept q c xs is)) (was.free left);
+    newest = λ q c xs is. was.newest q c xs (shown_was_committed q c xs is);
+    free = λ left. leaves_fewer d.geometry d.flash spare (HasPage (committed_data x d.flash)) (HasPage (present_data x pages d.flash)) (λ q c (xs, is). (xs, shown_was_committed q c xs is)) (was.free left);
   }
 
-  pub kept_empty : (q c : ℕ) → kept_data y d.flash q c ≡ present_data x pages d.flash q c
-  kept_empty = written_kept w x y pages d.flash d.flash settles buffers (λ i lt. let zero_long = no_page in absurd (omega (arith, lt, zero_long))) (λ q c k at. refl)
+  pub committed_empty : (q c : ℕ) → committed_data y d.flash q c ≡ present_data x pages d.flash q c
+  committed_empty = written_committed w x y pages d.flash d.flash settles buffers (λ i lt. let zero_long = no_page in absurd (omega (arith, lt, zero_long))) (λ q c k at. refl)
 
--- with nothing buffered a page that is kept was kept there
-pub kept_before : (w : WrittenGroup) (x y : Index) (pages : List FreshPage) → pages ≡ [] → Buffers x pages → Settles w x y → (q c : ℕ) (p : KeptPage) → kept_pages y q c ≡ Some p → kept_pages x q c ≡ Some p
-kept_before w x y pages none buffers settles q c p is = go (present x q c) refl
+-- with nothing buffered a page that is committed was committed there
+pub was_committed_before : (w : WrittenGroup) (x y : Index) (pages : List FreshPage) → pages ≡ [] → Buffers x pages → Settles w x y → (q c : ℕ) (p : CommittedPage) → committed_pages y q c ≡ Some p → committed_pages x q c ≡ Some p
+was_committed_before w x y pages none buffers settles q c p is = go (present x q c) refl
   where
-    go : (r : Present) → present x q c ≡ r → kept_pages x q c ≡ Some p
-    go presents.Absent at = let two : None ≡ Some p = sym (settles.kept q c ∙ ap (once_written w) at) ∙ is in absurd cc
-    go (presents.OnFlash k) at = on_flash_kept x q c k at ∙ sym (settles.kept q c ∙ ap (once_written w) at) ∙ is
+    go : (r : Present) → present x q c ≡ r → committed_pages x q c ≡ Some p
+    go presents.Absent at = let two : None ≡ Some p = sym (settles.committed q c ∙ ap (once_written w) at) ∙ is in absurd cc
+    go (presents.OnFlash k) at = on_flash_committed x q c k at ∙ sym (settles.committed q c ∙ ap (once_written w) at) ∙ is
     go (presents.InBuffer i) at =
         let lt : i < length pages = place_within pages i _ (buffers.there q c i at) in
         let zero_long : length pages ≡ 0 = ap length none in

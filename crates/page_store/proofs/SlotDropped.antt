@@ -60,7 +60,7 @@ module _ (x y : Index) (init : List FreshPage) (p : FreshPage) (b : Holding x (i
         | inr last ↦ absurd (differs_not p.key.object p.key.chunk o c differs last.1 last.2)
       ]
     ];
-    told = λ o c i of. drop.others o c (before_differs o c i of) ∙ b.told o c i (longer o c i of);
+    reported = λ o c i of. drop.others o c (before_differs o c i of) ∙ b.reported o c i (longer o c i of);
   }
 
   pub last_drops : DropsSlot (length init) x y (init ++ p ∷ []) init
@@ -165,11 +165,11 @@ module _ (x y z : Index) (init : List FreshPage) (p last : FreshPage) (slot : �
         ]
       ]
     ];
-    told = λ o c i of. elim (new_of o c i of) [
+    reported = λ o c i of. elim (new_of o c i of) [
       | inl filled ↦ at_last o c filled.1 filled.2 ∙ ap presents.InBuffer (sym filled.0)
       | inr stays ↦
           let other = stays_other o c i stays.0 stays.1 stays.2 in
-          elsewhere o c other.0 other.1 ∙ b.told o c i stays.2
+          elsewhere o c other.0 other.1 ∙ b.reported o c i stays.2
     ];
   }
 
@@ -178,7 +178,7 @@ module _ (x y z : Index) (init : List FreshPage) (p last : FreshPage) (slot : �
     gone = λ o c of. at_gone o c (object_is old o c slot p at_old of) (chunk_is old o c slot p at_old of);
     others = λ flash o c none. elim (key_cases last.key.object last.key.chunk o c) [
       | inl same ↦
-          let was : present x o c ≡ presents.InBuffer (length init) = b.told o c (length init) (record { page = last; there = last_old; object = sym same.0; chunk = sym same.1 }) in
+          let was : present x o c ≡ presents.InBuffer (length init) = b.reported o c (length init) (record { page = last; there = last_old; object = sym same.0; chunk = sym same.1 }) in
           ap (data_by flash new) (at_last o c same.0 same.1)
           ∙ ap (λ (m : Option FreshPage). option_map (λ (q : FreshPage). q.bytes.items) m) (new_slot ∙ sym last_old)
           ∙ sym (ap (data_by flash old) was)
@@ -199,7 +199,7 @@ module _ (x y z : Index) (init : List FreshPage) (p last : FreshPage) (slot : �
     ];
     lacking = λ o c none. elim (key_cases last.key.object last.key.chunk o c) [
       | inl same ↦
-          let was : present x o c ≡ presents.InBuffer (length init) = b.told o c (length init) (record { page = last; there = last_old; object = sym same.0; chunk = sym same.1 }) in
+          let was : present x o c ≡ presents.InBuffer (length init) = b.reported o c (length init) (record { page = last; there = last_old; object = sym same.0; chunk = sym same.1 }) in
           ap lacks (at_last o c same.0 same.1) ∙ sym (ap lacks was)
       | inr a ↦ elim (key_cases p.key.object p.key.chunk o c) [
         | inl same ↦ absurd (none (record { page = p; there = at_old; object = sym same.0; chunk = sym same.1 }))

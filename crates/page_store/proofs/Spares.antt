@@ -1,5 +1,5 @@
 -- A store whose cache handed out a spare frame.
-use Rattle.std.proofs.Common.{◌≡◌, ℕ, List, Option, Some, None, refl, sym, ap, ◌∙◌, option_map, option_and_then}
+use Rattle.std.proofs.Common.{◌≡◌, ℕ, List, Option, refl, sym, ap, ◌∙◌, option_map, option_and_then}
 use Rattle.std.specs.Map.{lookup}
 use Rattle.lru.specs.LruCache.{LruCache}
 use Rattle.flash_tree.specs.declared.place.FreshPage.{FreshPage}

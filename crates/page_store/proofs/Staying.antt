@@ -1,5 +1,5 @@
 -- Whether the open block stays open, and what hinders the writing of the buffered pages.
-use Rattle.std.proofs.Common.{◌≡◌, ◌<◌, ◌≤◌, ℕ, ◌+◌, ◌-◌, true, false, Option, Some, None, Result, Ok, Err, OnOk, refl, sym, ap, subst, ◌∙◌, arith}
+use Rattle.std.proofs.Common.{◌≡◌, ◌<◌, ◌≤◌, ℕ, ◌+◌, ◌-◌, true, false, Option, Some, None, Result, Ok, Err, refl, sym, ap, subst, ◌∙◌, arith}
 use Rattle.std.specs.Option.{option_map_or}
 use Rattle.std.proofs.lemmas.Result.{on_ok_weaker}
 use Rattle.nand_model.specs.Calls.{Device, Lasts}
@@ -67,7 +67,7 @@ module _ {T E : Type 0} (count : ℕ) (a b c : LogState) (result : Result T E) (
     unhindered = λ h. well.unhindered (subst (λ (s : LogState). IsUnhindered count s c) (sym (same h.fits)) h);
   }
 
--- A turn comes after others: it is the first one, or each before it counted a failure.
+-- A turn comes after others: it is the first one, or each before it in the count a failure.
 module _ (count now : ℕ) (a b c : LogState) (same : now ≡ count) (first : Lasts a.device b.device) (then : Lasts b.device c.device) (here : b.device.failures ≡ a.device.failures → b ≡ a) where
   at_first : c.device.failures ≡ a.device.failures → b ≡ a
   at_first none = let rise = first.failures in let rises = then.failures in here (omega (arith, rise, rises, none))
@@ -92,13 +92,3 @@ attempt_hindered count spare a b faults.Full ends same h = ends
 attempt_hindered count spare a b faults.Worn ends same h = ends
 attempt_hindered count spare a b faults.Lost ends same h = let two : true ≡ false = sym (same ∙ h.honest) ∙ ends in absurd cc
 attempt_hindered count spare a b faults.Gone ends same h = let two : true ≡ false = sym ends ∙ h.power in absurd cc
-
--- where a failure was counted nothing is known
-pub well_failed : {T E : Type 0} (count : ℕ) (a b : LogState) (result : Result T E) → a.device.failures < b.device.failures → GoesWell count a b result
-well_failed count a b result failed = record {
-  stays_open = go result;
-  unhindered = λ h. let none = h.failures in absurd (omega (arith, failed, none));
-} where
-  go : {S F : Type 0} (r : Result S F) → OnOk r (KeepsOpen count a b)
-  go (Ok done) = λ _ none. absurd (omega (arith, failed, none))
-  go (Err fault) = tt

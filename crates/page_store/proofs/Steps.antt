@@ -15,12 +15,12 @@ use Rattle.chunk_index.specs.declared.form.Present.TheVariants as presents
 use Rattle.chunk_index.specs.declared.index.Index.{Index}
 use Rattle.chunk_index.specs.Entries.{stays_of}
 use Rattle.chunk_index.specs.Shelves.{look}
-use Rattle.chunk_index.specs.Maps.{kept_pages, present, IsPrepared, IsReadyKey, SameKept, SamePresent}
+use Rattle.chunk_index.specs.Maps.{committed_pages, present, IsPrepared, IsReadyKey, SameCommitted, SamePresent}
 use Rattle.chunk_index.specs.laws.Maps.{agree_same}
 use Rattle.transactions.specs.Handing.{HandsOut}
 use Rattle.transactions.specs.laws.Handing.{hands_nothing}
 use Rattle.flash_tree.specs.Slots.{check_object}
-use Rattle.chunk_index.specs.declared.form.KeptPage.{KeptPage}
+use Rattle.chunk_index.specs.declared.form.CommittedPage.{CommittedPage}
 use Rattle.flash_log.specs.Standing.{MayLie, Stands}
 use Rattle.pages.specs.Maps.{PageMap, known_pages, without_cuts, changed}
 use Rattle.pages.specs.laws.Maps.{page_elsewhere, cut_elsewhere, elsewhere}
@@ -29,7 +29,7 @@ use Rattle.pages.specs.declared.change.Change.{Change}
 use Rattle.pages.specs.declared.change.Cut.{Cut}
 use Rattle.page_store.specs.BufferOf.{buffered, most_pages, bytes_of_page}
 use Rattle.page_store.specs.declared.buffer.Buffer.{Buffer}
-use Rattle.page_store.specs.Shown.{data_at, data_by, kept_data, present_data}
+use Rattle.page_store.specs.Shown.{data_at, data_by, committed_data, present_data}
 use Rattle.page_store.specs.Buffering.{Buffers, lacks, new_keys, with_new}
 use Rattle.page_store.specs.declared.cache.PageCache.{PageCache}
 use Rattle.page_store.specs.Caching.{Shows, HasNoMore, LacksCuts, LacksPages, AreIn}
@@ -40,9 +40,9 @@ use Rattle.pages.specs.Stores.{SamePages}
 use Rattle.flash_log.specs.RoomMaking.{WhyNoRoom}
 use Rattle.flash_log.specs.declared.room_fault.RoomFault.{RoomFault}
 use Rattle.flash_log.specs.declared.room_fault.RoomFault.TheVariants as causes
-use Rattle.page_store.specs.StoreOf.{kept_map, present_map}
+use Rattle.page_store.specs.StoreOf.{committed_data_map, present_map}
 use Rattle.page_store.specs.StoreState.{StoreState, waiting}
-use Rattle.page_store.proofs.ReadOnly.{kept_there}
+use Rattle.page_store.proofs.ReadOnly.{committed_there}
 
 -- maps that have the same pages, where they are known
 pub known_alike : (h : Bool) (m n : PageMap) → (h ≡ true → SamePages n m) → SamePages (known_pages h n) (known_pages h m)
@@ -57,23 +57,23 @@ pub known_changed : (h : Bool) (change : Change) (m n : PageMap) → h ≡ true 
 known_changed true change m n is same = same
 known_changed false change m n is same = absurd (false≢true is)
 
--- where no key's kept page changes
-module _ (x y : Index) (same : SameKept x y) where
-  pub kept_same : (f : Flash) → SamePages (kept_data y f) (kept_data x f)
-  kept_same f o c = ap (option_and_then (data_at f)) (same.kept o c)
+-- where no key's committed page changes
+module _ (x y : Index) (same : SameCommitted x y) where
+  pub committed_same : (f : Flash) → SamePages (committed_data y f) (committed_data x f)
+  committed_same f o c = ap (option_and_then (data_at f)) (same.committed o c)
 
-  pub stands_kept : (spare : ℕ) (d : Device) (t : Table) → Stands spare d t x → Stands spare d t y
-  stands_kept spare d t stands = record {
+  pub stands_committed : (spare : ℕ) (d : Device) (t : Table) → Stands spare d t x → Stands spare d t y
+  stands_committed spare d t stands = record {
     tables = record {
       counts = agree_same t x y same stands.tables.counts;
-      within = λ o c p is. stands.tables.within o c p (sym (same.kept o c) ∙ is);
+      within = λ o c p is. stands.tables.within o c p (sym (same.committed o c) ∙ is);
       fits = stands.tables.fits;
       written = stands.tables.written;
-      unkept = stands.tables.unkept;
+      uncommitted = stands.tables.uncommitted;
       apart = stands.tables.apart;
     };
-    newest = λ honest power o c p is. stands.newest honest power o c p (sym (same.kept o c) ∙ is);
-    ordinary = λ honest o c p is. stands.ordinary honest o c p (sym (same.kept o c) ∙ is);
+    newest = λ honest power o c p is. stands.newest honest power o c p (sym (same.committed o c) ∙ is);
+    ordinary = λ honest o c p is. stands.ordinary honest o c p (sym (same.committed o c) ∙ is);
     limits = stands.limits;
   }
 
@@ -87,20 +87,20 @@ shown_same x y pages f old new same fewer shows o c xs is = present_same x y pag
 -- a page of the buffer is the present one of its key
 pub buffered_shown : (x : Index) (pages : List FreshPage) (f : Flash) → Buffers x pages → AreIn pages (present_data x pages f)
 buffered_shown x pages f buffers i p is =
-    ap (data_by f pages) (buffers.told p.key.object p.key.chunk i (ap (option_map (λ (q : FreshPage). q.key)) is)) ∙ ap (option_map (λ (q : FreshPage). q.bytes.items)) is
+    ap (data_by f pages) (buffers.reported p.key.object p.key.chunk i (ap (option_map (λ (q : FreshPage). q.key)) is)) ∙ ap (option_map (λ (q : FreshPage). q.bytes.items)) is
 
 -- no page is of this object
 abbrev pub LacksObject : ℕ → List FreshPage → Type 0
 LacksObject n pages = (i : ℕ) (p : FreshPage) → slice_get pages i ≡ Some p → p.key.object ≢ n
 
--- Of an object of which no page is kept and none is buffered none is present, before a change and after it.
-none_of : (n : ℕ) (x : Index) (pages : List FreshPage) (f : Flash) (c : ℕ) → ((l : ℕ) (k : KeptPage) → kept_pages x n l ≡ Some k → ⊥) → Buffers x pages → LacksObject n pages
+-- Of an object of which no page is committed and none is buffered none is present, before a change and after it.
+none_of : (n : ℕ) (x : Index) (pages : List FreshPage) (f : Flash) (c : ℕ) → ((l : ℕ) (k : CommittedPage) → committed_pages x n l ≡ Some k → ⊥) → Buffers x pages → LacksObject n pages
     → present_data x pages f n c ≡ None
-none_of n x pages f c unkept buffers lacks = go (present x n c) refl
+none_of n x pages f c uncommitted buffers lacks = go (present x n c) refl
   where
     go : (p : Present) → present x n c ≡ p → data_by f pages p ≡ None
     go presents.Absent is = refl
-    go (presents.OnFlash k) is = absurd (unkept c k (kept_there x n c k is))
+    go (presents.OnFlash k) is = absurd (uncommitted c k (committed_there x n c k is))
     go (presents.InBuffer i) is = page (slice_get pages i) refl
       where
         page : (m : Option FreshPage) → slice_get pages i ≡ m → option_map (λ (q : FreshPage). q.bytes.items) m ≡ None
@@ -117,22 +117,22 @@ lacks_from n y new f buffers none i p there same =
     let two : None ≡ Some p.bytes.items = sym (none p.key.chunk) ∙ ap (λ m. present_data y new f m p.key.chunk) (sym same) ∙ here in
     cc
 
-lacks_changed : (n : ℕ) (x y : Index) (old new : List FreshPage) (change : Change) (f : Flash) → ((l : ℕ) (k : KeptPage) → kept_pages x n l ≡ Some k → ⊥) → Buffers x old → LacksObject n old
+lacks_changed : (n : ℕ) (x y : Index) (old new : List FreshPage) (change : Change) (f : Flash) → ((l : ℕ) (k : CommittedPage) → committed_pages x n l ≡ Some k → ⊥) → Buffers x old → LacksObject n old
     → LacksObject n change.pages.items → Buffers y new → SamePages (present_data y new f) (changed change (present_data x old f)) → LacksObject n new
-lacks_changed n x y old new change f unkept before lacks writes after is = lacks_from n y new f after (λ c.
+lacks_changed n x y old new change f uncommitted before lacks writes after is = lacks_from n y new f after (λ c.
     let m : PageMap = present_data x old f in
     is n c
     ∙ page_elsewhere change.pages.items (without_cuts change.cuts.items m) n c (λ k of. writes k of.page of.there of.object)
-    ∙ cuts_nothing change.cuts.items m n c (none_of n x old f c unkept before lacks))
+    ∙ cuts_nothing change.cuts.items m n c (none_of n x old f c uncommitted before lacks))
 
-lacks_cut : (n : ℕ) (x y : Index) (old new : List FreshPage) (cuts : List Cut) (f : Flash) → ((l : ℕ) (k : KeptPage) → kept_pages x n l ≡ Some k → ⊥) → Buffers x old → LacksObject n old
+lacks_cut : (n : ℕ) (x y : Index) (old new : List FreshPage) (cuts : List Cut) (f : Flash) → ((l : ℕ) (k : CommittedPage) → committed_pages x n l ≡ Some k → ⊥) → Buffers x old → LacksObject n old
     → Buffers y new → SamePages (present_data y new f) (without_cuts cuts (present_data x old f)) → LacksObject n new
-lacks_cut n x y old new cuts f unkept before lacks after is =
-    lacks_from n y new f after (λ c. is n c ∙ cuts_nothing cuts (present_data x old f) n c (none_of n x old f c unkept before lacks))
+lacks_cut n x y old new cuts f uncommitted before lacks after is =
+    lacks_from n y new f after (λ c. is n c ∙ cuts_nothing cuts (present_data x old f) n c (none_of n x old f c uncommitted before lacks))
 
--- no page of object 0 is kept
-kept_zero : (spare : ℕ) (d : Device) (t : Table) (x : Index) → Stands spare d t x → (l : ℕ) (k : KeptPage) → kept_pages x 0 l ≡ Some k → ⊥
-kept_zero spare d t x stands l k is = let at : MayLie t 0 l k = stands.tables.within 0 l k is in omega (arith, at.name.object.0)
+-- no page of object 0 is committed
+committed_zero : (spare : ℕ) (d : Device) (t : Table) (x : Index) → Stands spare d t x → (l : ℕ) (k : CommittedPage) → committed_pages x 0 l ≡ Some k → ⊥
+committed_zero spare d t x stands l k is = let at : MayLie t 0 l k = stands.tables.within 0 l k is in omega (arith, at.name.object.0)
 
 zero_lacked : (d : Device) (pages : List FreshPage) → AreNumbered d pages → LacksObject 0 pages
 zero_lacked d pages numbered i p is same = let some' : 1 ≤ p.key.object = (numbered i p is).0 in omega (arith, some', same)
@@ -143,7 +143,7 @@ pub objects_changed : (spare : ℕ) (d : Device) (t : Table) (x y : Index) (old 
 objects_changed spare d t x y old new change f stands before objects writes after is i p there = (some_left, ordinary_left) where
   some_left : 1 ≤ p.key.object
   some_left =
-      let ne = lacks_changed 0 x y old new change f (kept_zero spare d t x stands) before (zero_lacked d old objects)
+      let ne = lacks_changed 0 x y old new change f (committed_zero spare d t x stands) before (zero_lacked d old objects)
       (λ j q at same. let some' : 1 ≤ q.key.object = (writes j q at).object.0 in omega (arith, some', same)) after is i p there in
       omega (arith, ne)
 
@@ -156,7 +156,7 @@ pub objects_cut : (spare : ℕ) (d : Device) (t : Table) (x y : Index) (old new 
     → Buffers y new → SamePages (present_data y new f) (without_cuts cuts (present_data x old f)) → AreNumbered d new
 objects_cut spare d t x y old new cuts f stands before objects after is i p there = (some_left, ordinary_left) where
   some_left : 1 ≤ p.key.object
-  some_left = let ne = lacks_cut 0 x y old new cuts f (kept_zero spare d t x stands) before (zero_lacked d old objects) after is i p there in omega (arith, ne)
+  some_left = let ne = lacks_cut 0 x y old new cuts f (committed_zero spare d t x stands) before (zero_lacked d old objects) after is i p there in omega (arith, ne)
 
   ordinary_left : d.honest ≡ true → p.key.object ≢ check_object
   ordinary_left honest = lacks_cut check_object x y old new cuts f (λ l k at. stands.ordinary honest check_object l k at refl) before (λ j q at. (objects j q at).1 honest) after is i p there
@@ -210,8 +210,8 @@ same_back m n same o c = sym (same o c)
 pub same_on : (m n k : PageMap) → SamePages m n → SamePages n k → SamePages m k
 same_on m n k first then o c = first o c ∙ then o c
 
-pub kept_map_same : (d e : Device) (x y : Index) → e ≡ d → SameKept x y → SamePages (kept_map e y) (kept_map d x)
-kept_map_same d e x y is same = subst (λ (k : Device). SamePages (kept_map k y) (kept_map d x)) (sym is) (known_alike d.honest (kept_data x d.flash) (kept_data y d.flash) (λ _. kept_same x y same d.flash))
+pub committed_map_same : (d e : Device) (x y : Index) → e ≡ d → SameCommitted x y → SamePages (committed_data_map e y) (committed_data_map d x)
+committed_map_same d e x y is same = subst (λ (k : Device). SamePages (committed_data_map k y) (committed_data_map d x)) (sym is) (known_alike d.honest (committed_data x d.flash) (committed_data y d.flash) (λ _. committed_same x y same d.flash))
 
 pub present_map_same : (d e : Device) (x y : Index) (b b' : Buffer) → e ≡ d → SamePresent x y → b' ≡ b → SamePages (present_map e y b') (present_map d x b)
 present_map_same d e x y b b' is same buffers =

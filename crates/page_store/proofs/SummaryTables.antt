@@ -21,23 +21,23 @@ use Rattle.flash_tree.specs.laws.Place.{same_flash}
 use Rattle.pages.specs.laws.Low.{looked_low}
 use Rattle.mount_scan.specs.Copies.{HasValidName}
 use Rattle.mount_scan.specs.FirstPages.{AreNoneAbove}
-use Rattle.mount_scan.specs.Scanned.{AreCopiesPlaced, TellsNewest}
+use Rattle.mount_scan.specs.Scanned.{AreCopiesPlaced, ListsNewest}
 use Rattle.mount_scan.specs.Summarized.{HasSummarizedFlash, FindsEach, FindsNeeded, IsKey}
 use Rattle.mount_scan.specs.declared.page_copy.PageCopy.{PageCopy}
 use Rattle.block_state.specs.Table.{Table}
 use Rattle.block_state.specs.TableOf.{table}
 use Rattle.chunk_index.specs.Counts.{Recounts}
-use Rattle.chunk_index.specs.Maps.{kept_pages, kept_in, CountsAgree}
+use Rattle.chunk_index.specs.Maps.{committed_pages, count_committed_in, CountsAgree}
 use Rattle.chunk_index.specs.Newest.{Indexes}
 use Rattle.chunk_index.specs.declared.index.Index.{Index}
 use Rattle.transactions.specs.laws.Ready.{above_below}
 use Rattle.page_store.specs.Checked.{IsConsistent, HasTrueFlash}
 use Rattle.page_store.specs.FoundTables.{FindsItsTree, KnowsItsFirsts}
 use Rattle.page_store.specs.KnownFirsts.{AreUnwritten, IsUnwrittenOf, KnowsFirsts}
-use Rattle.page_store.specs.Opened.{HaveNames, AreLeft, IsTableOf, IsOpenedBy, OnlySeqs, kept_at}
+use Rattle.page_store.specs.Opened.{HaveNames, AreLeft, IsTableOf, IsOpenedBy, OnlySeqs, committed_at}
 use Rattle.page_store.specs.declared.opening.Opened.{Opened}
 use Rattle.page_store.specs.laws.KnownFirsts.{known_counted}
-use Rattle.page_store.proofs.Tables.{contains_at, listed_kept, opened}
+use Rattle.page_store.proofs.Tables.{contains_at, listed_committed, opened}
 
 -- ---- once the device was read
 
@@ -98,8 +98,8 @@ knows_firsts a b reads found t0 t1 least is unwritten knows after recounts hones
 -- ---- the tables of any device
 
 -- of a device that is not trusted nothing is said but where pages lie
-tells_untrusted : (d : Device) (list : List PageCopy) → FindsNeeded d list → TellsNewest (trusted_as false d) list
-tells_untrusted d list finds = record {
+reports_untrusted : (d : Device) (list : List PageCopy) → FindsNeeded d list → ListsNewest (trusted_as false d) list
+reports_untrusted d list finds = record {
   placed = finds.placed;
   low = finds.low;
   order = finds.order;
@@ -112,7 +112,7 @@ table_noted d n t t' is only = record {
   geometry = only.geometry ∙ is.geometry;
   closed = only.open_block ∙ is.closed;
   checkpoint = only.checkpoint ∙ is.checkpoint;
-  none = λ b. only.kept b ∙ is.none b;
+  none = λ b. only.committed b ∙ is.none b;
   good = λ b good. only.bad b ∙ is.good b good;
   marks = λ left b. only.bad b ∙ is.marks left b;
   group = λ left. only.next_group ∙ is.group left;
@@ -121,9 +121,9 @@ table_noted d n t t' is only = record {
 
 pub opened_untrusted :
     (d : Device) (list : List PageCopy) (x : Index) (t0 t1 t2 : Table) (n : Numbers) → FindsNeeded d list → HaveNames n.group list → IsTableOf d n t0 → OnlySeqs t0 t1
-    → Indexes list (length list) x → CountsAgree t2 x → Recounts (λ b. 0) (kept_in x) t1 t2 → IsOpenedBy None (trusted_as false d) t2 x n
+    → Indexes list (length list) x → CountsAgree t2 x → Recounts (λ b. 0) (count_committed_in x) t1 t2 → IsOpenedBy None (trusted_as false d) t2 x n
 opened_untrusted d list x t0 t1 t2 n finds names is only indexes counts recounts =
-    (opened (trusted_as false d) list x t1 t2 n (tells_untrusted d list finds) (λ honest. absurd (let no : false ≡ true = trusted_of d.honest false honest in cc)) names (table_noted d n t0 t1 is only) indexes counts recounts).tables
+    (opened (trusted_as false d) list x t1 t2 n (reports_untrusted d list finds) (λ honest. absurd (let no : false ≡ true = trusted_of d.honest false honest in cc)) names (table_noted d n t0 t1 is only) indexes counts recounts).tables
 
 -- ---- those of a true flash
 
@@ -145,13 +145,13 @@ module _ (d : Device) (list : List PageCopy) (n : Numbers) (finds : FindsNeeded 
   not_true_flash not (honest, is) = ∥∥₁_elim is.mountable (let p : IsProp ⊥ = Prim.hlevel props in p) (λ (m : IsMountableFlash d.geometry d.flash). not (names_there (honest, m.summarized)))
 
   module _ (x : Index) (indexes : Indexes list (length list) x) (honest : d.honest ≡ true) (is : IsConsistent d.geometry d.flash) where
-    -- the newest page of each key that is looked up is kept
+    -- the newest page of each key that is looked up is committed
     looked_up : IsMountableFlash d.geometry d.flash → (o c : ℕ) (s : Spot) → InFootprint (sizes_of d.geometry is.spare) (HasNewest d.flash) is.objects o c → IsNewest d.flash o c s
-        → kept_pages x o c ≡ Some (kept_at s)
+        → committed_pages x o c ≡ Some (committed_at s)
     looked_up m o c s foot newest =
         let low : c < 2 ^ 32 =
         looked_low (sizes_of d.geometry is.spare) (record { least = let least = d.geometry.least_bytes in omega (arith, least); most = d.geometry.most_bytes }) foot.fields c foot.has.1 foot.looks in
-        listed_kept list x indexes o c s newest.holds.object newest.holds.chunk (finds.found (honest, m.summarized) o c (m.found is.spare is.objects is.volume is.shows o c foot) o c s (refl, refl) low newest)
+        listed_committed list x indexes o c s newest.holds.object newest.holds.chunk (finds.found (honest, m.summarized) o c (m.found is.spare is.objects is.volume is.shows o c foot) o c s (refl, refl) low newest)
 
 pub finds_tree : (d : Device) (list : List PageCopy) (found : Opened) → FindsNeeded d list → (HasSummarizedFlash d → AreGreatest d.flash (numbers_of found.numbers)) → Indexes list (length list) found.index
     → HasTrueFlash d → FindsItsTree d found
@@ -161,7 +161,7 @@ finds_tree d list found finds greatest indexes (honest, is) = record {
   volume = is.volume;
   shows = is.shows;
   all = λ o c s foot newest.
-      ∥∥₁_elim is.mountable (let p : IsProp (kept_pages found.index o c ≡ Some (kept_at s)) = Prim.hlevel props in p)
+      ∥∥₁_elim is.mountable (let p : IsProp (committed_pages found.index o c ≡ Some (committed_at s)) = Prim.hlevel props in p)
       (λ (m : IsMountableFlash d.geometry d.flash). looked_up d list (numbers_of found.numbers) finds greatest found.index indexes honest is m o c s foot newest);
   numbers = ∥∥₁_elim is.mountable (greatest_prop d.flash (numbers_of found.numbers)) (λ (m : IsMountableFlash d.geometry d.flash). greatest (honest, m.summarized));
 }

@@ -1,5 +1,5 @@
 -- What a buffer is.
-use Rattle.std.specs.Prelude.{ℕ, List}
+use Rattle.std.specs.Prelude.{ℕ, List, ◌≡◌, []}
 use Rattle.flash_tree.specs.declared.place.FreshPage.{FreshPage}
 use Rattle.page_store.specs.declared.buffer.Buffer.{Buffer}
 
@@ -18,3 +18,8 @@ most_pages it = it.most
 -- the bytes of a page
 abbrev pub bytes_of_page : Buffer → ℕ
 bytes_of_page it = it.page_bytes
+
+-- the buffer was written: it has no pages any more, and those that it had are the last written
+pub record HasSettled (old new : Buffer) : Type 0 where
+  pub empty : buffered new ≡ []
+  pub written : last_written new ≡ buffered old

@@ -9,7 +9,7 @@ use Rattle.flash_tree.specs.declared.place.FreshPage.{FreshPage}
 use Rattle.chunk_index.specs.declared.index.Index.{Index}
 use Rattle.page_store.specs.declared.buffer.Buffer.{Buffer}
 use Rattle.page_store.specs.BufferOf.{buffered, last_written}
-use Rattle.page_store.specs.Shown.{kept_data, present_data}
+use Rattle.page_store.specs.Shown.{committed_data, present_data}
 use Rattle.pages.specs.Maps.{PageMap}
 use Rattle.transactions.specs.Checking.{LogState, log_of}
 use Rattle.flash_log.specs.LogOf.{log_state}
@@ -35,8 +35,8 @@ abbrev pub in_parts : {N : Type 0} → (N → Device) → N → Blocks → Index
 in_parts state device blocks x b = record { log = log_in state device blocks; index = x; pages = buffered b; last = last_written b }
 
 -- the data of the committed pages
-abbrev pub committed : BufferedLog → PageMap
-committed s = kept_data s.index s.log.device.flash
+abbrev pub committed_map : BufferedLog → PageMap
+committed_map s = committed_data s.index s.log.device.flash
 
 -- the data of the current pages: those in the buffer, and of each other key the committed one
 abbrev pub current : BufferedLog → PageMap

@@ -1,4 +1,4 @@
--- An index and the buffer that it tells of, and how they change together.
+-- An index and the buffer that it lists, and how they change together.
 use Rattle.std.specs.Prelude.{◌≡◌, ◌<◌, ◌≤◌, ℕ, ◌+◌, List, [], ◌∷◌, length, Option, Some, None, slice_get}
 use Rattle.std.specs.Option.{option_map}
 use Rattle.flash_tree.specs.declared.place.Key.{Key}
@@ -14,6 +14,7 @@ use Rattle.chunk_index.specs.Maps.{present, IsReadyKey, IsPrepared}
 use Rattle.chunk_index.specs.Entries.{written_page}
 use Rattle.chunk_index.specs.declared.form.WrittenGroup.{WrittenGroup}
 use Rattle.page_store.specs.Shown.{data_at, data_in, present_data}
+use Rattle.pages.specs.Changes.{AreSized, AreApart}
 
 -- the key of page i
 abbrev pub key_at : List FreshPage → ℕ → Option Key
@@ -22,7 +23,7 @@ key_at pages i = option_map (λ (p : FreshPage). p.key) (slice_get pages i)
 -- A key is present in the buffer, at place i, exactly where page i is of this key.
 pub record Buffers (x : Index) (pages : List FreshPage) : Type 0 where
   pub there : (o c i : ℕ) → present x o c ≡ presents.InBuffer i → key_at pages i ≡ Some (record { object = o; chunk = c })
-  pub told : (o c i : ℕ) → key_at pages i ≡ Some (record { object = o; chunk = c }) → present x o c ≡ presents.InBuffer i
+  pub reported : (o c i : ℕ) → key_at pages i ≡ Some (record { object = o; chunk = c }) → present x o c ≡ presents.InBuffer i
 
 -- no key is present in a buffer
 abbrev pub IsUnbuffered : Index → Type 0
@@ -39,7 +40,7 @@ abbrev pub new_keys : Index → List FreshPage → ℕ
 new_keys x [] = 0
 new_keys x (p ∷ ps) = lacks (present x p.key.object p.key.chunk) + new_keys x ps
 
--- how many pages there are with these, each key counted once
+-- how many pages there are with these, each key once
 abbrev pub with_new : Index → List FreshPage → List FreshPage → ℕ
 with_new x buffer pages = length buffer + new_keys x pages
 
@@ -97,3 +98,9 @@ ChangesPages change x y old new = (flash : Flash) (o c : ℕ) → present_data y
 -- The pages were written as this group: page i has its data where the group says.
 abbrev pub HasWritten : WrittenGroup → List FreshPage → Flash → Type 0
 HasWritten g pages flash = (i : ℕ) → i < length pages → data_at flash (written_page g i) ≡ data_in pages i
+
+-- The pages of a change can be put in the buffer: there is room in the index for each, each has so many bytes, and no two have one key.
+pub record CanPut (x : Index) (bytes : ℕ) (pages : List FreshPage) : Type 0 where
+  pub prepared : ArePrepared x pages
+  pub size : AreSized pages bytes
+  pub apart : AreApart pages

@@ -8,7 +8,7 @@ use Rattle.block_state.specs.Table.{Table}
 use Rattle.flash_log.specs.Moving.{WhyNotMoved}
 use Rattle.flash_log.specs.Steps.{StaysReady}
 use Rattle.flash_log.specs.declared.fault.MoveFault.TheVariants as moves
-use Rattle.chunk_index.specs.Maps.{SameKept, SamePresent}
+use Rattle.chunk_index.specs.Maps.{SameCommitted, SamePresent}
 use Rattle.page_store.specs.Committing.{IsUnhindered, KeepsOpen}
 use Rattle.flash_tree.specs.declared.place.FreshPage.{FreshPage}
 use Rattle.page_store.specs.BufferOf.{buffered, most_pages}
@@ -32,7 +32,7 @@ fault_of causes.Worn = faults.Worn
 fault_of causes.Lost = faults.Device
 fault_of causes.Gone = faults.Device
 
--- There is nothing left to write with: no number is left, more blocks are bad than there are to spare, or more is kept than
+-- There is nothing left to write with: no number is left, more blocks are bad than there are to spare, or more is committed than
 -- leaves room for so many pages.
 abbrev pub HasNothingLeft : (spare count : ℕ) → Device → Table → Table → Type 0
 HasNothingLeft spare count device old new = WhyNotMoved spare device new moves.Worn ⊎ (LeavesRoom old spare count → ⊥)
@@ -53,7 +53,7 @@ pub record StoreLasts (old new : StoreState) : Type 0 where
   pub first : new.first ≡ old.first
   pub counts : NoneFalls old.counts new.counts
 
--- What a commit keeps of a store besides, wherever it ends: it is the only one that is counted, and is of what is buffered; each key has
+-- What a commit keeps of a store besides, wherever it ends: it is the only one, and is of what is buffered; each key has
 -- the room that it had; and nothing goes out of the cache.
 pub record CommitKeeps (old new : StoreState) : Type 0 where
   pub lasts : StoreLasts old new
@@ -77,7 +77,7 @@ pub record StaysWhole (old new : StoreState) : Type 0 where
 -- their keys; and the open block is closed only where it lacks the pages, or a program failed.
 pub record IsCommitted (old new : StoreState) : Type 0 where
   pub whole : StaysWhole old new
-  pub committed : SamePages (committed_in new) (current_in old)
+  pub committed_map : SamePages (committed_in new) (current_in old)
   pub current : SamePages (current_in new) (current_in old)
   pub empty : buffered new.buffer ≡ []
   pub cached : TakesPages (buffered old.buffer) old.cache new.cache
@@ -110,7 +110,7 @@ pub record SameLog (old new : StoreState) : Type 0 where
 pub record Prepares (old new : StoreState) : Type 0 where
   pub log : SameLog old new
   pub buffer : new.buffer ≡ old.buffer
-  pub committed : SameKept old.index new.index
+  pub committed_map : SameCommitted old.index new.index
   pub current : SamePresent old.index new.index
   pub counts : NoneFalls old.counts new.counts
 
@@ -144,13 +144,13 @@ FitsBuffer pages s = with_new s.index (buffered s.buffer) pages ≤ most_pages s
 pub record CommitsNone (old new : StoreState) : Type 0 where
   pub device : new.log.device ≡ old.log.device
   pub table : new.log.table ≡ old.log.table
-  pub committed : SamePages (committed_in new) (committed_in old)
+  pub committed_map : SamePages (committed_in new) (committed_in old)
   pub commits : new.counts.commits.total ≡ old.counts.commits.total
 
 -- The buffer has room for these pages besides; where nothing was committed for it the cache is as it was.
 pub record HasRoomFor (pages : List FreshPage) (old new : StoreState) (is_committed : Bool) : Type 0 where
   pub whole : StaysWhole old new
-  pub committed : CommitsEither old new
+  pub committed_map : CommitsEither old new
   pub current : SamePages (current_in new) (current_in old)
   pub room : FitsBuffer pages new
   pub fewer : waiting new ≤ waiting old
@@ -166,7 +166,7 @@ RoomEnds pages old new (Err fault) = IsBroken old new fault
 -- which the page comes once it is written.
 pub record IsChanged (change : Change) (old new : StoreState) : Type 0 where
   pub whole : StaysWhole old new
-  pub committed : CommitsEither old new
+  pub committed_map : CommitsEither old new
   pub current : old.log.device.honest ≡ true → SamePages (current_in new) (changed change (current_in old))
   pub buffered : AreBuffered change.pages.items new.index
   pub few : waiting new ≤ waiting old + length change.pages.items
@@ -179,7 +179,7 @@ pub record IsUnchanged (old new : StoreState) : Type 0 where
   pub device : new.log.device ≡ old.log.device
   pub table : new.log.table ≡ old.log.table
   pub broken : new.broken ≡ old.broken
-  pub committed : SamePages (committed_in new) (committed_in old)
+  pub committed_map : SamePages (committed_in new) (committed_in old)
   pub current : SamePages (current_in new) (current_in old)
 
 -- how a change ends

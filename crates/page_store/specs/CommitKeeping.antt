@@ -1,9 +1,9 @@
--- What is kept while the buffered pages are written.
+-- What is committed while the buffered pages are written.
 use Rattle.std.specs.Prelude.{◌≡◌, ◌⊎◌, ℕ, true, false, [], Some}
 use Rattle.nand_model.specs.Calls.{Lasts}
 use Rattle.chunk_index.specs.declared.index.Index.{Index}
-use Rattle.chunk_index.specs.Entries.{as_kept}
-use Rattle.chunk_index.specs.Maps.{kept_pages, present}
+use Rattle.chunk_index.specs.Entries.{as_committed}
+use Rattle.chunk_index.specs.Maps.{committed_pages, present}
 use Rattle.page_store.specs.declared.buffer.Buffer.{Buffer}
 use Rattle.page_store.specs.BufferOf.{most_pages, bytes_of_page}
 use Rattle.page_store.specs.Buffering.{Buffers}
@@ -12,8 +12,8 @@ use Rattle.transactions.specs.Handing.{HandsOut}
 use Rattle.transactions.specs.Ready.{IsReady}
 use Rattle.flash_log.specs.Mountable.{KeepsMountable}
 use Rattle.flash_log.specs.Standing.{Stands}
-use Rattle.flash_log.specs.Steps.{MovesKept, StaysReady, Step}
-use Rattle.page_store.specs.Buffered.{BufferedLog, committed, current}
+use Rattle.flash_log.specs.Steps.{MovesCommitted, StaysReady, Step}
+use Rattle.page_store.specs.Buffered.{BufferedLog, committed_map, current}
 use Rattle.page_store.specs.Carrying.{ShowsCurrent, StaysOrShows}
 
 -- What a commit keeps of the log, wherever it ends.
@@ -26,7 +26,7 @@ pub record KeepsLog (spare : ℕ) (old new : BufferedLog) : Type 0 where
 
 -- what is current of each key is what is committed
 abbrev pub IsSettled : Index → Type 0
-IsSettled x = (o c : ℕ) → present x o c ≡ as_kept (kept_pages x o c)
+IsSettled x = (o c : ℕ) → present x o c ≡ as_committed (committed_pages x o c)
 
 -- The buffered pages are valid: what is current is what is committed, and of an honest device each key has the data that was
 -- current, and its device blocks enough that hold none of it, and a mount by summaries finds it, if it would have found what was committed.
@@ -34,10 +34,10 @@ pub record Commits (spare : ℕ) (old new : BufferedLog) : Type 0 where
   pub log : KeepsLog spare old new
   pub settled : IsSettled new.index
   pub keys : StaysReady old.index new.index
-  pub kept : old.log.device.honest ≡ true → new.log.device.gone ≡ false → (o c : ℕ) → committed new o c ≡ current old o c
+  pub committed : old.log.device.honest ≡ true → new.log.device.gone ≡ false → (o c : ℕ) → committed_map new o c ≡ current old o c
   pub newest : old.log.device.honest ≡ true → ShowsCurrent spare old new.log.device
 
--- Since there was room for the group, before any of its pages was valid, the device has counted no failure, or the block that
+-- Since there was room for the group, before any of its pages was valid, the device had no failure, or the block that
 -- was open for it is bad: no block is trusted in which a program of the group failed.
 pub record IsAnswered (spare : ℕ) (old new : BufferedLog) : Type 0 where
   pub log : LogState
@@ -47,7 +47,7 @@ pub record IsAnswered (spare : ℕ) (old new : BufferedLog) : Type 0 where
 
 -- the buffer has all its pages still, and committed pages were moved at most; or it is empty, and what is current is committed
 abbrev pub WaitsOrSettles : BufferedLog → BufferedLog → Type 0
-WaitsOrSettles old new = ((new.pages ≡ old.pages) × MovesKept old.index new.index) ⊎ ((new.pages ≡ []) × IsSettled new.index)
+WaitsOrSettles old new = ((new.pages ≡ old.pages) × MovesCommitted old.index new.index) ⊎ ((new.pages ≡ []) × IsSettled new.index)
 
 -- What holds wherever a call ends.
 pub record Leaves (spare : ℕ) (old new : BufferedLog) : Type 0 where

@@ -1,10 +1,10 @@
 -- How a commit ends.
 use Rattle.std.specs.Prelude.{◌≡◌, ◌<◌, ◌≤◌, ◌+◌, ◌*◌, ℕ, true, false, [], length, Some, Result, Ok, Err, IsOk, OnOk}
 use Rattle.volume_terms.specs.Sizes.{number_end}
-use Rattle.block_state.specs.Kept.{bad_count}
+use Rattle.block_state.specs.Committed.{bad_count}
 use Rattle.block_state.specs.Table.{Table, room}
-use Rattle.chunk_index.specs.declared.form.KeptPage.{KeptPage}
-use Rattle.chunk_index.specs.Maps.{kept_pages}
+use Rattle.chunk_index.specs.declared.form.CommittedPage.{CommittedPage}
+use Rattle.chunk_index.specs.Maps.{committed_pages}
 use Rattle.page_store.specs.Buffering.{IsUnbuffered}
 use Rattle.nand_model.specs.Counts.{Costs, ReadsFor}
 use Rattle.transactions.specs.Checking.{LogState}
@@ -15,7 +15,7 @@ use Rattle.flash_log.specs.RoomMaking.{FitsOpen, HasMore, WhyNoRoom}
 use Rattle.flash_log.specs.SummarySource.{summary_size}
 use Rattle.flash_log.specs.declared.room_fault.RoomFault.{RoomFault}
 use Rattle.pages.specs.Stores.{IsCarried, SamePages}
-use Rattle.page_store.specs.Buffered.{BufferedLog, committed, current}
+use Rattle.page_store.specs.Buffered.{BufferedLog, committed_map, current}
 use Rattle.page_store.specs.CommitKeeping.{IsAnswered}
 
 -- A commit that is done: the buffer is empty, and has the pages that it had as those that were written last; what was
@@ -26,9 +26,9 @@ pub record IsCommitted (spare : ℕ) (old new : BufferedLog) : Type 0 where
   pub unbuffered : IsUnbuffered new.index
   pub empty : new.pages ≡ []
   pub last : new.last ≡ old.pages
-  pub kept : old.log.device.honest ≡ true → SamePages (committed new) (current old)
+  pub committed : old.log.device.honest ≡ true → SamePages (committed_map new) (current old)
   pub present : old.log.device.honest ≡ true → SamePages (current new) (current old)
-  pub newest : old.log.device.honest ≡ true → IsCarried old.log.device spare (committed old) → IsCarried new.log.device spare (current old)
+  pub newest : old.log.device.honest ≡ true → IsCarried old.log.device spare (committed_map old) → IsCarried new.log.device spare (current old)
   pub few : bad_count new.log.table ≤ spare
   pub free : HasFreeBlocks new.log.table spare
   pub power : 1 ≤ length old.pages → new.log.device.gone ≡ false
@@ -39,7 +39,7 @@ abbrev pub CommitEnds : (spare : ℕ) → BufferedLog → BufferedLog → Result
 CommitEnds spare old new (Ok done) = IsCommitted spare old new
 CommitEnds spare old new (Err fault) = WhyNoRoom (length old.pages) spare new.log.device old.log.table new.log.table fault
 
--- Where the open block has room for so many pages, and no failure is counted, the device counts no more changes than one for
+-- Where the open block has room for so many pages, and there is no failure, the device counts no more changes than one for
 -- each of them: no block is allocated.
 abbrev pub TakesNoBlock : (count : ℕ) → LogState → LogState → Type 0
 TakesNoBlock count old new = FitsOpen count old.table → new.device.failures ≡ old.device.failures → new.device.changes ≤ old.device.changes + count
@@ -49,7 +49,7 @@ pub record StaysOpen (count : ℕ) (t t' : Table) : Type 0 where
   pub open_block : t'.open_block ≡ t.open_block
   pub pages : room t' + count ≡ room t
 
--- where the open block has room for so many pages, and no failure is counted, it stays open
+-- where the open block has room for so many pages, and there is no failure, it stays open
 abbrev pub KeepsOpen : (count : ℕ) → LogState → LogState → Type 0
 KeepsOpen count old new = FitsOpen count old.table → new.device.failures ≡ old.device.failures → StaysOpen count old.table new.table
 
@@ -62,7 +62,7 @@ pub record IsUnhindered (count : ℕ) (old new : LogState) : Type 0 where
   pub failures : new.device.failures ≡ old.device.failures
   pub power : new.device.gone ≡ false
 
--- While blocks are left that can be allocated, and no failure is counted, at most one block is allocated, which may begin with a summary.
+-- While blocks are left that can be allocated, and there is no failure, at most one block is allocated, which may begin with a summary.
 abbrev pub TakesOneBlock : (count spare : ℕ) → LogState → LogState → Type 0
 TakesOneBlock count spare old new = HasMore old.table spare → new.device.failures ≡ old.device.failures
     → new.device.changes ≤ old.device.changes + count + summary_size old.device.geometry + 1
@@ -93,7 +93,7 @@ pub record PaysUpTo {T E : Type 0} (count spare : ℕ) (old new : LogState) (res
 pub record DoesNothing (old new : BufferedLog) (result : Result (Unit {0}) RoomFault) : Type 0 where
   pub done : IsOk result
   pub device : new.log.device ≡ old.log.device
-  pub kept : (o c : ℕ) (p : KeptPage) → kept_pages new.index o c ≡ Some p → kept_pages old.index o c ≡ Some p
+  pub committed : (o c : ℕ) (p : CommittedPage) → committed_pages new.index o c ≡ Some p → committed_pages old.index o c ≡ Some p
 
 -- so it is where nothing is buffered
 abbrev pub CommitsNothing : BufferedLog → BufferedLog → Result (Unit {0}) RoomFault → Type 0

@@ -8,23 +8,23 @@ use Rattle.flash_tree.specs.Newest.{Spot, IsNewest, HasNewest, AreAbove, AreGrea
 use Rattle.flash_tree.specs.Places.{numbers_of}
 use Rattle.flash_tree.specs.Tree.{Shows, InFootprint}
 use Rattle.block_state.specs.TableOf.{table}
-use Rattle.chunk_index.specs.Maps.{kept_pages}
+use Rattle.chunk_index.specs.Maps.{committed_pages}
 use Rattle.page_store.specs.Checked.{HasTrueFlash}
 use Rattle.page_store.specs.KnownFirsts.{KnowsFirsts}
-use Rattle.page_store.specs.Opened.{AreLeft, kept_at}
+use Rattle.page_store.specs.Opened.{AreLeft, committed_at}
 use Rattle.page_store.specs.declared.opening.Opened.{Opened}
 use Rattle.page_store.specs.declared.opening.OpenFault.{OpenFault}
 use Rattle.page_store.specs.declared.opening.OpenFault.TheVariants as faults
 
--- The device shows a tree: of each key that is looked up to see it the newest page is kept, and the numbers are the greatest. Other keys
--- may be kept at any place.
+-- The device shows a tree: of each key that is looked up to see it the newest page is committed, and the numbers are the greatest. Other keys
+-- may be committed at any place.
 pub record FindsItsTree (device : Device) (opened : Opened) : Type 0 where
   pub spare : ℕ
   pub objects : Objects
   pub volume : IsVolume device.geometry (HasNewest device.flash) spare
   pub shows : Shows (sizes_of device.geometry spare) (HasNewest device.flash) objects
   pub all : (o c : ℕ) (s : Spot) → InFootprint (sizes_of device.geometry spare) (HasNewest device.flash) objects o c → IsNewest device.flash o c s
-      → kept_pages opened.index o c ≡ Some (kept_at s)
+      → committed_pages opened.index o c ≡ Some (committed_at s)
   pub numbers : AreGreatest device.flash (numbers_of opened.numbers)
 
 -- Of an honest device the numbers are of tags that it has; and where no tag has greater ones, the table knows the first pages of blocks,

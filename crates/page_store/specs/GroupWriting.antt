@@ -2,7 +2,7 @@
 use Rattle.std.specs.Prelude.{◌≡◌, ◌<◌, ◌≤◌, ◌+◌, ℕ, true, false, [], length, Some, Result, Ok, Err, IsOk, OnOk}
 use Rattle.nand_model.specs.Calls.{Device}
 use Rattle.nand_model.specs.Counts.{ReadsBeside}
-use Rattle.block_state.specs.Kept.{bad_count}
+use Rattle.block_state.specs.Committed.{bad_count}
 use Rattle.transactions.specs.Checking.{LogState}
 use Rattle.flash_log.specs.Bills.{Pays, bill_of}
 use Rattle.flash_log.specs.Standing.{HasFreeBlocks, Stands}

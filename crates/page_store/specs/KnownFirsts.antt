@@ -68,5 +68,5 @@ pub record MayKnowErased (device : Device) (t : Table) : Type 0 where
   pub marks : (b : ℕ) → (t.entry b).bad ≡ device.flash.bad b
   pub closed : t.open_block ≡ None
   pub first : OnlyFirstHasTags device.flash
-  pub kept : (b : ℕ) → BeginsErased device.flash b → (t.entry b).kept ≡ 0
+  pub committed : (b : ℕ) → BeginsErased device.flash b → (t.entry b).committed ≡ 0
   pub noted : (c : ℕ) → t.checkpoint ≡ Some c → GoesFirst device.flash c

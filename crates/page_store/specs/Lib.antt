@@ -17,7 +17,7 @@ pub mod laws
 pub mod Slots
 pub mod Cached
 pub mod Changes
-pub mod KeptReading
+pub mod CommittedReading
 pub mod Shown
 pub mod BufferOf
 pub mod Buffering

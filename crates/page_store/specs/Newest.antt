@@ -5,16 +5,16 @@ use Rattle.nand_model.specs.Calls.{Device}
 use Rattle.chunk_index.specs.declared.index.Index.{Index}
 use Rattle.pages.specs.Maps.{known_pages}
 use Rattle.pages.specs.State.{PagesState, no_numbers}
-use Rattle.page_store.specs.Shown.{kept_data}
+use Rattle.page_store.specs.Shown.{committed_data}
 
--- Pages that are kept and only read: they are known of an honest device, and it has failed where it is gone or not honest. Nothing
+-- Pages that are committed and only read: they are known of an honest device, and it has failed where it is gone or not honest. Nothing
 -- is changed, and no number is handed out.
 abbrev pub seen : Device → Index → List ℕ → PagesState
 seen device x page = record {
   page_bytes = device.geometry.bytes;
   most = 0;
-  present = known_pages device.honest (kept_data x device.flash);
-  kept = known_pages device.honest (kept_data x device.flash);
+  present = known_pages device.honest (committed_data x device.flash);
+  committed = known_pages device.honest (committed_data x device.flash);
   lent = page;
   near = λ o c. false;
   buffered = 0;
@@ -22,7 +22,7 @@ seen device x page = record {
   failed = device.gone || not device.honest;
   refused = 0;
   commits = 0;
-  asked = device.reads;
+  issued = device.reads;
   device = device;
   next = no_numbers;
   spare = 0;

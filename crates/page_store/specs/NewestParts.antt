@@ -8,7 +8,7 @@ use Rattle.page_store.specs.declared.newest_pages.NewestPages.{NewestPages}
 abbrev pub device_of : {N : Type 0} {nand : Ghosts N} → NewestPages N nand → N
 device_of pages = pages.device
 
--- the index that tells where each page lies
+-- the index that says where each page lies
 abbrev pub index_of : {N : Type 0} {nand : Ghosts N} → NewestPages N nand → Index
 index_of pages = pages.index
 

@@ -22,13 +22,13 @@ HasGreatest device n = device.honest ≡ true → AreGreatest device.flash n
 abbrev pub IsCarrying : PagesState → Type 0
 IsCarrying p = p.device.honest ≡ true → Carries p.device.flash p.present
 
--- Pages that are read as they are: what is present is what is kept. Once a change was refused they are sound no longer.
+-- Pages that are read as they are: what is present is what is committed. Once a change was refused they are sound no longer.
 abbrev pub only_read : PagesState → Numbers → (spare most : ℕ) → (refused_change : Bool) → PagesState
 only_read p n spare most refused_change = record {
   page_bytes = p.page_bytes;
   most = most;
   present = p.present;
-  kept = p.present;
+  committed = p.present;
   lent = p.lent;
   near = p.near;
   buffered = 0;
@@ -36,7 +36,7 @@ only_read p n spare most refused_change = record {
   failed = p.failed;
   refused = p.refused;
   commits = p.commits;
-  asked = p.asked;
+  issued = p.issued;
   device = p.device;
   next = next_after n;
   spare = spare;

@@ -19,7 +19,7 @@ use Rattle.page_store.specs.StoreState.{StoreState, committed_in, current_in}
 abbrev pub moved_fault : MoveFault → StoreFault
 moved_fault fault = fault_of (room_fault fault)
 
--- What a refresh keeps of a store, wherever it ends: what is buffered and what is cached, and what is counted.
+-- What a refresh keeps of a store, wherever it ends: what is buffered and what is cached, and the counts.
 pub record RefreshKeeps (old new : StoreState) : Type 0 where
   pub lasts : StoreLasts old new
   pub buffer : new.buffer ≡ old.buffer
@@ -44,7 +44,7 @@ IsRefreshFault old new faults.Worn = WhyNotMoved old.spare new.log.device new.lo
 -- What is committed and what is current are the same, and on an honest device no committed page lies where it lay in the block.
 pub record IsRefreshed (block : ℕ) (old new : StoreState) : Type 0 where
   pub whole : StaysWhole old new
-  pub committed : SamePages (committed_in new) (committed_in old)
+  pub committed_map : SamePages (committed_in new) (committed_in old)
   pub current : SamePages (current_in new) (current_in old)
   pub leaves : old.log.device.honest ≡ true → LeavesBlock block old.log.device.flash new.log.device.flash (committed_in old)
 

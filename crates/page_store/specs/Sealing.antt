@@ -9,18 +9,18 @@ use Rattle.flash_tree.specs.Newest.{HasNewest}
 use Rattle.flash_tree.specs.Truth.{KeepsSummaries}
 use Rattle.flash_tree.specs.Tree.{Shows, InFootprint}
 use Rattle.pages.specs.State.{PagesState}
-use Rattle.pages.specs.Stores.{HandsOutNumbers, HasFailed, HasNumbersLeft, HasPage, KeptAs, StaysMountable, StaysSame, bad_on}
+use Rattle.pages.specs.Stores.{HandsOutNumbers, HasFailed, HasNumbersLeft, HasPage, CommittedAs, StaysMountable, StaysSame, bad_on}
 use Rattle.flash_log.specs.declared.seal_fault.SealFault.{SealFault}
 use Rattle.flash_log.specs.declared.seal_fault.SealFault.TheVariants as causes
 use Rattle.volume_terms.specs.declared.fault.StoreFault.{StoreFault}
 use Rattle.volume_terms.specs.declared.fault.StoreFault.TheVariants as faults
 
--- The flash shows a tree, and a key has a kept page exactly where it is looked up to see it.
+-- The flash shows a tree, and a key has a committed page exactly where it is looked up to see it.
 pub record KeepsTree (p : PagesState) (tree : Objects) : Type 0 where
   pub volume : IsVolume p.device.geometry (HasNewest p.device.flash) p.spare
   pub shows : Shows (sizes_of p.device.geometry p.spare) (HasNewest p.device.flash) tree
-  pub all : (o c : ℕ) → InFootprint (sizes_of p.device.geometry p.spare) (HasNewest p.device.flash) tree o c → HasPage p.kept o c
-  pub only : (o c : ℕ) → HasPage p.kept o c → InFootprint (sizes_of p.device.geometry p.spare) (HasNewest p.device.flash) tree o c
+  pub all : (o c : ℕ) → InFootprint (sizes_of p.device.geometry p.spare) (HasNewest p.device.flash) tree o c → HasPage p.committed o c
+  pub only : (o c : ℕ) → HasPage p.committed o c → InFootprint (sizes_of p.device.geometry p.spare) (HasNewest p.device.flash) tree o c
 
 -- a sound store of an honest device keeps the pages of a tree, and no others
 abbrev pub IsExact : PagesState → Type 0
@@ -53,7 +53,7 @@ pub record HasWhole (p : PagesState) : Type 0 where
   pub noted : p.checkpoint ≡ Some checkpoint.block
   pub whole : p.device.honest ≡ true → IsWhole p.device.geometry p.device.flash checkpoint
 
--- a whole checkpoint is there; or the device counted a failure, and no block is noted
+-- a whole checkpoint is there; or the device had a failure, and no block is noted
 abbrev pub LeavesOne : PagesState → PagesState → Type 0
 LeavesOne old new = HasWhole new ⊎ ((new.checkpoint ≡ None) × (old.device.failures < new.device.failures))
 
@@ -66,14 +66,14 @@ SealEnds due old new (Err faults.Device) = HasFailed new.device ⊎ (old.sound �
 SealEnds due old new (Err faults.Worn) = new.spare < bad_on new.device
 
 -- A store gave its device back, and a checkpoint was written where one was due: what became of its pages, of which those that were
--- kept are so still; that checkpoints stay right where it kept the pages of a tree and no others; that it was done only with no more bad
+-- committed are so still; that checkpoints stay right where it committed the pages of a tree and no others; that it was done only with no more bad
 -- blocks than there are to spare, where there were no more before; and how that ended.
 pub record IsSealed (due : Type 0) (old : PagesState) (device : Device) (result : Result (Unit {0}) StoreFault) : Type 0 where
   pub pages : PagesState
   pub device_is : pages.device ≡ device
   pub ends_on : EndsOn old pages
   pub checked : IsExact old → StaysRight old pages
-  pub kept : old.sound ≡ true → KeptAs pages old.kept
+  pub committed : old.sound ≡ true → CommittedAs pages old.committed
   pub few : bad_on old.device ≤ old.spare → OnOk result (bad_on pages.device ≤ pages.spare)
   pub ends : SealEnds due old pages result
 

@@ -8,12 +8,12 @@ use Rattle.pages.specs.Maps.{PageMap, known_pages}
 use Rattle.block_state.specs.Table.{Table}
 use Rattle.pages.specs.State.{NextNumbers}
 use Rattle.page_store.specs.BufferOf.{buffered}
-use Rattle.page_store.specs.Shown.{kept_data, present_data}
+use Rattle.page_store.specs.Shown.{committed_data, present_data}
 use Rattle.page_store.specs.declared.buffer.Buffer.{Buffer}
 
 -- the pages of the last commit, where they are known
-abbrev pub kept_map : Device → Index → PageMap
-kept_map device x = known_pages device.honest (kept_data x device.flash)
+abbrev pub committed_data_map : Device → Index → PageMap
+committed_data_map device x = known_pages device.honest (committed_data x device.flash)
 
 -- the pages that are present, where they are known
 abbrev pub present_map : Device → Index → Buffer → PageMap

@@ -11,7 +11,7 @@ use Rattle.page_store.specs.Cached.{cached}
 use Rattle.pages.specs.Maps.{PageMap}
 use Rattle.pages.specs.State.{PagesState}
 use Rattle.transactions.specs.Checking.{LogState}
-use Rattle.page_store.specs.StoreOf.{is_near, kept_map, next_numbers, present_map}
+use Rattle.page_store.specs.StoreOf.{is_near, committed_data_map, next_numbers, present_map}
 use Rattle.page_store.specs.declared.counts.StoreCounts.{StoreCounts}
 
 -- A store's log, the index of its pages, the buffer and the cache; how many blocks may be bad, the flash with which its log began, where
@@ -28,7 +28,7 @@ pub record StoreState : Type 0 where
 
 -- the pages of the last commit, where they are known
 abbrev pub committed_in : StoreState → PageMap
-committed_in s = kept_map s.log.device s.index
+committed_in s = committed_data_map s.log.device s.index
 
 -- the pages that are current, where they are known
 abbrev pub current_in : StoreState → PageMap
@@ -45,7 +45,7 @@ seen_of s lent = record {
   page_bytes = s.log.device.geometry.bytes;
   most = most_pages s.buffer;
   present = current_in s;
-  kept = committed_in s;
+  committed = committed_in s;
   lent = lent;
   near = λ o c. is_near (present s.index o c) (cached s.cache o c);
   buffered = waiting s;
@@ -53,7 +53,7 @@ seen_of s lent = record {
   failed = s.log.device.gone || (not s.log.device.honest || s.broken);
   refused = s.counts.refused.total;
   commits = s.counts.commits.total;
-  asked = s.log.device.reads;
+  issued = s.log.device.reads;
   device = s.log.device;
   next = next_numbers s.log.table;
   spare = s.spare;

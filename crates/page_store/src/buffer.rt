@@ -1,8 +1,7 @@
 // The buffer.
-ghost use Rattle.std.specs.Prelude.{◌≡◌, ◌≤◌, ◌<◌, ◌+◌, ◌++◌, ℕ, length, vec_capacity, [], IfOk, is_some, option_to_list, true, false};
-ghost use Rattle.block_state.specs.Table.{Table};
+ghost use Rattle.std.specs.Prelude.{◌≡◌, ◌≤◌, ◌<◌, ◌+◌, ◌++◌, length, vec_capacity, [], IfOk, is_some, option_to_list, false};
 ghost use Rattle.block_state.specs.TableOf.{table};
-ghost use Rattle.chunk_index.specs.Maps.{CountsAgree, Settles, kept_in};
+ghost use Rattle.chunk_index.specs.Maps.{CountsAgree, Settles, count_committed_in};
 ghost use Rattle.chunk_index.specs.Counts.{Recounts};
 ghost use Rattle.pages.specs.Changes.{AreSized};
 ghost use Rattle.page_store.specs.Buffering.{Buffers, IsUnbuffered};
@@ -13,7 +12,7 @@ use flash_tree::FreshPage;
 use std::alloc::{AllocError, Global};
 use std::mem;
 
-/// Pages that are present and not written yet, each of a key of its own. The index tells which key has which.
+/// Pages that are present and not written yet, each of a key of its own. The index reports which key has which.
 #[derive(Drop)]
 pub struct Buffer {
     pub(crate) pages: Vec<FreshPage>,
@@ -30,7 +29,7 @@ pub struct Buffer {
 }
 
 impl Buffer {
-    ghost use Rattle.page_store.specs.BufferOf.{buffered, last_written, most_pages, bytes_of_page};
+    ghost use Rattle.page_store.specs.BufferOf.{buffered, last_written, most_pages, bytes_of_page, HasSettled};
 
     /// An empty buffer, with room for so many pages of so many bytes: at most a quarter of the pages of the largest block.
     pub fn new(alloc: Global, most: u32, page_bytes: u32) -> Result<Buffer, AllocError>
@@ -54,7 +53,7 @@ impl Buffer {
         self.most
     }
 
-    /// The pages, each at the place that the index tells of its key.
+    /// The pages, each at the place that the index has for its key.
     pub fn pages(&self) -> &[FreshPage]
         ensures { result.now ≡ buffered self.now }
     {
@@ -69,10 +68,9 @@ impl Buffer {
         requires agree { CountsAgree (table blocks.old) index.old }
         ensures settles { Settles group index.old index.new }
         ensures agree { CountsAgree (table blocks.new) index.new }
-        ensures counts { Recounts (kept_in index.old) (kept_in index.new) (table blocks.old) (table blocks.new) }
+        ensures counts { Recounts (count_committed_in index.old) (count_committed_in index.new) (table blocks.old) (table blocks.new) }
         ensures none { IsUnbuffered index.new }
-        ensures empty { buffered self.new ≡ [] }
-        ensures written { last_written self.new ≡ buffered self.old }
+        ensures moved { HasSettled self.old self.new }
         ensures sizes { (most_pages self.new ≡ most_pages self.old) × (bytes_of_page self.new ≡ bytes_of_page self.old) }
     {
         index.settle_group(group, blocks);

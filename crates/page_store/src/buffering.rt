@@ -1,11 +1,11 @@
 // The change of present pages.
-ghost use Rattle.std.specs.Prelude.{◌≡◌, ◌≤◌, ◌<◌, ◌+◌, ◌↔◌, ℕ, List, length, IsTrue, OnOk};
-ghost use Rattle.chunk_index.specs.Maps.{present, IsReadyKey, IsPrepared, SameKept, SamePresent, StaysPrepared};
+ghost use Rattle.std.specs.Prelude.{◌≡◌, ◌≤◌, ◌<◌, ◌+◌, ◌↔◌, ℕ, length, IsTrue, OnOk};
+ghost use Rattle.chunk_index.specs.Maps.{present, IsReadyKey, IsPrepared, SameCommitted, SamePresent, StaysPrepared};
 ghost use Rattle.pages.specs.Changes.{AreApart, AreSized, AreOfTrees};
-ghost use Rattle.pages.specs.Maps.{with_pages, IsPageOf};
+ghost use Rattle.pages.specs.Maps.{with_pages};
 ghost use Rattle.nand_model.specs.Flash.{Flash};
 ghost use Rattle.page_store.specs.Shown.{present_data};
-ghost use Rattle.page_store.specs.Buffering.{Buffers, with_new, new_keys, lacks, ArePrepared, AreReady, PutsPage, ChangesPages, IsUnbuffered, AreBuffered};
+ghost use Rattle.page_store.specs.Buffering.{Buffers, with_new, new_keys, lacks, ArePrepared, AreReady, PutsPage, ChangesPages, AreBuffered, CanPut};
 
 use crate::buffer::Buffer;
 use chunk_index::{Form, Index, Present};
@@ -13,11 +13,11 @@ use flash_tree::{FreshPage, Key};
 use pages::Change;
 use std::alloc::AllocError;
 
-/// Sees that there is room in an index for pages, also once the changes are settled. No kept and no present page changes,
+/// Sees that there is room in an index for pages, also once the changes are settled. No committed and no present page changes,
 /// also where memory is refused.
 pub fn prepare(index: &mut Index, pages: &[FreshPage]) -> Result<(), AllocError>
     requires { AreOfTrees pages.now }
-    ensures kept { SameKept index.old index.new }
+    ensures committed { SameCommitted index.old index.new }
     ensures present { SamePresent index.old index.new }
     ensures ready { OnOk result (AreReady index.new pages.now) }
     ensures stays { (o c : ℕ) → IsReadyKey index.old o c → IsReadyKey index.new o c }
@@ -56,7 +56,7 @@ fn count_new(index: &Index, pages: &[FreshPage]) -> usize
 impl Buffer {
     ghost use Rattle.page_store.specs.BufferOf.{buffered, most_pages, bytes_of_page};
 
-    /// Whether the buffer holds these pages with those that it has, each key counted once. No key is looked up where it
+    /// Whether the buffer holds these pages with those that it has, each key once. No key is looked up where it
     /// has room for as many pages more.
     pub fn has_room(&self, index: &Index, pages: &[FreshPage]) -> bool
         ensures { IsTrue result ↔ (with_new index.now (buffered self.now) pages.now ≤ most_pages self.now) }
@@ -76,7 +76,7 @@ impl Buffer {
         requires size { length page.bytes.items ≡ bytes_of_page self.old }
         requires room { length (buffered self.old) + lacks (present index.old page.key.object page.key.chunk) ≤ most_pages self.old }
         ensures buffers { Buffers index.new (buffered self.new) }
-        ensures kept { SameKept index.old index.new }
+        ensures committed { SameCommitted index.old index.new }
         ensures prepared { StaysPrepared index.old index.new }
         ensures puts { PutsPage page index.old index.new (buffered self.old) (buffered self.new) }
         ensures sizes { (most_pages self.new ≡ most_pages self.old) × (bytes_of_page self.new ≡ bytes_of_page self.old) }
@@ -96,7 +96,7 @@ impl Buffer {
         requires size { length page.bytes.items ≡ bytes_of_page self.old }
         requires room { length (buffered self.old) < most_pages self.old }
         ensures buffers { Buffers index.new (buffered self.new) }
-        ensures kept { SameKept index.old index.new }
+        ensures committed { SameCommitted index.old index.new }
         ensures prepared { StaysPrepared index.old index.new }
         ensures puts { PutsPage page index.old index.new (buffered self.old) (buffered self.new) }
         ensures sizes { (most_pages self.new ≡ most_pages self.old) × (bytes_of_page self.new ≡ bytes_of_page self.old) }
@@ -113,7 +113,7 @@ impl Buffer {
         requires apart { AreApart pages.items }
         requires room { with_new index.old (buffered self.old) pages.items ≤ most_pages self.old }
         ensures buffers { Buffers index.new (buffered self.new) }
-        ensures kept { SameKept index.old index.new }
+        ensures committed { SameCommitted index.old index.new }
         ensures prepared { StaysPrepared index.old index.new }
         ensures puts { (flash : Flash) (o c : ℕ) → present_data index.new (buffered self.new) flash o c ≡ with_pages pages.items (present_data index.old (buffered self.old) flash) o c }
         ensures few { length (buffered self.new) ≤ with_new index.old (buffered self.old) pages.items }
@@ -127,12 +127,10 @@ impl Buffer {
     /// Makes a change, for which there is room in the index and in the buffer.
     pub fn apply(&mut self, index: &mut Index, change: Change)
         requires buffers { Buffers index.old (buffered self.old) }
-        requires prepared { ArePrepared index.old change.pages.items }
-        requires size { AreSized change.pages.items (bytes_of_page self.old) }
-        requires apart { AreApart change.pages.items }
+        requires pages { CanPut index.old (bytes_of_page self.old) change.pages.items }
         requires room { with_new index.old (buffered self.old) change.pages.items ≤ most_pages self.old }
         ensures buffers { Buffers index.new (buffered self.new) }
-        ensures kept { SameKept index.old index.new }
+        ensures committed { SameCommitted index.old index.new }
         ensures prepared { StaysPrepared index.old index.new }
         ensures changes { ChangesPages change index.old index.new (buffered self.old) (buffered self.new) }
         ensures buffered { AreBuffered change.pages.items index.new }

@@ -32,7 +32,7 @@ pub struct PageCache {
 /// How many spare frames there are at most: as many as the largest change of a volume with blocks of 64 pages has pages.
 pub(crate) const SPARE_FRAMES: usize = 16;
 
-/// How many of them stay after a commit that was asked for: as many as an append has pages.
+/// How many of them stay after a commit that was wanted: as many as an append has pages.
 pub(crate) const SPARE_AT_REST: usize = 2;
 
 impl PageCache {
@@ -66,7 +66,7 @@ impl PageCache {
         self.slots.len()
     }
 
-    /// Tells whether there is a page of the key, which is a use of it. `page` lends it then.
+    /// Returns whether there is a page of the key, which is a use of it. `page` lends it then.
     pub fn find(&mut self, key: Key) -> bool
         ensures found { IsTrue result ↔ IsSome (cached self.old key.object key.chunk) }
         ensures same { HasTheSame self.old self.new }

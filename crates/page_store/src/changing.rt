@@ -1,6 +1,6 @@
 // The change of a store's pages.
 ghost use Rattle.std.specs.Prelude.{◌≡◌, ◌≤◌, ◌+◌, ◌/◌, length, true, false, OnOk, IfErr};
-ghost use Rattle.chunk_index.specs.Maps.{SameKept, SamePresent};
+ghost use Rattle.chunk_index.specs.Maps.{SameCommitted, SamePresent};
 ghost use Rattle.page_store.specs.Committing.{PaysUpTo};
 ghost use Rattle.page_store.specs.BufferOf.{buffered};
 ghost use Rattle.page_store.specs.Buffering.{ArePrepared, AreReady, AreBuffered, with_new};
@@ -32,7 +32,7 @@ impl<N: Nand> Store<N> {
     /// where there is no room for the change besides; so a change has at most a quarter of the pages of a block, each of a
     /// key of its own.
     ///
-    /// After another fault nothing is known of the pages of the store any more. The device has those that were kept, or those
+    /// After another fault nothing is known of the pages of the store any more. The device has those that were committed, or those
     /// that were present.
     pub fn change(&mut self, change: Change) -> Result<(), StoreFault>
         requires apart { AreApart change.pages.items }
@@ -103,7 +103,7 @@ impl<N: Nand> Store<N> {
         requires trees { AreOfTrees change.pages.items }
         requires room { FitsBuffer change.pages.items (state_of self.old) }
         ensures same { SameBeside (state_of self.old) (state_of self.new) }
-        ensures committed { SamePages (committed_in (state_of self.new)) (committed_in (state_of self.old)) }
+        ensures committed_map { SamePages (committed_in (state_of self.new)) (committed_in (state_of self.old)) }
         ensures current { (N.state self.old.log.device).honest ≡ true → SamePages (current_in (state_of self.new)) (changed change (current_in (state_of self.old))) }
         ensures buffered { AreBuffered change.pages.items self.new.log.index }
         ensures few { length (buffered self.new.buffer) ≤ with_new self.old.log.index (buffered self.old.buffer) change.pages.items }
@@ -123,7 +123,7 @@ fn prepare_all(
     pages: &[FreshPage],
 ) -> Result<(), AllocError>
     requires { AreOfTrees pages.now }
-    ensures kept { SameKept index.old index.new }
+    ensures committed { SameCommitted index.old index.new }
     ensures present { SamePresent index.old index.new }
     ensures ready { OnOk result (AreReady index.new pages.now) }
     ensures places { held_count cache.old + length pages.now ≤ capacity_of cache.old → OnOk result (HavePlaces pages.now cache.new) }

@@ -2,7 +2,7 @@
 ghost use Rattle.std.specs.Prelude.{◌↔◌, IsSome, IsTrue, IfOk, IfSome};
 ghost use Rattle.mount_scan.specs.FoundCheckpoint.{HasForm, IsWholeOn, checkpoint_of};
 ghost use Rattle.mount_scan.specs.FirstPages.{AreFirstsOf};
-ghost use Rattle.page_store.specs.Checked.{HasTrueFlash, IsOpenedFor, KeepsItsTree, KnowsFirstsBy, MayAllBeKept, MayBeKept};
+ghost use Rattle.page_store.specs.Checked.{HasTrueFlash, IsOpenedFor, KeepsItsTree, KnowsFirstsBy, MayAllBeCommitted, MayBeCommitted};
 
 use crate::first_pages::note_firsts;
 use crate::opening::{Opened, table_above};
@@ -13,9 +13,9 @@ use nand_model::Nand;
 use page_tags::CheckEntry;
 use std::alloc::{AllocError, Global};
 
-/// Whether an entry of a checkpoint may tell of a kept page.
-fn may_be_kept<N: Nand>(device: &N, found: &FoundCheckpoint, entry: &CheckEntry) -> bool
-    ensures { IsTrue result ↔ MayBeKept (N.state device.now) (checkpoint_of found.now) entry.now }
+/// Whether an entry of a checkpoint may list a committed page.
+fn may_be_committed<N: Nand>(device: &N, found: &FoundCheckpoint, entry: &CheckEntry) -> bool
+    ensures { IsTrue result ↔ MayBeCommitted (N.state device.now) (checkpoint_of found.now) entry.now }
 {
     let geometry = device.geometry();
     if entry.block >= geometry.blocks() || entry.page >= geometry.pages() {
@@ -31,11 +31,11 @@ fn may_be_kept<N: Nand>(device: &N, found: &FoundCheckpoint, entry: &CheckEntry)
 }
 
 /// Whether each entry of a checkpoint may.
-fn may_all_be_kept<N: Nand>(device: &N, found: &FoundCheckpoint) -> bool
-    ensures { IsTrue result ↔ MayAllBeKept (N.state device.now) (checkpoint_of found.now) }
+fn may_all_be_committed<N: Nand>(device: &N, found: &FoundCheckpoint) -> bool
+    ensures { IsTrue result ↔ MayAllBeCommitted (N.state device.now) (checkpoint_of found.now) }
 {
     for entry in &found.entries {
-        if !may_be_kept(device, found, entry) {
+        if !may_be_committed(device, found, entry) {
             return false;
         }
     }
@@ -43,8 +43,8 @@ fn may_all_be_kept<N: Nand>(device: &N, found: &FoundCheckpoint) -> bool
 }
 
 /// The tables of a device by the entries of a checkpoint that is whole, and by the first pages of its blocks: exactly what
-/// the entries tell of is kept, and the checkpoint's block is noted. There are none where an entry cannot tell of a kept page.
-pub fn open_kept<N: Nand>(
+/// the entries list is committed, and the checkpoint's block is noted. There are none where an entry cannot list a committed page.
+pub fn open_committed<N: Nand>(
     alloc: Global,
     device: &N,
     found: &FoundCheckpoint,
@@ -59,7 +59,7 @@ pub fn open_kept<N: Nand>(
     ensures some { HasTrueFlash (N.state device.now) → IfOk result (λ made. IsSome made) }
 {
     the_counts_are_of_the_keys();
-    if !may_all_be_kept(device, found) {
+    if !may_all_be_committed(device, found) {
         return Ok(None);
     }
     let numbers = TagNumbers {
@@ -69,7 +69,7 @@ pub fn open_kept<N: Nand>(
     };
     let mut blocks = table_above(alloc, device, numbers)?;
     note_firsts(&firsts.pages, &mut blocks);
-    let (index, blocks) = Index::from_kept(alloc, &found.entries, blocks)?;
+    let (index, blocks) = Index::from_committed(alloc, &found.entries, blocks)?;
     let mut blocks = blocks;
     blocks.note_checkpoint(found.block);
     Ok(Some(Opened {

@@ -27,10 +27,10 @@ fn store_fault(fault: RoomFault) -> StoreFault
 }
 
 impl<N: Nand> Store<N> {
-    /// Writes what is buffered to the device as one group, so that what is kept is what is present. It takes no memory, and
+    /// Writes what is buffered to the device as one group, so that what is committed is what is present. It takes no memory, and
     /// makes no call of the device where nothing is buffered.
     ///
-    /// After a fault nothing is known of the pages of the store any more. The device has those that were kept, or those that
+    /// After a fault nothing is known of the pages of the store any more. The device has those that were committed, or those that
     /// were present.
     pub fn write_out(&mut self, spares: usize) -> Result<(), StoreFault>
         ensures keeps { CommitKeeps (state_of self.old) (state_of self.new) }

@@ -14,7 +14,7 @@ pub struct StoreCounts {
 }
 
 impl StoreCounts {
-    /// Nothing was counted.
+    /// every count is 0.
     pub(crate) fn new() -> StoreCounts {
         StoreCounts {
             refused: Count::new(),

@@ -15,11 +15,11 @@ use pages::Cut;
 use volume_terms::StoreFault;
 
 impl<N: Nand> Store<N> {
-    /// Cuts pages of an object, so that none of them is present. What is kept stays. It makes no call of the device and takes
+    /// Cuts pages of an object, so that none of them is present. What is committed stays. It makes no call of the device and takes
     /// no memory.
     pub fn cut_away(&mut self, cut: Cut) -> Result<(), StoreFault>
         ensures same { SameBeside (state_of self.old) (state_of self.new) }
-        ensures committed { SamePages (committed_in (state_of self.new)) (committed_in (state_of self.old)) }
+        ensures committed_map { SamePages (committed_in (state_of self.new)) (committed_in (state_of self.old)) }
         ensures current { (N.state self.old.log.device).honest ≡ true → OnOk result (SamePages (current_in (state_of self.new)) (without_cuts (cut ∷ []) (current_in (state_of self.old)))) }
         ensures fewer { waiting (state_of self.new) ≤ waiting (state_of self.old) }
         // What is not cut stays in the cache.

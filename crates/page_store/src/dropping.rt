@@ -1,6 +1,6 @@
 // Pages of the buffer that go.
 ghost use Rattle.std.specs.Prelude.{◌≡◌, ◌≤◌, ◌<◌, ◌+◌, ℕ, List, length};
-ghost use Rattle.chunk_index.specs.Maps.{SameKept, StaysPrepared};
+ghost use Rattle.chunk_index.specs.Maps.{SameCommitted, StaysPrepared};
 ghost use Rattle.flash_tree.specs.declared.place.FreshPage.{FreshPage};
 ghost use Rattle.pages.specs.Changes.{AreApart};
 ghost use Rattle.pages.specs.Maps.{PageMap, without_cuts};
@@ -20,7 +20,7 @@ impl Buffer {
         requires buffers { Buffers index.old (buffered self.old) }
         requires slot { slot < length (buffered self.old) }
         ensures buffers { Buffers index.new (buffered self.new) }
-        ensures kept { SameKept index.old index.new }
+        ensures committed { SameCommitted index.old index.new }
         ensures prepared { StaysPrepared index.old index.new }
         ensures drops { DropsSlot slot index.old index.new (buffered self.old) (buffered self.new) }
         ensures sizes { (most_pages self.new ≡ most_pages self.old) × (bytes_of_page self.new ≡ bytes_of_page self.old) }
@@ -40,7 +40,7 @@ impl Buffer {
     fn drop_cut(&mut self, index: &mut Index, cut: Cut)
         requires buffers { Buffers index.old (buffered self.old) }
         ensures buffers { Buffers index.new (buffered self.new) }
-        ensures kept { SameKept index.old index.new }
+        ensures committed { SameCommitted index.old index.new }
         ensures prepared { StaysPrepared index.old index.new }
         ensures drops { DropsCut cut index.old index.new (buffered self.old) (buffered self.new) }
         ensures room { (ps : List FreshPage) → AreApart ps → with_new index.new (buffered self.new) ps ≤ with_new index.old (buffered self.old) ps }
@@ -60,7 +60,7 @@ impl Buffer {
     pub(crate) fn cut(&mut self, index: &mut Index, cut: Cut)
         requires buffers { Buffers index.old (buffered self.old) }
         ensures buffers { Buffers index.new (buffered self.new) }
-        ensures kept { SameKept index.old index.new }
+        ensures committed { SameCommitted index.old index.new }
         ensures prepared { StaysPrepared index.old index.new }
         ensures cuts { CutsPages cut index.old index.new (buffered self.old) (buffered self.new) }
         ensures room { (ps : List FreshPage) → AreApart ps → with_new index.new (buffered self.new) ps ≤ with_new index.old (buffered self.old) ps }
@@ -74,7 +74,7 @@ impl Buffer {
     pub fn cut_all(&mut self, index: &mut Index, cuts: &[Cut])
         requires buffers { Buffers index.old (buffered self.old) }
         ensures buffers { Buffers index.new (buffered self.new) }
-        ensures kept { SameKept index.old index.new }
+        ensures committed { SameCommitted index.old index.new }
         ensures prepared { StaysPrepared index.old index.new }
         ensures cuts { (flash : Flash) (o c : ℕ) → present_data index.new (buffered self.new) flash o c ≡ without_cuts cuts.now (present_data index.old (buffered self.old) flash) o c }
         ensures fewer { length (buffered self.new) ≤ length (buffered self.old) }

@@ -33,7 +33,7 @@ impl<N: Nand> FlashPages<N> {
         }
     }
 
-    /// Writes a checkpoint of the pages that are kept, where one is due, and gives the device back. Of pages that are only
+    /// Writes a checkpoint of the pages that are committed, where one is due, and gives the device back. Of pages that are only
     /// read it makes no call.
     pub fn seal(self) -> (N, Result<(), StoreFault>)
         ensures seals { IsSealed (IsDueOf self) (⟦<FlashPages<N> as Pages>⟧.state self) (N.state result.0) result.1 }

@@ -3,13 +3,13 @@ ghost use Rattle.std.specs.Prelude.{◌≡◌, [], length, true};
 ghost use Rattle.block_state.specs.TableOf.{table};
 ghost use Rattle.chunk_index.specs.declared.form.WrittenGroup.{WrittenGroup};
 ghost use Rattle.chunk_index.specs.Counts.{Recounts};
-ghost use Rattle.chunk_index.specs.Maps.{CountsAgree, Settles, kept_in};
+ghost use Rattle.chunk_index.specs.Maps.{CountsAgree, Settles, count_committed_in};
 ghost use Rattle.page_store.specs.BufferOf.{buffered, last_written};
 ghost use Rattle.page_store.specs.Buffering.{Buffers, IsUnbuffered};
 ghost use Rattle.flash_log.specs.LogOf.{HasReserve, SameTerms, log_state, terms_of};
 ghost use Rattle.flash_log.specs.Standing.{HasFreeBlocks};
 ghost use Rattle.page_store.specs.Buffered.{held};
-ghost use Rattle.page_store.specs.Carrying.{AreWritable, CarriesEither, KeepsOrShows};
+ghost use Rattle.page_store.specs.Carrying.{CanWriteBuffer, CarriesOrShows};
 ghost use Rattle.page_store.specs.Committing.{CommitEnds, CommitsNothing, PaysCommit};
 ghost use Rattle.page_store.specs.CommitKeeping.{KeepsBuffer, KeepsLog, SameSizes};
 ghost use Rattle.page_store.specs.GroupWriting.{GoesWell};
@@ -21,14 +21,14 @@ use chunk_index::{Index, WrittenGroup, the_list_of_a_block_is_whole};
 use flash_log::{Log, RoomFault};
 use nand_model::Nand;
 
-/// Settles the index, where no page is buffered: what was dropped is not kept any more.
+/// Settles the index, where no page is buffered: what was dropped is not committed any more.
 fn settle_empty(index: &mut Index, buffer: &mut Buffer, blocks: &mut Blocks)
     requires buffers { Buffers index.old (buffered buffer.old) }
     requires none { buffered buffer.old ≡ [] }
     requires agree { CountsAgree (table blocks.old) index.old }
     ensures settles { (g : WrittenGroup) × Settles g index.old index.new }
     ensures agree { CountsAgree (table blocks.new) index.new }
-    ensures counts { Recounts (kept_in index.old) (kept_in index.new) (table blocks.old) (table blocks.new) }
+    ensures counts { Recounts (count_committed_in index.old) (count_committed_in index.new) (table blocks.old) (table blocks.new) }
     ensures unbuffered { IsUnbuffered index.new }
     ensures empty { buffered buffer.new ≡ [] }
     ensures last { last_written buffer.new ≡ buffered buffer.old }
@@ -46,20 +46,16 @@ fn settle_empty(index: &mut Index, buffer: &mut Buffer, blocks: &mut Blocks)
 /// current is committed then, and what was dropped is not. Where a program fails, its block is retired and the group is written
 /// again, while there are blocks to spare. It takes no memory. With no page in the buffer there is no call of the device.
 pub fn commit<N: Nand>(log: &mut Log<N>, buffer: &mut Buffer) -> Result<(), RoomFault>
-    requires few { HasReserve log.old }
-    requires free { HasFreeBlocks (table log.old.blocks) log.old.spare }
-    requires buffers { Buffers log.old.index (buffered buffer.old) }
-    requires pages { AreWritable (N.state log.old.device) (buffered buffer.old) }
+    requires reserve { HasReserve log.old × HasFreeBlocks (table log.old.blocks) log.old.spare }
+    requires buffers { CanWriteBuffer (held log.old buffer.old) }
     ensures log { KeepsLog log.old.spare (held log.old buffer.old) (held log.new buffer.new) }
     ensures terms { SameTerms (terms_of log.old) (terms_of log.new) }
     ensures pays { PaysCommit (length (buffered buffer.old)) log.old.spare (log_state log.old) (log_state log.new) result }
     // The open block is closed only where it lacks the pages, or a program failed; and what nothing hinders is done.
     ensures well { GoesWell (length (buffered buffer.old)) (log_state log.old) (log_state log.new) result }
-    ensures sizes { SameSizes buffer.old buffer.new }
-    ensures buffer { KeepsBuffer (held log.old buffer.old) (held log.new buffer.new) }
+    ensures buffer { SameSizes buffer.old buffer.new × KeepsBuffer (held log.old buffer.old) (held log.new buffer.new) }
     // Wherever it ends, the device carries what was committed, or all that was current, with blocks enough free of it.
-    ensures newest { (N.state log.old.device).honest ≡ true → CarriesEither log.old.spare (held log.old buffer.old) (N.state log.new.device) }
-    ensures data { (N.state log.old.device).honest ≡ true → KeepsOrShows (held log.old buffer.old) (N.state log.new.device).flash }
+    ensures carries { (N.state log.old.device).honest ≡ true → CarriesOrShows log.old.spare (held log.old buffer.old) (N.state log.new.device) }
     ensures nothing { CommitsNothing (held log.old buffer.old) (held log.new buffer.new) result }
     ensures ends { CommitEnds log.old.spare (held log.old buffer.old) (held log.new buffer.new) result }
 {

@@ -4,17 +4,17 @@ ghost use Rattle.nand_model.specs.Calls.{Device};
 ghost use Rattle.nand_model.specs.Flash.{Flash};
 ghost use Rattle.flash_tree.specs.Newest.{Numbers, HasNewest};
 ghost use Rattle.block_state.specs.Table.{Table};
-ghost use Rattle.chunk_index.specs.declared.form.KeptPage.{KeptPage};
+ghost use Rattle.chunk_index.specs.declared.form.CommittedPage.{CommittedPage};
 ghost use Rattle.chunk_index.specs.declared.index.Index.{Index};
-ghost use Rattle.chunk_index.specs.Maps.{kept_pages};
-ghost use Rattle.page_store.specs.Shown.{data_at, kept_data};
-ghost use Rattle.flash_log.specs.Standing.{AreKept};
+ghost use Rattle.chunk_index.specs.Maps.{committed_pages};
+ghost use Rattle.page_store.specs.Shown.{data_at, committed_data};
+ghost use Rattle.flash_log.specs.Standing.{AreCommitted};
 ghost use Rattle.page_store.specs.Opened.{IsOpened};
 
-/// Kept pages that are the newest of their keys have data. Of a device that was opened the kept pages are the newest
+/// Committed pages that are the newest of their keys have data. Of a device that was opened the committed pages are the newest
 /// ones, with their data, and all of them that are of chunks that a tree may look up.
 pub fn the_opened_pages_are_the_newest()
-    ensures written { (flash : Flash) (x : Index) → AreKept flash (kept_pages x) → (o c : ℕ) (k : KeptPage) → kept_pages x o c ≡ Some k → IsSome (data_at flash k) }
+    ensures written { (flash : Flash) (x : Index) → AreCommitted flash (committed_pages x) → (o c : ℕ) (k : CommittedPage) → committed_pages x o c ≡ Some k → IsSome (data_at flash k) }
     ensures pages { (d : Device) (t : Table) (x : Index) (n : Numbers) → IsOpened d t x n → d.honest ≡ true
-        → (o c : ℕ) (xs : List ℕ) → (kept_data x d.flash o c ≡ Some xs) ↔ (HasNewest d.flash o c xs × (c < 2 ^ 32)) }
+        → (o c : ℕ) (xs : List ℕ) → (committed_data x d.flash o c ≡ Some xs) ↔ (HasNewest d.flash o c xs × (c < 2 ^ 32)) }
 {}

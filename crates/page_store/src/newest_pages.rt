@@ -2,20 +2,20 @@
 ghost use Rattle.std.specs.Prelude.{◌≡◌, ◌<◌, ℕ, length, true, false, Some, IsSome, IfOk, IfErr, OnOk, ◌≤◌, ◌+◌, ◌⊎◌, None};
 ghost use Rattle.nand_model.specs.Changes.{OnlyReads};
 ghost use Rattle.block_state.specs.TableOf.{table};
-ghost use Rattle.chunk_index.specs.Maps.{kept_pages};
-ghost use Rattle.chunk_index.specs.declared.form.KeptPage.{KeptPage};
+ghost use Rattle.chunk_index.specs.Maps.{committed_pages};
+ghost use Rattle.chunk_index.specs.declared.form.CommittedPage.{CommittedPage};
 ghost use Rattle.page_store.specs.Shown.{data_at};
 ghost use Rattle.page_store.specs.Newest.{seen};
 
-use crate::read_kept;
-use chunk_index::{Index, KeptPage};
+use crate::read_committed;
+use chunk_index::{CommittedPage, Index};
 use flash_tree::Key;
 use nand_model::Nand;
 use pages::{KnownPages, Pages, Presence, has_power};
 use std::alloc::{AllocError, Global};
 use volume_terms::StoreFault;
 
-/// The kept pages of a device, which are read and not changed: no cache, and no buffer.
+/// The committed pages of a device, which are read and not changed: no cache, and no buffer.
 #[derive(Drop)]
 pub struct NewestPages<N: Nand> {
     device: N,
@@ -23,8 +23,8 @@ pub struct NewestPages<N: Nand> {
     // The page that was found last.
     page: Vec<u8>,
     ghost size: { length page.items ≡ (N.state device).geometry.bytes },
-    ghost lie: { (o c : ℕ) (k : KeptPage) → kept_pages index o c ≡ Some k → (k.block < (N.state device).geometry.blocks) × (k.page < (N.state device).geometry.pages) },
-    ghost written: { (N.state device).honest ≡ true → (o c : ℕ) (k : KeptPage) → kept_pages index o c ≡ Some k → IsSome (data_at (N.state device).flash k) },
+    ghost lie: { (o c : ℕ) (k : CommittedPage) → committed_pages index o c ≡ Some k → (k.block < (N.state device).geometry.blocks) × (k.page < (N.state device).geometry.pages) },
+    ghost written: { (N.state device).honest ≡ true → (o c : ℕ) (k : CommittedPage) → committed_pages index o c ≡ Some k → IsSome (data_at (N.state device).flash k) },
 }
 
 impl<N: Nand> NewestPages<N> {
@@ -32,8 +32,8 @@ impl<N: Nand> NewestPages<N> {
 
     /// The pages that an index keeps on a device. Where memory is refused the device is given back.
     pub fn new(alloc: Global, device: N, index: Index) -> Result<NewestPages<N>, (N, AllocError)>
-        requires lie { (o c : ℕ) (k : KeptPage) → kept_pages index o c ≡ Some k → (k.block < (N.state device).geometry.blocks) × (k.page < (N.state device).geometry.pages) }
-        requires written { (N.state device).honest ≡ true → (o c : ℕ) (k : KeptPage) → kept_pages index o c ≡ Some k → IsSome (data_at (N.state device).flash k) }
+        requires lie { (o c : ℕ) (k : CommittedPage) → committed_pages index o c ≡ Some k → (k.block < (N.state device).geometry.blocks) × (k.page < (N.state device).geometry.pages) }
+        requires written { (N.state device).honest ≡ true → (o c : ℕ) (k : CommittedPage) → committed_pages index o c ≡ Some k → IsSome (data_at (N.state device).flash k) }
         ensures device { IfOk result (λ pages. device_of pages ≡ device) }
         ensures index { IfOk result (λ pages. index_of pages ≡ index) }
         ensures given_back { IfErr result (λ back. back.0 ≡ device) }
@@ -57,18 +57,18 @@ impl<N: Nand> NewestPages<N> {
         (device, index)
     }
 
-    /// Reads the page that is kept there.
-    fn read(&mut self, at: KeptPage) -> Result<Presence, StoreFault>
-        requires { (o : ℕ) × (c : ℕ) × (kept_pages self.old.index o c ≡ Some at) }
+    /// Reads the page that is committed there.
+    fn read(&mut self, at: CommittedPage) -> Result<Presence, StoreFault>
+        requires { (o : ℕ) × (c : ℕ) × (committed_pages self.old.index o c ≡ Some at) }
         ensures reads { OnlyReads (N.state self.old.device) (N.state self.new.device) }
         ensures index { self.new.index ≡ self.old.index }
-        ensures asked { (N.state self.new.device).reads ≤ (N.state self.old.device).reads + 1 }
+        ensures issued { (N.state self.new.device).reads ≤ (N.state self.old.device).reads + 1 }
         ensures power { OnOk result ((N.state self.new.device).gone ≡ (N.state self.old.device).gone) }
         ensures there { IfOk result (λ presence. presence ≡ Presence.Present) }
         ensures page { (N.state self.old.device).honest ≡ true → OnOk result (data_at (N.state self.old.device).flash at ≡ Some self.new.page.items) }
         ensures fault { IfErr result (λ fault. (fault ≡ StoreFault.Device) × (((N.state self.new.device).gone ≡ true) ⊎ ((N.state self.old.device).honest ≡ true → data_at (N.state self.old.device).flash at ≡ None))) }
     {
-        read_kept(&mut self.device, at, &mut self.page)?;
+        read_committed(&mut self.device, at, &mut self.page)?;
         Ok(Presence::Present)
     }
 }
@@ -83,7 +83,7 @@ impl<N: Nand> Pages for NewestPages<N> {
     }
 
     fn find(&mut self, key: Key) -> Result<Presence, StoreFault> {
-        match self.index.kept(key) {
+        match self.index.committed(key) {
             Some(at) => self.read(at),
             None => Ok(Presence::Absent),
         }
@@ -108,6 +108,6 @@ impl<N: Nand> Pages for NewestPages<N> {
 
 impl<N: Nand> KnownPages for NewestPages<N> {
     fn has(&self, key: Key) -> bool {
-        self.index.kept(key).is_some()
+        self.index.committed(key).is_some()
     }
 }

@@ -21,7 +21,7 @@ use volume_terms::NUMBER_END;
 #[derive(Clone, Copy, Debug, PartialEq, Eq)]
 pub enum OpenFault {
     NoMemory,
-    /// The device did not give back what it was told.
+    /// The device did not return what was written.
     Lost,
     Gone,
 }
@@ -80,11 +80,11 @@ pub(crate) fn table_above<N: Nand>(
     marked_table(alloc, device, numbers)
 }
 
-/// Scans a device, which is only read: the newest page of each key is kept. Each tag of a good block is read once at most. No number of a
+/// Scans a device, which is only read: the newest page of each key is committed. Each tag of a good block is read once at most. No number of a
 /// block is noted.
 pub fn open<N: Nand>(alloc: Global, device: &mut N) -> Result<Opened, OpenFault>
     ensures reads { OnlyReads (N.state device.old) (N.state device.new) }
-    ensures asked { (N.state device.new).reads ≤ (N.state device.old).reads + good_pages (N.state device.old).flash (N.state device.old).geometry.pages (N.state device.old).geometry.blocks }
+    ensures issued { (N.state device.new).reads ≤ (N.state device.old).reads + good_pages (N.state device.old).flash (N.state device.old).geometry.pages (N.state device.old).geometry.blocks }
     ensures power { (N.state device.old).gone ≡ false → OnOk result ((N.state device.new).gone ≡ false) }
     ensures opened { IfOk result (λ opened. IsOpened (N.state device.new) (table opened.blocks) opened.index (numbers_of opened.numbers)) }
     ensures unwritten { IfOk result (λ opened. AreUnwritten (table opened.blocks)) }

@@ -59,7 +59,7 @@ impl<N: Nand> ReadOnlyPages<N> {
         }
     }
 
-    /// Refuses a commit where a change was refused, since the pages are not what is to be kept.
+    /// Refuses a commit where a change was refused, since the pages are not what is to be committed.
     fn check_unchanged(&self) -> Result<(), StoreFault>
         ensures whole { OnOk result (self.now.refused_change ≡ false) }
         ensures fault { IfErr result (λ fault. (fault ≡ faults.Worn) × (self.now.refused_change ≡ true)) }

@@ -1,4 +1,4 @@
-// The reading of a page that is kept.
+// The reading of a page that is committed.
 ghost use Rattle.std.specs.Prelude.{◌≡◌, ◌<◌, ◌≤◌, ◌+◌, ◌⊎◌, ℕ, List, length, true, false, Some, IsSome, OnOk, IfErr};
 ghost use Rattle.nand_model.specs.Changes.{OnlyReads};
 ghost use Rattle.page_store.specs.Shown.{data_at};
@@ -7,27 +7,27 @@ ghost use Rattle.page_store.specs.Changes.{KeepsSizes};
 ghost use Rattle.page_store.specs.Caching.{KeepsRest};
 ghost use Rattle.page_store.specs.Reading.{IsLoadFault, Caches};
 
-use crate::{PageCache, read_kept};
-use chunk_index::KeptPage;
+use crate::{PageCache, read_committed};
+use chunk_index::CommittedPage;
 use flash_tree::Key;
 use nand_model::Nand;
 use volume_terms::StoreFault;
 
-/// Sees that the page of a key, which is kept there, is in the cache. It is read into `scratch`, which changes places with a
+/// Sees that the page of a key, which is committed there, is in the cache. It is read into `scratch`, which changes places with a
 /// frame of the cache.
-pub(crate) fn load_kept<N: Nand>(
+pub(crate) fn load_committed<N: Nand>(
     device: &mut N,
     cache: &mut PageCache,
     scratch: &mut Vec<u8>,
     key: Key,
-    at: KeptPage,
+    at: CommittedPage,
 ) -> Result<(), StoreFault>
     requires block { at.block < (N.state device.old).geometry.blocks }
     requires page { at.page < (N.state device.old).geometry.pages }
     requires size { length scratch.old.items ≡ (N.state device.old).geometry.bytes }
     requires cache { page_bytes_of cache.old ≡ (N.state device.old).geometry.bytes }
     ensures reads { OnlyReads (N.state device.old) (N.state device.new) }
-    ensures asked { (N.state device.new).reads ≤ (N.state device.old).reads + 1 }
+    ensures issued { (N.state device.new).reads ≤ (N.state device.old).reads + 1 }
     ensures power { OnOk result ((N.state device.new).gone ≡ (N.state device.old).gone) }
     ensures size { length scratch.new.items ≡ length scratch.old.items }
     ensures sizes { KeepsSizes cache.old cache.new }
@@ -41,7 +41,7 @@ pub(crate) fn load_kept<N: Nand>(
     if cache.find(key) {
         return Ok(());
     }
-    read_kept(device, at, scratch)?;
+    read_committed(device, at, scratch)?;
     cache.put(key, scratch)?;
     Ok(())
 }

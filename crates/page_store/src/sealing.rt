@@ -24,7 +24,7 @@ fn store_fault(fault: SealFault) -> StoreFault
 }
 
 impl<N: Nand> Store<N> {
-    /// Writes a checkpoint of the pages that are kept, where one is due, and gives the device back. What is buffered is not
+    /// Writes a checkpoint of the pages that are committed, where one is due, and gives the device back. What is buffered is not
     /// written.
     pub fn seal(self) -> (N, Result<(), StoreFault>)
         ensures seals { IsSealed (IsDue self.log.spare (table self.log.blocks)) (⟦<Store<N> as Pages>⟧.state self) (N.state result.0) result.1 }

@@ -2,8 +2,8 @@
 ghost use Rattle.std.specs.Prelude.{◌≡◌, ◌<◌, ◌≤◌, ℕ, List, length, true, false, None, IsSome, IfOk, IfErr, OnOk, ◌/◌, []};
 ghost use Rattle.std.specs.NonZero.{non_zero_usize_get};
 ghost use Rattle.block_state.specs.TableOf.{table};
-ghost use Rattle.flash_log.specs.Standing.{AreKept, HasFreeBlocks};
-ghost use Rattle.chunk_index.specs.Maps.{kept_pages, present};
+ghost use Rattle.flash_log.specs.Standing.{AreCommitted, HasFreeBlocks};
+ghost use Rattle.chunk_index.specs.Maps.{committed_pages, present};
 ghost use Rattle.chunk_index.specs.declared.form.Present.TheVariants as presents;
 ghost use Rattle.page_store.specs.Buffering.{Buffers, IsUnbuffered};
 ghost use Rattle.page_store.specs.BufferOf.{buffered, most_pages, bytes_of_page};
@@ -14,12 +14,12 @@ ghost use Rattle.page_store.specs.Reading.{IsFindFault, Lends, Looks};
 ghost use Rattle.page_store.specs.Caching.{Shows, KeepsRest};
 ghost use Rattle.page_store.specs.Carrying.{AreNumbered};
 ghost use Rattle.flash_log.specs.LogOf.{HasReserve};
-ghost use Rattle.page_store.specs.laws.OneProof.{newest_kept_prop};
+ghost use Rattle.page_store.specs.laws.OneProof.{newest_committed_prop};
 
 use crate::counts::StoreCounts;
-use crate::reading::load_kept;
+use crate::reading::load_committed;
 use crate::{Buffer, PageCache};
-use chunk_index::{KeptPage, Present};
+use chunk_index::{CommittedPage, Present};
 use flash_log::Log;
 use flash_tree::Key;
 use nand_model::{Geometry, Nand};
@@ -38,7 +38,7 @@ pub(crate) enum Found {
     Cached(Key),
 }
 
-/// The pages of a volume's objects: kept on a device, with a buffer of pages that are not written yet, and a cache of
+/// The pages of a volume's objects: committed on a device, with a buffer of pages that are not written yet, and a cache of
 /// present ones.
 #[derive(Drop)]
 pub struct Store<N: Nand> {
@@ -61,7 +61,7 @@ pub struct Store<N: Nand> {
     ghost few: { broken ≡ false → HasReserve log },
     ghost free: { broken ≡ false → HasFreeBlocks (table log.blocks) log.spare },
     // Each committed page is the newest of its key, also where the device has gone in a read.
-    ghost newest: { broken ≡ false → (N.state log.device).honest ≡ true → AreKept (N.state log.device).flash (kept_pages log.index) } by { newest_kept_prop broken (N.state log.device).honest (N.state log.device).flash (kept_pages log.index) },
+    ghost newest: { broken ≡ false → (N.state log.device).honest ≡ true → AreCommitted (N.state log.device).flash (committed_pages log.index) } by { newest_committed_prop broken (N.state log.device).honest (N.state log.device).flash (committed_pages log.index) },
     ghost shown: { broken ≡ false → (N.state log.device).honest ≡ true → Shows cache (present_data log.index (buffered buffer) (N.state log.device).flash) },
 }
 
@@ -101,7 +101,7 @@ impl<N: Nand> Store<N> {
         log: Log<N>,
         capacity: NonZeroUsize,
     ) -> Result<Store<N>, (N, AllocError)>
-        requires kept { (N.state log.device).honest ≡ true → AreKept (N.state log.device).flash (kept_pages log.index) }
+        requires committed { (N.state log.device).honest ≡ true → AreCommitted (N.state log.device).flash (committed_pages log.index) }
         requires few { HasReserve log }
         requires free { HasFreeBlocks (table log.blocks) log.spare }
         requires none { IsUnbuffered log.index }
@@ -139,8 +139,8 @@ impl<N: Nand> Store<N> {
         self.log.device
     }
 
-    /// Finds the page of a key that is kept there.
-    fn find_kept(&mut self, key: Key, at: KeptPage) -> Result<Presence, StoreFault>
+    /// Finds the page of a key that is committed there.
+    fn find_committed(&mut self, key: Key, at: CommittedPage) -> Result<Presence, StoreFault>
         requires { present self.old.log.index key.object key.chunk ≡ presents.OnFlash at }
         ensures looks { Looks (state_of self.old) (state_of self.new) }
         ensures power { OnOk result ((N.state self.new.log.device).gone ≡ (N.state self.old.log.device).gone) }
@@ -150,7 +150,7 @@ impl<N: Nand> Store<N> {
         ensures page { Lends (state_of self.old) at (lent_by self.new) result }
         ensures fault { IfErr result (IsFindFault (state_of self.old) (state_of self.new)) }
     {
-        match load_kept(
+        match load_committed(
             &mut self.log.device,
             &mut self.cache,
             &mut self.scratch,
@@ -188,7 +188,7 @@ impl<N: Nand> Pages for Store<N> {
                 self.found = Found::Buffered(place);
                 Ok(Presence::Present)
             }
-            Present::OnFlash(at) => self.find_kept(key, at),
+            Present::OnFlash(at) => self.find_committed(key, at),
         }
     }
 

@@ -1,7 +1,7 @@
-// The store as a store of pages that are changed and kept.
+// The store as a store of pages that are changed and committed.
 use crate::cache::SPARE_AT_REST;
 use crate::store::Store;
-use chunk_index::{the_counts_add_up_to_the_kept_keys, the_counts_are_of_the_keys};
+use chunk_index::{the_counts_add_up_to_the_committed_keys, the_counts_are_of_the_keys};
 use nand_model::Nand;
 use pages::{Change, Cut, PageStore};
 use volume_terms::StoreFault;
@@ -20,7 +20,7 @@ impl<N: Nand> PageStore for Store<N> {
 
     fn apply(&mut self, change: Change) -> Result<(), StoreFault> {
         the_counts_are_of_the_keys();
-        the_counts_add_up_to_the_kept_keys();
+        the_counts_add_up_to_the_committed_keys();
         self.change(change)
     }
 
@@ -31,7 +31,7 @@ impl<N: Nand> PageStore for Store<N> {
 
     fn commit(&mut self) -> Result<(), StoreFault> {
         the_counts_are_of_the_keys();
-        the_counts_add_up_to_the_kept_keys();
+        the_counts_add_up_to_the_committed_keys();
         self.write_out(SPARE_AT_REST)
     }
 

@@ -21,7 +21,7 @@ use std::alloc::Global;
 /// The tables of a device, which is only read, by the summaries of its blocks; what was read of first pages before is noted. Of a block that
 /// has a summary its tags are not read, nor of those that begin with an erased page but of the first of them.
 ///
-/// On a flash that is not true pages may be missing, and of an honest device too any keys be kept at places that lost their pages.
+/// On a flash that is not true pages may be missing, and of an honest device too any keys be committed at places that lost their pages.
 pub fn open_summarized<N: Nand>(
     alloc: Global,
     device: &mut N,

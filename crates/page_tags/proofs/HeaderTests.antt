@@ -1,4 +1,4 @@
--- What the tests of a page tell of its header and its faults.
+-- What the tests of a page report on its header and its faults.
 use Rattle.std.proofs.Common.{◌≡◌, ◌≢◌, ◌≤◌, ℕ, List, length, take, drop, replicate, get_or, sym, ap, ◌∙◌, inl, inr, subst, Bool, true, false, eqb, ◌++◌, take-append-drop, arith}
 use Rattle.std.proofs.lemmas.Bool.{cases_lt, false≢true}
 use Rattle.std.proofs.lemmas.Bool.Decides.{Decides-eqb}
@@ -55,13 +55,13 @@ module _ (page : List ℕ) (format : Format) (kind : ObjectKind) (format_next : 
 
 -- ---- the magic, by the test of the page's beginning
 
-pub magical : (page : List ℕ) (told : Bool) → told ≡ starts_with eqb page magic → told ≡ true → take 4 page ≡ magic
-magical page told is yes_told = ap (take 4) ((starts_is Decides-eqb page magic told is).0 yes_told)
+pub magical : (page : List ℕ) (reported : Bool) → reported ≡ starts_with eqb page magic → reported ≡ true → take 4 page ≡ magic
+magical page reported is yes_reported = ap (take 4) ((starts_is Decides-eqb page magic reported is).0 yes_reported)
 
-pub not_magical : (page : List ℕ) (told : Bool) → told ≡ starts_with eqb page magic → told ≡ false → take 4 page ≡ magic → ⊥
-not_magical page told is not_told first =
+pub not_magical : (page : List ℕ) (reported : Bool) → reported ≡ starts_with eqb page magic → reported ≡ false → take 4 page ≡ magic → ⊥
+not_magical page reported is not_reported first =
     let whole : page ≡ magic ++ drop 4 page = sym (take-append-drop 4 page) ∙ ap (λ front. front ++ drop 4 page) first in
-    false≢true (sym not_told ∙ (starts_is Decides-eqb page magic told is).1 (drop 4 page) whole)
+    false≢true (sym not_reported ∙ (starts_is Decides-eqb page magic reported is).1 (drop 4 page) whole)
 
 -- ---- what a decoder's answer means
 

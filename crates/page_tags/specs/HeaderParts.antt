@@ -5,7 +5,7 @@ use Rattle.page_tags.specs.declared.header.Format.{Format}
 use Rattle.page_tags.specs.declared.header.Format.TheVariants as formats
 use Rattle.page_tags.specs.declared.header.ObjectKind.{ObjectKind}
 use Rattle.page_tags.specs.declared.header.ObjectKind.TheVariants as kinds
-use Rattle.page_tags.specs.Headers.{Fields, MayBeSet, format_number, greatest_told, is_present, kind_number, length_in, magic, moment_in}
+use Rattle.page_tags.specs.Headers.{Fields, MayBeSet, format_number, greatest_recorded, is_present, kind_number, length_in, magic, moment_in}
 
 -- the bytes before the presence bits
 abbrev pub head_bytes : Fields → List ℕ
@@ -46,7 +46,7 @@ pub record HasFormat (page : List ℕ) (format : Format) : Type 0 where
 pub record IsSoundHeader (page : List ℕ) (format : Format) (kind : ObjectKind) : Type 0 where
   pub begins : HasFormat page format
   pub kind_next : slice_index page 5 ≡ kind_number kind
-  pub length_fits : length_in page ≤ greatest_told (length page) kind
+  pub length_fits : length_in page ≤ greatest_recorded (length page) kind
   pub no_moment : format ≡ formats.One → moment_in page ≡ 0
   pub zeros : take 8 (drop 24 page) ≡ replicate 8 0
   pub within : (c : ℕ) → 1 ≤ c → is_present (drop 32 page) c ≡ true → MayBeSet (length page) kind (length_in page) c

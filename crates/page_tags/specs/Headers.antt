@@ -46,9 +46,9 @@ abbrev pub IsBytes : List ℕ → Type 0
 IsBytes bytes = (i : ℕ) → slice_index bytes i < 256
 
 -- the greatest length over pages of d bytes: the bytes of a file that presence bits can name, or entries of a directory
-abbrev pub greatest_told : ℕ → ObjectKind → ℕ
-greatest_told d kinds.File = most_file_bytes d
-greatest_told d kinds.Directory = 2 ^ 32 - 1
+abbrev pub greatest_recorded : ℕ → ObjectKind → ℕ
+greatest_recorded d kinds.File = most_file_bytes d
+greatest_recorded d kinds.Directory = 2 ^ 32 - 1
 
 -- A bit of chunk c may be set: in a file up to the chunk of its last byte, in a directory none.
 abbrev pub MayBeSet : ℕ → ObjectKind → ℕ → ℕ → Type 0
@@ -58,7 +58,7 @@ MayBeSet d kinds.Directory len c = ⊥
 -- what a header may say in a page of d bytes
 pub record IsHeader (d : ℕ) (f : Fields) : Type 0 where
   pub spare : f.spare < 2 ^ 16
-  pub length_fits : f.length ≤ greatest_told d f.kind
+  pub length_fits : f.length ≤ greatest_recorded d f.kind
   pub moment : f.moment < 2 ^ 64
   pub no_moment : f.format ≡ formats.One → f.moment ≡ 0
   pub room : length f.bits ≡ d - 32
@@ -82,13 +82,13 @@ abbrev pub HasFault : List ℕ → HeaderFault → Type 0
 HasFault page faults.Magic = (take 4 page ≢ magic) ⊎ (slice_index page 4 ≡ 0)
 HasFault page (faults.Newer format) = (slice_index page 4 ≡ format) × (2 < format)
 HasFault page faults.Kind = (slice_index page 5 ≢ 1) × (slice_index page 5 ≢ 2)
-HasFault page faults.Length = (kind : ObjectKind) × (slice_index page 5 ≡ kind_number kind) × (greatest_told (length page) kind < length_in page)
+HasFault page faults.Length = (kind : ObjectKind) × (slice_index page 5 ≡ kind_number kind) × (greatest_recorded (length page) kind < length_in page)
 HasFault page faults.Pad =
     ((slice_index page 4 ≡ 1) × (moment_in page ≢ 0))
     ⊎ (take 8 (drop 24 page) ≢ replicate 8 0)
     ⊎ ((kind : ObjectKind) × (c : ℕ) × (slice_index page 5 ≡ kind_number kind) × (1 ≤ c) × (is_present (drop 32 page) c ≡ true) × (MayBeSet (length page) kind (length_in page) c → ⊥))
 
--- the order in which faults are told
+-- the order in which faults are reported
 abbrev pub rank : HeaderFault → ℕ
 rank faults.Magic = 0
 rank (faults.Newer format) = 1

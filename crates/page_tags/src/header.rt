@@ -3,7 +3,7 @@
 ghost use Rattle.std.specs.Prelude.{◌≡◌, ◌≢◌, ◌≤◌, ◌↔◌, length, IfOk, IfErr, IsOkAnd, IsTrue, MatchOption, Err, slice_index, drop};
 ghost use Rattle.page_tags.specs.HeaderFields.{fields_of, file_fields};
 ghost use Rattle.page_tags.specs.HeaderParts.{HasPast, head_bytes, last_chunk};
-ghost use Rattle.page_tags.specs.Headers.{Fields, HasFault, IsFirstFault, IsHeader, IsHeaderOf, format_number, greatest_told, header_bytes, kind_number};
+ghost use Rattle.page_tags.specs.Headers.{Fields, HasFault, IsFirstFault, IsHeader, IsHeaderOf, format_number, greatest_recorded, header_bytes, kind_number};
 ghost use Rattle.page_tags.specs.declared.header.Format.{Format};
 ghost use Rattle.page_tags.specs.declared.header.HeaderFault.{HeaderFault};
 ghost use Rattle.page_tags.specs.declared.header.ObjectKind.{ObjectKind};
@@ -29,7 +29,7 @@ pub enum ObjectKind {
     Directory,
 }
 
-/// What is wrong with a page, in the order in which it is told.
+/// What is wrong with a page, in the order in which it is reported.
 #[derive(Clone, Copy, Debug, PartialEq, Eq)]
 pub enum HeaderFault {
     Magic,
@@ -110,7 +110,7 @@ impl ObjectKind {
     fn greatest_length(self, page_bytes: usize) -> u64
         requires least { 32 ≤ page_bytes }
         requires most { page_bytes ≤ 4096 }
-        ensures { result ≡ greatest_told page_bytes self }
+        ensures { result ≡ greatest_recorded page_bytes self }
     {
         match self {
             ObjectKind::File => most_file_bytes(page_bytes as u64),

@@ -1,6 +1,6 @@
 // Files over pages in memory.
 ghost use Rattle.std.specs.Prelude.{◌≡◌, ◌-◌, ◌*◌};
-ghost use Rattle.pages.specs.MemoryState.{kept};
+ghost use Rattle.pages.specs.MemoryState.{committed};
 
 use file_io::{FileInfo, create, read_at, read_info, set_length, write_at};
 use pages::{Change, MemPages, PageFault, Pages};
@@ -42,7 +42,7 @@ fn empty_file(rt: &impl Abort, alloc: Global, page_bytes: u32) -> MemPages {
 
 /// The most bytes of a file.
 fn greatest(pages: &MemPages) -> u64
-    ensures { result ≡ 8 * ((kept pages.now).page_bytes - 32) * (kept pages.now).page_bytes }
+    ensures { result ≡ 8 * ((committed pages.now).page_bytes - 32) * (committed pages.now).page_bytes }
 {
     let page_bytes = u64::from(pages.page_bytes());
     8 * (page_bytes - 32) * page_bytes

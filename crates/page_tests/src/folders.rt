@@ -1,7 +1,7 @@
 // Directories beside maps from names.
 use crate::store::{AWAY, HOME, Store, slot_of, taken, taken_from, two_directories};
 use directories::{
-    Route, add, entries, find, names, read_head, remove, rename_between, rename_within, replace,
+    Route, add, entries, find, names, read_head, remove, rename_between, rename_within,
 };
 use rand_core::utils::NextWord;
 use rand_pcg::Pcg32;
@@ -77,13 +77,19 @@ fn put(
     object: u64,
 ) -> Store {
     let slot = slot_of(rt, name, object);
-    let change = match lead(rt, alloc, wanted, name, object) {
-        None => add(alloc, &mut store.pages, directory, &slot, object).expect(rt, "a change"),
-        Some(_) => replace(alloc, &mut store.pages, directory, &slot, object)
-            .expect(rt, "a change")
-            .expect(rt, "it has no name"),
-    };
-    taken(rt, alloc, store, change)
+    match lead(rt, alloc, wanted, name, object) {
+        None => {
+            let change = add(alloc, &mut store.pages, directory, &slot, object);
+            taken(rt, alloc, store, change.expect(rt, "a change"))
+        }
+        Some(_) => {
+            let Store { names, pages } = &mut store;
+            let change = rename_within(alloc, names, pages, directory, name, &slot, object)
+                .expect(rt, "a change")
+                .expect(rt, "it has no name");
+            taken_from(rt, alloc, store, change, directory, name)
+        }
+    }
 }
 
 /// The store after a name is removed where it is there.

@@ -113,7 +113,7 @@ fn left_by(
 
 /// The slot that a name leaves is returned where a name with another hash is in it then.
 #[test]
-fn the_slot_of_a_name_that_goes_is_told(rt: HostRuntime) {
+fn the_slot_of_a_name_that_goes_is_reported(rt: HostRuntime) {
     let alloc = rt.alloc();
     let removed = ObjectChange::Remove {
         entry: entry(ROOT, b"costarring"),

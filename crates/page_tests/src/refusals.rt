@@ -5,7 +5,7 @@ ghost use Rattle.flash_tree.specs.Slots.{IsTreeSlot};
 
 use crate::store::{AWAY, HOME, Store, slot_of, taken, two_directories};
 use directories::{
-    Route, add, entries, find, names, read_head, remove, rename_between, rename_within, replace,
+    Route, add, entries, find, names, read_head, remove, rename_between, rename_within,
 };
 use file_io::{create, read_at, read_info, set_length, write_at};
 use page_tags::Slot;
@@ -24,7 +24,6 @@ enum Call {
     Entries,
     Add,
     Remove,
-    Replace,
     RenameWithin,
     RenameBetween,
     Info,
@@ -34,14 +33,13 @@ enum Call {
 }
 
 /// Each call, how many pages it looks up, and how much it returns: names, bytes, or the pages of its change.
-const CALLS: [(Call, u64, usize); 13] = [
+const CALLS: [(Call, u64, usize); 12] = [
     (Call::Head, 1, 3),
     (Call::Find, 1, 1),
     (Call::Names, 4, 3),
     (Call::Entries, 4, 3),
     (Call::Add, 1, 2),
     (Call::Remove, 4, 2),
-    (Call::Replace, 5, 2),
     (Call::RenameWithin, 5, 3),
     (Call::RenameBetween, 6, 4),
     (Call::Info, 1, 700),
@@ -71,10 +69,6 @@ fn ask_directory(
         source: HOME,
         target: AWAY,
     };
-    let replaced = Slot {
-        name: b"c",
-        ..*slot
-    };
     Ok(match call {
         Call::Head => read_head(&mut store.pages, HOME)?.length as usize,
         Call::Find => usize::from(find(&store.names, &mut store.pages, HOME, 3, b"c")?.is_some()),
@@ -82,7 +76,6 @@ fn ask_directory(
         Call::Entries => entries(alloc, &mut store.pages, HOME)?.len(),
         Call::Add => count_of(Some(add(alloc, &mut store.pages, HOME, slot, 9)?)),
         Call::Remove => count_of(remove(alloc, &store.names, &mut store.pages, HOME, b"a", 9)?),
-        Call::Replace => count_of(replace(alloc, &mut store.pages, HOME, &replaced, 9)?),
         Call::RenameWithin => count_of(rename_within(
             alloc,
             &store.names,

@@ -13,11 +13,11 @@ use Rattle.paged_objects.specs.Standing.{volume_of, StandsFor, Shown}
 use Rattle.paged_objects.specs.Ending.{HasPages, IsUsedUp}
 use Rattle.paged_objects.specs.laws.Going.{volume_on}
 
--- no more pages are kept than the volume has units
+-- no more pages are committed than the volume has units
 pub not_crowded : (z : Sizes) (p : PagesState) (objects : Objects) → StandsFor z p objects → IsCrowded p → ⊥
 not_crowded z p objects stands crowded =
     let shown : Shown z p stands.shown.0 = stands.shown.1 in
-    let there : HavePages shown.pages crowded.keys = λ i k is. let page = crowded.each i k is in (page.0, sym (shown.kept stands.sound k.object k.chunk) ∙ page.1) in
+    let there : HavePages shown.pages crowded.keys = λ i k is. let page = crowded.each i k is in (page.0, sym (shown.committed stands.sound k.object k.chunk) ∙ page.1) in
     let few : length crowded.keys ≤ charge z shown.objects = pages_charged z shown.pages shown.objects shown.can.numbers shown.holds crowded.keys crowded.once there in
     let fit : charge z shown.objects ≤ capacity z = leb-true (charge z shown.objects) (capacity z) shown.can.fit in
     let room : capacity (volume_of p) ≡ capacity z = ap capacity stands.sizes in

@@ -6,7 +6,7 @@ use Rattle.std.specs.FinMap as map
 use Rattle.std.proofs.lemmas.List.{append-nil, take-append-drop}
 use Rattle.std.proofs.Math.Seq.{take-append_seam}
 use Rattle.std.proofs.Math.ListN.{drop_of_length-le}
-use Rattle.page_tags.specs.Headers.{greatest_told}
+use Rattle.page_tags.specs.Headers.{greatest_recorded}
 use Rattle.page_tags.specs.declared.header.ObjectKind.{ObjectKind}
 use Rattle.page_tags.specs.declared.header.ObjectKind.TheVariants as kinds
 use Rattle.volume_terms.specs.Sizes.{Sizes, most_file_bytes}
@@ -46,7 +46,7 @@ module _ (p : PagesState) (z : Sizes) (objects : Objects) (h : HoldsIn p z objec
   pub file_fits : length file.1 ≤ most_file_bytes z.page_bytes
   file_fits =
       let r = (held_file p z objects h o file).reads in
-      let fits : r.fields.length ≤ greatest_told z.page_bytes kinds.File = subst (λ (k : ObjectKind). r.fields.length ≤ greatest_told z.page_bytes k) r.kind r.has.1.length_fits in
+      let fits : r.fields.length ≤ greatest_recorded z.page_bytes kinds.File = subst (λ (k : ObjectKind). r.fields.length ≤ greatest_recorded z.page_bytes k) r.kind r.has.1.length_fits in
       omega (arith, fits, r.size)
 
   -- the file becomes another, and no other object changes
@@ -57,6 +57,6 @@ module _ (p : PagesState) (z : Sizes) (objects : Objects) (h : HoldsIn p z objec
       put_object z p.present (changed change p.present) objects h.holds o (File moment bytes) (λ q c other. others_keep change o only p.present q c other)
       (record { reads = becomes.reads; only = becomes.only (held_file p z objects h o file).only })
 
-  -- its bytes are those that are told of it
+  -- its bytes are those that are reported of it
   pub bytes_are : file.1 ≡ bytes_of (map.get objects o)
   bytes_are = sym (ap bytes_of file.2)

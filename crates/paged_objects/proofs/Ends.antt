@@ -6,7 +6,7 @@ use Rattle.volume_terms.specs.Sizes.{Sizes}
 use Rattle.volume_terms.specs.declared.fault.StoreFault.{StoreFault}
 use Rattle.volume_terms.specs.declared.fault.StoreFault.TheVariants as faults
 use Rattle.posix_profile.specs.State.{Objects}
-use Rattle.object_store.specs.Told.{Tells, TellsTheSame}
+use Rattle.object_store.specs.Reported.{Reports, ReportsTheSame}
 use Rattle.name_index.specs.Names.{DropsDirectory}
 use Rattle.name_index.specs.declared.index.NameIndex.{NameIndex}
 use Rattle.directories.specs.Hashing.{HoldsMore}
@@ -14,7 +14,7 @@ use Rattle.paged_objects.specs.Naming.{HasNames}
 use Rattle.pages.specs.Faults.{MayLackMemory}
 use Rattle.pages.specs.Maps.{PageMap, without_cuts}
 use Rattle.pages.specs.State.{PagesState, OnlyFinds}
-use Rattle.pages.specs.Stores.{SamePages, GoesOn, StaysSame, KeptAs, KeepsEither, ChangeFailsBy, CommitFailsBy}
+use Rattle.pages.specs.Stores.{SamePages, GoesOn, StaysSame, CommittedAs, KeepsEither, ChangeFailsBy, CommitFailsBy}
 use Rattle.pages.specs.declared.fault.PageFault.{PageFault}
 use Rattle.pages.specs.declared.fault.PageFault.TheVariants as page_faults
 use Rattle.paged_objects.specs.Holding.{HoldsObjects}
@@ -27,7 +27,7 @@ use Rattle.paged_objects.specs.Changing.{ChangeEnds}
 use Rattle.paged_objects.specs.laws.Going.{finds_stay, refused_stays, stays_on, volume_on}
 use Rattle.paged_objects.proofs.Causes.{used_up}
 use Rattle.paged_objects.proofs.Dropped.{names_forgotten}
-use Rattle.paged_objects.specs.laws.Showing.{stays_stands, changed_stands, still_shown, either_turns, kept_shown, turns_after, fails_after, read_fails}
+use Rattle.paged_objects.specs.laws.Showing.{stays_stands, changed_stands, still_shown, either_turns, committed_shown, turns_after, fails_after, read_fails}
 
 -- a fault of reads, as the store's: one that has failed has lost its device
 pub read_fault : (q : PagesState) (fault : PageFault) → (q.failed ≡ true → q.device.gone ≡ true) → MayLackMemory q fault → ReadFailsBy q (fault_of fault)
@@ -72,25 +72,25 @@ read_ends z p q old new faults.Device finds why = read_fails z p q old (finds_st
 read_ends z p q old new faults.Worn finds why = absurd why
 
 -- a change of the pages that is not made leaves what is in memory
-pub not_made : (a b : ObjectsState) (old new : Objects) (fault : StoreFault) → TellsTheSame a.table b.table → HoldsMore a.names b.names → EndsPages (sizes_in a) a.pages b.pages old new (Err fault) → ChangeEnds a b old new (Err fault)
+pub not_made : (a b : ObjectsState) (old new : Objects) (fault : StoreFault) → ReportsTheSame a.table b.table → HoldsMore a.names b.names → EndsPages (sizes_in a) a.pages b.pages old new (Err fault) → ChangeEnds a b old new (Err fault)
 not_made a b old new faults.NoMemory same more ends = record { pages = ends; table = same; names = more }
 not_made a b old new faults.Device same more ends = ends
 not_made a b old new faults.Worn same more ends = ends
 
 -- what a cut leaves of what a mount shows
-cut_turns : (z : Sizes) (p q : PagesState) (objects : Objects) → HasPages z p objects → GoesOn p q → KeptAs q p.kept → Turns z objects p q
-cut_turns z p q objects has goes kept tree shown = inl (still_shown z p q tree goes has.stands.sound kept shown)
+cut_turns : (z : Sizes) (p q : PagesState) (objects : Objects) → HasPages z p objects → GoesOn p q → CommittedAs q p.committed → Turns z objects p q
+cut_turns z p q objects has goes committed tree shown = inl (still_shown z p q tree goes has.stands.sound committed shown)
 
 -- an object whose pages are cut is gone
 pub cut_done : (a b : ObjectsState) (objects : Objects) (number : ℕ) → HasPages (sizes_in a) a.pages objects → GoesOn a.pages b.pages → b.pages.sound ≡ true
-    → SamePages b.pages.present (without_cuts (record { object = number; from = 0 } ∷ []) a.pages.present) → KeptAs b.pages a.pages.kept → Tells b.table (map.remove objects number)
+    → SamePages b.pages.present (without_cuts (record { object = number; from = 0 } ∷ []) a.pages.present) → CommittedAs b.pages a.pages.committed → Reports b.table (map.remove objects number)
     → HasNames a.names (sizes_in a) a.pages.present objects → DropsDirectory number a.names b.names → ChangeEnds a b objects (map.remove objects number) (Ok tt)
-cut_done a b objects number has goes sound same kept tells named drops = (
+cut_done a b objects number has goes sound same committed reports named drops = (
   changed_stands (sizes_in a) a.pages b.pages objects (map.remove objects number) (without_cuts (record { object = number; from = 0 } ∷ []) a.pages.present) goes has.stands sound
-      (cut_object (sizes_in a) a.pages.present objects has.stands.holds number) same (cut_turns (sizes_in a) a.pages b.pages objects has goes kept),
-  tells,
+      (cut_object (sizes_in a) a.pages.present objects has.stands.holds number) same (cut_turns (sizes_in a) a.pages b.pages objects has goes committed),
+  reports,
   names_forgotten a.names b.names (sizes_in a) a.pages.present b.pages.present objects number drops same named,
-  cut_turns (sizes_in a) a.pages b.pages objects has goes kept,
+  cut_turns (sizes_in a) a.pages b.pages objects has goes committed,
 )
 
 -- a call that takes no memory ended the use of the store
@@ -100,21 +100,21 @@ ended_so z p q objects faults.Device has goes turns why = record { goes_on = goe
 ended_so z p q objects faults.Worn has goes turns why = record { goes_on = goes; turns = turns; cause = inr (used_up z p q objects has goes why) }
 
 -- an object whose pages are not cut
-pub cut_failed : (a b : ObjectsState) (objects new : Objects) (fault : StoreFault) → HasPages (sizes_in a) a.pages objects → GoesOn a.pages b.pages → KeptAs b.pages a.pages.kept → CommitFailsBy a.pages b.pages fault
+pub cut_failed : (a b : ObjectsState) (objects new : Objects) (fault : StoreFault) → HasPages (sizes_in a) a.pages objects → GoesOn a.pages b.pages → CommittedAs b.pages a.pages.committed → CommitFailsBy a.pages b.pages fault
     → ChangeEnds a b objects new (Err fault)
-cut_failed a b objects new faults.NoMemory has goes kept why = absurd why
-cut_failed a b objects new faults.Device has goes kept why = ended_so (sizes_in a) a.pages b.pages objects faults.Device has goes (cut_turns (sizes_in a) a.pages b.pages objects has goes kept) why
-cut_failed a b objects new faults.Worn has goes kept why = ended_so (sizes_in a) a.pages b.pages objects faults.Worn has goes (cut_turns (sizes_in a) a.pages b.pages objects has goes kept) why
+cut_failed a b objects new faults.NoMemory has goes committed why = absurd why
+cut_failed a b objects new faults.Device has goes committed why = ended_so (sizes_in a) a.pages b.pages objects faults.Device has goes (cut_turns (sizes_in a) a.pages b.pages objects has goes committed) why
+cut_failed a b objects new faults.Worn has goes committed why = ended_so (sizes_in a) a.pages b.pages objects faults.Worn has goes (cut_turns (sizes_in a) a.pages b.pages objects has goes committed) why
 
 -- a commit that is done
-pub committed : (z : Sizes) (p q : PagesState) (objects : Objects) → HasPages z p objects → GoesOn p q → q.sound ≡ true → SamePages q.present p.present → KeepsEither p q → KeptAs q p.present
+pub committed_map : (z : Sizes) (p q : PagesState) (objects : Objects) → HasPages z p objects → GoesOn p q → q.sound ≡ true → SamePages q.present p.present → KeepsEither p q → CommittedAs q p.present
     → StandsFor z q objects × Commits z objects p q
-committed z p q objects has goes sound same keeps kept = (
+committed_map z p q objects has goes sound same keeps committed = (
   changed_stands z p q objects objects p.present goes has.stands sound has.stands.holds same (either_turns z p q objects goes has.stands has.can keeps),
   record {
     goes_on = goes;
-    shown = kept_shown z q p.present objects (volume_on p q goes ∙ has.stands.sizes) kept has.stands.holds has.can;
-    holds = λ is. same_objects z p.present q.kept objects has.stands.holds (kept.kept is);
+    shown = committed_shown z q p.present objects (volume_on p q goes ∙ has.stands.sizes) committed has.stands.holds has.can;
+    holds = λ is. same_objects z p.present q.committed objects has.stands.holds (committed.committed is);
   },
 )
 

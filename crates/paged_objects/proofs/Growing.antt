@@ -157,12 +157,12 @@ pub renamed_names : (z : Sizes) (change : Change) (objects : Objects) (moment d 
     → WritesPast z change d (map.len dir.1) (map.len (map.insert (map.remove dir.1 from) to o)) → WritesNames z change objects (with_name (without_name objects moment d from) moment d to o)
 renamed_names z change objects moment d dir from to o slots =
     let base : Objects = without_name objects moment d from in
-    let told : dir.1 ≡ entries_of (map.get objects d) = sym (ap entries_of dir.2) in
+    let reported : dir.1 ≡ entries_of (map.get objects d) = sym (ap entries_of dir.2) in
     let left : map.remove dir.1 from ≡ entries_of (map.get base d) =
-    ap (λ (es : Entries). map.remove es from) told
+    ap (λ (es : Entries). map.remove es from) reported
     ∙ sym (ap entries_of (get_here nat_cmp_total map.nat_cmp-IsAntisymmetric objects d (Dir moment (map.remove (entries_of (map.get objects d)) from)))) in
     named_at z change objects base moment d to o (less_unnamed objects moment d from)
-    (subst (λ n. WritesPast z change d n (map.len (map.insert (entries_of (map.get base d)) to o))) (ap map.len told)
+    (subst (λ n. WritesPast z change d n (map.len (map.insert (entries_of (map.get base d)) to o))) (ap map.len reported)
     (subst (λ (es : Entries). WritesPast z change d (map.len dir.1) (map.len (map.insert es to o))) left slots))
 
 -- a name in another directory
@@ -170,11 +170,11 @@ pub moved_names : (z : Sizes) (change : Change) (objects : Objects) (moment d t 
     → WritesPast z change t (map.len target.1) (map.len (map.insert target.1 to o)) → WritesNames z change objects (with_name (without_name objects moment d from) moment t to o)
 moved_names z change objects moment d t target apart from to o slots =
     let base : Objects = without_name objects moment d from in
-    let told : target.1 ≡ entries_of (map.get objects t) = sym (ap entries_of target.2) in
+    let reported : target.1 ≡ entries_of (map.get objects t) = sym (ap entries_of target.2) in
     let there : target.1 ≡ entries_of (map.get base t) =
-    told ∙ sym (ap entries_of (get_there nat_cmp_total map.nat_cmp-IsAntisymmetric objects d (Dir moment (map.remove (entries_of (map.get objects d)) from)) t apart)) in
+    reported ∙ sym (ap entries_of (get_there nat_cmp_total map.nat_cmp-IsAntisymmetric objects d (Dir moment (map.remove (entries_of (map.get objects d)) from)) t apart)) in
     named_at z change objects base moment t to o (less_unnamed objects moment d from)
-    (subst (λ n. WritesPast z change t n (map.len (map.insert (entries_of (map.get base t)) to o))) (ap map.len told)
+    (subst (λ n. WritesPast z change t n (map.len (map.insert (entries_of (map.get base t)) to o))) (ap map.len reported)
     (subst (λ (es : Entries). WritesPast z change t (map.len target.1) (map.len (map.insert es to o))) there slots))
 
 -- ---- an object that goes besides
@@ -203,8 +203,8 @@ names_cut z change cut both number only same old new writes d s low high =
           same_count (map.get (map.remove new number) d) None (ap (map.get (map.remove new number)) here ∙ removed_none nat_cmp_total map.nat_cmp-IsAntisymmetric new number) ∙ none_counted in
           absurd (omega (arith, none, high))
       | inr other ↦
-          let kept : count (map.remove new number) d ≡ count new d = same_count (map.get (map.remove new number) d) (map.get new d) (get_removed nat_cmp_total map.nat_cmp-IsAntisymmetric new number d other) in
-          let key = key_there change no_pages d c (writes d s low (omega (arith, kept, high))) in
+          let committed : count (map.remove new number) d ≡ count new d = same_count (map.get (map.remove new number) d) (map.get new d) (get_removed nat_cmp_total map.nat_cmp-IsAntisymmetric new number d other) in
+          let key = key_there change no_pages d c (writes d s low (omega (arith, committed, high))) in
           key_is both d c key.0 (same d c ∙ others_keep cut number only (changed change no_pages) d c other ∙ key.1)
     ]
 

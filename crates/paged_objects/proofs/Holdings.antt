@@ -70,7 +70,7 @@ module _ (p : PagesState) (z : Sizes) (objects : Objects) (h : HoldsIn p z objec
       put_object z p.present (changed change p.present) objects h.holds d (Dir moment entries) (λ q c other. others_keep change d only p.present q c other)
       (now_directory (changed change p.present) moment entries reads besides)
 
-  -- its entries are those that are told of it
+  -- its entries are those that are reported of it
   pub entries_are : dir.1 ≡ entries_of (map.get objects d)
   entries_are = sym (ap entries_of dir.2)
 
@@ -104,9 +104,9 @@ module _ (p : PagesState) (z : Sizes) (objects : Objects) (h : HoldsIn p z objec
       (λ c. changed_same second (changed first m) m d c (others_keep first o only_first m d c apart)) (Some (Dir moment entries)) named in
       let both : HoldsObjects z n (map.insert (map.insert objects o x) d (Dir moment entries)) = put_two z m n objects h.holds o d x (Dir moment entries) apart
       (λ q c not_o not_d. others_keep second d only_second (changed first m) q c not_d ∙ others_keep first o only_first m q c not_o) new' named_there in
-      let told : dir.1 ≡ entries_of (map.get (map.insert objects o x) d) = entries_are ∙ ap entries_of (sym (get_there nat_cmp_total map.nat_cmp-IsAntisymmetric objects o x d apart)) in
+      let reported : dir.1 ≡ entries_of (map.get (map.insert objects o x) d) = entries_are ∙ ap entries_of (sym (get_there nat_cmp_total map.nat_cmp-IsAntisymmetric objects o x d apart)) in
       subst (λ k. HoldsObjects z n (map.insert (map.insert objects k x) d (Dir moment (map.insert (entries_of (map.get (map.insert objects k x) d)) name k)))) is
-      (subst (λ (es : Entries). HoldsObjects z n (map.insert (map.insert objects o x) d (Dir moment (map.insert es name o)))) told
+      (subst (λ (es : Entries). HoldsObjects z n (map.insert (map.insert objects o x) d (Dir moment (map.insert es name o)))) reported
       (subst (λ k. HoldsObjects z n (map.insert (map.insert objects o x) d (Dir moment (map.insert dir.1 name k)))) same_number
       (subst (λ (k : Name). HoldsObjects z n (map.insert (map.insert objects o x) d (Dir moment (map.insert dir.1 k got)))) same_name both)))
 
@@ -123,9 +123,9 @@ module _ (p : PagesState) (z : Sizes) (objects : Objects) (h : HoldsIn p z objec
       (now_directory n moment entries reads besides) in
       let twice : HoldsObjects z n (map.insert (map.insert objects d first) d (Dir moment entries)) =
       same_numbers z n (map.insert objects d (Dir moment entries)) (map.insert (map.insert objects d first) d (Dir moment entries)) (put_twice objects d first (Dir moment entries)) one in
-      let told : map.remove dir.1 from ≡ entries_of (map.get (map.insert objects d first) d) =
+      let reported : map.remove dir.1 from ≡ entries_of (map.get (map.insert objects d first) d) =
       ap (λ (es : Entries). map.remove es from) entries_are ∙ sym (ap entries_of (get_here nat_cmp_total map.nat_cmp-IsAntisymmetric objects d first)) in
-      subst (λ (es : Entries). HoldsObjects z n (map.insert (map.insert objects d first) d (Dir moment (map.insert es to o)))) told twice
+      subst (λ (es : Entries). HoldsObjects z n (map.insert (map.insert objects d first) d (Dir moment (map.insert es to o)))) reported twice
 
   -- a name goes from the directory and is put into another
   pub holds_moved : (t : ℕ) (target : IsDirectory objects t) → d ≢ t → (change : Change) (moment : ℕ) (from to : Name) (o : ℕ)
@@ -140,7 +140,7 @@ module _ (p : PagesState) (z : Sizes) (objects : Objects) (h : HoldsIn p z objec
       let both : HoldsObjects z n (map.insert (map.insert objects d first) t (Dir moment (map.insert target.1 to o))) =
       put_two z p.present n objects h.holds d t first (Dir moment (map.insert target.1 to o)) (λ same. apart (sym same)) others source there in
       let same : first ≡ was = ap (λ (es : Entries). Dir moment (map.remove es from)) entries_are in
-      let told : target.1 ≡ entries_of (map.get (map.insert objects d was) t) =
+      let reported : target.1 ≡ entries_of (map.get (map.insert objects d was) t) =
       sym (ap entries_of target.2) ∙ ap entries_of (sym (get_there nat_cmp_total map.nat_cmp-IsAntisymmetric objects d was t (λ is. apart (sym is)))) in
-      subst (λ (es : Entries). HoldsObjects z n (map.insert (map.insert objects d was) t (Dir moment (map.insert es to o)))) told
+      subst (λ (es : Entries). HoldsObjects z n (map.insert (map.insert objects d was) t (Dir moment (map.insert es to o)))) reported
       (subst (λ (x : Object). HoldsObjects z n (map.insert (map.insert objects d x) t (Dir moment (map.insert target.1 to o)))) same both)

@@ -12,14 +12,14 @@ use Rattle.object_store.specs.declared.change.ObjectChange.{ObjectChange}
 use Rattle.object_store.specs.declared.change.ObjectChange.TheVariants as changes
 use Rattle.object_store.specs.Stores.{Has, ReadFaults, Applies}
 use Rattle.object_store.specs.Stores as meant
-use Rattle.object_store.specs.Told.{table_sizes, Tells, TellsTheSame}
+use Rattle.object_store.specs.Reported.{table_sizes, Reports, ReportsTheSame}
 use Rattle.object_store.specs.Stores.{CanHave}
 use Rattle.object_store.specs.declared.table.ObjectTable.{ObjectTable}
 use Rattle.name_index.specs.Names.{Holds}
 use Rattle.name_index.specs.declared.index.NameIndex.{NameIndex}
 use Rattle.paged_objects.specs.Naming.{HasNames}
 use Rattle.pages.specs.State.{OnlyFinds}
-use Rattle.pages.specs.Stores.{GoesOn, SamePages, KeptAs, KeepsEither, CommitFailsBy}
+use Rattle.pages.specs.Stores.{GoesOn, SamePages, CommittedAs, KeepsEither, CommitFailsBy}
 use Rattle.paged_objects.specs.Faults.{ReadFailsBy}
 use Rattle.paged_objects.specs.Standing.{StandsFor}
 use Rattle.paged_objects.specs.Known.{ObjectsState, sizes_in, StaysIn, HasNamed, HasObjects}
@@ -27,7 +27,7 @@ use Rattle.paged_objects.specs.Changing.{ChangeEnds}
 use Rattle.paged_objects.specs.Meaning.{paged_meaning}
 use Rattle.paged_objects.specs.laws.Going.{finds_stay}
 use Rattle.paged_objects.specs.laws.Lawful.{same_here, more_names}
-use Rattle.paged_objects.proofs.Ends.{committed, commit_failed}
+use Rattle.paged_objects.proofs.Ends.{committed_map, commit_failed}
 
 -- what the trait says of a store that has objects
 pub has_objects : {S : Type 0} (state : S → ObjectsState) (a : S) (z : Sizes) (objects : Objects) → Has (paged_meaning state) z objects a → HasObjects (state a) objects
@@ -40,7 +40,7 @@ has_objects state a z objects has = record {
       fit = subst (λ (k : Sizes). fits k objects ≡ true) (sym has.sizes) has.fit;
     };
   };
-  tells = has.stands.tells;
+  reports = has.stands.reports;
   named = has.stands.named;
 }
 
@@ -59,7 +59,7 @@ can_make z y objects change is make = subst (λ (k : Sizes). CanMake k objects c
 found_in : (a b : ObjectsState) → OnlyFinds a.pages b.pages → b.table ≡ a.table → b.names ≡ a.names → StaysIn a b
 found_in a b finds table names = record {
   pages = finds_stay a.pages b.pages finds;
-  table = subst (TellsTheSame a.table) (sym table) (same_here a.table);
+  table = subst (ReportsTheSame a.table) (sym table) (same_here a.table);
   names = λ d h t is. subst (λ (x : NameIndex). Holds x d h t) (sym names) is;
 }
 
@@ -74,23 +74,23 @@ module _ {S : Type 0} (state : S → ObjectsState) where
   -- the end of a commit, which leaves what is in memory
   pub commits : (a b : S) (objects : Objects) (result : Result (Unit {0}) StoreFault) → HasObjects (state a) objects → (state b).table ≡ (state a).table → (state b).names ≡ (state a).names → GoesOn (state a).pages (state b).pages
       → OnOk result ((state a).pages.sound ≡ true → (state b).pages.sound ≡ true) → OnOk result (SamePages (state b).pages.present (state a).pages.present)
-      → KeepsEither (state a).pages (state b).pages → OnOk result (KeptAs (state b).pages (state a).pages.present)
+      → KeepsEither (state a).pages (state b).pages → OnOk result (CommittedAs (state b).pages (state a).pages.present)
       → IfErr result (CommitFailsBy (state a).pages (state b).pages) → meant.Commits (paged_meaning state) objects a b result
-  commits a b objects (Ok done) has table names goes sound present keeps kept why =
+  commits a b objects (Ok done) has table names goes sound present keeps committed why =
       let z : Sizes = sizes_in (state a) in
       let sizes : sizes_in (state b) ≡ z = ap table_sizes table in
-      let done = committed z (state a).pages (state b).pages objects has.pages goes (sound has.pages.stands.sound) present keeps kept in (
+      let done = committed_map z (state a).pages (state b).pages objects has.pages goes (sound has.pages.stands.sound) present keeps committed in (
         record {
           stands = subst (λ (k : Sizes). StandsFor k (state b).pages objects) (sym sizes) done.0;
-          tells = subst (λ (t : ObjectTable). Tells t objects) (sym table) has.tells;
+          reports = subst (λ (t : ObjectTable). Reports t objects) (sym table) has.reports;
           named = subst (λ (k : Sizes). HasNames (state b).names k (state b).pages.present objects) (sym sizes)
               (more_names z (state a).names (state b).names (state a).pages.present (state b).pages.present objects (λ d h t is. subst (λ (x : NameIndex). Holds x d h t) (sym names) is) present has.named);
         },
         (done.1, sizes),
       )
-  commits a b objects (Err faults.NoMemory) has table names goes sound present keeps kept why = absurd why
-  commits a b objects (Err faults.Device) has table names goes sound present keeps kept why = (commit_failed (sizes_in (state a)) (state a).pages (state b).pages objects faults.Device has.pages goes keeps why, ap table_sizes table)
-  commits a b objects (Err faults.Worn) has table names goes sound present keeps kept why = (commit_failed (sizes_in (state a)) (state a).pages (state b).pages objects faults.Worn has.pages goes keeps why, ap table_sizes table)
+  commits a b objects (Err faults.NoMemory) has table names goes sound present keeps committed why = absurd why
+  commits a b objects (Err faults.Device) has table names goes sound present keeps committed why = (commit_failed (sizes_in (state a)) (state a).pages (state b).pages objects faults.Device has.pages goes keeps why, ap table_sizes table)
+  commits a b objects (Err faults.Worn) has table names goes sound present keeps committed why = (commit_failed (sizes_in (state a)) (state a).pages (state b).pages objects faults.Worn has.pages goes keeps why, ap table_sizes table)
 
   -- the end of a change
   pub applied : (a b : S) (old new : Objects) (result : Result (Unit {0}) StoreFault) → GoesOn (state a).pages (state b).pages → sizes_in (state b) ≡ sizes_in (state a)
@@ -98,7 +98,7 @@ module _ {S : Type 0} (state : S → ObjectsState) where
   applied a b old new (Ok done) goes same ends = (
     record {
       stands = subst (λ (k : Sizes). StandsFor k (state b).pages new) (sym same) ends.0;
-      tells = ends.1;
+      reports = ends.1;
       named = subst (λ (k : Sizes). HasNames (state b).names k (state b).pages.present new) (sym same) ends.2;
     },
     (record { goes_on = goes; turns = ends.3 }, same),

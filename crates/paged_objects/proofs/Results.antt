@@ -45,6 +45,13 @@ on_made_one P Q (Ok (Some x)) f p = f x p
 on_made_one P Q (Ok None) f p = tt
 on_made_one P Q (Err e) f p = tt
 
+-- of two
+pub on_made_two : {A E : Type 0} (P Q T : A → Type 0) (r : Result (Option A) E) → ((x : A) → P x → Q x → T x)
+    → IfOk r (λ made. IfSome made P) → IfOk r (λ made. IfSome made Q) → IfOk r (λ made. IfSome made T)
+on_made_two P Q T (Ok (Some x)) f p q = f x p q
+on_made_two P Q T (Ok None) f p q = tt
+on_made_two P Q T (Err e) f p q = tt
+
 -- of three
 pub on_made_three : {A E : Type 0} (P Q S T : A → Type 0) (r : Result (Option A) E) → ((x : A) → P x → Q x → S x → T x)
     → IfOk r (λ made. IfSome made P) → IfOk r (λ made. IfSome made Q) → IfOk r (λ made. IfSome made S) → IfOk r (λ made. IfSome made T)
@@ -52,24 +59,9 @@ on_made_three P Q S T (Ok (Some x)) f p q s = f x p q s
 on_made_three P Q S T (Ok None) f p q s = tt
 on_made_three P Q S T (Err e) f p q s = tt
 
--- and of five
-pub on_made_five : {A E : Type 0} (P Q S T U V : A → Type 0) (r : Result (Option A) E) → ((x : A) → P x → Q x → S x → T x → U x → V x)
-    → IfOk r (λ made. IfSome made P) → IfOk r (λ made. IfSome made Q) → IfOk r (λ made. IfSome made S) → IfOk r (λ made. IfSome made T) → IfOk r (λ made. IfSome made U)
-    → IfOk r (λ made. IfSome made V)
-on_made_five P Q S T U V (Ok (Some x)) f p q s t u = f x p q s t u
-on_made_five P Q S T U V (Ok None) f p q s t u = tt
-on_made_five P Q S T U V (Err e) f p q s t u = tt
-
 -- a change that keeps each page of other objects keeps all of them
 pub each_within : {E : Type 0} (r : Result (Option Change) E) (m : PageMap) (d : ℕ) → ((q k : ℕ) → q ≢ d → IfOk r (λ made. IfSome made (λ change. changed change m q k ≡ m q k)))
     → IfOk r (λ made. IfSome made (λ change. (q k : ℕ) → q ≢ d → changed change m q k ≡ m q k))
 each_within (Ok (Some change)) m d f = f
 each_within (Ok None) m d f = tt
 each_within (Err e) m d f = tt
-
-pub each_between : {E : Type 0} (r : Result (Option Change) E) (m : PageMap) (d t : ℕ)
-    → ((q k : ℕ) → q ≢ d → q ≢ t → IfOk r (λ made. IfSome made (λ change. changed change m q k ≡ m q k)))
-    → IfOk r (λ made. IfSome made (λ change. (q k : ℕ) → q ≢ d → q ≢ t → changed change m q k ≡ m q k))
-each_between (Ok (Some change)) m d t f = f
-each_between (Ok None) m d t f = tt
-each_between (Err e) m d t f = tt

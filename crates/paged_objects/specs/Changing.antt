@@ -10,7 +10,7 @@ use Rattle.volume_terms.specs.declared.fault.StoreFault.TheVariants as faults
 use Rattle.posix_profile.specs.State.{Objects, IsDirectory}
 use Rattle.object_store.specs.declared.change.ObjectChange.{ObjectChange}
 use Rattle.object_store.specs.declared.change.ObjectChange.TheVariants as changes
-use Rattle.object_store.specs.Told.{Tells}
+use Rattle.object_store.specs.Reported.{Reports}
 use Rattle.pages.specs.Maps.{PageMap, has}
 use Rattle.pages.specs.declared.change.Change.{Change}
 use Rattle.directories.specs.Leaving.{LeavesName}
@@ -27,7 +27,7 @@ outcome_of (Err fault) = Err fault
 
 -- how a change ends that was to make the second objects of the first
 abbrev pub ChangeEnds : ObjectsState → ObjectsState → Objects → Objects → Result (Unit {0}) StoreFault → Type 0
-ChangeEnds a b old new (Ok done) = StandsFor (sizes_in a) b.pages new × Tells b.table new × HasNames b.names (sizes_in a) b.pages.present new × Turns (sizes_in a) old a.pages b.pages
+ChangeEnds a b old new (Ok done) = StandsFor (sizes_in a) b.pages new × Reports b.table new × HasNames b.names (sizes_in a) b.pages.present new × Turns (sizes_in a) old a.pages b.pages
 ChangeEnds a b old new (Err faults.NoMemory) = StaysIn a b
 ChangeEnds a b old new (Err faults.Device) = Fails (sizes_in a) old a.pages b.pages
 ChangeEnds a b old new (Err faults.Worn) = Fails (sizes_in a) old a.pages b.pages

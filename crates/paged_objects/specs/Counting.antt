@@ -1,4 +1,4 @@
--- Keys that are counted.
+-- The number of keys.
 use Rattle.std.specs.Prelude.{◌≡◌, ℕ, List, Some, slice_get}
 use Rattle.flash_tree.specs.declared.place.Key.{Key}
 use Rattle.pages.specs.Maps.{PageMap}

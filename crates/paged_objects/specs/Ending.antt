@@ -18,7 +18,7 @@ pub record StaysAs (old new : PagesState) : Type 0 where
   pub most : new.most ≡ old.most
   pub spare : new.spare ≡ old.spare
   pub present : SamePages new.present old.present
-  pub kept : SamePages new.kept old.kept
+  pub committed : SamePages new.committed old.committed
   pub worn : new.worn ≡ old.worn
   pub sound : new.sound ≡ old.sound
   pub failed : old.failed ≡ true → new.failed ≡ true
@@ -65,7 +65,7 @@ pub record Fails (z : Sizes) (objects : Objects) (p q : PagesState) : Type 0 whe
 pub record Commits (z : Sizes) (objects : Objects) (p q : PagesState) : Type 0 where
   pub goes_on : GoesOn p q
   pub shown : Shown z q (settled objects)
-  pub holds : q.sound ≡ true → HoldsObjects z q.kept objects
+  pub holds : q.sound ≡ true → HoldsObjects z q.committed objects
 
 -- a store of pages holds objects that its volume can have
 pub record HasPages (z : Sizes) (p : PagesState) (objects : Objects) : Type 0 where

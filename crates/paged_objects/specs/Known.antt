@@ -2,7 +2,7 @@
 use Rattle.name_index.specs.declared.index.NameIndex.{NameIndex}
 use Rattle.volume_terms.specs.Sizes.{Sizes}
 use Rattle.posix_profile.specs.State.{Objects}
-use Rattle.object_store.specs.Told.{table_sizes, Tells, TellsTheSame}
+use Rattle.object_store.specs.Reported.{table_sizes, Reports, ReportsTheSame}
 use Rattle.object_store.specs.declared.table.ObjectTable.{ObjectTable}
 use Rattle.pages.specs.State.{PagesState}
 use Rattle.directories.specs.Hashing.{HoldsMore}
@@ -24,16 +24,16 @@ state_with pages table names = record { pages = pages; table = table; names = na
 abbrev pub sizes_in : ObjectsState → Sizes
 sizes_in s = table_sizes s.table
 
--- The pages hold these objects, the table tells them, and the index has the hashes of all their names.
+-- The pages hold these objects, the table reports them, and the index has the hashes of all their names.
 pub record StandsIn (s : ObjectsState) (objects : Objects) : Type 0 where
   pub stands : StandsFor (sizes_in s) s.pages objects
-  pub tells : Tells s.table objects
+  pub reports : Reports s.table objects
   pub named : HasNames s.names (sizes_in s) s.pages.present objects
 
--- The pages are the same, the table tells the same, and the index has what it had.
+-- The pages are the same, the table reports the same, and the index has what it had.
 pub record StaysIn (a b : ObjectsState) : Type 0 where
   pub pages : StaysAs a.pages b.pages
-  pub table : TellsTheSame a.table b.table
+  pub table : ReportsTheSame a.table b.table
   pub names : HoldsMore a.names b.names
 
 -- a store of pages holds objects that its volume can have, and the index has the hashes of all their names
@@ -41,8 +41,8 @@ pub record HasNamed (names : NameIndex) (z : Sizes) (p : PagesState) (objects : 
   pub pages : HasPages z p objects
   pub named : HasNames names z p.present objects
 
--- the same with the table that tells the objects
+-- the same with the table that reports the objects
 pub record HasObjects (s : ObjectsState) (objects : Objects) : Type 0 where
   pub pages : HasPages (sizes_in s) s.pages objects
-  pub tells : Tells s.table objects
+  pub reports : Reports s.table objects
   pub named : HasNames s.names (sizes_in s) s.pages.present objects

@@ -15,7 +15,7 @@ use Rattle.posix_profile.specs.State.{IsDirectory, IsFile, Name, Objects, entrie
 use Rattle.posix_profile.specs.declared.reply.Kind.{Kind}
 use Rattle.object_store.specs.Changes.{CanMake, IsAbsent, LeadsTo, empty_object, made}
 use Rattle.object_store.specs.Facts.{bytes_of}
-use Rattle.object_store.specs.Told.{Tells}
+use Rattle.object_store.specs.Reported.{Reports}
 use Rattle.object_store.specs.declared.change.DirectoryEntry.{DirectoryEntry}
 use Rattle.object_store.specs.declared.change.ObjectChange.{ObjectChange}
 use Rattle.object_store.specs.declared.change.ObjectChange.TheVariants as changes
@@ -149,14 +149,14 @@ OfHashed names p change A =
     (z : Sizes) (old new : Objects) → HoldsNamed names p z old → WritesNames z change old new → HoldsAfter z p.present new change → IsSizes z
     → fits z new ≡ true → A z (changed change p.present) new
 
--- this holds of objects whose names the index has, and which the table tells
+-- this holds of objects whose names the index has, and which the table reports
 abbrev pub OfNames : NameIndex → ObjectTable → (Sizes → PageMap → Objects → Type 0) → Type 0
-OfNames names table A = (z : Sizes) (m : PageMap) (objects : Objects) → HasNames names z m objects → Tells table objects → A z m objects
+OfNames names table A = (z : Sizes) (m : PageMap) (objects : Objects) → HasNames names z m objects → Reports table objects → A z m objects
 
 -- and of objects that a change made
 abbrev pub OfNamesMade : NameIndex → ObjectTable → ObjectChange → (Sizes → PageMap → Objects → Type 0) → Type 0
 OfNamesMade names table change A =
-    (z : Sizes) (m : PageMap) (objects : Objects) → HasNames names z m (made objects change) → Tells table (made objects change) → A z m (made objects change)
+    (z : Sizes) (m : PageMap) (objects : Objects) → HasNames names z m (made objects change) → Reports table (made objects change) → A z m (made objects change)
 
 -- no entry of the directory has the hash of the entry's name in the slot that this left
 abbrev pub HasLeftName : Sizes → PageMap → Objects → DirectoryEntry → Option LeftSlot → Type 0

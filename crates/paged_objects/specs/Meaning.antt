@@ -6,7 +6,7 @@ use Rattle.paged_objects.specs.Standing.{Shown}
 use Rattle.paged_objects.specs.Ending.{Changes, Fails, Commits}
 use Rattle.paged_objects.specs.Known.{ObjectsState, sizes_in, StandsIn, StaysIn}
 
--- The objects that the pages hold, the table tells and the index names. A mount shows those that names keep of what the device kept
+-- The objects that the pages hold, the table reports and the index names. A mount shows those that names keep of what the device committed
 -- last. Each call goes on with the same volume; one that only reads leaves pages and table as they were, and a read fails where the
 -- device is gone or not honest. The device is left where it is not called.
 abbrev pub paged_meaning : {S : Type 0} (state : S → ObjectsState) → Meaning S

@@ -9,7 +9,7 @@ use Rattle.paged_objects.specs.declared.store.PagedObjects.{PagedObjects}
 abbrev pub pages_of : {P : Type 0} → PagedObjects P → P
 pages_of o = o.pages
 
--- the table that tells of the objects
+-- the table that reports on the objects
 abbrev pub table_of : {P : Type 0} → PagedObjects P → ObjectTable
 table_of o = o.table
 

@@ -1,5 +1,5 @@
 -- Objects in the pages of a store, and what holds where a store has them.
-use Rattle.std.specs.Prelude.{◌≡◌, ℕ, List, length, take, drop}
+use Rattle.std.specs.Prelude.{◌≡◌, ℕ, List, length}
 use Rattle.std.specs.FinMap as map
 use Rattle.name_index.specs.declared.index.NameIndex.{NameIndex}
 use Rattle.volume_terms.specs.Sizes.{Sizes}
@@ -7,7 +7,7 @@ use Rattle.posix_profile.specs.State.{Objects, IsDirectory, IsFile}
 use Rattle.object_store.specs.Changes.{LeadsTo}
 use Rattle.object_store.specs.Facts.{bytes_of}
 use Rattle.object_store.specs.Stores.{CanHave}
-use Rattle.object_store.specs.Told.{Tells}
+use Rattle.object_store.specs.Reported.{Reports}
 use Rattle.object_store.specs.declared.change.DirectoryEntry.{DirectoryEntry}
 use Rattle.object_store.specs.declared.table.ObjectTable.{ObjectTable}
 use Rattle.pages.specs.State.{PagesState}
@@ -45,9 +45,9 @@ OfLed names p entry A = (z : Sizes) (objects : Objects) (o : ℕ) → HoldsNamed
 abbrev pub OfStored : NameIndex → PagesState → (PlacedObjects → Type 0) → Type 0
 OfStored names p A = (z : Sizes) (objects : Objects) → HasNamed names z p objects → A (placed p z objects)
 
--- this holds where, besides, the table tells the objects
-abbrev pub OfTold : NameIndex → ObjectTable → PagesState → (PlacedObjects → Type 0) → Type 0
-OfTold names table p A = (z : Sizes) (objects : Objects) → HasNamed names z p objects → Tells table objects → A (placed p z objects)
+-- this holds where, besides, the table reports the objects
+abbrev pub OfReported : NameIndex → ObjectTable → PagesState → (PlacedObjects → Type 0) → Type 0
+OfReported names table p A = (z : Sizes) (objects : Objects) → HasNamed names z p objects → Reports table objects → A (placed p z objects)
 
 -- the bytes of a file of the objects
 abbrev pub bytes_in : PlacedObjects → ℕ → List ℕ

@@ -15,14 +15,14 @@ abbrev pub volume_of : PagesState → Sizes
 volume_of p = sizes_of p.device.geometry p.spare
 
 -- The tree is that of some pages which hold objects of a volume: those of them that names keep. An honest device has these
--- pages, and where the store is sound they are the ones that it kept last; and a mount by summaries finds them, where one could go by the
+-- pages, and where the store is sound they are the ones that it committed last; and a mount by summaries finds them, where one could go by the
 -- flash with which the store began.
 pub record Shown (z : Sizes) (p : PagesState) (tree : Objects) : Type 0 where
   pub pages : PageMap
   pub objects : Objects
   pub sizes : volume_of p ≡ z
   pub carried : p.device.honest ≡ true → IsCarried p.device p.spare pages
-  pub kept : p.sound ≡ true → SamePages p.kept pages
+  pub committed : p.sound ≡ true → SamePages p.committed pages
   pub found : FindsSince p pages
   pub holds : HoldsObjects z pages objects
   pub can : CanHave z objects

@@ -7,7 +7,7 @@ ghost use Rattle.posix_profile.specs.State.{IsDirectory};
 ghost use Rattle.posix_profile.specs.Changes.{new_number};
 ghost use Rattle.object_store.specs.Changes.{CanMake};
 ghost use Rattle.object_store.specs.declared.change.ObjectChange.TheVariants as changes;
-ghost use Rattle.object_store.specs.Told.{table_sizes, IsReadyFor, LedBefore, TellsTheSame};
+ghost use Rattle.object_store.specs.Reported.{table_sizes, IsReadyFor, LedBefore, ReportsTheSame};
 ghost use Rattle.pages.specs.Changes.{AreApart, AreSized, AreOfTrees};
 ghost use Rattle.pages.specs.Maps.{changed};
 ghost use Rattle.pages.specs.State.{OnlyFinds, KeepsPower};
@@ -20,7 +20,7 @@ ghost use Rattle.paged_objects.specs.Changing.{LeavesBy};
 ghost use Rattle.paged_objects.specs.Faults.{ReadFailsBy};
 ghost use Rattle.file_io.specs.Writes.{IsChangeIn};
 ghost use Rattle.paged_objects.specs.Making.{EndsBy, IfPlanned, IsFoundIn, LeftMade, Makes, MakesBy, NamesBy, NamesMade, OfTaken, StaysIfRefused};
-ghost use Rattle.paged_objects.specs.Placed.{OfStored, OfTold};
+ghost use Rattle.paged_objects.specs.Placed.{OfStored, OfReported};
 
 use crate::dropping::drop_names;
 use crate::fault::fault_of;
@@ -34,7 +34,7 @@ use volume_terms::StoreFault;
 
 /// Makes room in the table for a new object, where the change makes one.
 fn prepare(table: &mut ObjectTable, change: &ObjectChange<'_>) -> Result<(), AllocError>
-    ensures same { TellsTheSame table.old table.new }
+    ensures same { ReportsTheSame table.old table.new }
     ensures ready { OnOk result (IsReadyFor table.new change.now) }
 {
     match change {
@@ -58,8 +58,8 @@ fn find_object<P: PageStore>(
 ) -> Result<Option<u64>, StoreFault>
     ensures finds { OnlyFinds (P.state pages.old) (P.state pages.new) }
     ensures power { OnOk result (KeepsPower (P.state pages.old) (P.state pages.new)) }
-    ensures found { OfTold names.now table.now (P.state pages.old) (λ a. IsDirectory a.objects directory → IfOk result (IsFoundIn a directory name.now)) }
-    ensures fault { OfTold names.now table.now (P.state pages.old) (λ a. IsDirectory a.objects directory → IfErr result (ReadFailsBy (P.state pages.new))) }
+    ensures found { OfReported names.now table.now (P.state pages.old) (λ a. IsDirectory a.objects directory → IfOk result (IsFoundIn a directory name.now)) }
+    ensures fault { OfReported names.now table.now (P.state pages.old) (λ a. IsDirectory a.objects directory → IfErr result (ReadFailsBy (P.state pages.new))) }
 {
     match find(names, pages, directory, table.entry_count(directory), name) {
         Ok(found) => Ok(found),
@@ -76,9 +76,9 @@ fn find_replaced<P: PageStore>(
 ) -> Result<Option<u64>, StoreFault>
     ensures finds { OnlyFinds (P.state pages.old) (P.state pages.new) }
     ensures power { OnOk result (KeepsPower (P.state pages.old) (P.state pages.new)) }
-    ensures found { OfTold names.now table.now (P.state pages.old) (λ a.
+    ensures found { OfReported names.now table.now (P.state pages.old) (λ a.
         CanMake a.sizes a.objects change.now → IfOk result (LedBefore a.objects change.now)) }
-    ensures fault { OfTold names.now table.now (P.state pages.old) (λ a.
+    ensures fault { OfReported names.now table.now (P.state pages.old) (λ a.
         CanMake a.sizes a.objects change.now → IfErr result (ReadFailsBy (P.state pages.new))) }
 {
     match change {
@@ -121,7 +121,7 @@ fn plan_named<P: PageStore>(
 ) -> Result<Change, StoreFault>
     ensures finds { OnlyFinds (P.state pages.old) (P.state pages.new) }
     ensures power { OnOk result (KeepsPower (P.state pages.old) (P.state pages.new)) }
-    ensures kept { HoldsMore names.old names.new }
+    ensures committed { HoldsMore names.old names.new }
     ensures change { IfOk result (IsChangeIn (P.state pages.old) (most_pages (P.state pages.old).page_bytes change.now)) }
     ensures numbered { IfOk result (λ it. AreOfTrees it.pages.items) }
     ensures makes { OfStored names.old (P.state pages.old) (λ a. IfPlanned a change.now new (IfOk result (MakesBy a change.now))) }
@@ -175,7 +175,7 @@ fn change_pages<P: PageStore>(
 ) -> Result<Option<LeftSlot>, StoreFault>
     ensures goes_on { GoesOn (P.state pages.old) (P.state pages.new) }
     ensures power { OnOk result (KeepsPower (P.state pages.old) (P.state pages.new)) }
-    ensures kept { HoldsMore names.old names.new }
+    ensures committed { HoldsMore names.old names.new }
     ensures makes { OfStored names.old (P.state pages.old) (λ a. IfPlanned a change.now new (EndsBy a change.now (P.state pages.new) result)) }
     ensures names { OfStored names.old (P.state pages.old) (λ a.
         IfPlanned a change.now new (OnOk result (NamesMade a names.new (P.state pages.new) change.now))) }

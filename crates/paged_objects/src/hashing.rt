@@ -18,7 +18,7 @@ pub fn hash_names<P: Pages>(
     change: &Change,
 ) -> Result<(), AllocError>
     requires { AreSized change.now.pages.items (P.state pages.now).page_bytes }
-    ensures kept { HoldsMore names.old names.new }
+    ensures committed { HoldsMore names.old names.new }
     ensures hashes { OfHashed names.old (P.state pages.now) change.now (λ z m new. OnOk result (HasNames names.new z m new)) }
 {
     hash_change(names, pages.page_bytes(), change)

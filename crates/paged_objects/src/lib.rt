@@ -1,5 +1,5 @@
 //! Objects over pages: look-ups, and each change of objects as one change of pages; and a store of objects over pages, with the
-//! table that tells of them and the index of their names.
+//! table that reports on them and the index of their names.
 #![tactic(auto)]
 
 mod changing;

@@ -21,7 +21,7 @@ use pages::{Change, PageFault, Pages};
 use std::alloc::Global;
 
 /// The change that gives an object a second name in place of the first; the second then leads to it, also where it led to
-/// another, and the object that is told goes. Both are found through an index.
+/// another, and the object that is returned goes. Both are found through an index.
 pub fn move_name<P: Pages>(
     names: &NameIndex,
     pages: &mut P,

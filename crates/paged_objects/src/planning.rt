@@ -70,7 +70,7 @@ pub fn plan<P: Pages>(
     }
 }
 
-/// The same for each kind of change; of no number it is told that no page is of it.
+/// The same for each kind of change; of no number it is said that no page is of it.
 fn plan_each<P: Pages>(
     names: &NameIndex,
     pages: &mut P,

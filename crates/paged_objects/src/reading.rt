@@ -4,7 +4,7 @@ ghost use Rattle.std.specs.FinMap as map;
 ghost use Rattle.posix_profile.specs.State.{IsDirectory};
 ghost use Rattle.pages.specs.Faults.{MayLack, MayLackMemory, SaysWhy, SaysWhyMaking};
 ghost use Rattle.pages.specs.State.{OnlyFinds, KeepsPower};
-ghost use Rattle.directories.specs.Named.{AsksHeld};
+ghost use Rattle.directories.specs.Named.{IssuesHeld};
 ghost use Rattle.file_io.specs.Reads.{HasRead};
 ghost use Rattle.paged_objects.specs.Making.{AreNamesIn, IsFoundIn};
 ghost use Rattle.paged_objects.specs.Placed.{IfCounted, IfLong, OfHeld, OfNamed, bytes_in};
@@ -23,7 +23,7 @@ pub fn find<P: Pages>(
     name: &[u8],
 ) -> Result<Option<u64>, PageFault>
     ensures finds { OnlyFinds (P.state pages.old) (P.state pages.new) }
-    ensures asked { AsksHeld names.now directory name.now (P.state pages.old).asked (P.state pages.new).asked }
+    ensures issued { IssuesHeld names.now directory name.now (P.state pages.old).issued (P.state pages.new).issued }
     ensures power { OnOk result (KeepsPower (P.state pages.old) (P.state pages.new)) }
     ensures found { OfNamed names.now (P.state pages.old) (λ a. IfCounted a directory count (IfOk result (IsFoundIn a directory name.now))) }
     ensures why { IfErr result (SaysWhy (P.state pages.old) (P.state pages.new)) }

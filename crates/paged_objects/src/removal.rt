@@ -38,7 +38,7 @@ pub fn forget(alloc: Global, number: u64) -> Result<Change, AllocError>
     })
 }
 
-/// A change, after which the object that is told has no pages.
+/// A change, after which the object that is returned has no pages.
 pub(crate) fn and_forget(
     alloc: Global,
     change: Change,
@@ -56,7 +56,7 @@ pub(crate) fn and_forget(
     change.then(cut)
 }
 
-/// The change that takes a name from a directory, and the object that is told. The name is found through an index.
+/// The change that takes a name from a directory, and the object that is returned. The name is found through an index.
 pub fn remove<P: Pages>(
     names: &NameIndex,
     pages: &mut P,

@@ -5,7 +5,7 @@ ghost use Rattle.volume_terms.specs.declared.fault.StoreFault.TheVariants as fau
 ghost use Rattle.posix_profile.specs.State.{Objects};
 ghost use Rattle.posix_profile.specs.WellFormed.{IsForest};
 ghost use Rattle.object_store.specs.Facts.{bytes_of};
-ghost use Rattle.object_store.specs.Told.{table_sizes, Tells};
+ghost use Rattle.object_store.specs.Reported.{table_sizes, Reports};
 ghost use Rattle.pages.specs.Refreshing.{Refreshes};
 
 use crate::changing::{forget, make};
@@ -17,9 +17,9 @@ use posix_profile::{Info, NameList};
 use std::alloc::Global;
 use volume_terms::{StoreFault, VolumeSizes};
 
-/// The length of a file in bytes, as the table tells it; 0 of what is no file.
+/// The length of a file in bytes, as the table reports it; 0 of what is no file.
 fn length_of(table: &ObjectTable, file: u64) -> u64
-    ensures { (objects : Objects) → Tells table.now objects → IsForest (table_sizes table.now) objects → result ≡ length (bytes_of (map.get objects file)) }
+    ensures { (objects : Objects) → Reports table.now objects → IsForest (table_sizes table.now) objects → result ≡ length (bytes_of (map.get objects file)) }
 {
     match table.info(file) {
         Some(info) => info.size,
@@ -27,7 +27,7 @@ fn length_of(table: &ObjectTable, file: u64) -> u64
     }
 }
 
-/// Objects in pages. A table tells what it can without reading one, and an index which slots may have a name.
+/// Objects in pages. A table returns what it can without reading one, and an index which slots may have a name.
 #[derive(Drop)]
 pub struct PagedObjects<P: PageStore> {
     alloc: Global,
@@ -39,7 +39,7 @@ pub struct PagedObjects<P: PageStore> {
 impl<P: PageStore> PagedObjects<P> {
     ghost use Rattle.paged_objects.specs.Parts.{pages_of, table_of, names_of};
 
-    /// The objects that the pages hold, the table tells and the index names.
+    /// The objects that the pages hold, the table reports and the index names.
     pub fn new(alloc: Global, pages: P, table: ObjectTable, names: NameIndex) -> PagedObjects<P>
         ensures pages { pages_of result ≡ pages }
         ensures table { table_of result ≡ table }
@@ -60,7 +60,7 @@ impl<P: PageStore> PagedObjects<P> {
         &self.pages
     }
 
-    /// Moves the pages that are kept in a block into another, so that the old ones are not needed any more. The objects stay.
+    /// Moves the pages that are committed in a block into another, so that the old ones are not needed any more. The objects stay.
     pub fn refresh(&mut self, block: u32) -> Result<(), StoreFault>
         ensures pages { Refreshes block (P.state (pages_of self.old)) (P.state (pages_of self.new)) result }
         ensures table { table_of self.new ≡ table_of self.old }

@@ -166,5 +166,5 @@ folding_shares cuts first all now rest f none o c i j a b = elim (f.shared o c i
 
 -- what is known where nothing was found
 pub where_none : (P : Type 0) (found : Option ℕ) (b : Bool) → is_some found ≡ not b → b ≡ true → IfNone found P → P
-where_none P None b told is then = then
-where_none P (Some i) b told is then = let two : true ≡ false = told ∙ ap not is in absurd cc
+where_none P None b reported is then = then
+where_none P (Some i) b reported is then = let two : true ≡ false = reported ∙ ap not is in absurd cc

@@ -1,6 +1,6 @@
 -- Why a call that reads what pages hold fails.
-use Rattle.std.specs.Prelude.{◌≡◌, ◌<◌, true}
-use Rattle.pages.specs.State.{PagesState}
+use Rattle.std.specs.Prelude.{◌≡◌, ◌<◌, true, Result, OnOk, IfErr}
+use Rattle.pages.specs.State.{PagesState, OnlyFinds, KeepsPower}
 use Rattle.volume_terms.specs.declared.fault.StoreFault.{StoreFault}
 use Rattle.volume_terms.specs.declared.fault.StoreFault.TheVariants as store_faults
 use Rattle.pages.specs.declared.fault.PageFault.{PageFault}
@@ -39,3 +39,9 @@ SaysWhyMaking new = Says (Unit {0}) (Unit {0}) ⊥ new
 -- and where the object may be as large as it can be
 abbrev pub SaysWhyChanging : PagesState → PageFault → Type 0
 SaysWhyChanging new = Says (Unit {0}) (Unit {0}) (Unit {0}) new
+
+-- a call that looks up pages: it finds only what is there, a done one leaves power as it was, and a failed one says why
+pub record LooksUp {T : Type 0} (reasons : PagesState → PageFault → Type 0) (old new : PagesState) (result : Result T PageFault) : Type 0 where
+  pub finds : OnlyFinds old new
+  pub power : OnOk result (KeepsPower old new)
+  pub why : IfErr result (reasons new)

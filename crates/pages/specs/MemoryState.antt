@@ -7,12 +7,12 @@ use Rattle.pages.specs.Memory.{no_device}
 use Rattle.pages.specs.declared.memory.MemPages.{MemPages}
 use Rattle.pages.specs.declared.memory.Refusal.{Refusal}
 
-abbrev pub kept : MemPages → PagesState
-kept it = record {
+abbrev pub committed : MemPages → PagesState
+committed it = record {
   page_bytes = it.page_bytes;
   most = 0;
   present = with_pages it.pages.items no_pages;
-  kept = no_pages;
+  committed = no_pages;
   lent = bytes_or (slice_get it.pages.items it.found) it.blank.items;
   near = λ o c. true;
   buffered = 0;
@@ -20,7 +20,7 @@ kept it = record {
   failed = it.failed;
   refused = it.refused.total;
   commits = 0;
-  asked = it.finds;
+  issued = it.finds;
   device = no_device;
   next = no_numbers;
   spare = 0;
@@ -29,6 +29,6 @@ kept it = record {
   first = None;
 }
 
--- the look-up that it is told to refuse
+-- the look-up that it is set to refuse
 abbrev pub refusing : MemPages → Option Refusal
 refusing it = it.refusal

@@ -7,7 +7,7 @@ use Rattle.nand_model.specs.Flash.{Flash}
 use Rattle.flash_tree.specs.Newest.{Spot, IsNewest}
 use Rattle.pages.specs.Maps.{PageMap}
 use Rattle.pages.specs.State.{PagesState, KeepsPower}
-use Rattle.pages.specs.Stores.{GoesOn, HasFailed, HasPage, KeptAs, SamePages, bad_on}
+use Rattle.pages.specs.Stores.{GoesOn, HasFailed, HasPage, CommittedAs, SamePages, bad_on}
 use Rattle.volume_terms.specs.declared.fault.StoreFault.{StoreFault}
 use Rattle.volume_terms.specs.declared.fault.StoreFault.TheVariants as faults
 
@@ -15,11 +15,11 @@ use Rattle.volume_terms.specs.declared.fault.StoreFault.TheVariants as faults
 abbrev pub LeavesBlock : ℕ → Flash → Flash → PageMap → Type 0
 LeavesBlock block old new m = (o c : ℕ) (s : Spot) → HasPage m o c → IsNewest old o c s → s.block ≡ block → IsNewest new o c s → ⊥
 
--- no kept page lies in the block
+-- no committed page lies in the block
 abbrev pub KeepsNone : ℕ → PagesState → Type 0
-KeepsNone block p = (o c : ℕ) (s : Spot) → HasPage p.kept o c → IsNewest p.device.flash o c s → s.block ≢ block
+KeepsNone block p = (o c : ℕ) (s : Spot) → HasPage p.committed o c → IsNewest p.device.flash o c s → s.block ≢ block
 
--- What the move of a block's kept pages costs: the device counts at most as many changes as a block has pages and an erase, and for each
+-- What the move of a block's committed pages costs: the device counts at most as many changes as a block has pages and an erase, and for each
 -- failure as many and two more.
 abbrev pub CostsAMove : PagesState → PagesState → Type 0
 CostsAMove old new = Costs (old.device.geometry.pages + 1) (old.device.geometry.pages + 2) 0 old.device new.device
@@ -31,16 +31,16 @@ RefreshFailsBy new faults.NoMemory = ⊥
 RefreshFailsBy new faults.Device = HasFailed new.device
 RefreshFailsBy new faults.Worn = (number_end ≤ new.next.group) ⊎ (number_end ≤ new.next.seq) ⊎ (new.spare < bad_on new.device)
 
--- A refresh of a block of sound pages is done: they are sound, the same pages are present, and no kept page lies where it lay in the block.
+-- A refresh of a block of sound pages is done: they are sound, the same pages are present, and no committed page lies where it lay in the block.
 pub record IsRefreshed (block : ℕ) (old new : PagesState) : Type 0 where
   pub sound : new.sound ≡ true
   pub present : SamePages new.present old.present
-  pub leaves : LeavesBlock block old.device.flash new.device.flash old.kept
+  pub leaves : LeavesBlock block old.device.flash new.device.flash old.committed
 
--- How a refresh of a block of sound pages ends. Done or not, what was kept is kept, and its device has it. A fault has its cause. Where the
+-- How a refresh of a block of sound pages ends. Done or not, what was committed is committed, and its device has it. A fault has its cause. Where the
 -- block keeps none the device is not called.
 pub record RefreshEnds (block : ℕ) (old new : PagesState) (result : Result (Unit {0}) StoreFault) : Type 0 where
-  pub kept : KeptAs new old.kept
+  pub committed : CommittedAs new old.committed
   pub done : OnOk result (IsRefreshed block old new)
   pub cause : IfErr result (RefreshFailsBy new)
   pub idle : KeepsNone block old → new.device ≡ old.device

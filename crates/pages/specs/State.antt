@@ -20,14 +20,14 @@ no_numbers = record { group = 0; seq = 0 }
 
 -- The bytes of a page, how many pages a change has at most, the page of each key now and at the last commit, the page that
 -- was found last, of which keys a look-up makes no call of the device, and how many pages the next commit is to write; whether
--- the store keeps what it is told, whether its device has failed, how many growths were refused to it, how many commits of
--- buffered pages it began, and how many pages it has asked for so far; and its device, the numbers that come next, how many blocks may be
+-- the store keeps what is written, whether its device has failed, how many growths were refused to it, how many commits of
+-- buffered pages it began, and how many pages it has looked up so far; and its device, the numbers that come next, how many blocks may be
 -- bad, whether it can only be read, the block that may have a checkpoint, and the flash with which it began, where that is remembered.
 pub record PagesState : Type 0 where
   pub page_bytes : ℕ
   pub most : ℕ
   pub present : PageMap
-  pub kept : PageMap
+  pub committed : PageMap
   pub lent : List ℕ
   pub near : ℕ → ℕ → Bool
   pub buffered : ℕ
@@ -35,7 +35,7 @@ pub record PagesState : Type 0 where
   pub failed : Bool
   pub refused : ℕ
   pub commits : ℕ
-  pub asked : ℕ
+  pub issued : ℕ
   pub device : Device
   pub next : NextNumbers
   pub spare : ℕ
@@ -48,13 +48,13 @@ pub record OnlyFinds (old new : PagesState) : Type 0 where
   pub page_bytes : new.page_bytes ≡ old.page_bytes
   pub most : new.most ≡ old.most
   pub present : new.present ≡ old.present
-  pub kept : new.kept ≡ old.kept
+  pub committed : new.committed ≡ old.committed
   pub buffered : new.buffered ≡ old.buffered
   pub sound : new.sound ≡ old.sound
   pub failed : old.failed ≡ true → new.failed ≡ true
   pub refused : old.refused ≤ new.refused
   pub commits : new.commits ≡ old.commits
-  pub asked : old.asked ≤ new.asked
+  pub issued : old.issued ≤ new.issued
   pub device : OnlyReads old.device new.device
   pub next : new.next ≡ old.next
   pub spare : new.spare ≡ old.spare

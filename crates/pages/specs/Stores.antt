@@ -1,9 +1,9 @@
 -- What a store of pages that is changed leaves.
-use Rattle.std.specs.Prelude.{◌≡◌, ◌⊎◌, ◌<◌, ◌≤◌, ℕ, ◌+◌, ◌-◌, ◌*◌, true, false, List, length, slice_get, Some}
+use Rattle.std.specs.Prelude.{◌≡◌, ◌⊎◌, ◌<◌, ◌≤◌, ℕ, ◌+◌, ◌-◌, ◌*◌, true, false, List, length, slice_get, Some, Result, IsOk}
 use Rattle.nand_model.specs.Flash.{Flash}
 use Rattle.nand_model.specs.Calls.{Device, Lasts}
 use Rattle.nand_model.specs.Changes.{OnlyReads}
-use Rattle.nand_model.specs.Counts.{Costs}
+use Rattle.nand_model.specs.Counts.{Costs, ReadsFew}
 use Rattle.flash_tree.specs.Newest.{HasNewest, AreAbove}
 use Rattle.flash_tree.specs.Numbering.{AreBelow}
 use Rattle.flash_tree.specs.ErasedBlocks.{OnlyFirstHasTags, GoesFirst}
@@ -17,8 +17,10 @@ use Rattle.flash_tree.specs.declared.place.Key.{Key}
 use Rattle.volume_terms.specs.Sizes.{number_limit, number_end}
 use Rattle.volume_terms.specs.declared.fault.StoreFault.{StoreFault}
 use Rattle.volume_terms.specs.declared.fault.StoreFault.TheVariants as faults
-use Rattle.pages.specs.Maps.{PageMap}
-use Rattle.pages.specs.State.{PagesState, NextNumbers}
+use Rattle.pages.specs.Maps.{PageMap, changed}
+use Rattle.pages.specs.State.{PagesState, NextNumbers, KeepsPower}
+use Rattle.pages.specs.Changes.{AreApart, AreSized, AreOfTrees}
+use Rattle.pages.specs.declared.change.Change.{Change}
 
 -- each key has the same page in both
 abbrev pub SamePages : PageMap → PageMap → Type 0
@@ -41,7 +43,7 @@ pub record IsCarried (device : Device) (spare : ℕ) (m : PageMap) : Type 0 wher
   pub newest : Carries device.flash m
   pub free : HasNumbersLeft device.flash → LeavesFree device.geometry device.flash spare (HasPage m)
 
--- No number is taken back, and no more are handed out than the device counted changes: block numbers on every path, and
+-- No number is taken back, and no more are handed out than the device had changes: block numbers on every path, and
 -- group numbers where an honest device still has power. Where the next numbers were above all that stood on an honest device
 -- they are so still; and what stands there now is below the first ones and one more for each change, also where power went.
 pub record HandsOutNumbers (old new : Device) (n n' : NextNumbers) : Type 0 where
@@ -86,7 +88,7 @@ pub record StaysMountable (old new : PagesState) : Type 0 where
   pub reads : old.worn ≡ true → OnlyReads old.device new.device
 
 -- What every call of a store keeps, whatever its device does: the sizes, whether it can only be read, and what calls of the
--- device keep. Each block that goes bad answers a failure that the device counted. No number of 2^62 is written. Checkpoints
+-- device keep. Each block that goes bad answers a failure that the device had. No number of 2^62 is written. Checkpoints
 -- stay right, and a next mount may go by summaries.
 pub record GoesOn (old new : PagesState) : Type 0 where
   pub page_bytes : new.page_bytes ≡ old.page_bytes
@@ -105,14 +107,14 @@ pub record GoesOn (old new : PagesState) : Type 0 where
 
 -- Where the store is sound still, these are the pages of its last commit; an honest device has them, in either case, and a mount by
 -- summaries finds them, where one could go by the flash with which the store began.
-pub record KeptAs (new : PagesState) (m : PageMap) : Type 0 where
+pub record CommittedAs (new : PagesState) (m : PageMap) : Type 0 where
   pub carried : new.device.honest ≡ true → IsCarried new.device new.spare m
-  pub kept : new.sound ≡ true → SamePages new.kept m
+  pub committed : new.sound ≡ true → SamePages new.committed m
   pub found : FindsSince new m
 
--- The pages that were kept are so still, or those are that were present: all of the ones, or all of the others.
+-- The pages that were committed are so still, or those are that were present: all of the ones, or all of the others.
 abbrev pub KeepsEither : PagesState → PagesState → Type 0
-KeepsEither old new = KeptAs new old.kept ⊎ KeptAs new old.present
+KeepsEither old new = CommittedAs new old.committed ⊎ CommittedAs new old.present
 
 -- What one commit costs: the device counts at most as many changes as pages were buffered, a block's pages and one more, and
 -- three times a block's pages and three more for each failure.
@@ -131,19 +133,19 @@ AreNear pages p = (i : ℕ) (page : FreshPage) → slice_get pages i ≡ Some pa
 -- nothing changed, but for what is lent
 pub record StaysSame (old new : PagesState) : Type 0 where
   pub present : SamePages new.present old.present
-  pub kept : SamePages new.kept old.kept
+  pub committed : SamePages new.committed old.committed
   pub sound : new.sound ≡ old.sound
   pub device : new.device ≡ old.device
   pub next : new.next ≡ old.next
   pub checkpoint : new.checkpoint ≡ old.checkpoint
   pub first : new.first ≡ old.first
 
--- More is kept than leaves room for a change: with so many pages in each of all blocks that are not to spare but one, there
+-- More is committed than leaves room for a change: with so many pages in each of all blocks that are not to spare but one, there
 -- are more.
 pub record IsCrowded (p : PagesState) : Type 0 where
   pub keys : List Key
   pub once : (i j : ℕ) (k : Key) → slice_get keys i ≡ Some k → slice_get keys j ≡ Some k → i ≡ j
-  pub each : (i : ℕ) (k : Key) → slice_get keys i ≡ Some k → HasPage p.kept k.object k.chunk
+  pub each : (i : ℕ) (k : Key) → slice_get keys i ≡ Some k → HasPage p.committed k.object k.chunk
   pub many : (p.device.geometry.blocks - p.spare - 1) * (p.device.geometry.pages - p.most) < length keys
 
 -- the store began to commit pages that were buffered
@@ -151,7 +153,7 @@ abbrev pub Begins : PagesState → PagesState → Type 0
 Begins old new = old.commits < new.commits
 
 -- nothing is left to write with: a number of 2^62 would be needed, more blocks are bad than there are to spare, there are too
--- few blocks, or more is kept than leaves room
+-- few blocks, or more is committed than leaves room
 abbrev pub HasNothingLeft : PagesState → PagesState → Type 0
 HasNothingLeft old new = (number_end ≤ new.next.group) ⊎ (number_end ≤ new.next.seq) ⊎ (new.spare < bad_on new.device)
     ⊎ (new.device.geometry.blocks < new.spare + 2) ⊎ IsCrowded old
@@ -175,3 +177,43 @@ abbrev pub CommitFailsBy : PagesState → PagesState → StoreFault → Type 0
 CommitFailsBy old new faults.NoMemory = ⊥
 CommitFailsBy old new faults.Device = HasFailed new.device
 CommitFailsBy old new faults.Worn = IsWornOut old new
+
+-- A change can be made of a store: no two of its pages have one key, each has the size of a page, there are no more of them than the
+-- store takes, and each is of an object of a tree.
+pub record CanApply (p : PagesState) (pages : List FreshPage) : Type 0 where
+  pub apart : AreApart pages
+  pub size : AreSized pages p.page_bytes
+  pub few : length pages ≤ p.most
+  pub trees : AreOfTrees pages
+
+-- a sound store with a done change: it is sound, and its current pages are the changed ones
+pub record MakesCurrent (change : Change) (old new : PagesState) : Type 0 where
+  pub sound : new.sound ≡ true
+  pub present : SamePages new.present (changed change old.present)
+
+-- what a done change takes: power is as it was, no more pages are buffered than before with these, and none of these is read again
+pub record BuffersPages (pages : List FreshPage) (old new : PagesState) : Type 0 where
+  pub power : KeepsPower old new
+  pub buffered : new.buffered ≤ old.buffered + length pages
+  pub near : AreNear pages new
+
+-- a change costs what a commit does, and few reads
+pub record PaysChange (unfinished : ℕ) (old new : PagesState) : Type 0 where
+  pub costs : CostsACommit old new
+  pub reads : ReadsFew unfinished old.device new.device
+
+-- a sound store with a done commit: it is sound, its current pages stay, and they are committed
+pub record MakesDurable (old new : PagesState) : Type 0 where
+  pub sound : new.sound ≡ true
+  pub present : SamePages new.present old.present
+  pub committed : CommittedAs new old.present
+
+-- a done commit leaves nothing buffered, and power as it was
+pub record EmptiesBuffer (old new : PagesState) : Type 0 where
+  pub power : KeepsPower old new
+  pub empty : new.buffered ≡ 0
+
+-- a commit with nothing buffered begins none, and is done where the store is sound
+pub record IsIdle {T E : Type 0} (old new : PagesState) (result : Result T E) : Type 0 where
+  pub commits : CommitsNothing old new
+  pub done : old.sound ≡ true → IsOk result

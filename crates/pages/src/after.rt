@@ -23,12 +23,12 @@ pub enum Source {
 /// Finds the page that a key has after a change.
 fn load_changed<P: Pages>(pages: &mut P, change: &Change, key: Key) -> Result<Source, PageFault>
     ensures finds { OnlyFinds (P.state pages.old) (P.state pages.new) }
-    ensures asked { (P.state pages.new).asked ≤ (P.state pages.old).asked + 1 }
+    ensures issued { (P.state pages.new).issued ≤ (P.state pages.old).issued + 1 }
     ensures source { IfOk result (IsSource (Some change.now)) }
     ensures page { (P.state pages.old).sound ≡ true
         → IfOk result (λ source. changed change.now (P.state pages.old).present key.object key.chunk ≡ Some (lent_by (Some change.now) (P.state pages.new) source)) }
     ensures power { OnOk result (KeepsPower (P.state pages.old) (P.state pages.new)) }
-    ensures told { IfErr result (SaysWhy (P.state pages.old) (P.state pages.new)) }
+    ensures reported { IfErr result (SaysWhy (P.state pages.old) (P.state pages.new)) }
     ensures fault { (P.state pages.old).sound ≡ true → (xs : List ℕ) → changed change.now (P.state pages.old).present key.object key.chunk ≡ Some xs
         → IfErr result (MayLack (P.state pages.old) (P.state pages.new)) }
 {
@@ -50,12 +50,12 @@ pub fn load_after<P: Pages>(
     key: Key,
 ) -> Result<Source, PageFault>
     ensures finds { OnlyFinds (P.state pages.old) (P.state pages.new) }
-    ensures asked { (P.state pages.new).asked ≤ (P.state pages.old).asked + 1 }
+    ensures issued { (P.state pages.new).issued ≤ (P.state pages.old).issued + 1 }
     ensures source { IfOk result (IsSource (option_copied earlier.entry)) }
     ensures page { let seen = after (option_copied earlier.entry) (P.state pages.old) in
         seen.sound ≡ true → IfOk result (λ source. seen.present key.object key.chunk ≡ Some (lent_by (option_copied earlier.entry) (P.state pages.new) source)) }
     ensures power { OnOk result (KeepsPower (P.state pages.old) (P.state pages.new)) }
-    ensures told { IfErr result (SaysWhy (P.state pages.old) (P.state pages.new)) }
+    ensures reported { IfErr result (SaysWhy (P.state pages.old) (P.state pages.new)) }
     ensures fault { let seen = after (option_copied earlier.entry) (P.state pages.old) in
         seen.sound ≡ true → (xs : List ℕ) → seen.present key.object key.chunk ≡ Some xs → IfErr result (MayLack (P.state pages.old) (P.state pages.new)) }
 {

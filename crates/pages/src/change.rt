@@ -14,7 +14,7 @@ pub struct Cut {
 }
 
 impl Cut {
-    /// Tells whether the page of a key goes.
+    /// Returns whether the page of a key goes.
     pub fn takes(self, key: Key) -> bool
         ensures { result ≡ takes self key.object key.chunk }
     {
@@ -42,7 +42,7 @@ pub(crate) fn place_of(pages: &[FreshPage], key: Key) -> Option<usize>
     None
 }
 
-/// Tells whether one of the cuts takes the key's page away.
+/// Returns whether one of the cuts takes the key's page away.
 pub(crate) fn is_cut(cuts: &[Cut], key: Key) -> bool
     ensures cut { result ≡ true → (i : ℕ) × IsCut cuts.now key.object key.chunk i }
     ensures not { result ≡ false → (i : ℕ) → IsCut cuts.now key.object key.chunk i → ⊥ }
@@ -65,7 +65,7 @@ fn put_behind(pages: &mut Vec<FreshPage>, cuts: &[Cut], page: FreshPage) -> Resu
     Ok(())
 }
 
-/// Tells whether all pages have so many bytes, as a store that takes them asks.
+/// Returns whether all pages have so many bytes, as a store that takes them asks.
 pub fn are_sized(pages: &[FreshPage], page_bytes: u32) -> bool
     ensures { IsTrue result ↔ AreSized pages.now page_bytes }
 {

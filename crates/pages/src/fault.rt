@@ -9,7 +9,7 @@ use volume_terms::StoreFault;
 /// Why a directory or a file was not read, or a change of it not made.
 #[derive(Clone, Copy, Debug, PartialEq, Eq)]
 pub enum PageFault {
-    /// A growth was refused. What was asked can be asked again.
+    /// A growth was refused. The call can be made again.
     NoMemory,
     /// The device failed or is gone, or did not give back what was written.
     Device,

@@ -10,10 +10,10 @@ use flash_tree::Key;
 /// Finds the page of a key, which `page` lends then. Without one the object is `Damaged`.
 pub fn load<P: Pages>(pages: &mut P, key: Key) -> Result<(), PageFault>
     ensures finds { OnlyFinds (P.state pages.old) (P.state pages.new) }
-    ensures asked { (P.state pages.new).asked ≤ (P.state pages.old).asked + 1 }
+    ensures issued { (P.state pages.new).issued ≤ (P.state pages.old).issued + 1 }
     ensures page { (P.state pages.old).sound ≡ true → OnOk result ((P.state pages.old).present key.object key.chunk ≡ Some (P.state pages.new).lent) }
     ensures power { OnOk result (KeepsPower (P.state pages.old) (P.state pages.new)) }
-    ensures told { IfErr result (SaysWhy (P.state pages.old) (P.state pages.new)) }
+    ensures reported { IfErr result (SaysWhy (P.state pages.old) (P.state pages.new)) }
     ensures fault { (P.state pages.old).sound ≡ true → (xs : List ℕ) → (P.state pages.old).present key.object key.chunk ≡ Some xs
         → IfErr result (MayLack (P.state pages.old) (P.state pages.new)) }
 {

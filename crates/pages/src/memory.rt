@@ -11,21 +11,21 @@ use nand_model::Count;
 use std::alloc::{AllocError, Global};
 use volume_terms::StoreFault;
 
-/// What a store in memory lacks when it is told to refuse a look-up.
+/// What a store in memory lacks when it is set to refuse a look-up.
 #[derive(Clone, Copy, Debug, PartialEq, Eq)]
 pub enum Lack {
     Memory,
     Device,
 }
 
-/// The look-up of this number is refused: those of keys that have a page are counted, and the first is 1.
+/// The look-up of this number is refused: those of keys that have a page are numbered, from 1 on.
 #[derive(Clone, Copy, Debug, PartialEq, Eq)]
 pub struct Refusal {
     pub number: u64,
     pub lack: Lack,
 }
 
-/// A sound store in memory, which refuses the look-up that it is told to refuse.
+/// A sound store in memory, which refuses the look-up that it is set to refuse.
 #[derive(Drop)]
 pub struct MemPages {
     page_bytes: u32,
@@ -44,18 +44,18 @@ pub struct MemPages {
 }
 
 impl MemPages {
-    ghost use Rattle.pages.specs.MemoryState.{kept, refusing};
+    ghost use Rattle.pages.specs.MemoryState.{committed, refusing};
 
     /// No key has a page.
     pub fn new(alloc: Global, page_bytes: u32) -> Result<MemPages, AllocError>
         requires least { 512 ≤ page_bytes }
         requires most { page_bytes ≤ 4096 }
-        ensures size { IfOk result (λ it. (kept it).page_bytes ≡ page_bytes) }
-        ensures sound { IfOk result (λ it. (kept it).sound ≡ true) }
-        ensures none { (o c : ℕ) → IfOk result (λ it. (kept it).present o c ≡ None) }
-        ensures asked { IfOk result (λ it. (kept it).asked ≡ 0) }
-        ensures failed { IfOk result (λ it. (kept it).failed ≡ false) }
-        ensures refused { IfOk result (λ it. (kept it).refused ≡ 0) }
+        ensures size { IfOk result (λ it. (committed it).page_bytes ≡ page_bytes) }
+        ensures sound { IfOk result (λ it. (committed it).sound ≡ true) }
+        ensures none { (o c : ℕ) → IfOk result (λ it. (committed it).present o c ≡ None) }
+        ensures issued { IfOk result (λ it. (committed it).issued ≡ 0) }
+        ensures failed { IfOk result (λ it. (committed it).failed ≡ false) }
+        ensures refused { IfOk result (λ it. (committed it).refused ≡ 0) }
         ensures willing { IfOk result (λ it. refusing it ≡ None) }
     {
         Ok(MemPages {
@@ -72,13 +72,13 @@ impl MemPages {
 
     /// The pages after a change. Without memory for it the store is gone.
     pub fn apply(self, alloc: Global, change: Change) -> Result<MemPages, AllocError>
-        requires { AreSized change.pages.items (kept self).page_bytes }
-        ensures size { IfOk result (λ it. (kept it).page_bytes ≡ (kept self).page_bytes) }
-        ensures sound { IfOk result (λ it. (kept it).sound ≡ (kept self).sound) }
-        ensures pages { (o c : ℕ) → IfOk result (λ it. (kept it).present o c ≡ changed change (kept self).present o c) }
-        ensures asked { IfOk result (λ it. (kept it).asked ≡ (kept self).asked) }
-        ensures failed { IfOk result (λ it. (kept it).failed ≡ (kept self).failed) }
-        ensures refused { IfOk result (λ it. (kept it).refused ≡ (kept self).refused) }
+        requires { AreSized change.pages.items (committed self).page_bytes }
+        ensures size { IfOk result (λ it. (committed it).page_bytes ≡ (committed self).page_bytes) }
+        ensures sound { IfOk result (λ it. (committed it).sound ≡ (committed self).sound) }
+        ensures pages { (o c : ℕ) → IfOk result (λ it. (committed it).present o c ≡ changed change (committed self).present o c) }
+        ensures issued { IfOk result (λ it. (committed it).issued ≡ (committed self).issued) }
+        ensures failed { IfOk result (λ it. (committed it).failed ≡ (committed self).failed) }
+        ensures refused { IfOk result (λ it. (committed it).refused ≡ (committed self).refused) }
         ensures refusing { IfOk result (λ it. refusing it ≡ refusing self) }
     {
         let old = Change {
@@ -98,9 +98,9 @@ impl MemPages {
         })
     }
 
-    /// One look-up is refused, in place of the one that was told before.
+    /// One look-up is refused, in place of the one that was reported before.
     pub fn refuse(&mut self, refusal: Refusal)
-        ensures state { kept self.new ≡ kept self.old }
+        ensures state { committed self.new ≡ committed self.old }
         ensures refusing { refusing self.new ≡ Some refusal }
     {
         self.refusal = Some(refusal);
@@ -108,7 +108,7 @@ impl MemPages {
 
     /// How many look-ups of keys that have a page there were.
     pub fn finds(&self) -> u64
-        ensures { result ≡ (kept self.now).asked }
+        ensures { result ≡ (committed self.now).issued }
     {
         self.finds
     }
@@ -130,9 +130,9 @@ impl MemPages {
         ensures failed { self.old.failed ≡ true → self.new.failed ≡ true }
         ensures refused { self.old.refused.total ≤ self.new.refused.total }
         ensures rises { self.old.finds ≤ self.new.finds }
-        ensures asked { self.new.finds ≤ self.old.finds + 1 }
+        ensures issued { self.new.finds ≤ self.old.finds + 1 }
         ensures found { OnOk result (self.new.found ≡ place) }
-        ensures fault { IfErr result (FailsBy (kept self.old) (kept self.new)) }
+        ensures fault { IfErr result (FailsBy (committed self.old) (committed self.new)) }
     {
         self.finds = self.finds.saturating_add(1);
         match self.lacking() {
@@ -153,9 +153,9 @@ impl MemPages {
 }
 
 impl Pages for MemPages {
-    ghost use Rattle.pages.specs.MemoryState.{kept};
+    ghost use Rattle.pages.specs.MemoryState.{committed};
 
-    ghost state = { kept };
+    ghost state = { committed };
 
     ghost sized = { λ it. (it.least, it.most) };
 

@@ -1,20 +1,18 @@
-// Pages that are changed and kept.
-ghost use Rattle.std.specs.Prelude.{◌≡◌, ◌⊎◌, ◌≤◌, ◌+◌, true, false, length, IsOk, OnOk, IfErr, IsErrOf, ◌∷◌, []};
-ghost use Rattle.nand_model.specs.Counts.{ReadsFew, ReadsFor, unfinished};
-ghost use Rattle.pages.specs.Changes.{AreApart, AreSized, AreOfTrees};
+// Pages that are changed and committed.
+ghost use Rattle.std.specs.Prelude.{◌≡◌, ◌⊎◌, ◌≤◌, ◌+◌, true, false, length, OnOk, IfErr, IsErrOf, ◌∷◌, []};
+ghost use Rattle.nand_model.specs.Counts.{ReadsFor, unfinished};
 ghost use Rattle.pages.specs.Maps.{changed, without_cuts};
-ghost use Rattle.pages.specs.State.{KeepsPower};
 ghost use Rattle.pages.specs.Refreshing.{Refreshes};
-ghost use Rattle.pages.specs.Stores.{SamePages, GoesOn, KeptAs, KeepsEither, StaysSame, CostsACommit, CommitsNothing, AreNear, ChangeFailsBy, CommitFailsBy, bad_on};
+ghost use Rattle.pages.specs.Stores.{SamePages, GoesOn, CommittedAs, KeepsEither, StaysSame, CostsACommit, CommitsNothing, ChangeFailsBy, CommitFailsBy, bad_on, CanApply, MakesCurrent, BuffersPages, PaysChange, MakesDurable, EmptiesBuffer, IsIdle};
 ghost use Rattle.volume_terms.specs.declared.fault.StoreFault.TheVariants as faults;
 
 use crate::change::{Change, Cut};
 use crate::store::Pages;
 use volume_terms::StoreFault;
 
-/// Pages that are changed, all of a change or none of it, and kept from one commit to the next.
+/// Pages that are changed, all of a change or none of it, and committed from one commit to the next.
 ///
-/// After a fault other than `NoMemory` the store is sound no longer. Its device has the pages that were kept, or those that
+/// After a fault other than `NoMemory` the store is sound no longer. Its device has the pages that were committed, or those that
 /// were present.
 pub trait PageStore: Pages {
     /// How many pages a change has at most.
@@ -23,21 +21,14 @@ pub trait PageStore: Pages {
 
     /// Makes a change of what is present, or none where memory is refused. What is present may be committed before.
     fn apply(&mut self, change: Change) -> Result<(), StoreFault>
-        requires apart { AreApart change.pages.items }
-        requires size { AreSized change.pages.items (Self.state self.old).page_bytes }
-        requires few { length change.pages.items ≤ (Self.state self.old).most }
-        requires trees { AreOfTrees change.pages.items }
+        requires { CanApply (Self.state self.old) change.pages.items }
         ensures goes_on { GoesOn (Self.state self.old) (Self.state self.new) }
-        ensures sound { OnOk result ((Self.state self.old).sound ≡ true → (Self.state self.new).sound ≡ true) }
-        ensures present { (Self.state self.old).sound ≡ true → OnOk result (SamePages (Self.state self.new).present (changed change (Self.state self.old).present)) }
-        ensures kept { (Self.state self.old).sound ≡ true → KeepsEither (Self.state self.old) (Self.state self.new) }
-        ensures power { OnOk result (KeepsPower (Self.state self.old) (Self.state self.new)) }
+        ensures makes { (Self.state self.old).sound ≡ true → OnOk result (MakesCurrent change (Self.state self.old) (Self.state self.new)) }
+        ensures buffers { OnOk result (BuffersPages change.pages.items (Self.state self.old) (Self.state self.new)) }
+        ensures committed { (Self.state self.old).sound ≡ true → KeepsEither (Self.state self.old) (Self.state self.new) }
         // Where there is room beside what is buffered nothing is committed, and else once.
         ensures room { (Self.state self.old).buffered + length change.pages.items ≤ (Self.state self.old).most → CommitsNothing (Self.state self.old) (Self.state self.new) }
-        ensures costs { CostsACommit (Self.state self.old) (Self.state self.new) }
-        ensures reads { ReadsFew (unfinished result) (Self.state self.old).device (Self.state self.new).device }
-        ensures buffered { OnOk result ((Self.state self.new).buffered ≤ (Self.state self.old).buffered + length change.pages.items) }
-        ensures near { OnOk result (AreNear change.pages.items (Self.state self.new)) }
+        ensures pays { PaysChange (unfinished result) (Self.state self.old) (Self.state self.new) }
         ensures refused { IsErrOf result faults.NoMemory → StaysSame (Self.state self.old) (Self.state self.new) }
         ensures stops { IfErr result (λ fault. (fault ≡ faults.NoMemory) ⊎ ((Self.state self.new).sound ≡ false)) }
         ensures fault { (Self.state self.old).sound ≡ true → IfErr result (ChangeFailsBy (Self.state self.old) (Self.state self.new)) };
@@ -47,7 +38,7 @@ pub trait PageStore: Pages {
         ensures goes_on { GoesOn (Self.state self.old) (Self.state self.new) }
         ensures sound { OnOk result ((Self.state self.old).sound ≡ true → (Self.state self.new).sound ≡ true) }
         ensures present { (Self.state self.old).sound ≡ true → OnOk result (SamePages (Self.state self.new).present (without_cuts (cut ∷ []) (Self.state self.old).present)) }
-        ensures kept { (Self.state self.old).sound ≡ true → KeptAs (Self.state self.new) (Self.state self.old).kept }
+        ensures committed { (Self.state self.old).sound ≡ true → CommittedAs (Self.state self.new) (Self.state self.old).committed }
         ensures device { (Self.state self.new).device ≡ (Self.state self.old).device }
         ensures next { (Self.state self.new).next ≡ (Self.state self.old).next }
         ensures buffered { (Self.state self.new).buffered ≤ (Self.state self.old).buffered }
@@ -58,24 +49,20 @@ pub trait PageStore: Pages {
     /// Keeps what is present: its device has all of it then. It takes no memory.
     fn commit(&mut self) -> Result<(), StoreFault>
         ensures goes_on { GoesOn (Self.state self.old) (Self.state self.new) }
-        ensures sound { OnOk result ((Self.state self.old).sound ≡ true → (Self.state self.new).sound ≡ true) }
-        ensures present { (Self.state self.old).sound ≡ true → OnOk result (SamePages (Self.state self.new).present (Self.state self.old).present) }
-        ensures kept { (Self.state self.old).sound ≡ true → KeepsEither (Self.state self.old) (Self.state self.new) }
-        ensures committed { (Self.state self.old).sound ≡ true → OnOk result (KeptAs (Self.state self.new) (Self.state self.old).present) }
-        ensures power { OnOk result (KeepsPower (Self.state self.old) (Self.state self.new)) }
+        ensures makes { (Self.state self.old).sound ≡ true → OnOk result (MakesDurable (Self.state self.old) (Self.state self.new)) }
+        ensures empties { OnOk result (EmptiesBuffer (Self.state self.old) (Self.state self.new)) }
+        ensures committed { (Self.state self.old).sound ≡ true → KeepsEither (Self.state self.old) (Self.state self.new) }
         // Where nothing is buffered nothing is committed, and it is done.
-        ensures nothing { (Self.state self.old).buffered ≡ 0 → CommitsNothing (Self.state self.old) (Self.state self.new) }
-        ensures idle { (Self.state self.old).sound ≡ true → (Self.state self.old).buffered ≡ 0 → IsOk result }
+        ensures idle { (Self.state self.old).buffered ≡ 0 → IsIdle (Self.state self.old) (Self.state self.new) result }
         ensures costs { CostsACommit (Self.state self.old) (Self.state self.new) }
         // What is buffered is written without a read.
         ensures reads { ReadsFor (Self.state self.old).buffered (Self.state self.old).device (Self.state self.new).device result }
-        ensures buffered { OnOk result ((Self.state self.new).buffered ≡ 0) }
         ensures memory { IsErrOf result faults.NoMemory → ⊥ }
         ensures stops { IfErr result (λ fault. (Self.state self.new).sound ≡ false) }
         ensures fault { (Self.state self.old).sound ≡ true → IfErr result (CommitFailsBy (Self.state self.old) (Self.state self.new)) };
 
-    /// Moves the pages that are kept in a block into another, as a garbage collection does, so that the old ones are not needed any
-    /// more. What is present and what is kept stay. It takes no memory. Of a block that keeps none it makes no call of the device.
+    /// Moves the pages that are committed in a block into another, as a garbage collection does, so that the old ones are not needed any
+    /// more. What is present and what is committed stay. It takes no memory. Of a block that keeps none it makes no call of the device.
     fn refresh(&mut self, block: u32) -> Result<(), StoreFault>
         ensures { Refreshes block (Self.state self.old) (Self.state self.new) result };
 

@@ -23,11 +23,11 @@ pub trait Pages {
         ensures least { 512 ≤ result }
         ensures most { result ≤ 4096 };
 
-    /// Tells whether there is a page of the key; `page` lends it then. A key that has none is told without asking for a page.
+    /// Returns whether there is a page of the key; `page` lends it then. A key that has none is reported without looking up a page.
     fn find(&mut self, key: Key) -> Result<Presence, StoreFault>
         ensures finds { OnlyFinds (state self.old) (state self.new) }
-        ensures asked { (state self.new).asked ≤ (state self.old).asked + 1 }
-        ensures absent { (state self.old).sound ≡ true → (state self.old).present key.object key.chunk ≡ None → (state self.new).asked ≡ (state self.old).asked }
+        ensures issued { (state self.new).issued ≤ (state self.old).issued + 1 }
+        ensures absent { (state self.old).sound ≡ true → (state self.old).present key.object key.chunk ≡ None → (state self.new).issued ≡ (state self.old).issued }
         // Nor does one that is near make a call of the device.
         ensures near { (state self.old).near key.object key.chunk ≡ true → (state self.new).device ≡ (state self.old).device }
         ensures page { (state self.old).sound ≡ true → IfOk result (FindsPage (state self.old).present key.object key.chunk (state self.new).lent) }
@@ -38,7 +38,7 @@ pub trait Pages {
     /// Whether the device has power still. It may ask the device, as for a page.
     fn has_power(&mut self) -> bool
         ensures finds { OnlyFinds (state self.old) (state self.new) }
-        ensures asked { (state self.new).asked ≤ (state self.old).asked + 1 }
+        ensures issued { (state self.new).issued ≤ (state self.old).issued + 1 }
         ensures power { result ≡ not (state self.new).device.gone };
 
     /// The page that was found last.

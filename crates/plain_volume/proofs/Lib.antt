@@ -1,10 +1,10 @@
 pub mod Alike
 pub mod Counts
 pub mod Few
-pub mod Kept
+pub mod Committed
 pub mod Fitting
 pub mod Plain
 pub mod Answered
 pub mod Steps
-pub mod Asked
+pub mod StampedRequest
 pub mod TreesAlike

@@ -24,7 +24,7 @@ use Rattle.posix_profile.specs.laws.Outcome.{by_unless, by_place, by_handle, by_
 use Rattle.posix_profile.specs.laws.Prune.{prune_same}
 use Rattle.volume_terms.specs.Sizes.{Sizes}
 use Rattle.plain_volume.specs.Items.{IsInfo, AreNames}
-use Rattle.plain_volume.specs.Reading.{IsTold, HasOpen, Opens}
+use Rattle.plain_volume.specs.Reading.{IsStated, HasOpen, Opens}
 
 module _ (s : State) (path : List ℕ) where
   -- Stat
@@ -155,26 +155,26 @@ module _ (s t : State) (fd o offset : ℕ) (opened : HasOpen s fd o offset t) wh
       closed : record t { handles = map.remove t.handles fd } ≡ s
       closed = λ i. record { objects = opened.objects i; handles = handles i }
 
--- the same of what is told
+-- the same of what is reported
 module _ {V : Type 0} (shows : V → Sizes → Bool → State → Type 0) (z : Sizes) (read_only : Bool) (s : State) (new : V) where
-  pub stat_told : (path : List ℕ) (i : Info) → IsTold shows z read_only s (record { moment = 0; command = commands.Stat path }) (replies.Info i) new → IsInfo s.objects path i × shows new z read_only s
+  pub stat_reported : (path : List ℕ) (i : Info) → IsStated shows z read_only s (record { moment = 0; command = commands.Stat path }) (replies.Info i) new → IsInfo s.objects path i × shows new z read_only s
   unfolding step_at
-  stat_told path i is = let says = stat_says s path i (sym is.reply_is) in (says.0, subst (shows new z read_only) says.1 is.shown)
+  stat_reported path i is = let says = stat_says s path i (sym is.reply_is) in (says.0, subst (shows new z read_only) says.1 is.shown)
 
-  pub list_told : (path : List ℕ) (names : List Name) → IsTold shows z read_only s (record { moment = 0; command = commands.List path }) (replies.Names names) new → AreNames s.objects path names × shows new z read_only s
+  pub list_reported : (path : List ℕ) (names : List Name) → IsStated shows z read_only s (record { moment = 0; command = commands.List path }) (replies.Names names) new → AreNames s.objects path names × shows new z read_only s
   unfolding step_at
-  list_told path names is = let says = list_says s path names (sym is.reply_is) in (says.0, subst (shows new z read_only) says.1 is.shown)
+  list_reported path names is = let says = list_says s path names (sym is.reply_is) in (says.0, subst (shows new z read_only) says.1 is.shown)
 
-  pub open_told : (path : List ℕ) (fd : ℕ) → IsTold shows z read_only s (record { moment = 0; command = commands.Open path to_read }) (replies.Fd fd) new → (t : State) × Opens s path fd t × shows new z read_only t
+  pub open_reported : (path : List ℕ) (fd : ℕ) → IsStated shows z read_only s (record { moment = 0; command = commands.Open path to_read }) (replies.Fd fd) new → (t : State) × Opens s path fd t × shows new z read_only t
   unfolding step_at
-  open_told path fd is = ((open_step z read_only 0 s path to_read).state, open_says z read_only s path fd (sym is.reply_is), is.shown)
+  open_reported path fd is = ((open_step z read_only 0 s path to_read).state, open_says z read_only s path fd (sym is.reply_is), is.shown)
 
-  pub read_told : (first : State) (fd o offset count : ℕ) (part : List ℕ) → HasOpen first fd o offset s → IsTold shows z read_only s (record { moment = 0; command = commands.Read fd count }) (replies.Data part) new
+  pub read_reported : (first : State) (fd o offset count : ℕ) (part : List ℕ) → HasOpen first fd o offset s → IsStated shows z read_only s (record { moment = 0; command = commands.Read fd count }) (replies.Data part) new
       → (t : State) × IsPart first fd o offset count part t × shows new z read_only t
   unfolding step_at
-  read_told first fd o offset count part opened is = ((read_step s fd count).state, read_says first s fd o offset opened count part (sym is.reply_is), is.shown)
+  read_reported first fd o offset count part opened is = ((read_step s fd count).state, read_says first s fd o offset opened count part (sym is.reply_is), is.shown)
 
-  pub close_told : (first : State) (fd o offset : ℕ) → HasOpen first fd o offset s → IsWellFormed z first → map.get first.handles fd ≡ None
-      → IsTold shows z read_only s (record { moment = 0; command = commands.Close fd }) replies.Done new → shows new z read_only first
+  pub close_reported : (first : State) (fd o offset : ℕ) → HasOpen first fd o offset s → IsWellFormed z first → map.get first.handles fd ≡ None
+      → IsStated shows z read_only s (record { moment = 0; command = commands.Close fd }) replies.Done new → shows new z read_only first
   unfolding step_at
-  close_told first fd o offset opened sound free is = subst (shows new z read_only) (close_says first s fd o offset opened z sound free (sym is.reply_is)) is.shown
+  close_reported first fd o offset opened sound free is = subst (shows new z read_only) (close_says first s fd o offset opened z sound free (sym is.reply_is)) is.shown

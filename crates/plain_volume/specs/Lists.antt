@@ -1,4 +1,4 @@
--- What a list tells that was read of a tree.
+-- What a list reports that was read of a tree.
 use Rattle.std.specs.Prelude.{[], ◌∷◌, map as list_map, Bool}
 use Rattle.posix_profile.specs.Names.{settle}
 use Rattle.posix_profile.specs.State.{Objects, State}

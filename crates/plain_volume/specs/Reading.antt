@@ -1,4 +1,4 @@
--- What commands that read tell of a state, and leave.
+-- What commands that read return of a state, and leave.
 use Rattle.std.specs.Prelude.{◌≡◌, ◌≢◌, ℕ, Bool, List, Some, None}
 use Rattle.std.specs.FinMap as map
 use Rattle.posix_profile.specs.State.{Object, File, Objects, Handle, State}
@@ -10,17 +10,17 @@ use Rattle.volume_terms.specs.Sizes.{Sizes}
 use Rattle.plain_volume.specs.Items.{IsFound}
 
 -- the reply is the profile's, and the state after it is shown
-pub record IsTold {V : Type 0} (shows : V → Sizes → Bool → State → Type 0) (z : Sizes) (read_only : Bool) (s : State) (command : Stamped) (reply : Reply) (new : V) : Type 0 where
+pub record IsStated {V : Type 0} (shows : V → Sizes → Bool → State → Type 0) (z : Sizes) (read_only : Bool) (s : State) (command : Stamped) (reply : Reply) (new : V) : Type 0 where
   pub reply_is : reply ≡ (step z read_only s command).reply
   pub shown : shows new z read_only (step z read_only s command).state
 
 -- so it is from each state that is shown
-abbrev pub IsToldBy : {V : Type 0} → (V → Sizes → Bool → State → Type 0) → V → Stamped → V → Reply → Type 0
-IsToldBy shows old command new reply = (z : Sizes) (read_only : Bool) (s : State) → shows old z read_only s → IsTold shows z read_only s command reply new
+abbrev pub IsReportedBy : {V : Type 0} → (V → Sizes → Bool → State → Type 0) → V → Stamped → V → Reply → Type 0
+IsReportedBy shows old command new reply = (z : Sizes) (read_only : Bool) (s : State) → shows old z read_only s → IsStated shows z read_only s command reply new
 
--- this is told of the objects of each state that is shown, and the state is shown afterwards
-abbrev pub Tells : {V : Type 0} → (V → Sizes → Bool → State → Type 0) → V → V → (Objects → Type 0) → Type 0
-Tells shows old new told = (z : Sizes) (read_only : Bool) (s : State) → shows old z read_only s → told s.objects × shows new z read_only s
+-- this is reported of the objects of each state that is shown, and the state is shown afterwards
+abbrev pub Reports : {V : Type 0} → (V → Sizes → Bool → State → Type 0) → V → V → (Objects → Type 0) → Type 0
+Reports shows old new reported = (z : Sizes) (read_only : Bool) (s : State) → shows old z read_only s → reported s.objects × shows new z read_only s
 
 -- of the one state the other has the same, but that a descriptor stands for an object, at an offset
 pub record HasOpen (s : State) (fd o offset : ℕ) (t : State) : Type 0 where

@@ -1,8 +1,8 @@
-// Commands that are asked of a volume.
+// Commands on a volume.
 ghost use Rattle.std.specs.Prelude.{◌≡◌, ◌++◌, ◌∷◌, [], false, length, nat_lt, if◌then◌else◌, IfOk, IfErr};
 ghost use Rattle.posix_profile.specs.Runs.{is_no_memory, is_stop};
 ghost use Rattle.plain_volume.specs.Items.{path_below};
-ghost use Rattle.plain_volume.specs.Reading.{IsToldBy};
+ghost use Rattle.plain_volume.specs.Reading.{IsReportedBy};
 
 use crate::fault::TreeFault;
 use posix_profile::{Answers, Command, Errno, FilePath, Reply, Stamped};
@@ -10,9 +10,9 @@ use std::alloc::{AllocError, Global};
 
 /// The reply, unless it is an error.
 fn no_error(reply: Reply) -> Result<Reply, TreeFault>
-    ensures same { IfOk result (λ told. told ≡ reply) }
-    ensures memory { IfOk result (λ told. is_no_memory told ≡ false) }
-    ensures goes_on { IfOk result (λ told. is_stop told ≡ false) }
+    ensures same { IfOk result (λ reported. reported ≡ reply) }
+    ensures memory { IfOk result (λ reported. is_no_memory reported ≡ false) }
+    ensures goes_on { IfOk result (λ reported. is_stop reported ≡ false) }
 {
     match reply {
         Reply::Error(Errno::ENOMEM) => Err(TreeFault::NoMemory),
@@ -23,7 +23,7 @@ fn no_error(reply: Reply) -> Result<Reply, TreeFault>
 
 /// The reply to a command, where it is not refused.
 pub fn ask<V: Answers>(volume: &mut V, moment: u64, command: Command) -> Result<Reply, TreeFault>
-    ensures { IfOk result (IsToldBy V.shows volume.old (record { moment = moment; command = command }) volume.new) }
+    ensures { IfOk result (IsReportedBy V.shows volume.old (record { moment = moment; command = command }) volume.new) }
 {
     let stamped = Stamped { moment, command };
     let reply = volume.answer(&stamped);

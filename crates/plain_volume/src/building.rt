@@ -62,8 +62,8 @@ fn make_object(
     Ok(())
 }
 
-/// What is told of the object of a number: its kind and its moment.
-fn told_of(entries: &[TreeEntry], number: u64) -> Option<(Kind, u64)> {
+/// What is reported of the object of a number: its kind and its moment.
+fn reported_of(entries: &[TreeEntry], number: u64) -> Option<(Kind, u64)> {
     for entry in entries {
         if entry.info.object == number {
             return Some((entry.info.kind, entry.info.moment));
@@ -88,7 +88,7 @@ fn make_objects(
     entries: &[TreeEntry],
 ) -> Result<(), TreeFault> {
     for number in 2..=greatest_number(entries) {
-        let (kind, moment) = told_of(entries, number).unwrap_or((Kind::Directory, 0));
+        let (kind, moment) = reported_of(entries, number).unwrap_or((Kind::Directory, 0));
         let path = first_path(alloc, number)?;
         make_object(alloc, volume, kind, moment, &path)?;
     }
@@ -102,7 +102,7 @@ fn remove_others(
     entries: &[TreeEntry],
 ) -> Result<(), TreeFault> {
     for number in 2..=greatest_number(entries) {
-        if told_of(entries, number).is_none() {
+        if reported_of(entries, number).is_none() {
             let path = FilePath::new(first_path(alloc, number)?);
             ask(volume, 0, Command::Rmdir { path })?;
         }
@@ -224,7 +224,7 @@ pub(crate) fn build(
     volume: &mut PlainVolume,
     entries: &[TreeEntry],
 ) -> Result<(), TreeFault> {
-    let moment = match told_of(entries, 1) {
+    let moment = match reported_of(entries, 1) {
         Some((_kind, moment)) => moment,
         None => return Err(TreeFault::Unlike),
     };

@@ -1,5 +1,5 @@
 //! The reference, slow on purpose: the objects and names of the profile as maps and vectors (`state`), the same as a store of
-//! objects, and a volume in memory over it, the sixteen commands by the book with nothing for a caller to show. And a tree, read by
+//! objects, and a volume in memory over it, the sixteen commands by the specification with nothing for a caller to show. And a tree, read by
 //! commands alone.
 #![tactic(auto)]
 

@@ -1,8 +1,8 @@
 // A tree as its commands tell it.
 ghost use Rattle.std.specs.Prelude.{◌≡◌, ◌++◌, ◌∷◌, [], ◌↔◌, map as list_map, IfOk, OnOk, IsTrue};
 ghost use Rattle.posix_profile.specs.declared.reply.Reply.TheVariants as replies;
-ghost use Rattle.plain_volume.specs.Items.{IsInfo, AreNames, AreBytesAt, IsRead, AreRead, item_of, told_of, paths_of, path_below, paths_below, root_path, IsContent};
-ghost use Rattle.plain_volume.specs.Reading.{Tells, OpensBy, DrainsBy, ClosesBy};
+ghost use Rattle.plain_volume.specs.Items.{IsInfo, AreNames, AreBytesAt, IsRead, AreRead, item_of, reported_of, paths_of, path_below, paths_below, root_path, IsContent};
+ghost use Rattle.plain_volume.specs.Reading.{Reports, OpensBy, DrainsBy, ClosesBy};
 
 use crate::asking::{ask, below, path_of};
 use crate::fault::TreeFault;
@@ -29,7 +29,7 @@ pub struct TreeName {
     pub path: Vec<u8>,
 }
 
-/// A name, and what is told of its object.
+/// A name, and what is reported of its object.
 #[derive(Drop)]
 pub struct TreeEntry {
     pub name: TreeName,
@@ -37,7 +37,7 @@ pub struct TreeEntry {
     pub content: Content,
 }
 
-/// What a reply tells of an object.
+/// What a reply reports on an object.
 fn info_of(reply: Reply) -> Result<Info, TreeFault>
     ensures { IfOk result (λ info. reply ≡ replies.Info info) }
 {
@@ -47,7 +47,7 @@ fn info_of(reply: Reply) -> Result<Info, TreeFault>
     }
 }
 
-/// The names that a reply tells.
+/// The names that a reply reports.
 fn names_of(reply: Reply) -> Result<Vec<Bytes>, TreeFault>
     ensures { IfOk result (λ names. reply ≡ replies.Names names.items) }
 {
@@ -57,7 +57,7 @@ fn names_of(reply: Reply) -> Result<Vec<Bytes>, TreeFault>
     }
 }
 
-/// The descriptor that a reply tells.
+/// The descriptor that a reply reports.
 fn descriptor_of(reply: Reply) -> Result<u32, TreeFault>
     ensures { IfOk result (λ fd. reply ≡ replies.Fd fd) }
 {
@@ -67,7 +67,7 @@ fn descriptor_of(reply: Reply) -> Result<u32, TreeFault>
     }
 }
 
-/// The bytes that a reply tells.
+/// The bytes that a reply reports.
 fn data_of(reply: Reply) -> Result<Vec<u8>, TreeFault>
     ensures { IfOk result (λ bytes. reply ≡ replies.Data bytes.items) }
 {
@@ -77,7 +77,7 @@ fn data_of(reply: Reply) -> Result<Vec<u8>, TreeFault>
     }
 }
 
-/// Whether a reply tells that the command is done.
+/// Whether a reply reports that the command is done.
 fn done_of(reply: Reply) -> Result<(), TreeFault>
     ensures { OnOk result (reply ≡ replies.Done) }
 {
@@ -87,9 +87,9 @@ fn done_of(reply: Reply) -> Result<(), TreeFault>
     }
 }
 
-/// What is told of the object at a path.
+/// What is reported of the object at a path.
 pub fn info_at<V: Answers>(alloc: Global, volume: &mut V, path: &[u8]) -> Result<Info, TreeFault>
-    ensures { IfOk result (λ info. Tells V.shows volume.old volume.new (λ objects. IsInfo objects path.now info)) }
+    ensures { IfOk result (λ info. Reports V.shows volume.old volume.new (λ objects. IsInfo objects path.now info)) }
 {
     let path = path_of(alloc, path)?;
     let reply = ask(volume, 0, Command::Stat { path })?;
@@ -102,7 +102,7 @@ pub fn names_at<V: Answers>(
     volume: &mut V,
     path: &[u8],
 ) -> Result<Vec<Bytes>, TreeFault>
-    ensures { IfOk result (λ names. Tells V.shows volume.old volume.new (λ objects. AreNames objects path.now names.items)) }
+    ensures { IfOk result (λ names. Reports V.shows volume.old volume.new (λ objects. AreNames objects path.now names.items)) }
 {
     let path = path_of(alloc, path)?;
     let reply = ask(volume, 0, Command::List { path })?;
@@ -155,7 +155,7 @@ pub fn bytes_at<V: Answers>(
     volume: &mut V,
     path: &[u8],
 ) -> Result<Vec<u8>, TreeFault>
-    ensures { IfOk result (λ bytes. Tells V.shows volume.old volume.new (λ objects. AreBytesAt objects path.now bytes.items)) }
+    ensures { IfOk result (λ bytes. Reports V.shows volume.old volume.new (λ objects. AreBytesAt objects path.now bytes.items)) }
 {
     let fd = open_to_read(alloc, volume, path)?;
     let left = bytes_left(alloc, volume, fd);
@@ -172,7 +172,7 @@ fn content_at<V: Answers>(
     path: &[u8],
     kind: Kind,
 ) -> Result<Content, TreeFault>
-    ensures { IfOk result (λ content. Tells V.shows volume.old volume.new (λ objects. IsContent objects path.now (told_of content))) }
+    ensures { IfOk result (λ content. Reports V.shows volume.old volume.new (λ objects. IsContent objects path.now (reported_of content))) }
 {
     match kind {
         Kind::File => {
@@ -193,7 +193,7 @@ fn read_entry<V: Answers>(
     name: TreeName,
 ) -> Result<TreeEntry, TreeFault>
     ensures same { IfOk result (λ entry. entry.name ≡ name) }
-    ensures told { IfOk result (λ entry. Tells V.shows volume.old volume.new (λ objects. IsRead objects (item_of entry))) }
+    ensures reported { IfOk result (λ entry. Reports V.shows volume.old volume.new (λ objects. IsRead objects (item_of entry))) }
 {
     let info = info_at(alloc, volume, &name.path)?;
     let content = content_at(alloc, volume, &name.path, info.kind)?;
@@ -233,7 +233,7 @@ fn wait_for_names(
     place: usize,
     waiting: &mut VecDeque<TreeName>,
 ) -> Result<(), AllocError>
-    ensures { OnOk result (paths_of waiting.new.items ≡ paths_of waiting.old.items ++ paths_below entry.now.name.path.items (told_of entry.now.content)) }
+    ensures { OnOk result (paths_of waiting.new.items ≡ paths_of waiting.old.items ++ paths_below entry.now.name.path.items (reported_of entry.now.content)) }
 {
     match &entry.content {
         Content::Directory(names) => add_names(alloc, &entry.name.path, names, place, waiting),
@@ -257,7 +257,7 @@ pub(crate) fn read_tree<V: Answers>(
     alloc: Global,
     volume: &mut V,
 ) -> Result<Vec<TreeEntry>, TreeFault>
-    ensures { IfOk result (λ entries. Tells V.shows volume.old volume.new (λ objects. AreRead objects (root_path ∷ []) (list_map item_of entries.items))) }
+    ensures { IfOk result (λ entries. Reports V.shows volume.old volume.new (λ objects. AreRead objects (root_path ∷ []) (list_map item_of entries.items))) }
 {
     let mut entries = Vec::new(alloc);
     let mut waiting = VecDeque::new(alloc);
@@ -293,7 +293,7 @@ fn same_names(names: &[Bytes], others: &[Bytes]) -> bool
 
 /// Whether both hold the same.
 fn same_content(content: &Content, other: &Content) -> bool
-    ensures { IsTrue result ↔ (told_of content.now ≡ told_of other.now) }
+    ensures { IsTrue result ↔ (reported_of content.now ≡ reported_of other.now) }
 {
     match (content, other) {
         (Content::File(bytes), Content::File(others)) => bytes.as_slice() == others.as_slice(),

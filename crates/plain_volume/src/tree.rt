@@ -7,7 +7,7 @@ ghost use Rattle.posix_profile.specs.Runs.{takes_no_memory};
 ghost use Rattle.posix_profile.specs.Steps.{step};
 ghost use Rattle.posix_profile.specs.laws.Fresh.{fresh};
 ghost use Rattle.plain_volume.specs.Lists.{IsMadeOf, Lists, ShowsTree, shown_of};
-ghost use Rattle.plain_volume.specs.Sameness.{TellsObjects, TellsSame};
+ghost use Rattle.plain_volume.specs.Sameness.{ReportsObjects, ReportsSame};
 
 use crate::PlainVolume;
 use crate::building::build;
@@ -47,7 +47,7 @@ impl PlainTree {
         Ok(PlainTree { alloc, plain })
     }
 
-    /// The tree that a list tells, made by commands in a volume of these sizes: the same names, numbers, moments and bytes. Where
+    /// The tree that a list reports, made by commands in a volume of these sizes: the same names, numbers, moments and bytes. Where
     /// objects were removed, room is needed for as many as the greatest number. `Unlike` where what is made is not what is listed.
     pub fn made_of(
         alloc: Global,
@@ -75,7 +75,7 @@ impl PlainTree {
         volume: &mut V,
     ) -> Result<PlainTree, TreeFault>
         requires { IsSizes (sizes_of sizes) }
-        ensures { IfOk result (λ tree. TellsObjects V.shows volume.old volume.new (settle tree.state).objects) }
+        ensures { IfOk result (λ tree. ReportsObjects V.shows volume.old volume.new (settle tree.state).objects) }
     {
         let list = TreeList::read(alloc, volume)?;
         PlainTree::made_of(alloc, sizes, &list)
@@ -123,7 +123,7 @@ impl PlainTree {
     /// Whether the volume has the same tree: equal names, and under each the same number, kind, links, length, moment and
     /// bytes. Objects that descriptors alone keep are not looked at. The volume needs a descriptor that is free.
     pub fn same<V: Answers>(&self, volume: &mut V) -> Result<bool, TreeFault>
-        ensures { IfOk result (TellsSame V.shows volume.old volume.new (settle self.now.state).objects) }
+        ensures { IfOk result (ReportsSame V.shows volume.old volume.new (settle self.now.state).objects) }
     {
         let list = TreeList::read(self.alloc, volume)?;
         self.has(&list)

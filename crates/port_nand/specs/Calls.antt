@@ -12,7 +12,7 @@ use Rattle.port_nand.specs.declared.request.Answer.TheVariants as answers
 use Rattle.port_nand.specs.declared.request.Request.{Request}
 use Rattle.port_nand.specs.declared.request.Request.TheVariants as requests
 
--- a call: what was asked, the bytes that were sent or came, and the answer
+-- a call: the request, the bytes that were sent or came, and the answer
 pub record Call : Type 0 where
   pub request : Request
   pub bytes : List ℕ

@@ -7,7 +7,7 @@ use Rattle.port_nand.specs.declared.block.Block.{Block}
 use Rattle.port_nand.specs.declared.request.Request.{Request}
 use Rattle.port_nand.specs.declared.request.Request.TheVariants as requests
 
--- whether what is asked of an open device is of a block and a page that it has
+-- whether the request to an open device is of a block and a page that it has
 abbrev pub IsBelow : ℕ → ℕ → Request → Type 0
 IsBelow blocks pages requests.Sizes = ⊥
 IsBelow blocks pages (requests.IsMarked block) = block < blocks
@@ -19,7 +19,7 @@ IsBelow blocks pages (requests.Program block page) = (block < blocks) × (page <
 IsBelow blocks pages (requests.Erase block) = block < blocks
 IsBelow blocks pages (requests.MarkBad block) = block < blocks
 
--- The marks, the next pages and whether power is gone are kept as the calls say, of as many blocks as there are, and no next page is past the
+-- The marks, the next pages and whether power is gone are held as the calls say, of as many blocks as there are, and no next page is past the
 -- last.
 pub record Knows (geometry : Geometry) (blocks : List Block) (gone : Bool) (calls : List Call) : Type 0 where
   pub count : length blocks ≡ geometry.blocks

@@ -10,9 +10,9 @@ use Rattle.port_nand.specs.declared.request.Request.{Request}
 use Rattle.port_nand.specs.declared.request.Request.TheVariants as requests
 
 -- One request, and the result is what its call says. Once power is gone there is none, and the result is as if power went.
-pub record Asks {R : Type 0} (request : Request) (result_of : Call → R) (old new : List Call) (result : R) : Type 0 where
+pub record Issues {R : Type 0} (request : Request) (result_of : Call → R) (old new : List Call) (result : R) : Type 0 where
   pub gone : is_gone (session old) ≡ true → (new ≡ old) × (result ≡ result_of (call request [] answers.Lost))
-  pub asked : is_gone (session old) ≡ false → (c : Call) × (new ≡ c ∷ old) × (c.request ≡ request) × (result ≡ result_of c)
+  pub issued : is_gone (session old) ≡ false → (c : Call) × (new ≡ c ∷ old) × (c.request ≡ request) × (result ≡ result_of c)
 
 -- the buffer of a tag after a read: it is filled where the page is written
 abbrev pub tag_with : List ℕ → List ℕ → Answer → List ℕ
@@ -39,26 +39,26 @@ abbrev pub asks_data : Reading → Answer → Call
 asks_data r answer = call (requests.ReadPage r.block r.page) r.bytes answer
 
 -- what a read of a page returns by the answer to the request for its tag
-abbrev pub tag_told : Answer → Result PageKind Gone
-tag_told answers.Zero = kind_result answers.One
-tag_told answer = kind_result answers.Lost
+abbrev pub tag_reported : Answer → Result PageKind Gone
+tag_reported answers.Zero = kind_result answers.One
+tag_reported answer = kind_result answers.Lost
 
 -- the buffer of a tag by the answer to the request for it
-abbrev pub told_tag : List ℕ → List ℕ → Answer → List ℕ
-told_tag was bytes answers.Zero = bytes
-told_tag was bytes answer = was
+abbrev pub reported_tag : List ℕ → List ℕ → Answer → List ℕ
+reported_tag was bytes answers.Zero = bytes
+reported_tag was bytes answer = was
 
--- after the data the tag is asked for, where the page is written
+-- after the data the tag is read, where the page is written
 abbrev pub ReadsOn : Reading → Answer → List Call → List Call → Result PageKind Gone → Type 0
 ReadsOn r answers.One old new result = (bytes : List ℕ) × (last : Answer)
-    × (new ≡ call (requests.LastTag r.block r.page) bytes last ∷ asks_data r answers.One ∷ old) × (result ≡ tag_told last)
-    × (r.tag ≡ told_tag r.was bytes last)
+    × (new ≡ call (requests.LastTag r.block r.page) bytes last ∷ asks_data r answers.One ∷ old) × (result ≡ tag_reported last)
+    × (r.tag ≡ reported_tag r.was bytes last)
 ReadsOn r answer old new result = (new ≡ asks_data r answer ∷ old) × (result ≡ kind_result answer) × (r.tag ≡ r.was)
 
--- A read of a page: its data, and of a page that is written its tag. Once power is gone nothing is asked.
-pub record AsksPage (r : Reading) (old new : List Call) (result : Result PageKind Gone) : Type 0 where
+-- A read of a page: its data, and of a page that is written its tag. Once power is gone no request is sent.
+pub record IssuesPage (r : Reading) (old new : List Call) (result : Result PageKind Gone) : Type 0 where
   pub gone : is_gone (session old) ≡ true → (new ≡ old) × (result ≡ kind_result answers.Lost) × (r.tag ≡ r.was)
-  pub asked : is_gone (session old) ≡ false → (answer : Answer) × ReadsOn r answer old new result
+  pub issued : is_gone (session old) ≡ false → (answer : Answer) × ReadsOn r answer old new result
 
 -- a page that is programmed: where it is, its data and its tag
 pub record Programming : Type 0 where

@@ -15,7 +15,7 @@ fn u40_at(bytes: &[u8], place: usize) -> u64
     LittleEndian::read_uint(&bytes[place..], 5)
 }
 
-/// The greatest two numbers of four bytes are the greatest two objects of eight, kept for checkpoints.
+/// The greatest two numbers of four bytes are the greatest two objects of eight, held for checkpoints.
 #[tactic(auto, unfolding(crate::specs::Packed::object_of))]
 fn widen(object: u32) -> u64
     ensures { result ≡ object_of object }

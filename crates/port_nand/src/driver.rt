@@ -1,11 +1,11 @@
-// The driver of a device, and what is kept of its answers.
+// The driver of a device, and what is held of its answers.
 ghost use Rattle.std.specs.Prelude.{◌≡◌, ◌<◌, ◌∷◌, false, length, IfOk, OnOk};
 ghost use Rattle.nand_model.specs.declared.nand.Gone.{Gone};
 ghost use Rattle.port_nand.specs.Calls.{call, cuts, erase_result, mark_result};
-ghost use Rattle.port_nand.specs.Driving.{IsKept};
+ghost use Rattle.port_nand.specs.Driving.{IsCommittedKey};
 ghost use Rattle.port_nand.specs.Knowing.{IsBelow};
-ghost use Rattle.port_nand.specs.Opening.{AsksAll, AsksMarks};
-ghost use Rattle.port_nand.specs.Sending.{Asks, AsksPage, SendsPage, programming, reading, tag_read, tag_with};
+ghost use Rattle.port_nand.specs.Opening.{IssuesAll, IssuesMarks};
+ghost use Rattle.port_nand.specs.Sending.{Issues, IssuesPage, SendsPage, programming, reading, tag_read, tag_with};
 ghost use Rattle.port_nand.specs.declared.request.Request.TheVariants as requests;
 
 use crate::block::{Block, new_blocks, note_mark, note_next};
@@ -17,8 +17,8 @@ use crate::sizes::{OpenFault, Sizes, TagForm, sizes_of};
 use nand_model::{EraseFault, Geometry, Gone, PageKind, ProgramFault};
 use std::alloc::Global;
 
-/// A driver behind a port. The marks, the next page of each block and whether power is gone are kept by its answers; once power
-/// is gone nothing is asked.
+/// A driver behind a port. The marks, the next page of each block and whether power is gone are held by its answers; once power
+/// is gone no request is sent.
 #[derive(Drop)]
 pub(crate) struct Driver<P> {
     pub port: P,
@@ -37,15 +37,15 @@ fn fill_tag<const T: usize>(tag: &mut [u8; T], bytes: &[u8; T], answer: Answer)
 }
 
 impl<P: Port> Driver<P> {
-    /// Asks for something, which comes into the buffer.
+    /// Issues for something, which comes into the buffer.
     fn ask(&mut self, request: Request, buffer: &mut [u8]) -> Answer
-        requires kept { IsKept P.calls self.old }
+        requires committed { IsCommittedKey P.calls self.old }
         requires below { IsBelow self.old.geometry.blocks self.old.geometry.pages request }
         requires power { self.old.gone ≡ false }
-        ensures kept { IsKept P.calls self.new }
+        ensures committed { IsCommittedKey P.calls self.new }
         ensures geometry { self.new.geometry ≡ self.old.geometry }
         ensures power { self.new.gone ≡ cuts request result }
-        ensures asked { P.calls self.new.port ≡ call request buffer.new result ∷ P.calls self.old.port }
+        ensures issued { P.calls self.new.port ≡ call request buffer.new result ∷ P.calls self.old.port }
     {
         let answer = self.port.read(request, buffer);
         note_next(&mut self.blocks, request, answer);
@@ -54,12 +54,12 @@ impl<P: Port> Driver<P> {
         answer
     }
 
-    /// Asks for something with these bytes.
+    /// Issues for something with these bytes.
     fn send(&mut self, request: Request, bytes: &[u8]) -> Answer
-        requires kept { IsKept P.calls self.old }
+        requires committed { IsCommittedKey P.calls self.old }
         requires below { IsBelow self.old.geometry.blocks self.old.geometry.pages request }
         requires power { self.old.gone ≡ false }
-        ensures kept { IsKept P.calls self.new }
+        ensures committed { IsCommittedKey P.calls self.new }
         ensures geometry { self.new.geometry ≡ self.old.geometry }
         ensures sent { P.calls self.new.port ≡ call request bytes.now result ∷ P.calls self.old.port }
     {
@@ -70,19 +70,19 @@ impl<P: Port> Driver<P> {
         answer
     }
 
-    /// Asks for the tag of a page.
+    /// Issues for the tag of a page.
     pub(crate) fn read_tag<const T: usize>(
         &mut self,
         block: u32,
         page: u32,
         tag: &mut [u8; T],
     ) -> Result<PageKind, Gone>
-        requires kept { IsKept P.calls self.old }
+        requires committed { IsCommittedKey P.calls self.old }
         requires block { block < self.old.geometry.blocks }
         requires page { page < self.old.geometry.pages }
-        ensures kept { IsKept P.calls self.new }
+        ensures committed { IsCommittedKey P.calls self.new }
         ensures geometry { self.new.geometry ≡ self.old.geometry }
-        ensures asks { Asks (requests.ReadTag block page) (tag_read tag.old) (P.calls self.old.port) (P.calls self.new.port) (result, tag.new) }
+        ensures asks { Issues (requests.ReadTag block page) (tag_read tag.old) (P.calls self.old.port) (P.calls self.new.port) (result, tag.new) }
     {
         if self.gone {
             return Err(Gone);
@@ -93,7 +93,7 @@ impl<P: Port> Driver<P> {
         kind_result(answer)
     }
 
-    /// Asks for a page, and where it is written for its tag.
+    /// Issues for a page, and where it is written for its tag.
     pub(crate) fn read_page<const T: usize>(
         &mut self,
         block: u32,
@@ -101,12 +101,12 @@ impl<P: Port> Driver<P> {
         bytes: &mut [u8],
         tag: &mut [u8; T],
     ) -> Result<PageKind, Gone>
-        requires kept { IsKept P.calls self.old }
+        requires committed { IsCommittedKey P.calls self.old }
         requires block { block < self.old.geometry.blocks }
         requires page { page < self.old.geometry.pages }
-        ensures kept { IsKept P.calls self.new }
+        ensures committed { IsCommittedKey P.calls self.new }
         ensures geometry { self.new.geometry ≡ self.old.geometry }
-        ensures asks { AsksPage (reading block page bytes.new tag.new tag.old) (P.calls self.old.port) (P.calls self.new.port) result }
+        ensures asks { IssuesPage (reading block page bytes.new tag.new tag.old) (P.calls self.old.port) (P.calls self.new.port) result }
     {
         if self.gone {
             return Err(Gone);
@@ -131,10 +131,10 @@ impl<P: Port> Driver<P> {
         bytes: &[u8],
         tag: &[u8; T],
     ) -> Result<(), ProgramFault>
-        requires kept { IsKept P.calls self.old }
+        requires committed { IsCommittedKey P.calls self.old }
         requires block { block < self.old.geometry.blocks }
         requires page { page < self.old.geometry.pages }
-        ensures kept { IsKept P.calls self.new }
+        ensures committed { IsCommittedKey P.calls self.new }
         ensures geometry { self.new.geometry ≡ self.old.geometry }
         ensures sends { SendsPage (programming block page bytes.now tag.now) (P.calls self.old.port) (P.calls self.new.port) result }
     {
@@ -147,13 +147,13 @@ impl<P: Port> Driver<P> {
         program_result(self.send(Request::Program { block, page }, bytes))
     }
 
-    /// Asks for an erase.
+    /// Issues for an erase.
     pub(crate) fn erase(&mut self, block: u32) -> Result<(), EraseFault>
-        requires kept { IsKept P.calls self.old }
+        requires committed { IsCommittedKey P.calls self.old }
         requires block { block < self.old.geometry.blocks }
-        ensures kept { IsKept P.calls self.new }
+        ensures committed { IsCommittedKey P.calls self.new }
         ensures geometry { self.new.geometry ≡ self.old.geometry }
-        ensures asks { Asks (requests.Erase block) (λ c. erase_result c.answer) (P.calls self.old.port) (P.calls self.new.port) result }
+        ensures asks { Issues (requests.Erase block) (λ c. erase_result c.answer) (P.calls self.old.port) (P.calls self.new.port) result }
     {
         if self.gone {
             return Err(EraseFault::Gone);
@@ -161,13 +161,13 @@ impl<P: Port> Driver<P> {
         erase_result(self.send(Request::Erase { block }, &[0]))
     }
 
-    /// Asks for a mark.
+    /// Issues for a mark.
     pub(crate) fn mark_bad(&mut self, block: u32) -> Result<(), Gone>
-        requires kept { IsKept P.calls self.old }
+        requires committed { IsCommittedKey P.calls self.old }
         requires block { block < self.old.geometry.blocks }
-        ensures kept { IsKept P.calls self.new }
+        ensures committed { IsCommittedKey P.calls self.new }
         ensures geometry { self.new.geometry ≡ self.old.geometry }
-        ensures asks { Asks (requests.MarkBad block) (λ c. mark_result c.answer) (P.calls self.old.port) (P.calls self.new.port) result }
+        ensures asks { Issues (requests.MarkBad block) (λ c. mark_result c.answer) (P.calls self.old.port) (P.calls self.new.port) result }
     {
         if self.gone {
             return Err(Gone);
@@ -177,14 +177,14 @@ impl<P: Port> Driver<P> {
 }
 
 impl<P: Port + Drop> Driver<P> {
-    /// Asks of each block whether it is marked.
+    /// Issues of each block whether it is marked.
     fn read_marks(&mut self) -> Result<(), OpenFault>
-        requires kept { IsKept P.calls self.old }
+        requires committed { IsCommittedKey P.calls self.old }
         requires power { self.old.gone ≡ false }
-        ensures kept { IsKept P.calls self.new }
+        ensures committed { IsCommittedKey P.calls self.new }
         ensures geometry { self.new.geometry ≡ self.old.geometry }
         ensures marks { OnOk result (self.new.gone ≡ false) }
-        ensures asks { OnOk result (AsksMarks (P.calls self.old.port) self.old.geometry.blocks (P.calls self.new.port)) }
+        ensures asks { OnOk result (IssuesMarks (P.calls self.old.port) self.old.geometry.blocks (P.calls self.new.port)) }
     {
         for block in 0..self.geometry.blocks() {
             self.ask(Request::IsMarked { block }, &mut [0u8; 1]);
@@ -197,9 +197,9 @@ impl<P: Port + Drop> Driver<P> {
 
     /// Opens a device: asks for its sizes, and which blocks are marked.
     pub(crate) fn open(alloc: Global, mut port: P) -> Result<(Driver<P>, TagForm), OpenFault>
-        ensures kept { IfOk result (λ d. IsKept P.calls d.0) }
+        ensures committed { IfOk result (λ d. IsCommittedKey P.calls d.0) }
         ensures power { IfOk result (λ d. d.0.gone ≡ false) }
-        ensures asks { IfOk result (λ d. AsksAll (record { geometry = d.0.geometry; tags = d.1 }) (P.calls port) (P.calls d.0.port)) }
+        ensures asks { IfOk result (λ d. IssuesAll (record { geometry = d.0.geometry; tags = d.1 }) (P.calls port) (P.calls d.0.port)) }
     {
         let mut bytes = [0u8; 16];
         let answer = port.read(Request::Sizes, &mut bytes);

@@ -8,7 +8,7 @@ use std::fs::File;
 use std::io::Result as IoResult;
 use std::os::unix::fs::FileExt;
 
-/// The way to a driver by reads and writes of a file at an offset, which says what is asked; the count that is returned is the
+/// The way to a driver by reads and writes of a file at an offset, which says the request; the count that is returned is the
 /// answer. No contract sees what a file gives and takes: that `read` and `write` make the one call that they note is tested.
 #[derive(Drop)]
 pub struct FilePort {

@@ -1,7 +1,7 @@
 // A device is opened, by the form of its tags.
 ghost use Rattle.std.specs.Prelude.{◌≡◌, false, IfOk};
 ghost use Rattle.port_nand.specs.Opened.{driver_of, sizes_of};
-ghost use Rattle.port_nand.specs.Opening.{AsksAll};
+ghost use Rattle.port_nand.specs.Opening.{IssuesAll};
 
 use crate::PackedNand;
 use crate::device::PortNand;
@@ -16,10 +16,10 @@ use std::alloc::Global;
 /// A device whose driver is behind a port, with tags of either form.
 pub type PortDevice<P> = EitherNand<PortNand<P>, PackedNand<SmallPortNand<P>>>;
 
-/// The device, powered up: no block has a next page. Its sizes are asked for, and in turn which of its blocks are marked.
+/// The device, powered up: no block has a next page. Its sizes are read, and in turn which of its blocks are marked.
 pub fn open<P: Port + Drop>(alloc: Global, port: P) -> Result<PortDevice<P>, OpenFault>
     ensures power { IfOk result (λ d. (⟦<PortDevice<P> as Nand>⟧.state d).gone ≡ false) }
-    ensures asks { IfOk result (λ d. AsksAll (sizes_of d) (P.calls port) (P.calls (driver_of d).port)) }
+    ensures asks { IfOk result (λ d. IssuesAll (sizes_of d) (P.calls port) (P.calls (driver_of d).port)) }
 {
     let (driver, tags) = Driver::open(alloc, port)?;
     match tags {

@@ -9,11 +9,11 @@ pub trait Port {
     /// The calls so far, the newest first.
     ghost calls: { Self → List Call };
 
-    /// Asks for something, which comes into the buffer.
+    /// Issues for something, which comes into the buffer.
     fn read(&mut self, request: Request, buffer: &mut [u8]) -> Answer
         ensures { calls self.new ≡ call request buffer.new result ∷ calls self.old };
 
-    /// Asks for something with these bytes.
+    /// Issues for something with these bytes.
     fn write(&mut self, request: Request, bytes: &[u8]) -> Answer
         ensures { calls self.new ≡ call request bytes.now result ∷ calls self.old };
 }

@@ -1,11 +1,11 @@
-// What a driver is asked, and what it answers.
+// What is sent to a driver, and what it answers.
 ghost use Rattle.std.specs.Prelude.{◌≡◌, ◌<◌};
 ghost use Rattle.port_nand.specs.Places.{answer_of, place, place_of};
 ghost use Rattle.port_nand.specs.Calls.{cuts, kind_result, program_result, erase_result, mark_result};
 
 use nand_model::{EraseFault, Gone, PageKind, ProgramFault};
 
-/// What a driver is asked.
+/// What is sent to a driver.
 #[derive(Clone, Copy, Debug, PartialEq, Eq)]
 pub enum Request {
     /// The sizes of the device.

@@ -26,7 +26,7 @@ impl From<AllocError> for OpenFault {
     }
 }
 
-/// What is kept of a tag with a page.
+/// What is held of a tag with a page.
 #[derive(Clone, Copy, Debug, PartialEq, Eq)]
 pub enum TagForm {
     /// Its 48 bytes.

@@ -1,7 +1,7 @@
 // A device whose driver is behind a port, with 24 bytes of a tag.
 ghost use Rattle.std.specs.Prelude.{◌≡◌, false};
 ghost use Rattle.port_nand.specs.Calls.{session};
-ghost use Rattle.port_nand.specs.Driving.{IsKept};
+ghost use Rattle.port_nand.specs.Driving.{IsCommittedKey};
 
 use crate::SmallSpareNand;
 use crate::driver::Driver;
@@ -12,15 +12,15 @@ use nand_model::{EraseFault, Geometry, Gone, PageKind, ProgramFault};
 #[derive(Drop)]
 pub struct SmallPortNand<P: Port> {
     pub(crate) driver: Driver<P>,
-    ghost kept: { IsKept P.calls driver },
+    ghost committed: { IsCommittedKey P.calls driver },
 }
 
 impl<P: Port> SmallSpareNand for SmallPortNand<P> {
     ghost use Rattle.std.specs.Prelude.{◌<◌, length, Some};
     ghost use Rattle.nand_model.specs.Flash.{Erased};
-    ghost use Rattle.nand_model.specs.Calls.{Reads, ReadTells, Fills, FillsData, Programs, Erases, Marks};
+    ghost use Rattle.nand_model.specs.Calls.{Reads, ReadReports, Fills, FillsData, Programs, Erases, Marks};
     ghost use Rattle.port_nand.specs.Calls.{erase_result, mark_result};
-    ghost use Rattle.port_nand.specs.Sending.{Asks, AsksPage, SendsPage, programming, reading, tag_read};
+    ghost use Rattle.port_nand.specs.Sending.{Issues, IssuesPage, SendsPage, programming, reading, tag_read};
     ghost use Rattle.port_nand.specs.State.{device};
     ghost use Rattle.port_nand.specs.declared.request.Request.TheVariants as requests;
     ghost use Rattle.port_nand.specs.laws.Within.{within_of, of_dishonest};
@@ -29,7 +29,7 @@ impl<P: Port> SmallSpareNand for SmallPortNand<P> {
 
     ghost clean = { λ d honest. of_dishonest honest };
 
-    ghost within = { λ d. within_of d.driver.geometry d.driver.blocks.items d.driver.gone (session (P.calls d.driver.port)) d.kept };
+    ghost within = { λ d. within_of d.driver.geometry d.driver.blocks.items d.driver.gone (session (P.calls d.driver.port)) d.committed };
 
     ghost sized = { λ d honest. of_dishonest honest };
 
@@ -46,9 +46,9 @@ impl<P: Port> SmallSpareNand for SmallPortNand<P> {
         requires block { block < self.old.driver.geometry.blocks }
         requires page { page < self.old.driver.geometry.pages }
         ensures reads { Reads (device P.calls self.old.driver) (device P.calls self.new.driver) result }
-        ensures kind { ReadTells false Erased result }
+        ensures kind { ReadReports false Erased result }
         ensures tag { Fills false tag.old result tag.old tag.new }
-        ensures asks { Asks (requests.ReadTag block page) (tag_read tag.old) (P.calls self.old.driver.port) (P.calls self.new.driver.port) (result, tag.new) }
+        ensures asks { Issues (requests.ReadTag block page) (tag_read tag.old) (P.calls self.old.driver.port) (P.calls self.new.driver.port) (result, tag.new) }
     {
         self.driver.read_tag(block, page, tag)
     }
@@ -65,10 +65,10 @@ impl<P: Port> SmallSpareNand for SmallPortNand<P> {
         requires page { page < self.old.driver.geometry.pages }
         requires size { length bytes.old ≡ self.old.driver.geometry.bytes }
         ensures reads { Reads (device P.calls self.old.driver) (device P.calls self.new.driver) result }
-        ensures kind { ReadTells false Erased result }
+        ensures kind { ReadReports false Erased result }
         ensures bytes { FillsData false bytes.old result bytes.new }
         ensures tag { Fills false tag.old result tag.old tag.new }
-        ensures asks { AsksPage (reading block page bytes.new tag.new tag.old) (P.calls self.old.driver.port) (P.calls self.new.driver.port) result }
+        ensures asks { IssuesPage (reading block page bytes.new tag.new tag.old) (P.calls self.old.driver.port) (P.calls self.new.driver.port) result }
     {
         self.driver.read_page(block, page, bytes, tag)
     }
@@ -96,7 +96,7 @@ impl<P: Port> SmallSpareNand for SmallPortNand<P> {
     fn erase(&mut self, block: u32) -> Result<(), EraseFault>
         requires { block < self.old.driver.geometry.blocks }
         ensures erases { Erases block (device P.calls self.old.driver) (device P.calls self.new.driver) result }
-        ensures asks { Asks (requests.Erase block) (λ c. erase_result c.answer) (P.calls self.old.driver.port) (P.calls self.new.driver.port) result }
+        ensures asks { Issues (requests.Erase block) (λ c. erase_result c.answer) (P.calls self.old.driver.port) (P.calls self.new.driver.port) result }
     {
         self.driver.erase(block)
     }
@@ -105,7 +105,7 @@ impl<P: Port> SmallSpareNand for SmallPortNand<P> {
     fn mark_bad(&mut self, block: u32) -> Result<(), Gone>
         requires { block < self.old.driver.geometry.blocks }
         ensures marks { Marks block (device P.calls self.old.driver) (device P.calls self.new.driver) result }
-        ensures asks { Asks (requests.MarkBad block) (λ c. mark_result c.answer) (P.calls self.old.driver.port) (P.calls self.new.driver.port) result }
+        ensures asks { Issues (requests.MarkBad block) (λ c. mark_result c.answer) (P.calls self.old.driver.port) (P.calls self.new.driver.port) result }
     {
         self.driver.mark_bad(block)
     }

@@ -1,7 +1,7 @@
 // The interface of a NAND flash device whose spare area has room for 24 bytes.
 ghost use Rattle.std.specs.Prelude.{◌≡◌, ◌<◌, true, false, length, Some};
 ghost use Rattle.nand_model.specs.Flash.{IsClean, IsWithin};
-ghost use Rattle.nand_model.specs.Calls.{Device, Reads, ReadTells, Fills, FillsData, bytes_of, tag_of, Programs, Erases, Marks};
+ghost use Rattle.nand_model.specs.Calls.{Device, Reads, ReadReports, Fills, FillsData, bytes_of, tag_of, Programs, Erases, Marks};
 ghost use Rattle.port_nand.specs.SmallSpare.{IsSmallSized};
 
 use nand_model::{EraseFault, Geometry, Gone, PageKind, ProgramFault};
@@ -24,7 +24,7 @@ pub trait SmallSpareNand {
         requires block { block < (state self.old).geometry.blocks }
         requires page { page < (state self.old).geometry.pages }
         ensures reads { Reads (state self.old) (state self.new) result }
-        ensures kind { ReadTells (state self.old).honest ((state self.old).flash.page block page) result }
+        ensures kind { ReadReports (state self.old).honest ((state self.old).flash.page block page) result }
         ensures tag { Fills (state self.old).honest (tag_of ((state self.old).flash.page block page) tag.old) result tag.old tag.new };
 
     /// Reads the data and the tag of a page. The buffers are filled where the page is written; else the tag's stays, and that
@@ -40,7 +40,7 @@ pub trait SmallSpareNand {
         requires page { page < (state self.old).geometry.pages }
         requires size { length bytes.old ≡ (state self.old).geometry.bytes }
         ensures reads { Reads (state self.old) (state self.new) result }
-        ensures kind { ReadTells (state self.old).honest ((state self.old).flash.page block page) result }
+        ensures kind { ReadReports (state self.old).honest ((state self.old).flash.page block page) result }
         ensures bytes { FillsData (state self.old).honest (bytes_of ((state self.old).flash.page block page) bytes.old) result bytes.new }
         ensures tag { Fills (state self.old).honest (tag_of ((state self.old).flash.page block page) tag.old) result tag.old tag.new };
 

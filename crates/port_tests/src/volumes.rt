@@ -38,16 +38,16 @@ fn session(rt: &impl Abort, alloc: Global, chip: Chip, lines: &[&str]) -> (Chip,
 }
 
 #[test]
-fn a_volume_is_kept_by_a_driver(rt: HostRuntime) {
-    is_kept(&rt, rt.alloc(), 48)
+fn a_volume_is_committed_by_a_driver(rt: HostRuntime) {
+    is_committed(&rt, rt.alloc(), 48)
 }
 
 #[test]
-fn a_volume_is_kept_with_packed_tags(rt: HostRuntime) {
-    is_kept(&rt, rt.alloc(), 24)
+fn a_volume_is_committed_with_packed_tags(rt: HostRuntime) {
+    is_committed(&rt, rt.alloc(), 24)
 }
 
-fn is_kept(rt: &impl Abort, alloc: Global, tag_bytes: u8) {
+fn is_committed(rt: &impl Abort, alloc: Global, tag_bytes: u8) {
     let (chip, text) = session(
         rt,
         alloc,

@@ -16,10 +16,10 @@ use Rattle.volume_terms.specs.Sizes.{Sizes}
 pub call_answered : {P : Type 0} (state : P → PagesState) (old : PageVolume P) (c : Stamped) (r : Reply) (new : PageVolume P) → IsCalled state old c r new
     → (z : Sizes) (read_only : Bool) (s : State) → ShowsState state old z read_only s → IsAnswered (ShowsState state) z read_only s c r new
 call_answered state old c r new called z read_only s shown =
-    let told = called.replied shown.0 z s shown.2 in
+    let reported = called.replied shown.0 z s shown.2 in
     record {
-      reply_is = subst (λ only. Replies z only s c r) shown.1 told.reply_is;
-      shown = λ goes. (called.stops shown.0 ∙ goes, called.read_only ∙ shown.1, subst (λ only. IsVolumeOf state z (after_one z only s c r) new) shown.1 (told.state_is goes));
+      reply_is = subst (λ only. Replies z only s c r) shown.1 reported.reply_is;
+      shown = λ goes. (called.stops shown.0 ∙ goes, called.read_only ∙ shown.1, subst (λ only. IsVolumeOf state z (after_one z only s c r) new) shown.1 (reported.state_is goes));
     }
 
 -- of the same command

@@ -41,7 +41,7 @@ module _ {P : Type 0} (state : P → PagesState) (few : FewLaw state) (a b : Pag
     sizes = served.lasts.1;
     leaves = served.leaves;
     keeps_power = λ goes was. not-true _ (served.power goes (ap not was));
-    stopped = λ stop. let told = served.stopped stop in (told.0, ap (λ v. record { volume = v }) told.1);
+    stopped = λ stop. let reported = served.stopped stop in (reported.0, ap (λ v. record { volume = v }) reported.1);
     stops = served.stops;
     refuses = λ refusal. let stays = served.refuses refusal in record { pages = stays.store.pages; table = stays.store.table; handles = stays.handles };
     replied = replied;

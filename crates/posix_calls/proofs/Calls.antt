@@ -20,7 +20,7 @@ use Rattle.command_plans.specs.Classes.{class_of}
 use Rattle.object_commands.specs.Endings.{IsAt, CommandEnds}
 use Rattle.object_commands.specs.Running.{InTurn, ReadsInTurn, Ran, Runs}
 use Rattle.object_commands.specs.laws.Steps.{One, one_ends, at_shown}
-use Rattle.object_store.specs.Told.{table_sizes}
+use Rattle.object_store.specs.Reported.{table_sizes}
 use Rattle.paged_objects.specs.Naming.{HasNames}
 use Rattle.paged_objects.specs.Meaning.{paged_meaning}
 use Rattle.paged_objects.specs.Parts.{state_of}
@@ -46,7 +46,7 @@ is_at state z s v is = record {
     sizes = is.sizes;
     stands = record {
       stands = subst (λ y. StandsFor y (state (pages_of v)) s.objects) (sym is.sizes) is.stands;
-      tells = is.tells;
+      reports = is.reports;
       named = subst (λ y. HasNames (names_of v) y (state (pages_of v)).present s.objects) (sym is.sizes) is.hashes;
     };
     forest = is.sound.well_formed.forest;
@@ -71,7 +71,7 @@ is_volume state z s v law worn at = record {
   numbers = at.has.numbers;
   sizes = at.has.sizes;
   stands = subst (λ y. StandsFor y (state (pages_of v)) s.objects) at.has.sizes at.has.stands.stands;
-  tells = at.has.stands.tells;
+  reports = at.has.stands.reports;
   hashes = subst (λ y. HasNames (names_of v) y (state (pages_of v)).present s.objects) at.has.sizes at.has.stands.named;
   handles = at.handles;
   sound = at.sound;
@@ -82,7 +82,7 @@ is_volume state z s v law worn at = record {
   shown = λ only. subst (λ y. Shown y (state (pages_of v)) s.objects) at.has.sizes (at.only_read only).shown;
 }
 
--- the tree that a mount would show, by the sizes that the table tells
+-- the tree that a mount would show, by the sizes that the table reports
 pub shown_to : {P : Type 0} (state : P → PagesState) (z : Sizes) (v : PageVolume P) (tree : Objects) → table_sizes (table_of v) ≡ z → Shown z (state (pages_of v)) tree → Shown (table_sizes (table_of v)) (state (pages_of v)) tree
 shown_to state z v tree is shown = subst (λ y. Shown y (state (pages_of v)) tree) (sym is) shown
 
@@ -137,7 +137,7 @@ module _ {P : Type 0} (state : P → PagesState) where
     state_is = λ goes. is_volume state z _ b law worn (ran.state goes);
     only_failed = λ only stop. (ran.unread only stop).1.1;
     power = λ refused. not-true _ (ran.power refused);
-    tells = λ each. (ran.tells each).pages;
+    reports = λ each. (ran.reports each).pages;
     only_reads = λ why. let reads = ran.only why in reads_all reads.0 a.volume.store b.volume.store reads.1;
   } where
     losses_from : {tree : Objects} → LossLeaves (Shown (table_sizes (table_of b)) (state (pages_of b))) tree z (is_read_only a) s commands answered → LossLeaves (Shown z (state (pages_of b))) tree z (is_read_only a) s commands answered

@@ -119,7 +119,7 @@ pub all_named : (z : Sizes) (t : State) → IsWellFormed z t → ((fd : ℕ) →
 all_named z t sound closed = ap (λ (s : State). s.objects) (prune_same z (bare t.objects) (record {
   forest = sound.forest;
   handles = no_handles t.objects;
-  kept = λ o object is. go o (sound.kept o object is);
+  committed = λ o object is. go o (sound.committed o object is);
 })) where
   go : (o : ℕ) → (o ≡ root_number) ⊎ IsNamed t.objects o ⊎ IsOpen t.handles o → (o ≡ root_number) ⊎ IsNamed t.objects o ⊎ IsOpen map.empty o
   go o (inl top) = inl top

@@ -1,4 +1,4 @@
--- The kept pages of objects that all have names are those of the tree.
+-- The committed pages of objects that all have names are those of the tree.
 use Rattle.std.specs.Prelude.{◌≡◌, ◌<◌, ◌≤◌, ◌-◌, ◌*◌, ◌/◌, ℕ, true, List, Option, Some, None, ◌⊎◌, Result, Ok, Err}
 use Rattle.std.specs.FinMap as map
 use Rattle.std.specs.Int.{div_ceil}
@@ -97,16 +97,16 @@ module _ (z : Sizes) (numbers : IsSizes z) (m : PageMap) where
             }
 
 -- pages of objects that all have names are those of the tree that a mount shows
-pub keeps_only : (z : Sizes) (p : PagesState) (objects : Objects) → IsSizes z → p.sound ≡ true → Shown z p (settled objects) → HoldsObjects z p.kept objects → settled objects ≡ objects
+pub keeps_only : (z : Sizes) (p : PagesState) (objects : Objects) → IsSizes z → p.sound ≡ true → Shown z p (settled objects) → HoldsObjects z p.committed objects → settled objects ≡ objects
     → bad_on p.device ≤ p.spare → KeepsOnly z p (settled objects)
 keeps_only z p objects numbers sound shown holds same few = record {
   sound = sound;
   few = few;
-  all = λ honest o c foot. footprint_pages z p.kept numbers p.device.flash (carries honest) objects holds o c foot;
-  only = λ honest o c page. page_looked z numbers p.kept objects holds p.device.flash (carries honest) same o c page;
+  all = λ honest o c foot. footprint_pages z p.committed numbers p.device.flash (carries honest) objects holds o c foot;
+  only = λ honest o c page. page_looked z numbers p.committed objects holds p.device.flash (carries honest) same o c page;
 } where
-  carries : p.device.honest ≡ true → Carries p.device.flash p.kept
-  carries honest o c xs is = (shown.carried honest).newest o c xs (sym (shown.kept sound o c) ∙ is)
+  carries : p.device.honest ≡ true → Carries p.device.flash p.committed
+  carries honest o c xs is = (shown.carried honest).newest o c xs (sym (shown.committed sound o c) ∙ is)
 
 module _ {P : Type 0} (state : P → PagesState) (z : Sizes) where
   -- after a commit that is done
@@ -116,7 +116,7 @@ module _ {P : Type 0} (state : P → PagesState) (z : Sizes) where
       let ends : Commits (meaning_of state) objects a b (Ok done) = subst (Commits (meaning_of state) objects a b) is commits in
       let sound = ends.0.stands.sound in
       keeps_only z (state b.pages) objects has.numbers sound (commit_done state z objects a b has r done is commits)
-      (subst (λ (y : Sizes). HoldsObjects y (state b.pages).kept objects) has.sizes (ends.1.0.holds sound)) same (few sound)
+      (subst (λ (y : Sizes). HoldsObjects y (state b.pages).committed objects) has.sizes (ends.1.0.holds sound)) same (few sound)
 
   -- a commit of objects that settle to others leaves the tree or settles these
   pub committed_tree : (first objects : Objects) (a b : PagedObjects P) → Has (meaning_of state) z objects a → (r : Result (Unit {0}) StoreFault) → (r ≡ Err faults.NoMemory → ⊥)

@@ -9,7 +9,7 @@ use Rattle.lives.specs.Lives.{at_mount}
 use Rattle.flash_tree.specs.Checkpoints.{IsChecked}
 use Rattle.flash_tree.specs.Mount.{Answers, IsTreeOf}
 use Rattle.name_index.specs.declared.index.NameIndex.{NameIndex}
-use Rattle.object_store.specs.Told.{table_sizes}
+use Rattle.object_store.specs.Reported.{table_sizes}
 use Rattle.object_store.specs.declared.table.ObjectTable.{ObjectTable}
 use Rattle.pages.specs.State.{PagesState}
 use Rattle.paged_objects.specs.Standing.{volume_of, Shown}
@@ -57,13 +57,13 @@ module _ {M : Type 0} {nand : Ghosts M} (state : FlashPages M nand → PagesStat
     goes_on = goes;
     read_only = is;
     tree = λ made honest.
-        let told = made.tree (sym (ap (λ (p : FlashPages M nand). (state p).device.honest) (same ∙ in_pages)) ∙ honest) in
-        let are : AreMounted state o m.read_only told.0 = record {
+        let reported = made.tree (sym (ap (λ (p : FlashPages M nand). (state p).device.honest) (same ∙ in_pages)) ∙ honest) in
+        let are : AreMounted state o m.read_only reported.0 = record {
           sizes = ap table_sizes in_table ∙ made.sizes.volume ∙ sym (ap (λ (p : FlashPages M nand). volume_of (state p)) in_pages);
-          mounted = stored told.0 told.1;
+          mounted = stored reported.0 reported.1;
           worn = ap (λ (p : FlashPages M nand). (state p).worn) in_pages ∙ made.worn;
         } in
-        (told.0, stands told.0 are);
+        (reported.0, stands reported.0 are);
   }
 
 -- a volume over what a mount gives is mounted

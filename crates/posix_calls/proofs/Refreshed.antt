@@ -3,7 +3,7 @@ use Rattle.std.specs.Prelude.{◌≡◌, ◌+◌, ◌*◌, ℕ, true, false, Res
 use Rattle.std.proofs.Common.{refl, sym, ◌∙◌, ap, subst, inl, inr, arith}
 use Rattle.std.proofs.lemmas.Bool.{true≢false}
 use Rattle.name_index.specs.declared.index.NameIndex.{NameIndex}
-use Rattle.object_store.specs.Told.{table_sizes, Tells}
+use Rattle.object_store.specs.Reported.{table_sizes, Reports}
 use Rattle.object_store.specs.declared.table.ObjectTable.{ObjectTable}
 use Rattle.object_commands.specs.Volumes.{with_stop, with_store}
 use Rattle.paged_objects.specs.Ending.{HasEndedAt}
@@ -95,7 +95,7 @@ module _ {P : Type 0} (state : P → PagesState) (few : FewLaw state) (block : �
   module _ (result : Result (Unit {0}) StoreFault) (refreshes : Refreshes block p q result) where
     -- a mount shows the tree that it did
     shown_still : (z : Sizes) (s : State) → IsVolumeOf state z s a → (tree : Objects) → Shown z p tree → Shown z q tree
-    shown_still z s at tree shown = still_shown z p q tree refreshes.goes_on at.stands.sound (refreshes.ends at.stands.sound).kept shown
+    shown_still z s at tree shown = still_shown z p q tree refreshes.goes_on at.stands.sound (refreshes.ends at.stands.sound).committed shown
 
     -- the volume stands for the state that it stood for
     stands_still : (z : Sizes) (s : State) → IsVolumeOf state z s a → refreshing.IsRefreshed block p q → IsVolumeOf state z s b
@@ -105,7 +105,7 @@ module _ {P : Type 0} (state : P → PagesState) (few : FewLaw state) (block : �
           numbers = at.numbers;
           sizes = ap table_sizes table ∙ at.sizes;
           stands = changed_stands z p q s.objects s.objects p.present refreshes.goes_on at.stands done.sound at.stands.holds done.present (λ tree shown. inl (shown_still z s at tree shown));
-          tells = subst (λ (t : ObjectTable). Tells t s.objects) (sym table) at.tells;
+          reports = subst (λ (t : ObjectTable). Reports t s.objects) (sym table) at.reports;
           hashes = subst (λ (n : NameIndex). HasNames n z q.present s.objects) (sym names)
               (more_names z (names_of a) (names_of a) p.present q.present s.objects (λ d h t is. is) done.present at.hashes);
           handles = at.handles;

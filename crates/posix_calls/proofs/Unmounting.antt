@@ -15,7 +15,7 @@ use Rattle.posix_calls.specs.Closing.{KeepsOnly, CanWrite}
 use Rattle.posix_calls.specs.PageVolumes.{pages_of, is_read_only, is_stopped, IsVolumeOf}
 use Rattle.posix_calls.specs.declared.page_volume.PageVolume.{PageVolume}
 use Rattle.pages.specs.State.{PagesState}
-use Rattle.pages.specs.Stores.{GoesOn, KeptAs, bad_on}
+use Rattle.pages.specs.Stores.{GoesOn, CommittedAs, bad_on}
 use Rattle.paged_objects.specs.Ending.{HasEnded}
 use Rattle.paged_objects.specs.Standing.{Shown}
 use Rattle.paged_objects.specs.laws.OnFlash.{shown_there}
@@ -49,22 +49,22 @@ pub record Finished {P : Type 0} (state : P → PagesState) (v : PageVolume P) (
 
 -- the device keeps its power where the pages say so
 power_there : (p : PagesState) (device : Device) → LiesOn p device → p.device.gone ≡ false → device.gone ≡ false
-power_there p device (told, is) power = sym (ap (λ (d : Device). d.gone) is) ∙ power
+power_there p device (reported, is) power = sym (ap (λ (d : Device). d.gone) is) ∙ power
 
 -- it has as many bad blocks
 few_there : (p : PagesState) (device : Device) → LiesOn p device → bad_on p.device ≤ p.spare → bad_on device ≤ p.spare
-few_there p device (told, is) few = subst (λ (d : Device). bad_on d ≤ p.spare) is few
+few_there p device (reported, is) few = subst (λ (d : Device). bad_on d ≤ p.spare) is few
 
--- a tree that was shown is shown by what was kept
-sealed_shown : (z : Sizes) (p q : PagesState) (tree : Objects) → EndsOn p q → p.sound ≡ true → KeptAs q p.kept → Shown z p tree → Shown z q tree
-sealed_shown z p q tree ends sound kept shown = record {
-  pages = p.kept;
+-- a tree that was shown is shown by what was committed
+sealed_shown : (z : Sizes) (p q : PagesState) (tree : Objects) → EndsOn p q → p.sound ≡ true → CommittedAs q p.committed → Shown z p tree → Shown z q tree
+sealed_shown z p q tree ends sound committed shown = record {
+  pages = p.committed;
   objects = shown.objects;
   sizes = ap (λ (g : Geometry). sizes_of g q.spare) ends.device.geometry ∙ ap (sizes_of p.device.geometry) ends.spare ∙ shown.sizes;
-  carried = kept.carried;
-  kept = kept.kept;
-  found = kept.found;
-  holds = same_objects z shown.pages p.kept shown.objects shown.holds (shown.kept sound);
+  carried = committed.carried;
+  committed = committed.committed;
+  found = committed.found;
+  holds = same_objects z shown.pages p.committed shown.objects shown.holds (shown.committed sound);
   can = shown.can;
   settles = shown.settles;
 }
@@ -93,7 +93,7 @@ module _ {P : Type 0} (state : P → PagesState) (v : PageVolume P) (p : PagesSt
     read_only = finished.read_only;
     replies_are = finished.replies_are;
     read_only_done = finished.read_only_done;
-    power = λ told was. power_there p device lies (finished.power told was);
+    power = λ reported was. power_there p device lies (finished.power reported was);
     few = λ written z s is done. few_there p device lies (finished.exact z s (written, is) done).few;
     done = finished.done;
     tree = finished.tree;
@@ -101,12 +101,12 @@ module _ {P : Type 0} (state : P → PagesState) (v : PageVolume P) (p : PagesSt
     checked = λ runs z s is. goes_right (state (pages_of v)) p finished.goes_on;
   }
 
-  module _ (due : Type 0) (raw : Device) (done : reply ≡ replies.Done) (written : is_read_only v ≡ false) (result : Result (Unit {0}) StoreFault) (sealed : IsSealed due p raw result) (told : Reply) (is : told ≡ reply_of result) where
+  module _ (due : Type 0) (raw : Device) (done : reply ≡ replies.Done) (written : is_read_only v ≡ false) (result : Result (Unit {0}) StoreFault) (sealed : IsSealed due p raw result) (reported : Reply) (is : reported ≡ reply_of result) where
     goes : is_stopped v ≡ true → ⊥
     goes stopped = not_done (sym (finished.stopped stopped).0 ∙ done)
 
     shown_on : (z : Sizes) (s : State) → IsVolumeOf state z s v → (tree : Objects) → Shown z p tree → Shown z sealed.pages tree
-    shown_on z s stands tree shown = let sound = (finished.exact z s (written, stands) done).sound in sealed_shown z p sealed.pages tree sealed.ends_on sound (sealed.kept sound) shown
+    shown_on z s stands tree shown = let sound = (finished.exact z s (written, stands) done).sound in sealed_shown z p sealed.pages tree sealed.ends_on sound (sealed.committed sound) shown
 
     has_power : (r : Result (Unit {0}) StoreFault) → SealEnds due p sealed.pages r → reply_of r ≡ replies.Done → p.device.gone ≡ false → sealed.pages.device.gone ≡ false
     has_power (Ok done') (inl same) all power = ap (λ (d : Device). d.gone) same.1.device ∙ power
@@ -129,7 +129,7 @@ module _ {P : Type 0} (state : P → PagesState) (v : PageVolume P) (p : PagesSt
     few_after (Err fault) few not = absurd (not_done not)
 
     -- a checkpoint of the pages was written, where one was due
-    pub sealed_after : LiesOn sealed.pages device → IsUnmounted state v device told
+    pub sealed_after : LiesOn sealed.pages device → IsUnmounted state v device reported
     sealed_after lies = record {
       pages = sealed.pages;
       device_is = lies;
@@ -150,19 +150,19 @@ module _ {P : Type 0} (state : P → PagesState) (v : PageVolume P) (p : PagesSt
 
 -- What follows the last reply of a volume that can be written, over the device that is given back.
 module _ {P : Type 0} (state : P → PagesState) (due : P → Type 0) (length : P → ℕ) (v : PageVolume P) (pages : P) (reply : Reply) (finished : Finished state v (state pages) reply) (written : is_read_only v ≡ false)
-    (raw device : Device) (told : Reply) (ends : EndsWith (due pages) (state pages) reply raw told) (costs : CostsACheckpoint (length pages) (state pages).device raw) (lies : (trusted : Bool) × (raw ≡ trusted_as trusted device)) where
+    (raw device : Device) (reported : Reply) (ends : EndsWith (due pages) (state pages) reply raw reported) (costs : CostsACheckpoint (length pages) (state pages).device raw) (lies : (trusted : Bool) × (raw ≡ trusted_as trusted device)) where
   on_raw : (q : PagesState) → q.device ≡ raw → LiesOn q device
   on_raw q is = (lies.0, is ∙ lies.1)
 
-  pub ends_with : IsUnmounted state v device told
+  pub ends_with : IsUnmounted state v device reported
   ends_with = elim ends [
-    | inl (done, sealed, is, same) ↦ sealed_after state v (state pages) reply finished device (due pages) raw done written sealed is told same (on_raw is.pages is.device_is)
+    | inl (done, sealed, is, same) ↦ sealed_after state v (state pages) reply finished device (due pages) raw done written sealed is reported same (on_raw is.pages is.device_is)
     | inr (not, is, same) ↦ subst (λ (r : Reply). IsUnmounted state v device r) (sym same) (left_alone state v (state pages) reply finished device (on_raw (state pages) is))
   ]
 
   left_by : (sealed : Result (Unit {0}) StoreFault) → IsSealed (due pages) (state pages) raw sealed → reply_of sealed ≡ replies.Done → LeavesCheckpoint state due length v device
   left_by (Ok done') is done = record {
-    committed = pages;
+    committed_map = pages;
     goes_on = finished.goes_on;
     left = is.pages;
     device_is = on_raw is.pages is.device_is;
@@ -171,7 +171,7 @@ module _ {P : Type 0} (state : P → PagesState) (due : P → Type 0) (length : 
   }
   left_by (Err fault) is done = absurd (not_done done)
 
-  pub leaves_one : told ≡ replies.Done → LeavesCheckpoint state due length v device
+  pub leaves_one : reported ≡ replies.Done → LeavesCheckpoint state due length v device
   leaves_one done = elim ends [
     | inl (first, sealed, is, same) ↦ left_by sealed is (sym same ∙ done)
     | inr (not, is, same) ↦ absurd (not (sym same ∙ done))

@@ -2,10 +2,10 @@
 use Rattle.std.specs.Prelude.{◌≡◌, ◌⊎◌, true, false}
 use Rattle.command_plans.specs.Classes.{makes_no_call}
 use Rattle.nand_model.specs.Changes.{OnlyReads}
-use Rattle.object_commands.specs.Running.{OnlyTells}
+use Rattle.object_commands.specs.Running.{OnlyReports}
 use Rattle.object_commands.specs.Serving.{is_refusal}
 use Rattle.object_store.specs.Stores.{settled}
-use Rattle.object_store.specs.Told.{table_sizes, TellsTheSame}
+use Rattle.object_store.specs.Reported.{table_sizes, ReportsTheSame}
 use Rattle.posix_calls.specs.PageVolumes.{pages_of, table_of, handles_of, is_read_only, is_stopped, IsVolumeOf}
 use Rattle.posix_calls.specs.declared.page_volume.PageVolume.{PageVolume}
 use Rattle.paged_objects.specs.Ending.{HasEnded, StaysAs}
@@ -23,7 +23,7 @@ use Rattle.volume_terms.specs.Sizes.{Sizes}
 
 -- From a state: the reply is the profile's and the volume stands for the state after the command, unless it is stopped, and
 -- then for its reason; a mount shows the tree that it did, or what names keep of the objects before the command, and after
--- a sync that. Where memory was refused the device has power. What only tells reads alone; so does every call of a read-only volume, which
+-- a sync that. Where memory was refused the device has power. What only reports reads alone; so does every call of a read-only volume, which
 -- nothing stops but a device that is gone or not honest.
 pub record IsReplied {P : Type 0} (state : P → PagesState) (z : Sizes) (s : State) (old : PageVolume P) (command : Stamped) (reply : Reply) (new : PageVolume P) : Type 0 where
   pub reply_is : Replies z (is_read_only old) s command reply
@@ -32,7 +32,7 @@ pub record IsReplied {P : Type 0} (state : P → PagesState) (z : Sizes) (s : St
   pub synced : is_synced command.command reply ≡ true → Shown z (state (pages_of new)) (settled s.objects)
   pub cause : is_stop reply ≡ true → HasEnded (state (pages_of old)) (state (pages_of new))
   pub power : reply ≡ replies.Error errors.ENOMEM → (state (pages_of new)).device.gone ≡ false
-  pub reads : OnlyTells z (is_read_only old) s command reply → StaysAs (state (pages_of old)) (state (pages_of new))
+  pub reads : OnlyReports z (is_read_only old) s command reply → StaysAs (state (pages_of old)) (state (pages_of new))
   pub only_reads : is_read_only old ≡ true → OnlyReads (state (pages_of old)).device (state (pages_of new)).device
   pub only_failed : is_read_only old ≡ true → is_stop reply ≡ true → HasFailed (state (pages_of new)).device
 
@@ -45,7 +45,7 @@ pub record VolumeGoesOn {P : Type 0} (state : P → PagesState) (old new : PageV
 -- what they did.
 pub record VolumeStays {P : Type 0} (state : P → PagesState) (old new : PageVolume P) : Type 0 where
   pub pages : StaysAs (state (pages_of old)) (state (pages_of new))
-  pub table : TellsTheSame (table_of old) (table_of new)
+  pub table : ReportsTheSame (table_of old) (table_of new)
   pub handles : handles_of new ≡ handles_of old
 
 -- What makes no call of the device leaves it, an error other than EIO changes nothing, of any device, and a reply other than EIO leaves its

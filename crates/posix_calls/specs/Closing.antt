@@ -30,13 +30,13 @@ pub record Closes {P : Type 0} (state : P → PagesState) (n : ℕ) (a b : PageV
       → Shown z (state (pages_of b)) tree ⊎ Shown z (state (pages_of b)) (settled s.objects)
   pub cause : is_stopped b ≡ true → (z : Sizes) (s : State) → IsVolumeOf state z s a → HasEnded (state (pages_of a)) (state (pages_of b))
 
--- The store is sound, with no more bad blocks than there are to spare; and on an honest device a key has a kept page exactly where it is
+-- The store is sound, with no more bad blocks than there are to spare; and on an honest device a key has a committed page exactly where it is
 -- looked up to see the tree.
 pub record KeepsOnly (z : Sizes) (p : PagesState) (tree : Objects) : Type 0 where
   pub sound : p.sound ≡ true
   pub few : bad_on p.device ≤ p.spare
-  pub all : p.device.honest ≡ true → (o c : ℕ) → InFootprint z (HasNewest p.device.flash) tree o c → HasPage p.kept o c
-  pub only : p.device.honest ≡ true → (o c : ℕ) → HasPage p.kept o c → InFootprint z (HasNewest p.device.flash) tree o c
+  pub all : p.device.honest ≡ true → (o c : ℕ) → InFootprint z (HasNewest p.device.flash) tree o c → HasPage p.committed o c
+  pub only : p.device.honest ≡ true → (o c : ℕ) → HasPage p.committed o c → InFootprint z (HasNewest p.device.flash) tree o c
 
 -- the volume can be written, and stands for this state
 abbrev pub CanWrite : {P : Type 0} → (P → PagesState) → Sizes → State → PageVolume P → Type 0

@@ -21,7 +21,7 @@ use Rattle.volume_terms.specs.declared.fault.StoreFault.{StoreFault}
 
 -- the device of these pages is this one, trusted or not
 abbrev pub LiesOn : PagesState → Device → Type 0
-LiesOn pages device = (told : Bool) × (pages.device ≡ trusted_as told device)
+LiesOn pages device = (reported : Bool) × (pages.device ≡ trusted_as reported device)
 
 -- The volume gives its device back. One that is stopped answers EIO, and leaves the device. One that is read-only leaves it too,
 -- and answers Done where it is not stopped. Else the answer is Done, and a mount shows what names keep of the objects; or it is EIO
@@ -47,15 +47,15 @@ pub record IsUnmounted {P : Type 0} (state : P → PagesState) (v : PageVolume P
 abbrev pub CostsACheckpoint : (pages : ℕ) → Device → Device → Type 0
 CostsACheckpoint pages old new = Costs (pages + 1) 2 0 old new
 
--- The pages were committed, and no checkpoint of them was due; or one is whole on the device now, or it counted a failure. It cost the
+-- The pages were committed, and no checkpoint of them was due; or one is whole on the device now, or it had a failure. It cost the
 -- erase of a block and as many pages as the checkpoint has at most, and for each failure an erase or a mark, and what failed.
 pub record LeavesCheckpoint {P : Type 0} (state : P → PagesState) (due : P → Type 0) (length : P → ℕ) (v : PageVolume P) (device : Device) : Type 0 where
-  pub committed : P
-  pub goes_on : GoesOn (state (pages_of v)) (state committed)
+  pub committed_map : P
+  pub goes_on : GoesOn (state (pages_of v)) (state committed_map)
   pub left : PagesState
   pub device_is : LiesOn left device
-  pub ends : SealEnds (due committed) (state committed) left (Ok tt)
-  pub costs : CostsACheckpoint (length committed) (state committed).device left.device
+  pub ends : SealEnds (due committed_map) (state committed_map) left (Ok tt)
+  pub costs : CostsACheckpoint (length committed_map) (state committed_map).device left.device
 
 -- the reply to an unmount, by how the writing of its checkpoint ended
 abbrev pub reply_of : Result (Unit {0}) StoreFault → Reply
@@ -64,6 +64,6 @@ reply_of (Err fault) = replies.Error errors.EIO
 
 -- What follows the last reply of pages that are given up: after Done their checkpoint is written where it is due, and else they are left.
 abbrev pub EndsWith : (due : Type 0) → PagesState → Reply → Device → Reply → Type 0
-EndsWith due pages reply device told =
-    ((reply ≡ replies.Done) × (sealed : Result (Unit {0}) StoreFault) × IsSealed due pages device sealed × (told ≡ reply_of sealed))
-    ⊎ ((reply ≡ replies.Done → ⊥) × (pages.device ≡ device) × (told ≡ reply))
+EndsWith due pages reply device reported =
+    ((reply ≡ replies.Done) × (sealed : Result (Unit {0}) StoreFault) × IsSealed due pages device sealed × (reported ≡ reply_of sealed))
+    ⊎ ((reply ≡ replies.Done → ⊥) × (pages.device ≡ device) × (reported ≡ reply))

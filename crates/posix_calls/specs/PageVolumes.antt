@@ -9,7 +9,7 @@ use Rattle.object_commands.specs.Endings.{AreReading}
 use Rattle.object_commands.specs.Volumes as volumes
 use Rattle.paged_objects.specs.Naming.{HasNames}
 use Rattle.object_store.specs.Stores.{settled}
-use Rattle.object_store.specs.Told.{table_sizes, Tells}
+use Rattle.object_store.specs.Reported.{table_sizes, Reports}
 use Rattle.object_store.specs.declared.table.ObjectTable.{ObjectTable}
 use Rattle.pages.specs.State.{PagesState}
 use Rattle.pages.specs.Stores.{bad_on}
@@ -42,14 +42,14 @@ is_read_only v = volumes.is_read_only v.volume
 abbrev pub is_stopped : {P : Type 0} → PageVolume P → Bool
 is_stopped v = volumes.is_stopped v.volume
 
--- The volume stands for a state: its sound pages hold the objects, its table tells them, its index has the hashes of their names, and
+-- The volume stands for a state: its sound pages hold the objects, its table reports them, its index has the hashes of their names, and
 -- its descriptors are those of the state, which is one that a volume of these sizes can have. Of a read-only volume no descriptor may write, each object has
 -- a name, and a mount shows the objects; of another no more blocks are bad than there are to spare.
 pub record IsVolumeOf {P : Type 0} (state : P → PagesState) (z : Sizes) (s : State) (v : PageVolume P) : Type 0 where
   pub numbers : IsSizes z
   pub sizes : table_sizes (table_of v) ≡ z
   pub stands : StandsFor z (state (pages_of v)) s.objects
-  pub tells : Tells (table_of v) s.objects
+  pub reports : Reports (table_of v) s.objects
   pub hashes : HasNames (names_of v) z (state (pages_of v)).present s.objects
   pub handles : volumes.handles_of v.volume ≡ s.handles
   pub sound : IsSound z s
@@ -64,7 +64,7 @@ pub record IsVolumeOf {P : Type 0} (state : P → PagesState) (z : Sizes) (s : S
 pub record IsStored {P : Type 0} (state : P → PagesState) (o : PagedObjects P) (objects : Objects) : Type 0 where
   pub numbers : IsSizes (table_sizes (parts.table_of o))
   pub stands : StandsFor (table_sizes (parts.table_of o)) (state (parts.pages_of o)) objects
-  pub tells : Tells (parts.table_of o) objects
+  pub reports : Reports (parts.table_of o) objects
   pub hashes : HasNames (parts.names_of o) (table_sizes (parts.table_of o)) (state (parts.pages_of o)).present objects
   pub sound : IsSound (table_sizes (parts.table_of o)) (record { objects = objects; handles = map.empty })
 

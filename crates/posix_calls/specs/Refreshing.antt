@@ -1,7 +1,7 @@
 -- The refresh of a block of a volume.
 -- From: this project.
 use Rattle.std.specs.Prelude.{◌≡◌, ◌⊎◌, ℕ, true, false, Result, Ok, Err}
-use Rattle.object_store.specs.Told.{table_sizes}
+use Rattle.object_store.specs.Reported.{table_sizes}
 use Rattle.paged_objects.specs.Ending.{HasEndedAt}
 use Rattle.paged_objects.specs.Standing.{Shown}
 use Rattle.pages.specs.Refreshing.{CostsAMove, LeavesBlock}
@@ -16,7 +16,7 @@ use Rattle.volume_terms.specs.Sizes.{Sizes}
 
 -- no committed page lies where it lay in the block
 abbrev pub LeavesBlockOf : ℕ → PagesState → PagesState → Type 0
-LeavesBlockOf block old new = LeavesBlock block old.device.flash new.device.flash old.kept
+LeavesBlockOf block old new = LeavesBlock block old.device.flash new.device.flash old.committed
 
 -- A volume that is stopped returns EIO, and a read-only one EROFS, and both stay as they are. Another one returns Ok or EIO, and is stopped by
 -- EIO alone. Of a volume that stood for a state: after Ok it stands for it still, and no committed page lies where it lay in the block; EIO has

@@ -9,7 +9,7 @@ use Rattle.posix_profile.specs.State.{Objects, State}
 use Rattle.posix_profile.specs.declared.command.Stamped.{Stamped}
 use Rattle.posix_profile.specs.declared.reply.Reply.{Reply}
 use Rattle.command_plans.specs.Classes.{makes_no_call}
-use Rattle.object_commands.specs.Running.{StaysStopped, ends_refused, OnlyTells, WritesNothing, EachAnswered}
+use Rattle.object_commands.specs.Running.{StaysStopped, ends_refused, OnlyReports, WritesNothing, EachAnswered}
 use Rattle.pages.specs.State.{PagesState}
 use Rattle.pages.specs.Stores.{HasFailed}
 use Rattle.paged_objects.specs.Ending.{StaysAs, HasEnded}
@@ -19,8 +19,8 @@ use Rattle.posix_calls.specs.declared.page_volume.PageVolume.{PageVolume}
 
 -- From a state: the replies are right, a mount shows the tree after some of the commands, at least those that a sync covers,
 -- and the volume is stopped for its reason, which is no want of blocks or numbers where it is read-only, or it stands for the
--- state after the commands that were answered. Where the last of them was refused memory the device has power. Where each of them only tells at its state the pages are as they were. The
--- device is only read of a read-only volume, and where each of them only tells or makes no call.
+-- state after the commands that were answered. Where the last of them was refused memory the device has power. Where each of them only reports at its state the pages are as they were. The
+-- device is only read of a read-only volume, and where each of them only reports or makes no call.
 pub record RanPages {P : Type 0} (state : P → PagesState) (z : Sizes) (s : State) (commands : List Stamped) (answered : List Reply) (a b : PageVolume P) : Type 0 where
   pub holds : RunHolds z (is_read_only a) s commands answered
   pub losses : (tree : Objects) → Shown z (state (pages_of a)) tree → LossLeaves (Shown z (state (pages_of b))) tree z (is_read_only a) s commands answered
@@ -28,7 +28,7 @@ pub record RanPages {P : Type 0} (state : P → PagesState) (z : Sizes) (s : Sta
   pub only_failed : is_read_only a ≡ true → is_stopped b ≡ true → HasFailed (state (pages_of b)).device
   pub state_is : is_stopped b ≡ false → IsVolumeOf state z (after z (is_read_only a) s commands answered) b
   pub power : ends_refused answered ≡ true → (state (pages_of b)).device.gone ≡ false
-  pub tells : EachAnswered OnlyTells z (is_read_only a) s commands answered → StaysAs (state (pages_of a)) (state (pages_of b))
+  pub reports : EachAnswered OnlyReports z (is_read_only a) s commands answered → StaysAs (state (pages_of a)) (state (pages_of b))
   pub only_reads : (is_read_only a ≡ true) ⊎ EachAnswered WritesNothing z (is_read_only a) s commands answered → OnlyReads (state (pages_of a)).device (state (pages_of b)).device
 
 -- So many of the commands are answered, behind the old replies, and after EIO each by EIO: the volume is stopped afterwards

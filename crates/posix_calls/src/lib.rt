@@ -16,7 +16,7 @@ pub use mounting::MountFault;
 pub use page_volume::PageVolume;
 pub use paged_objects::a_shown_tree_is_on_the_flash;
 pub use posix_profile::{
-    Access, Answers, Asked, Bytes, Command, Errno, FilePath, Info, Kind, NameList, OpenFlags,
-    Reply, Request, SpaceInfo, Stamped, Whence,
+    Access, Answers, Bytes, Command, Errno, FilePath, Info, Kind, NameList, OpenFlags, Reply,
+    Request, SpaceInfo, Stamped, StampedRequest, Whence,
 };
 pub use volume::Volume;

@@ -7,7 +7,7 @@ ghost use Rattle.posix_profile.specs.State.{Objects, State};
 ghost use Rattle.posix_profile.specs.declared.reply.Errno.TheVariants as errors;
 ghost use Rattle.posix_profile.specs.declared.reply.Reply.TheVariants as replies;
 ghost use Rattle.object_store.specs.Stores.{settled};
-ghost use Rattle.object_store.specs.Told.{table_sizes};
+ghost use Rattle.object_store.specs.Reported.{table_sizes};
 ghost use Rattle.pages.specs.Stores.{GoesOn};
 ghost use Rattle.paged_objects.specs.Ending.{HasEnded};
 ghost use Rattle.paged_objects.specs.Standing.{Shown};
@@ -17,7 +17,7 @@ use object_commands::Volume;
 use object_store::ObjectStore;
 use paged_objects::PagedObjects;
 use pages::PageStore;
-use posix_profile::{Asked, Errno, Info, Reply, Stamped};
+use posix_profile::{Errno, Info, Reply, Stamped, StampedRequest};
 use std::alloc::{AllocError, Global};
 
 /// A volume whose objects lie in pages. One that is stopped answers EIO to each command.
@@ -58,10 +58,10 @@ impl<P: PageStore> PageVolume<P> {
     }
 
     /// Does a command and replies to it.
-    pub fn ask(&mut self, asked: &Asked<'_>) -> Reply
-        ensures { IsCalled P.state self.old (stamped_of asked.now) result self.new }
+    pub fn ask(&mut self, issued: &StampedRequest<'_>) -> Reply
+        ensures { IsCalled P.state self.old (stamped_of issued.now) result self.new }
     {
-        self.volume.ask(asked)
+        self.volume.ask(issued)
     }
 
     /// Reads at a descriptor's offset into a buffer, as the command of as many bytes as it has room for, and returns how many were
@@ -124,7 +124,7 @@ impl<P: PageStore> PageVolume<P> {
             → Shown z (P.state result.0) tree ⊎ Shown z (P.state result.0) (settled s.objects) }
         ensures cause { is_stopped self ≡ false → (z : Sizes) (s : State) → IsVolumeOf P.state z s self → result.1 ≡ replies.Error errors.EIO
             → HasEnded (P.state (pages_of self)) (P.state result.0) }
-        // After Done the kept pages are those of the tree, and no others.
+        // After Done the committed pages are those of the tree, and no others.
         ensures exact { (z : Sizes) (s : State) → CanWrite P.state z s self → result.1 ≡ replies.Done → KeepsOnly z (P.state result.0) (settled s.objects) }
     {
         if self.stopped() {

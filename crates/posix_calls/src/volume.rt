@@ -1,7 +1,7 @@
 // A volume on a device.
 ghost use Rattle.std.specs.Prelude.{◌≡◌, ◌≤◌, ℕ, false, length, OnOk};
 ghost use Rattle.volume_terms.specs.Sizes.{most_written};
-ghost use Rattle.object_store.specs.Told.{table_sizes};
+ghost use Rattle.object_store.specs.Reported.{table_sizes};
 ghost use Rattle.posix_profile.specs.Requests.{stamped_of};
 ghost use Rattle.posix_profile.specs.declared.reply.Reply.TheVariants as replies;
 
@@ -10,7 +10,7 @@ use crate::ending::end_with;
 use nand_model::{Nand, TrustedNand};
 use page_store::FlashPages;
 use pages::Pages;
-use posix_profile::{Asked, Errno, Info, Reply, Stamped};
+use posix_profile::{Errno, Info, Reply, Stamped, StampedRequest};
 use std::alloc::AllocError;
 
 /// A mounted volume. One that is stopped answers EIO to each command until the next mount.
@@ -37,10 +37,10 @@ impl<N: Nand> Volume<N> {
     ghost use Rattle.posix_calls.specs.Volumes.{over_pages};
 
     /// Does a command and replies to it.
-    pub fn ask(&mut self, asked: &Asked<'_>) -> Reply
-        ensures { IsCalled ⟦<FlashPages<TrustedNand<N>> as Pages>⟧.state (over_pages self.old) (stamped_of asked.now) result (over_pages self.new) }
+    pub fn ask(&mut self, issued: &StampedRequest<'_>) -> Reply
+        ensures { IsCalled ⟦<FlashPages<TrustedNand<N>> as Pages>⟧.state (over_pages self.old) (stamped_of issued.now) result (over_pages self.new) }
     {
-        self.volume.ask(asked)
+        self.volume.ask(issued)
     }
 
     /// Reads at a descriptor's offset into a buffer, as the command of as many bytes as it has room for, and returns how many were
@@ -57,7 +57,7 @@ impl<N: Nand> Volume<N> {
     pub fn call(&mut self, stamped: &Stamped) -> Reply
         ensures { IsCalled ⟦<FlashPages<TrustedNand<N>> as Pages>⟧.state (over_pages self.old) stamped.now result (over_pages self.new) }
     {
-        self.ask(&stamped.asked())
+        self.ask(&stamped.as_request())
     }
 
     /// Moves what is committed in a block of the device into another, so that the old pages are not needed any more; all else stays. It
@@ -111,7 +111,7 @@ impl<N: Nand> Volume<N> {
         self.volume.describe(fd)
     }
 
-    /// The most bytes that one Write writes, of however many it is asked.
+    /// The most bytes that one Write writes, of however many.
     pub fn most_written(&self) -> u64
         ensures { result ≡ most_written (table_sizes (table_of (over_pages self.now))) }
     {

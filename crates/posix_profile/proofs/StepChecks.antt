@@ -81,8 +81,8 @@ get_handles = map.get-insert nat_cmp_total
 keep_objects : (m : Objects) (p : ℕ → Bool) → map.entries (map.retain_keys m p) ≡ where_key nat_cmp p (map.entries m)
 keep_objects = entries-retain_keys nat_cmp_total map.nat_cmp-IsAntisymmetric
 
-kept_object : (m : Objects) (p : ℕ → Bool) (q : ℕ) → map.get (map.retain_keys m p) q ≡ cond (p q) (map.get m q) None
-kept_object = get_retained nat_cmp_total map.nat_cmp-IsAntisymmetric
+committed_object : (m : Objects) (p : ℕ → Bool) (q : ℕ) → map.get (map.retain_keys m p) q ≡ cond (p q) (map.get m q) None
+committed_object = get_retained nat_cmp_total map.nat_cmp-IsAntisymmetric
 
 left_names : (m : Entries) (k : Name) → map.entries (map.remove m k) ≡ where_key (slice_cmp nat_cmp) (λ x. not (eq_by_cmp (slice_cmp nat_cmp) k x)) (map.entries m)
 left_names = entries-remove nat_list_cmp_total name_same
@@ -96,7 +96,7 @@ left_len = map.len-remove nat_list_cmp_total
 no_handles : map.entries (map.empty {X = Handle} {R = nat_cmp}) ≡ []
 no_handles = nil_from_length _ (sym (map.len-entries (map.empty {X = Handle} {R = nat_cmp})) ∙ map.len-empty nat_cmp Handle)
 
-ruleset computes = (put_handles, no_handles, keep_objects, kept_object, left_names, left_name, left_len, put_objects, put_names, get_objects, get_names, get_handles, len_objects, len_entries, no_objects, no_values, no_entries, no_object, no_name, no_len, no_handle)
+ruleset computes = (put_handles, no_handles, keep_objects, committed_object, left_names, left_name, left_len, put_objects, put_names, get_objects, get_names, get_handles, len_objects, len_entries, no_objects, no_values, no_entries, no_object, no_name, no_len, no_handle)
 
 abbrev both : Bool → Bool → Bool → OpenFlags
 both create excl trunc = record { access = access.Both; create = create; excl = excl; trunc = trunc; append = false }
@@ -227,10 +227,10 @@ unfolding step_at at_handle
 fsync_closed = simp computes
 
 -- a directory made at moment 7 gives the root that moment
-made_then_told : (step_at small_sizes false (step_at small_sizes false fresh 7 (commands.Mkdir (47 ∷ 100 ∷ []))).state 9 (commands.Stat (47 ∷ []))).reply
+made_then_reported : (step_at small_sizes false (step_at small_sizes false fresh 7 (commands.Mkdir (47 ∷ 100 ∷ []))).state 9 (commands.Stat (47 ∷ []))).reply
     ≡ replies.Info (record { kind = kinds.Directory; object = 1; links = 3; size = 0; moment = 7 })
 unfolding step_at resolve unless change_to at_place at_object
-made_then_told = simp computes
+made_then_reported = simp computes
 
 -- a file made at moment 9 and written at 12
 opened_then_wrote : (step_at small_sizes false (step_at small_sizes false (step_at small_sizes false fresh 9 (commands.Open (47 ∷ 102 ∷ []) (both true false false))).state 12 (commands.Write 0 (97 ∷ []))).state 20 (commands.Stat (47 ∷ 102 ∷ []))).reply
@@ -266,7 +266,7 @@ removed_space : (step_at small_sizes false (step_at small_sizes false three 9 (c
 unfolding step_at resolve unless change_to at_place at_object
 removed_space = simp computes
 
--- the file is cut, and the other name tells it
+-- the file is cut, and the other name reports it
 cut_file : (step_at small_sizes false (step_at small_sizes false three 9 (commands.Truncate 0 (pos 2))).state 20 (commands.Stat (47 ∷ 103 ∷ []))).reply
     ≡ replies.Info (record { kind = kinds.File; object = 3; links = 2; size = 2; moment = 9 })
 unfolding step_at resolve unless change_to at_place at_object at_handle at_file

@@ -89,7 +89,7 @@ open_step z read_only moment s path flags =
     [])
     (at_place s (resolve s.objects path) (λ place. open_at z read_only moment s flags place place.object))
 
--- Close: the descriptor goes, and what only it kept
+-- Close: the descriptor goes, and what only it held
 abbrev pub close_step : State → ℕ → Outcome
 close_step s fd = at_handle s (map.get s.handles fd) (λ handle. answer (prune (record s { handles = map.remove s.handles fd })) replies.Done)
 

@@ -17,12 +17,12 @@ use Rattle.posix_profile.specs.declared.reply.Kind.TheVariants as kinds
 use Rattle.posix_profile.specs.declared.reply.Info.{Info}
 use Rattle.posix_profile.specs.declared.reply.Reply.TheVariants as replies
 
--- the size that is told of an object with so many bytes or entries: a directory has none
-abbrev pub told_size : Kind → ℕ → ℕ
-told_size kinds.File size = size
-told_size kinds.Directory size = 0
+-- the size that is reported of an object with so many bytes or entries: a directory has none
+abbrev pub reported_size : Kind → ℕ → ℕ
+reported_size kinds.File size = size
+reported_size kinds.Directory size = 0
 
--- what is told of an object: a directory has size 0
+-- what is reported of an object: a directory has size 0
 abbrev pub info : Objects → ℕ → Object → Info
 info objects o (File moment bytes) = record { kind = kinds.File; object = o; links = links objects o (File moment bytes); size = length bytes; moment = moment }
 info objects o (Dir moment entries) = record { kind = kinds.Directory; object = o; links = links objects o (Dir moment entries); size = 0; moment = moment }
@@ -54,7 +54,7 @@ mkdir_at z read_only moment s place None =
 abbrev pub mkdir_step : Sizes → Bool → ℕ → State → List ℕ → Outcome
 mkdir_step z read_only moment s path = at_place s (resolve s.objects path) (λ place. mkdir_at z read_only moment s place place.object)
 
--- the state in which the place's name is gone, and what only it kept
+-- the state in which the place's name is gone, and what only it held
 abbrev pub name_removed : ℕ → State → Place → State
 name_removed moment s place = prune (record s { objects = without_name s.objects moment place.directory (last_name place.last) })
 

@@ -109,7 +109,7 @@ abbrev pub walk_from_root : Objects → Bool → List Component → Result Place
 walk_from_root objects slash_follows [] = Ok (record { directory = root_number; last = None; object = Some root_number; slash_follows = slash_follows })
 walk_from_root objects slash_follows (first ∷ rest) = walk objects slash_follows root_number first rest
 
--- the walk, unless a test of the path tells an error
+-- the walk, unless a test of the path reports an error
 abbrev pub walk_unless : Objects → List ℕ → Option Errno → Result Place Errno
 walk_unless objects path (Some error) = Err error
 walk_unless objects path None = walk_from_root objects (ends_in_slash path) (list_map component (parts path))

@@ -2,7 +2,7 @@
 use Rattle.posix_profile.specs.declared.command.Command.{Command}
 use Rattle.posix_profile.specs.declared.command.Command.TheVariants as commands
 use Rattle.posix_profile.specs.declared.command.Stamped.{Stamped}
-use Rattle.posix_profile.specs.declared.request.Asked.{Asked}
+use Rattle.posix_profile.specs.declared.request.StampedRequest.{StampedRequest}
 use Rattle.posix_profile.specs.declared.request.Request.{Request}
 use Rattle.posix_profile.specs.declared.request.Request.TheVariants as requests
 
@@ -26,5 +26,5 @@ command_of (requests.List path) = commands.List path.now
 command_of requests.Space = commands.Space
 
 -- the same with the moment that its changes get
-abbrev pub stamped_of : Asked → Stamped
-stamped_of asked = record { moment = asked.moment; command = command_of asked.request }
+abbrev pub stamped_of : StampedRequest → Stamped
+stamped_of issued = record { moment = issued.moment; command = command_of issued.request }

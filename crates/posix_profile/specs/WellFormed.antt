@@ -52,7 +52,7 @@ IsOpen handles o = (fd : ℕ) × (handle : Handle) × (map.get handles fd ≡ So
 pub record IsWellFormed (z : Sizes) (s : State) : Type 0 where
   pub forest : IsForest z s.objects
   pub handles : AreHandles s.objects s.handles
-  pub kept : (o : ℕ) (object : Object) → map.get s.objects o ≡ Some object → (o ≡ root_number) ⊎ IsNamed s.objects o ⊎ IsOpen s.handles o
+  pub committed : (o : ℕ) (object : Object) → map.get s.objects o ≡ Some object → (o ≡ root_number) ⊎ IsNamed s.objects o ⊎ IsOpen s.handles o
 
 -- objects that a mount can show: all of them are reached from the root
 pub record IsTree (z : Sizes) (objects : Objects) : Type 0 where

@@ -53,7 +53,7 @@ pub fn a_step_answers_itself()
         → AnswersItself (step z read_only s stamped) }
 {}
 
-/// The numbers of a reply fit their types, and what it tells is bytes and names.
+/// The numbers of a reply fit their types, and what it reports is bytes and names.
 pub fn every_reply_fits_its_type()
     ensures { (z : Sizes) (read_only : Bool) (s : State) (stamped : Stamped)
         → IsSizes z → IsWellFormed z s → fits z s.objects ≡ true

@@ -22,4 +22,4 @@ pub use law::{
     the_links_of_a_file_are_its_names, the_test_says_what_lies_below,
 };
 pub use reply::{Errno, Info, Kind, Reply, SpaceInfo};
-pub use request::{Asked, Request};
+pub use request::{Request, StampedRequest};

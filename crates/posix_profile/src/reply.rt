@@ -29,7 +29,7 @@ pub enum Kind {
     Directory,
 }
 
-/// What is told of an object. `size` counts the bytes of a file, and is 0 for a directory; `moment` is that of its last change.
+/// What is reported of an object. `size` counts the bytes of a file, and is 0 for a directory; `moment` is that of its last change.
 #[derive(Clone, Copy, Debug, PartialEq, Eq)]
 pub struct Info {
     pub kind: Kind,

@@ -63,7 +63,7 @@ pub enum Request<'a> {
 
 /// A request with the moment that its changes get.
 #[derive(Clone, Copy, Debug, PartialEq, Eq)]
-pub struct Asked<'a> {
+pub struct StampedRequest<'a> {
     pub moment: u64,
     pub request: Request<'a>,
 }
@@ -128,10 +128,10 @@ impl Command {
 
 impl Stamped {
     /// The request of its bytes, with its moment.
-    pub fn asked(&self) -> Asked<'_>
+    pub fn as_request(&self) -> StampedRequest<'_>
         ensures { stamped_of result ≡ self.now }
     {
-        Asked {
+        StampedRequest {
             moment: self.moment,
             request: self.command.request(),
         }

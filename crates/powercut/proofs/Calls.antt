@@ -16,11 +16,11 @@ not_true : (b : Bool) → (b ≡ true → ⊥) → b ≡ false
 not_true true never = absurd (never refl)
 not_true false never = refl
 
-module _ (d e : Device) (p q : Plan) (told : Totals) (keeps : KeepsPlan d p told) where
+module _ (d e : Device) (p q : Plan) (reported : Totals) (keeps : KeepsPlan d p reported) where
   -- a read
-  pub read_keeps : (result : Result PageKind Gone) → Reads d e result → ReadsAsPlanned p d result → q ≡ after_read p → KeepsPlan e q told
+  pub read_keeps : (result : Result PageKind Gone) → Reads d e result → ReadsAsPlanned p d result → q ≡ after_read p → KeepsPlan e q reported
   read_keeps result reads planned is =
-      keeps_on d e p q told keeps reads.lasts (ap (λ (x : Plan). x.fuse) is) (ap (λ (x : Plan). x.failures) is) (ap (λ (x : Plan). x.calls) is) (counts result reads planned)
+      keeps_on d e p q reported keeps reads.lasts (ap (λ (x : Plan). x.fuse) is) (ap (λ (x : Plan). x.failures) is) (ap (λ (x : Plan). x.calls) is) (counts result reads planned)
     where
       counts : (result : Result PageKind Gone) → Reads d e result → ReadsAsPlanned p d result → d.gone ≡ false → Counts p d e
       counts (Ok kind) reads planned power = record {
@@ -35,9 +35,9 @@ module _ (d e : Device) (p q : Plan) (told : Totals) (keeps : KeepsPlan d p told
       }
 
   -- a mark
-  pub mark_keeps : (b : ℕ) (result : Result (Unit {0}) Gone) → Marks b d e result → MarksAsPlanned b p d e result → q ≡ after_change d.gone p → KeepsPlan e q told
+  pub mark_keeps : (b : ℕ) (result : Result (Unit {0}) Gone) → Marks b d e result → MarksAsPlanned b p d e result → q ≡ after_change d.gone p → KeepsPlan e q reported
   mark_keeps b result marks planned is =
-      keeps_on d e p q told keeps marks.lasts (ap (λ (x : Plan). x.fuse) is) (ap (λ (x : Plan). x.failures) is) (ap (λ (x : Plan). x.calls) is) (counts result marks planned)
+      keeps_on d e p q reported keeps marks.lasts (ap (λ (x : Plan). x.fuse) is) (ap (λ (x : Plan). x.failures) is) (ap (λ (x : Plan). x.calls) is) (counts result marks planned)
     where
       counts : (result : Result (Unit {0}) Gone) → Marks b d e result → MarksAsPlanned b p d e result → d.gone ≡ false → Counts p d e
       counts (Ok done) marks planned power = record {
@@ -58,7 +58,7 @@ three cut failed whole true listed P is = inl (refl, is)
 three cut failed whole false true P is = inr (inl (refl, refl, is))
 three cut failed whole false false P is = inr (inr (refl, is))
 
-module _ (d e : Device) (p q : Plan) (told : Totals) (keeps : KeepsPlan d p told) where
+module _ (d e : Device) (p q : Plan) (reported : Totals) (keeps : KeepsPlan d p reported) where
   abbrev fused : Bool
   fused = is_fused p.fuse (next_call p)
 
@@ -90,13 +90,13 @@ module _ (d e : Device) (p q : Plan) (told : Totals) (keeps : KeepsPlan d p told
 
   -- a program
   pub program_keeps : (b page : ℕ) (bytes tag : List ℕ) (result : Result (Unit {0}) ProgramFault) → Programs b page bytes tag d e result → ProgramsAsPlanned b page bytes tag p d e result
-      → q ≡ after_change d.gone p → KeepsPlan e q told
+      → q ≡ after_change d.gone p → KeepsPlan e q reported
   program_keeps b page bytes tag result programs planned is =
-      keeps_on d e p q told keeps programs.lasts (ap (λ (x : Plan). x.fuse) is) (ap (λ (x : Plan). x.failures) is) (ap (λ (x : Plan). x.calls) is)
+      keeps_on d e p q reported keeps programs.lasts (ap (λ (x : Plan). x.fuse) is) (ap (λ (x : Plan). x.failures) is) (ap (λ (x : Plan). x.calls) is)
       (λ power. program_counts result programs.reads (programs.changes power) programs.ends (planned.ends power))
 
   -- an erase
-  pub erase_keeps : (b : ℕ) (result : Result (Unit {0}) EraseFault) → Erases b d e result → ErasesAsPlanned b p d e result → q ≡ after_change d.gone p → KeepsPlan e q told
+  pub erase_keeps : (b : ℕ) (result : Result (Unit {0}) EraseFault) → Erases b d e result → ErasesAsPlanned b p d e result → q ≡ after_change d.gone p → KeepsPlan e q reported
   erase_keeps b result erases planned is =
-      keeps_on d e p q told keeps erases.lasts (ap (λ (x : Plan). x.fuse) is) (ap (λ (x : Plan). x.failures) is) (ap (λ (x : Plan). x.calls) is)
+      keeps_on d e p q reported keeps erases.lasts (ap (λ (x : Plan). x.fuse) is) (ap (λ (x : Plan). x.failures) is) (ap (λ (x : Plan). x.calls) is)
       (λ power. erase_counts result erases.reads (erases.changes power) erases.ends (planned.ends power))

@@ -46,16 +46,16 @@ none_at : (i : ℕ) (r : Reply) → slice_get [] i ≡ Some r → ⊥
 none_at i r is = cc
 
 -- So many commands are done, from a state, and the volume is not stopped.
-pub record GoesWell {V : Type 0} (m : Meaning V) (z : Sizes) (s : State) (commands : List Stamped) (told : List Reply) (a b : V) : Type 0 where
-  pub holds : RunHolds z (m.read_only a) s commands told
-  pub none : list_any is_stop told ≡ false
-  pub losses : (tree : Objects) → Shown z (m.pages a) tree → LossLeaves (Shown z (m.pages b)) tree z (m.read_only a) s commands told
+pub record GoesWell {V : Type 0} (m : Meaning V) (z : Sizes) (s : State) (commands : List Stamped) (reported : List Reply) (a b : V) : Type 0 where
+  pub holds : RunHolds z (m.read_only a) s commands reported
+  pub none : list_any is_stop reported ≡ false
+  pub losses : (tree : Objects) → Shown z (m.pages a) tree → LossLeaves (Shown z (m.pages b)) tree z (m.read_only a) s commands reported
   pub goes : m.stopped b ≡ false
-  pub state_is : m.stands z (after z (m.read_only a) s commands told) b
+  pub state_is : m.stands z (after z (m.read_only a) s commands reported) b
 
 -- from each state that a volume which goes on stands for
-pub GoesSoFar : {V : Type 0} (m : Meaning V) (commands : List Stamped) (told : List Reply) (a b : V) → Type 0
-GoesSoFar m commands told a b = m.stopped a ≡ false → (z : Sizes) (s : State) → m.stands z s a → GoesWell m z s commands told a b
+pub GoesSoFar : {V : Type 0} (m : Meaning V) (commands : List Stamped) (reported : List Reply) (a b : V) → Type 0
+GoesSoFar m commands reported a b = m.stopped a ≡ false → (z : Sizes) (s : State) → m.stands z s a → GoesWell m z s commands reported a b
 
 -- none is done yet
 pub well_none : {V : Type 0} (m : Meaning V) (commands : List Stamped) (a : V) → GoesSoFar m commands [] a a
@@ -68,77 +68,77 @@ well_none m commands a goes z s is = record {
   state_is = is;
 }
 
-module _ {V : Type 0} (m : Meaning V) (commands : List Stamped) (told : List Reply) (c : Stamped) (r : Reply) (a b d : V) (at : slice_get commands (length told) ≡ Some c)
-    (same : m.read_only b ≡ m.read_only a) (so_far : GoesSoFar m commands told a b)
+module _ {V : Type 0} (m : Meaning V) (commands : List Stamped) (reported : List Reply) (c : Stamped) (r : Reply) (a b d : V) (at : slice_get commands (length reported) ≡ Some c)
+    (same : m.read_only b ≡ m.read_only a) (so_far : GoesSoFar m commands reported a b)
     (one : m.stopped b ≡ false → (z : Sizes) (s : State) → m.stands z s b → DoesOne m z s c r b d) (stops : m.stopped b ≡ false → m.stopped d ≡ is_stop r) where
   module _ (going : m.stopped a ≡ false) (z : Sizes) (s : State) (is : m.stands z s a) where
-    was : GoesWell m z s commands told a b
+    was : GoesWell m z s commands reported a b
     unfolding GoesSoFar
     was = so_far going z s is
 
     abbrev now : State
-    now = after z (m.read_only a) s commands told
+    now = after z (m.read_only a) s commands reported
 
     does_one : DoesOne m z now c r b d
     does_one = one was.goes z now was.state_is
 
-    holds_now : RunHolds z (m.read_only a) s commands (told ++ r ∷ [])
+    holds_now : RunHolds z (m.read_only a) s commands (reported ++ r ∷ [])
     holds_now =
         let one = subst (λ ro. Replies z ro now c r) same does_one.right in
-        holds_more z (m.read_only a) s commands told c r at was.holds one (λ stop. absurd (true≢false (sym stop ∙ was.none)))
+        holds_more z (m.read_only a) s commands reported c r at was.holds one (λ stop. absurd (true≢false (sym stop ∙ was.none)))
 
-    losses_now : (t : Objects) → Shown z (m.pages a) t → LossLeaves (Shown z (m.pages d)) t z (m.read_only a) s commands (told ++ r ∷ [])
+    losses_now : (t : Objects) → Shown z (m.pages a) t → LossLeaves (Shown z (m.pages d)) t z (m.read_only a) s commands (reported ++ r ∷ [])
     losses_now t shown =
-        loss_more (Shown z (m.pages b)) (Shown z (m.pages d)) t z (m.read_only a) s commands told c r at
+        loss_more (Shown z (m.pages b)) (Shown z (m.pages d)) t z (m.read_only a) s commands reported c r at
         does_one.tree does_one.synced (was.losses t shown)
 
     stopped_as : m.stopped d ≡ is_stop r
     stopped_as = stops was.goes
 
-    well_now : m.stopped d ≡ false → GoesWell m z s commands (told ++ r ∷ []) a d
+    well_now : m.stopped d ≡ false → GoesWell m z s commands (reported ++ r ∷ []) a d
     well_now still =
         let quiet : is_stop r ≡ false = sym stopped_as ∙ still in
         let next = subst (λ ro. m.stands z (after_one z ro now c r) d) same (does_one.stands quiet) in
         record {
           holds = holds_now;
-          none = any_push told r was.none ∙ quiet;
+          none = any_push reported r was.none ∙ quiet;
           losses = losses_now;
           goes = still;
-          state_is = subst (λ x. m.stands z x d) (sym (after_more z (m.read_only a) s commands told c r at)) next;
+          state_is = subst (λ x. m.stands z x d) (sym (after_more z (m.read_only a) s commands reported c r at)) next;
         }
 
-    stopped_now : m.stopped d ≡ true → DoesCommands m z s commands (told ++ r ∷ []) a d
+    stopped_now : m.stopped d ≡ true → DoesCommands m z s commands (reported ++ r ∷ []) a d
     stopped_now stopped =
         let stop : is_stop r ≡ true = sym stopped_as ∙ stopped in
         record {
           holds = holds_now;
-          begun = inr (told, ap (λ (x : Reply). told ++ x ∷ []) (stop_is r stop));
+          begun = inr (reported, ap (λ (x : Reply). reported ++ x ∷ []) (stop_is r stop));
           losses = losses_now;
-          stops = stopped ∙ sym (any_push told r was.none ∙ stop);
+          stops = stopped ∙ sym (any_push reported r was.none ∙ stop);
           cause = λ _. does_one.cause stop;
           failed = λ only _. does_one.failed (same ∙ only) stop;
           stands = λ goes. absurd (true≢false (sym stopped ∙ goes));
         }
 
   -- one command more
-  pub well_more : m.stopped d ≡ false → GoesSoFar m commands (told ++ r ∷ []) a d
+  pub well_more : m.stopped d ≡ false → GoesSoFar m commands (reported ++ r ∷ []) a d
   unfolding GoesSoFar
   well_more still going z s is = well_now going z s is still
 
   -- the last, at the stop
-  pub does_stopped : m.stopped d ≡ true → GoesOn (m.pages a) (m.pages d) → m.read_only d ≡ m.read_only a → (m.stopped a ≡ false → m.stopped b ≡ false) → Does m commands (told ++ r ∷ []) a d
+  pub does_stopped : m.stopped d ≡ true → GoesOn (m.pages a) (m.pages d) → m.read_only d ≡ m.read_only a → (m.stopped a ≡ false → m.stopped b ≡ false) → Does m commands (reported ++ r ∷ []) a d
   does_stopped stopped goes same_only still = record {
     goes_on = goes;
     read_only = same_only;
-    begun = λ going. inr (told, ap (λ (x : Reply). told ++ x ∷ []) (stop_is r (sym (stops (still going)) ∙ stopped)));
+    begun = λ going. inr (reported, ap (λ (x : Reply). reported ++ x ∷ []) (stop_is r (sym (stops (still going)) ∙ stopped)));
     does = λ going z s is. stopped_now going z s is stopped;
   }
 
 -- all commands are done
-pub does_all : {V : Type 0} (m : Meaning V) (commands : List Stamped) (told : List Reply) (a b : V) → length told ≡ length commands
-    → GoesSoFar m commands told a b → GoesOn (m.pages a) (m.pages b) → m.read_only b ≡ m.read_only a → Does m commands told a b
+pub does_all : {V : Type 0} (m : Meaning V) (commands : List Stamped) (reported : List Reply) (a b : V) → length reported ≡ length commands
+    → GoesSoFar m commands reported a b → GoesOn (m.pages a) (m.pages b) → m.read_only b ≡ m.read_only a → Does m commands reported a b
 unfolding GoesSoFar
-does_all m commands told a b all so_far goes same_only = record {
+does_all m commands reported a b all so_far goes same_only = record {
   goes_on = goes;
   read_only = same_only;
   begun = λ going. inl all;
@@ -156,11 +156,11 @@ does_all m commands told a b all so_far goes same_only = record {
 }
 
 -- a done sync has its reply
-covers_all : (commands : List Stamped) (told : List Reply) → Covers commands told (length told)
-covers_all commands told i (command, reply, there, answered, done) = slice_get_within told i reply answered
+covers_all : (commands : List Stamped) (reported : List Reply) → Covers commands reported (length reported)
+covers_all commands reported i (command, reply, there, answered, done) = slice_get_within reported i reply answered
 
-all_told : (z : Sizes) (ro : Bool) (s : State) (commands : List Stamped) (told : List Reply) → settled_after z ro s commands told (length told) ≡ settled (after z ro s commands told).objects
-all_told z ro s commands told = ap (λ (x : List Reply). settled (after z ro s commands x).objects) (take_all (length told) told (omega arith))
+all_reported : (z : Sizes) (ro : Bool) (s : State) (commands : List Stamped) (reported : List Reply) → settled_after z ro s commands reported (length reported) ≡ settled (after z ro s commands reported).objects
+all_reported z ro s commands reported = ap (λ (x : List Reply). settled (after z ro s commands x).objects) (take_all (length reported) reported (omega arith))
 
 -- What an unmount of a volume that goes on answers and leaves.
 pub record UnmountsOne {V : Type 0} (m : Meaning V) (v : V) (q : PagesState) (reply : Reply) : Type 0 where
@@ -171,9 +171,9 @@ pub record UnmountsOne {V : Type 0} (m : Meaning V) (v : V) (q : PagesState) (re
   pub only_done : m.read_only v ≡ true → reply ≡ replies.Done
   pub checked : (z : Sizes) (s : State) → m.stands z s v → StaysRight (m.pages v) q
 
-module _ {V : Type 0} (m : Meaning V) (commands : List Stamped) (told : List Reply) (a b : V) (done : Does m commands told a b) where
+module _ {V : Type 0} (m : Meaning V) (commands : List Stamped) (reported : List Reply) (a b : V) (done : Does m commands reported a b) where
   -- the volume is abandoned
-  pub used_abandoned : (device : Device) → LiesOn (m.pages b) device → IsUsed m a commands told None device
+  pub used_abandoned : (device : Device) → LiesOn (m.pages b) device → IsUsed m a commands reported None device
   used_abandoned device is = record {
     left = m.pages b;
     device_is = is;
@@ -186,17 +186,17 @@ module _ {V : Type 0} (m : Meaning V) (commands : List Stamped) (told : List Rep
         record {
           holds = does.holds;
           begun = does.begun;
-          unmounts = λ reply told. let two : None ≡ Some reply = told in absurd cc;
+          unmounts = λ reply reported. let two : None ≡ Some reply = reported in absurd cc;
           cause = λ why. elim why [
             | inl stop ↦ does.cause (does.stops ∙ stop)
-            | inr told ↦ let two : None ≡ Some (replies.Error errors.EIO) = told in absurd cc
+            | inr reported ↦ let two : None ≡ Some (replies.Error errors.EIO) = reported in absurd cc
           ];
           failed = λ only why. elim why [
             | inl stop ↦ does.failed only (does.stops ∙ stop)
-            | inr told ↦ let two : None ≡ Some (replies.Error errors.EIO) = told in absurd cc
+            | inr reported ↦ let two : None ≡ Some (replies.Error errors.EIO) = reported in absurd cc
           ];
           losses = does.losses tree shown;
-          done = λ told. let two : None ≡ Some replies.Done = told in absurd cc;
+          done = λ reported. let two : None ≡ Some replies.Done = reported in absurd cc;
         };
   }
 
@@ -204,7 +204,7 @@ module _ {V : Type 0} (m : Meaning V) (commands : List Stamped) (told : List Rep
   module _ (device : Device) (reply : Reply) (q : PagesState) (device_is : LiesOn q device) (on : EndsOn (m.pages b) q) (stops : m.stopped b ≡ true → (reply ≡ replies.Error errors.EIO) × (q ≡ m.pages b))
       (reads : m.read_only b ≡ true → q ≡ m.pages b) (goes : m.stopped b ≡ false → UnmountsOne m b q reply) where
     module _ (going : m.stopped a ≡ false) (z : Sizes) (s : State) (tree : Objects) (stands : m.stands z s a) (shown : Shown z (m.pages a) tree) where
-      does : DoesCommands m z s commands told a b
+      does : DoesCommands m z s commands reported a b
       does = done.does going z s stands
 
       reply_is : (reply ≡ replies.Done) ⊎ (reply ≡ replies.Error errors.EIO)
@@ -214,53 +214,53 @@ module _ {V : Type 0} (m : Meaning V) (commands : List Stamped) (told : List Rep
       ]
 
       -- the tree that a mount would show before the unmount, or all of the commands
-      turned : m.stopped b ≡ false → (t : Objects) → Shown z (m.pages b) t → Shown z q t ⊎ Shown z q (settled_after z (m.read_only a) s commands told (length told))
-      turned still t there = elim ((goes still).tree z (after z (m.read_only a) s commands told) (does.stands still) t there) [
+      turned : m.stopped b ≡ false → (t : Objects) → Shown z (m.pages b) t → Shown z q t ⊎ Shown z q (settled_after z (m.read_only a) s commands reported (length reported))
+      turned still t there = elim ((goes still).tree z (after z (m.read_only a) s commands reported) (does.stands still) t there) [
         | inl still ↦ inl still
-        | inr all ↦ inr (subst (Shown z q) (sym (all_told z (m.read_only a) s commands told)) all)
+        | inr all ↦ inr (subst (Shown z q) (sym (all_reported z (m.read_only a) s commands reported)) all)
       ]
 
-      left_goes : m.stopped b ≡ false → LossLeaves (Shown z (m.pages b)) tree z (m.read_only a) s commands told → LossLeaves (Shown z q) tree z (m.read_only a) s commands told
-      left_goes going' (inl some) = elim (turned going' (settled_after z (m.read_only a) s commands told some.0) some.3) [
+      left_goes : m.stopped b ≡ false → LossLeaves (Shown z (m.pages b)) tree z (m.read_only a) s commands reported → LossLeaves (Shown z q) tree z (m.read_only a) s commands reported
+      left_goes going' (inl some) = elim (turned going' (settled_after z (m.read_only a) s commands reported some.0) some.3) [
         | inl still ↦ inl (some.0, some.1, some.2, still)
-        | inr all ↦ inl (length told, covers_all commands told, omega arith, all)
+        | inr all ↦ inl (length reported, covers_all commands reported, omega arith, all)
       ]
       left_goes going' (inr none) = elim (turned going' tree none.1) [
         | inl still ↦ inr (none.0, still)
-        | inr all ↦ inl (length told, covers_all commands told, omega arith, all)
+        | inr all ↦ inl (length reported, covers_all commands reported, omega arith, all)
       ]
 
-      left_there : LossLeaves (Shown z q) tree z (m.read_only a) s commands told
+      left_there : LossLeaves (Shown z q) tree z (m.read_only a) s commands reported
       left_there = elim (cases_Bool (m.stopped b)) [
-        | inl stopped ↦ subst (λ (p : PagesState). LossLeaves (Shown z p) tree z (m.read_only a) s commands told) (sym (stops stopped).1) (does.losses tree shown)
+        | inl stopped ↦ subst (λ (p : PagesState). LossLeaves (Shown z p) tree z (m.read_only a) s commands reported) (sym (stops stopped).1) (does.losses tree shown)
         | inr still ↦ left_goes still (does.losses tree shown)
       ]
 
-      done_there : reply ≡ replies.Done → Shown z q (settled_after z (m.read_only a) s commands told (length told))
+      done_there : reply ≡ replies.Done → Shown z q (settled_after z (m.read_only a) s commands reported (length reported))
       done_there is = elim (cases_Bool (m.stopped b)) [
         | inl stopped ↦ let two : replies.Done ≡ replies.Error errors.EIO = sym is ∙ (stops stopped).0 in absurd cc
-        | inr still ↦ subst (Shown z q) (sym (all_told z (m.read_only a) s commands told)) ((goes still).done z (after z (m.read_only a) s commands told) (does.stands still) is)
+        | inr still ↦ subst (Shown z q) (sym (all_reported z (m.read_only a) s commands reported)) ((goes still).done z (after z (m.read_only a) s commands reported) (does.stands still) is)
       ]
 
-      ended_there : (list_any is_stop told ≡ true) ⊎ (reply ≡ replies.Error errors.EIO) → HasEndedAt q
+      ended_there : (list_any is_stop reported ≡ true) ⊎ (reply ≡ replies.Error errors.EIO) → HasEndedAt q
       ended_there why = elim (cases_Bool (m.stopped b)) [
         | inl stopped ↦ subst HasEndedAt (sym (stops stopped).1) (does.cause stopped)
         | inr still ↦ elim why [
           | inl stop ↦ absurd (true≢false (sym (does.stops ∙ stop) ∙ still))
-          | inr told' ↦ (goes still).cause z (after z (m.read_only a) s commands told) (does.stands still) told'
+          | inr reported' ↦ (goes still).cause z (after z (m.read_only a) s commands reported) (does.stands still) reported'
         ]
       ]
 
-      failed_there : m.read_only a ≡ true → (list_any is_stop told ≡ true) ⊎ (reply ≡ replies.Error errors.EIO) → HasFailed q.device
+      failed_there : m.read_only a ≡ true → (list_any is_stop reported ≡ true) ⊎ (reply ≡ replies.Error errors.EIO) → HasFailed q.device
       failed_there only why = elim (cases_Bool (m.stopped b)) [
         | inl stopped ↦ subst (λ (p : PagesState). HasFailed p.device) (sym (stops stopped).1) (does.failed only stopped)
         | inr still ↦ elim why [
           | inl stop ↦ absurd (true≢false (sym (does.stops ∙ stop) ∙ still))
-          | inr told' ↦ let two : replies.Done ≡ replies.Error errors.EIO = sym ((goes still).only_done (done.read_only ∙ only)) ∙ told' in absurd cc
+          | inr reported' ↦ let two : replies.Done ≡ replies.Error errors.EIO = sym ((goes still).only_done (done.read_only ∙ only)) ∙ reported' in absurd cc
         ]
       ]
 
-      left_from : LeavesFrom z (m.read_only a) s tree commands told (Some reply) q
+      left_from : LeavesFrom z (m.read_only a) s tree commands reported (Some reply) q
       left_from = record {
         holds = does.holds;
         begun = does.begun;
@@ -288,12 +288,12 @@ module _ {V : Type 0} (m : Meaning V) (commands : List Stamped) (told : List Rep
         | inl only ↦ as_left (reads only)
         | inr written ↦
             let does = done.does going z s stands in
-            (goes still).checked z (after z (m.read_only a) s commands told) (does.stands still)
+            (goes still).checked z (after z (m.read_only a) s commands reported) (does.stands still)
       ]
     ]
 
     -- the volume is unmounted
-    pub used_unmounted : IsUsed m a commands told (Some reply) device
+    pub used_unmounted : IsUsed m a commands reported (Some reply) device
     used_unmounted = record {
       left = q;
       device_is = device_is;

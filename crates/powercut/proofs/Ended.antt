@@ -1,4 +1,4 @@
--- What ended the use of a volume in a call of it, or in its unmount, told of the pages that are left.
+-- What ended the use of a volume in a call of it, or in its unmount, reported of the pages that are left.
 use Rattle.std.specs.Prelude.{◌≡◌, true, false}
 use Rattle.nand_model.specs.Calls.{Device}
 use Rattle.volume_terms.specs.Sizes.{Sizes}
@@ -22,4 +22,4 @@ call_ended {P} {state} {z} {s} {old} {command} {reply} {new} replied stop = ende
 
 pub unmount_ended : {P : Type 0} {state : P → PagesState} {v : PageVolume P} {device : Device} {reply : Reply} (ends : IsUnmounted state v device reply)
     → is_stopped v ≡ false → (z : Sizes) (s : State) → IsVolumeOf state z s v → reply ≡ replies.Error errors.EIO → HasEndedAt ends.pages
-unmount_ended {P} {state} {v} {device} {reply} ends runs z s stands told = ended_at (state (pages_of v)) ends.pages (ends.cause runs z s stands told)
+unmount_ended {P} {state} {v} {device} {reply} ends runs z s stands reported = ended_at (state (pages_of v)) ends.pages (ends.cause runs z s stands reported)

@@ -1,4 +1,4 @@
--- A mount that fails leaves the device, and tells no fault of a sound flash.
+-- A mount that fails leaves the device, and reports no fault of a sound flash.
 use Rattle.std.specs.Prelude.{◌≡◌, ℕ, true, false, Bool, List, [], ◌∷◌, length, Some, None, Err}
 use Rattle.std.proofs.Common.{refl, sym, ◌∙◌, subst, inl, inr}
 use Rattle.volume_terms.specs.Sizes.{Sizes}
@@ -87,7 +87,7 @@ module _ (one : (g : Geometry) (flash : Flash) (a b : Answer) → Answers g flas
       }
 
 -- where nothing was replied that is what is recorded
-pub of_no_replies : (d e : Device) (commands : List Stamped) (answer : MountAnswer) (cut : Bool) (told : List Reply) → told ≡ [] → HasLived d e (failed_record commands answer cut ∷ [])
-    → HasLived d e (record { mounted = answer; commands = commands; begun = length told; replies = told; unmounted = None; cut = cut } ∷ [])
-of_no_replies d e commands answer cut told none lived =
+pub of_no_replies : (d e : Device) (commands : List Stamped) (answer : MountAnswer) (cut : Bool) (reported : List Reply) → reported ≡ [] → HasLived d e (failed_record commands answer cut ∷ [])
+    → HasLived d e (record { mounted = answer; commands = commands; begun = length reported; replies = reported; unmounted = None; cut = cut } ∷ [])
+of_no_replies d e commands answer cut reported none lived =
     subst (λ (rs : List Reply). HasLived d e (record { mounted = answer; commands = commands; begun = length rs; replies = rs; unmounted = None; cut = cut } ∷ [])) (sym none) lived

@@ -52,30 +52,30 @@ use Rattle.powercut.proofs.Living.{greatest_within, none_marked, marked_on}
 
 -- what is recorded of a session whose mount was done
 abbrev pub mounted_record : List Stamped → List Reply → Option Reply → Bool → SessionRecord
-mounted_record commands told unmounted cut = record {
+mounted_record commands reported unmounted cut = record {
   mounted = Mounted;
   commands = commands;
-  begun = length told;
-  replies = told;
+  begun = length reported;
+  replies = reported;
   unmounted = unmounted;
   cut = cut;
 }
 
-module _ (z : Sizes) (before : Objects) (commands : List Stamped) (told : List Reply) (unmounted : Option Reply) (left : PagesState)
-    (sound : IsSound z (at_mount before)) (leaves : LeavesFrom z false (at_mount before) before commands told unmounted left) where
+module _ (z : Sizes) (before : Objects) (commands : List Stamped) (reported : List Reply) (unmounted : Option Reply) (left : PagesState)
+    (sound : IsSound z (at_mount before)) (leaves : LeavesFrom z false (at_mount before) before commands reported unmounted left) where
   -- so many of the commands are in the tree that a mount shows
   abbrev KeepsSome : Option Reply → Type 0
-  KeepsSome u = (k : ℕ) × Covers commands told k × (k ≤ length told) × Shown z left (settled_after z false (at_mount before) commands told k) × (u ≡ Some replies.Done → k ≡ length told)
+  KeepsSome u = (k : ℕ) × Covers commands reported k × (k ≤ length reported) × Shown z left (settled_after z false (at_mount before) commands reported k) × (u ≡ Some replies.Done → k ≡ length reported)
 
   keeps_lost : (u : Option Reply) → (u ≡ Some replies.Done → ⊥) → KeepsSome u
-  keeps_lost u not = let some = loss_keeps (Shown z left) z before commands told sound leaves.losses in (some.0, some.1, some.2, some.3, λ is. absurd (not is))
+  keeps_lost u not = let some = loss_keeps (Shown z left) z before commands reported sound leaves.losses in (some.0, some.1, some.2, some.3, λ is. absurd (not is))
 
   keeps_some : (u : Option Reply) → unmounted ≡ u → KeepsSome u
   keeps_some None is = keeps_lost None (λ done. let two : None ≡ Some replies.Done = done in absurd cc)
   keeps_some (Some reply) is = elim (leaves.unmounts reply is) [
     | inl done ↦ (
-      length told,
-      (λ i (command, r, there, answered, synced). slice_get_within told i r answered),
+      length reported,
+      (λ i (command, r, there, answered, synced). slice_get_within reported i r answered),
       omega arith,
       leaves.done (is ∙ ap Some done),
       λ same. refl,
@@ -85,10 +85,10 @@ module _ (z : Sizes) (before : Objects) (commands : List Stamped) (told : List R
 
   -- the session, where what ends the use of a volume is a cut
   pub session_served : (cut : Bool) → (HasEndedAt left → cut ≡ true)
-      → (after : Objects) × IsSessionFrom z before (mounted_record commands told unmounted cut) after × Shown z left after
+      → (after : Objects) × IsSessionFrom z before (mounted_record commands reported unmounted cut) after × Shown z left after
   session_served cut ends =
       let some = keeps_some unmounted refl in (
-        settled_after z false (at_mount before) commands told some.0,
+        settled_after z false (at_mount before) commands reported some.0,
         record {
           ends = inr (record {
             mounted = refl;
@@ -127,11 +127,11 @@ pub record Stands {V : Type 0} (m : Meaning V) (v : V) (objects : Objects) : Typ
   pub sound : IsSound (volume_of (m.pages v)) (at_mount objects)
   pub shown : Shown (volume_of (m.pages v)) (m.pages v) objects
 
-module _ {V : Type 0} (m : Meaning V) (v : V) (d e : Device) (commands : List Stamped) (told : List Reply) (unmounted : Option Reply) (honest : d.honest ≡ true)
+module _ {V : Type 0} (m : Meaning V) (v : V) (d e : Device) (commands : List Stamped) (reported : List Reply) (unmounted : Option Reply) (honest : d.honest ≡ true)
     (one : (g : Geometry) (flash : Flash) (a b : Answer) → Answers g flash a → Answers g flash b → a ≡ b)
     (reads : OnlyReads d (m.pages v).device) (goes : m.stopped v ≡ false) (read_only : (m.read_only v ≡ true) ↔ CanOnlyBeRead (m.pages v))
     (next : AreNext (m.pages v).device.flash (m.pages v).next) (objects : Objects) (stands : Stands m v objects)
-    (checked : IsChecked d.geometry d.flash (m.pages v).checkpoint) (used : IsUsed m v commands told unmounted e) where
+    (checked : IsChecked d.geometry d.flash (m.pages v).checkpoint) (used : IsUsed m v commands reported unmounted e) where
   abbrev p : PagesState
   p = m.pages v
 
@@ -215,7 +215,7 @@ module _ {V : Type 0} (m : Meaning V) (v : V) (d e : Device) (commands : List St
       | inr power ↦ absurd (omega (arith, group, groups_left power))
     ]
     ends_by_cut (inr (inr (inl seq))) = absurd (omega (arith, seq, seqs_left))
-    ends_by_cut (inr (inr (inr many))) = let few = within.few_bad in let kept = used.ends_on.spare in let is = spare_is in absurd (omega (arith, many, few, kept, is))
+    ends_by_cut (inr (inr (inr many))) = let few = within.few_bad in let committed = used.ends_on.spare in let is = spare_is in absurd (omega (arith, many, few, committed, is))
 
     left_sound : (after : Objects) → Shown (volume_of p) q after → IsSoundFlash q.device.geometry q.device.flash spare after
     left_sound after shown =
@@ -227,15 +227,15 @@ module _ {V : Type 0} (m : Meaning V) (v : V) (d e : Device) (commands : List St
     sizes_are : volume_of p ≡ sizes_of d.geometry spare
     sizes_are = ap (λ (g : Geometry). sizes_of g p.spare) reads.lasts.geometry ∙ ap (λ k. sizes_of d.geometry k) spare_is
 
-    life : (after : Objects) × IsLife (sizes_of d.geometry spare) tree (mounted_record commands told unmounted q.device.gone ∷ []) after × IsSoundFlash q.device.geometry q.device.flash spare after
+    life : (after : Objects) × IsLife (sizes_of d.geometry spare) tree (mounted_record commands reported unmounted q.device.gone ∷ []) after × IsSoundFlash q.device.geometry q.device.flash spare after
     life =
         let leaves =
-        subst (λ (ro : Bool). LeavesFrom (volume_of p) ro (at_mount objects) objects commands told unmounted q) is_written
+        subst (λ (ro : Bool). LeavesFrom (volume_of p) ro (at_mount objects) objects commands reported unmounted q) is_written
         (used.leaves goes (volume_of p) (at_mount objects) objects stands.volume stands.shown) in
-        let session = session_served (volume_of p) objects commands told unmounted q stands.sound leaves q.device.gone ends_by_cut in
-        let record_told = mounted_record commands told unmounted q.device.gone in
-        let from_tree = subst (λ (x : Objects). IsSessionFrom (volume_of p) x record_told session.0) tree_is session.1 in
-        let of_sizes = subst (λ (z : Sizes). IsSessionFrom z tree record_told session.0) sizes_are from_tree in
+        let session = session_served (volume_of p) objects commands reported unmounted q stands.sound leaves q.device.gone ends_by_cut in
+        let record_reported = mounted_record commands reported unmounted q.device.gone in
+        let from_tree = subst (λ (x : Objects). IsSessionFrom (volume_of p) x record_reported session.0) tree_is session.1 in
+        let of_sizes = subst (λ (z : Sizes). IsSessionFrom z tree record_reported session.0) sizes_are from_tree in
         (session.0, (session.0, of_sizes, refl), left_sound session.0 session.2)
 
   -- the block that is noted at the mount is the only one with a whole checkpoint
@@ -250,7 +250,7 @@ module _ {V : Type 0} (m : Meaning V) (v : V) (d e : Device) (commands : List St
   -- some tree is shown in the end
   shown_left : (after : Objects) × Shown (volume_of p) q after
   shown_left = elim (used.leaves goes (volume_of p) (at_mount objects) objects stands.volume stands.shown).losses [
-    | inl some ↦ (settled_after (volume_of p) (m.read_only v) (at_mount objects) commands told some.0, some.3)
+    | inl some ↦ (settled_after (volume_of p) (m.read_only v) (at_mount objects) commands reported some.0, some.3)
     | inr none ↦ (objects, none.1)
   ]
 
@@ -325,10 +325,10 @@ module _ {V : Type 0} (m : Meaning V) (v : V) (d e : Device) (commands : List St
       let first = next_seq in
       let changes = reads.changes in
       inr (written, inr (inr (omega (arith, seq, rose, first, changes))))
-  ended_why written (inr (inr (inr many))) = let kept = used.ends_on.spare in inr (written, inl (omega (arith, many, kept)))
+  ended_why written (inr (inr (inr many))) = let committed = used.ends_on.spare in inr (written, inl (omega (arith, many, committed)))
 
   -- the replies are right from the tree on
-  pub served_there : IsServedFrom d q.device commands told unmounted
+  pub served_there : IsServedFrom d q.device commands reported unmounted
   served_there =
       let leaves = used.leaves goes (volume_of p) (at_mount objects) objects stands.volume stands.shown in
       let bad : bad_on p.device ≡ bad_on d = ap (λ (g : Geometry). bad_blocks g p.device.flash) reads.lasts.geometry ∙ bad_same d.geometry d.flash p.device.flash same in
@@ -358,7 +358,7 @@ module _ {V : Type 0} (m : Meaning V) (v : V) (d e : Device) (commands : List St
             ]
           ]),
         );
-        holds = subst (λ (g : Geometry). RunHolds (sizes_of g p.spare) (m.read_only v) (at_mount objects) commands told) reads.lasts.geometry leaves.holds;
+        holds = subst (λ (g : Geometry). RunHolds (sizes_of g p.spare) (m.read_only v) (at_mount objects) commands reported) reads.lasts.geometry leaves.holds;
         unmounts = leaves.unmounts;
         stops = λ why. elim (cases_Bool (m.read_only v)) [
           | inl only ↦ inl (failed_gone (leaves.failed only why))
@@ -366,7 +366,7 @@ module _ {V : Type 0} (m : Meaning V) (v : V) (d e : Device) (commands : List St
         ];
       }
 
-  pub truly_there : Remembers d p → IsTrueOn d → TrulyLived d q.device (mounted_record commands told unmounted q.device.gone ∷ [])
+  pub truly_there : Remembers d p → IsTrueOn d → TrulyLived d q.device (mounted_record commands reported unmounted q.device.gone ∷ [])
   truly_there remembers truth = record {
     truth = true_there remembers truth.mountable;
     numbers = numbers;
@@ -375,14 +375,14 @@ module _ {V : Type 0} (m : Meaning V) (v : V) (d e : Device) (commands : List St
   }
 
 -- from the device at the mount to the device that is given back
-module _ {V : Type 0} (m : Meaning V) (v : V) (d e now : Device) (commands : List Stamped) (told : List Reply) (unmounted : Option Reply)
-    (since : IsTrustedSince d now (m.pages v).device) (used : IsUsed m v commands told unmounted e) where
-  lasts_there : Lasts (trusted_as since.told now) (trusted_as used.device_is.0 e)
-  lasts_there = subst (λ (x : Device). Lasts (trusted_as since.told now) x) used.device_is.1 (subst (λ (x : Device). Lasts x used.left.device) since.read.seen_is used.ends_on.device)
+module _ {V : Type 0} (m : Meaning V) (v : V) (d e now : Device) (commands : List Stamped) (reported : List Reply) (unmounted : Option Reply)
+    (since : IsTrustedSince d now (m.pages v).device) (used : IsUsed m v commands reported unmounted e) where
+  lasts_there : Lasts (trusted_as since.reported now) (trusted_as used.device_is.0 e)
+  lasts_there = subst (λ (x : Device). Lasts (trusted_as since.reported now) x) used.device_is.1 (subst (λ (x : Device). Lasts x used.left.device) since.read.seen_is used.ends_on.device)
 
-  -- what the calls of a device keep is kept over the whole use
+  -- what the calls of a device keep is committed over the whole use
   pub used_lasts : e.honest ≡ d.honest → Lasts d e
-  used_lasts honest = lasts_on d now e since.read.reads.lasts (lasts_seen since.told used.device_is.0 now e lasts_there (honest ∙ sym since.read.reads.lasts.honest))
+  used_lasts honest = lasts_on d now e since.read.reads.lasts (lasts_seen since.reported used.device_is.0 now e lasts_there (honest ∙ sym since.read.reads.lasts.honest))
 
   marked_seen : bad_on e + now.failures ≤ bad_on now + e.failures
   marked_seen =
@@ -404,20 +404,20 @@ module _ {V : Type 0} (m : Meaning V) (v : V) (d e now : Device) (commands : Lis
       left : used.left.device ≡ e
       left = left_as_seen used.left e used.device_is (used.ends_on.device.honest ∙ here)
 
-      truly : TrulyLived d e (mounted_record commands told unmounted e.gone ∷ [])
+      truly : TrulyLived d e (mounted_record commands reported unmounted e.gone ∷ [])
       truly =
           let there = tree here in
-          subst (λ (x : Device). TrulyLived d x (mounted_record commands told unmounted x.gone ∷ [])) left
-          (truly_there m v d e commands told unmounted honest one reads goes read_only (next here) there.0 there.1 (checked (honest, truth)) used remembers truth)
+          subst (λ (x : Device). TrulyLived d x (mounted_record commands reported unmounted x.gone ∷ [])) left
+          (truly_there m v d e commands reported unmounted honest one reads goes read_only (next here) there.0 there.1 (checked (honest, truth)) used remembers truth)
 
     -- of a true flash
-    pub used_right : IsTrueOn d → IsServedFrom d e commands told unmounted
+    pub used_right : IsTrueOn d → IsServedFrom d e commands reported unmounted
     used_right truth =
         let there = tree (here truth) in
-        subst (λ (x : Device). IsServedFrom d x commands told unmounted) (left truth)
-        (served_there m v d e commands told unmounted honest one (reads truth) goes read_only (next (here truth)) there.0 there.1 (checked (honest, truth)) used)
+        subst (λ (x : Device). IsServedFrom d x commands reported unmounted) (left truth)
+        (served_there m v d e commands reported unmounted honest one (reads truth) goes read_only (next (here truth)) there.0 there.1 (checked (honest, truth)) used)
 
-    pub used_lived : HasLived d e (mounted_record commands told unmounted e.gone ∷ [])
+    pub used_lived : HasLived d e (mounted_record commands reported unmounted e.gone ∷ [])
     used_lived =
         let reads = since.read.reads in
         let seen = lasts_there in

@@ -3,7 +3,7 @@ use Rattle.std.specs.Prelude.{◌≡◌, ◌≢◌, ◌⊎◌, ◌≤◌, ◌<�
 use Rattle.std.proofs.Common.{refl, sym, ◌∙◌, ap, subst, inl, inr, arith}
 use Rattle.std.proofs.lemmas.Bool.{cases_Bool, cases_lt, true≢false, eqb-true, eqb-false, ltb-true, le-leb, lt-leb}
 use Rattle.nand_model.specs.Calls.{Device, Lasts}
-use Rattle.nand_model.specs.Plans.{Plan, counted, is_fused, failure_at}
+use Rattle.nand_model.specs.Plans.{Plan, totaled, is_fused, failure_at}
 use Rattle.nand_model.specs.Planned.{next_call}
 use Rattle.nand_model.specs.declared.fate.Fate.{Fate}
 use Rattle.powercut.specs.Planning.{call_of, fuse_call, failing, calls_of, are_counted}
@@ -62,7 +62,7 @@ both true true is = (refl, refl)
 both true false is = absurd cc
 both false b is = absurd cc
 
--- a failure is at a call that is told apart
+-- a failure is at a call that is reported apart
 failure_below : (failures : List (ℕ × List Fate)) (call : ℕ) → are_counted (map (λ f. f.0) failures) ≡ true → is_some (failure_at failures call) ≡ true → call < 2 ^ 64 - 1
 failure_below [] call all some = let two : false ≡ true = some in absurd cc
 failure_below (failure ∷ failures) call all some = elim (cases_Bool (nat_eq failure.0 call)) [
@@ -82,7 +82,7 @@ pub record Counts (p : Plan) (d e : Device) : Type 0 where
   pub goes : e.gone ≡ is_fused p.fuse (next_call p)
   pub fails : (e.failures ≡ d.failures) ⊎ ((e.failures ≡ d.failures + 1) × (is_some (failure_at p.failures (next_call p)) ≡ true))
 
--- one cut is counted where power goes
+-- there is one cut where power goes
 cuts_on : (d e : Device) (start : ℕ) → Lasts d e → d.gone ≡ false → d.cuts ≡ start + cond d.gone 1 0 → e.cuts ≡ start + cond e.gone 1 0
 cuts_on d e start lasts power were =
     let was : d.cuts ≡ start = let none : cond {A = ℕ} d.gone 1 0 ≡ 0 = ap (λ b. cond {A = ℕ} b 1 0) power in omega (arith, were, none) in
@@ -101,7 +101,7 @@ cuts_on d e start lasts power were =
           ]
     ]
 
-module _ (d e : Device) (p q : Plan) (told : Totals) (keeps : KeepsPlan d p told) (lasts : Lasts d e)
+module _ (d e : Device) (p q : Plan) (reported : Totals) (keeps : KeepsPlan d p reported) (lasts : Lasts d e)
     (fuse : q.fuse ≡ p.fuse) (failures : q.failures ≡ p.failures) (calls : q.calls ≡ next_call p) (counts : d.gone ≡ false → Counts p d e) where
   same_fuse : fuse_call q ≡ fuse_call p
   same_fuse = ap call_of fuse
@@ -111,18 +111,18 @@ module _ (d e : Device) (p q : Plan) (told : Totals) (keeps : KeepsPlan d p told
 
   module _ (power : d.gone ≡ false) where
     abbrev n : ℕ
-    n = calls_of d - told.0
+    n = calls_of d - reported.0
 
     count : Counts p d e
     count = counts power
 
     next : next_call p ≡ min (n + 1) (2 ^ 64 - 1)
-    next = ap counted (keeps.counted power) ∙ next_is n (2 ^ 64 - 1)
+    next = ap totaled (keeps.totaled power) ∙ next_is n (2 ^ 64 - 1)
 
-    made_now : calls_of e - told.0 ≡ n + 1
+    made_now : calls_of e - reported.0 ≡ n + 1
     made_now = let one = count.made in let made = keeps.made in omega (arith, one, made)
 
-    uncut_now : e.gone ≡ false → 1 ≤ fuse_call p → calls_of e < told.0 + fuse_call p
+    uncut_now : e.gone ≡ false → 1 ≤ fuse_call p → calls_of e < reported.0 + fuse_call p
     uncut_now goes some =
         let lt = keeps.uncut power some in
         let bound = keeps.fuse in
@@ -139,7 +139,7 @@ module _ (d e : Device) (p q : Plan) (told : Totals) (keeps : KeepsPlan d p told
           | inr high ↦ absurd (omega (arith, high, bound, lt, made))
         ]
 
-    cut_now : e.gone ≡ true → (1 ≤ fuse_call p) × (calls_of e ≡ told.0 + fuse_call p)
+    cut_now : e.gone ≡ true → (1 ≤ fuse_call p) × (calls_of e ≡ reported.0 + fuse_call p)
     cut_now gone =
         let is : fuse_call p ≡ next_call p = fused_is p.fuse (next_call p) (sym count.goes ∙ gone) in
         let some : 1 ≤ fuse_call p = omega (arith, is, next) in
@@ -148,7 +148,7 @@ module _ (d e : Device) (p q : Plan) (told : Totals) (keeps : KeepsPlan d p told
         let made = keeps.made in
         (some, omega (arith, is, next, lt, one, made))
 
-    failures_now : are_counted (failing p) ≡ true → e.failures ≤ told.1 + reached (failing p) (n + 1)
+    failures_now : are_counted (failing p) ≡ true → e.failures ≤ reported.1 + reached (failing p) (n + 1)
     failures_now all =
         let were = keeps.failures all in
         elim count.fails [
@@ -161,35 +161,35 @@ module _ (d e : Device) (p q : Plan) (told : Totals) (keeps : KeepsPlan d p told
               omega (arith, were, failed, more)
         ]
 
-    keeps_with : KeepsPlan e q told
+    keeps_with : KeepsPlan e q reported
     keeps_with = record {
       fuse = let bound = keeps.fuse in omega (arith, same_fuse, bound);
       made = let one = count.made in let made = keeps.made in omega (arith, one, made);
-      counted = λ _. calls ∙ next ∙ ap (λ k. min k (2 ^ 64 - 1)) (sym made_now);
+      totaled = λ _. calls ∙ next ∙ ap (λ k. min k (2 ^ 64 - 1)) (sym made_now);
       uncut = λ goes some. let lt = uncut_now goes (omega (arith, same_fuse, some)) in omega (arith, same_fuse, lt);
       cut = λ gone. let is = cut_now gone in (let some = is.0 in omega (arith, some, same_fuse), let at = is.1 in omega (arith, at, same_fuse));
       failures = λ all.
-          subst (λ (ks : List ℕ). e.failures ≤ told.1 + reached ks (calls_of e - told.0)) (sym same_failing)
-          (subst (λ k. e.failures ≤ told.1 + reached (failing p) k) (sym made_now) (failures_now (sym (ap are_counted same_failing) ∙ all)));
-      cuts = cuts_on d e told.2 lasts power keeps.cuts;
+          subst (λ (ks : List ℕ). e.failures ≤ reported.1 + reached ks (calls_of e - reported.0)) (sym same_failing)
+          (subst (λ k. e.failures ≤ reported.1 + reached (failing p) k) (sym made_now) (failures_now (sym (ap are_counted same_failing) ∙ all)));
+      cuts = cuts_on d e reported.2 lasts power keeps.cuts;
     }
 
-  keeps_without : d.gone ≡ true → KeepsPlan d q told
+  keeps_without : d.gone ≡ true → KeepsPlan d q reported
   keeps_without gone = record {
     fuse = let bound = keeps.fuse in omega (arith, same_fuse, bound);
     made = keeps.made;
-    counted = λ goes. absurd (true≢false (sym gone ∙ goes));
+    totaled = λ goes. absurd (true≢false (sym gone ∙ goes));
     uncut = λ goes. absurd (true≢false (sym gone ∙ goes));
     cut = λ _. let is = keeps.cut gone in (let some = is.0 in omega (arith, some, same_fuse), let at = is.1 in omega (arith, at, same_fuse));
     failures = λ all.
-        subst (λ (ks : List ℕ). d.failures ≤ told.1 + reached ks (calls_of d - told.0)) (sym same_failing)
+        subst (λ (ks : List ℕ). d.failures ≤ reported.1 + reached ks (calls_of d - reported.0)) (sym same_failing)
         (keeps.failures (sym (ap are_counted same_failing) ∙ all));
     cuts = keeps.cuts;
   }
 
   -- the device keeps its plan
-  pub keeps_on : KeepsPlan e q told
+  pub keeps_on : KeepsPlan e q reported
   keeps_on = elim (cases_Bool d.gone) [
-    | inl gone ↦ subst (λ (x : Device). KeepsPlan x q told) (sym (lasts.gone gone)) (keeps_without gone)
+    | inl gone ↦ subst (λ (x : Device). KeepsPlan x q reported) (sym (lasts.gone gone)) (keeps_without gone)
     | inr power ↦ keeps_with power
   ]

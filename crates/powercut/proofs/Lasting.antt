@@ -39,7 +39,7 @@ module _ (fused : Bool) (a b c : Device) (starts : Starts fused a b) where
       (lived_still a b starts.geometry starts.changes starts.failures (record { page = starts.page; bad = starts.bad }))
       (lived starts.gone (starts.honest ∙ honest))
 
-  -- what the plan makes of the device is counted from before the power-up
+  -- what the plan makes of the device is in the count from before the power-up
   pub planned_from : (p : Plan) → IsPlanned p b c → IsPlanned p a c
   planned_from p planned =
       let cuts = starts.cuts in
@@ -185,7 +185,7 @@ why_counts d n faults.NotAVolume why = why
 why_counts d n (faults.Newer format) why = why
 why_counts d n faults.Damaged why = why
 
--- one cut is counted where power is lost
+-- there is one cut where power is lost
 pub cuts_counted : (session : Session) (end : SessionEnd) (a c : Device) → IsEnded session end a c → c.cuts ≡ a.cuts + (if end.cut then 1 else 0)
 cuts_counted session end a c ended = ended.planned.cuts ∙ ap (λ (cut : Bool). a.cuts + (if cut then 1 else 0)) (sym ended.cut)
 
@@ -198,7 +198,7 @@ no_cut session a c true is planned none = let some = (planned.cut (sym is)).0 in
     no_call None none = refl
     no_call (Some fuse) none = absurd cc
 
--- a life says nothing of how many cuts were counted
+-- a life says nothing of how many cuts were in the count
 pub lived_named : (a b : Device) (x y : ℕ) (sessions : List SessionRecord) → HasLived (record a { cuts = x }) (record b { cuts = y }) sessions → HasLived a b sessions
 lived_named a b x y sessions lived = record {
   geometry = lived.geometry;

@@ -39,7 +39,7 @@ ended_more (s ∷ sessions) [] session end a b c at all one =
     (c, subst (λ (x : Device). IsEnded s end x c) all here, none_ended sessions c)
 ended_more (s ∷ sessions) (e ∷ ends) session end a b c at all one = (all.0, all.1, ended_more sessions ends session end all.0 b c at all.2 one)
 
--- the calls of two lists are told apart where those of each are
+-- the calls of two lists are reported apart where those of each are
 counted_both : (xs ys : List ℕ) → are_counted (xs ++ ys) ≡ true → (are_counted xs ≡ true) × (are_counted ys ≡ true)
 counted_both [] ys all = (refl, all)
 counted_both (x ∷ xs) ys all =
@@ -52,7 +52,7 @@ counted_both (x ∷ xs) ys all =
     both true false is = absurd cc
     both false b is = absurd cc
 
--- no more failures are counted than the sessions list
+-- no more failures there are than the sessions list
 pub failures_listed : (sessions : List Session) (ends : List SessionEnd) (a b : Device) → AreEnded sessions ends a b → are_counted (failing_in sessions) ≡ true
     → b.failures ≤ a.failures + length (failing_in sessions)
 failures_listed [] ends a b same all = let is : b.failures ≡ a.failures = ap (λ (d : Device). d.failures) same in omega (arith, is)

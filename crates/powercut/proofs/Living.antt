@@ -57,7 +57,7 @@ lived_still a b geometry changes failures same = record {
 }
 
 module _ (a b c : Device) (xs ys : List SessionRecord) (first : HasLived a b xs) (then : HasLived b c ys) where
-  -- the limits of the whole are kept in the earlier sessions
+  -- the limits of the whole are committed in the earlier sessions
   earlier : (spare : ℕ) → StaysWithin spare a c → StaysWithin spare a b
   earlier spare within =
       let more = then.changes in

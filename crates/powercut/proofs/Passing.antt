@@ -1,4 +1,4 @@
--- A device that comes back from a session kept the plan of that session.
+-- A device that comes back from a session committed the plan of that session.
 use Rattle.std.specs.Prelude.{◌≡◌, ◌≤◌, ◌+◌, ◌-◌, ◌*◌, ◌^◌, ℕ, Bool, true, false, List, length, map, min, cond}
 use Rattle.std.proofs.Common.{sym, ◌∙◌, ap, subst, arith}
 use mathlib.Core.Logic.{∥∥₁_elim}
@@ -21,9 +21,9 @@ one_at_most false = omega arith
 same_number : (n m : ℕ) (gone : Bool) → 2 * n ≤ 2 * m + cond gone 1 0 → 2 * m + cond gone 1 0 ≤ 2 * n + 1 → n ≡ m
 same_number n m gone least most = let one = one_at_most gone in omega (arith, least, most, one)
 
-module _ (p : Plan) (first last : Device) (q : Plan) (told : Totals) (lasts : Lasts (begun p first) (named (session_number q.fuse q.failures told) last)) where
-  same : AreSame p.fuse q.fuse p.failures q.failures (totals first) told
-  same = sessions_same p.fuse q.fuse p.failures q.failures (totals first) told (same_number _ _ last.gone lasts.cuts lasts.once)
+module _ (p : Plan) (first last : Device) (q : Plan) (reported : Totals) (lasts : Lasts (begun p first) (named (session_number q.fuse q.failures reported) last)) where
+  same : AreSame p.fuse q.fuse p.failures q.failures (totals first) reported
+  same = sessions_same p.fuse q.fuse p.failures q.failures (totals first) reported (same_number _ _ last.gone lasts.cuts lasts.once)
 
   same_call : fuse_call p ≡ fuse_call q
   same_call = ap call_of same.fuse
@@ -31,7 +31,7 @@ module _ (p : Plan) (first last : Device) (q : Plan) (told : Totals) (lasts : La
   same_failing : failing p ≡ failing q
   same_failing = ap (λ (fs : List (ℕ × List Fate)). map (λ f. f.0) fs) same.failing
 
-  module _ (keeps : KeepsPlan last q told) where
+  module _ (keeps : KeepsPlan last q reported) where
     pub passed : IsPlanned p first last
     passed = record {
       cuts = let now = keeps.cuts in let was = same.cuts in omega (arith, now, was);
@@ -39,40 +39,40 @@ module _ (p : Plan) (first last : Device) (q : Plan) (told : Totals) (lasts : La
       uncut = λ goes some. let fuse = same_call in let calls = same.calls in let lt = keeps.uncut goes (omega (arith, some, fuse)) in omega (arith, lt, fuse, calls);
       failures = λ all.
           let few = keeps.failures (sym (ap are_counted same_failing) ∙ all) in
-          let most = reached_most (failing q) (calls_of last - told.0) in
+          let most = reached_most (failing q) (calls_of last - reported.0) in
           let len : length (failing p) ≡ length (failing q) = ap (λ (ks : List ℕ). length ks) same_failing in
           let were = same.failures in
           omega (arith, few, most, len, were);
     }
 
-    -- its calls are counted from the first device on
+    -- its calls are from the first device on
     pub passed_calls : last.gone ≡ false → q.calls ≡ calls_since first last
-    passed_calls power = keeps.counted power ∙ ap (λ n. min (calls_of last - n) (2 ^ 64 - 1)) (sym same.calls)
+    passed_calls power = keeps.totaled power ∙ ap (λ n. min (calls_of last - n) (2 ^ 64 - 1)) (sym same.calls)
 
-  module _ (run : HasRun told q last) where
-    kept : Lasts run.start last
-    kept = done_lasts q.fuse q.failures run.calls run.start last run.done
+  module _ (run : HasRun reported q last) where
+    committed : Lasts run.start last
+    committed = done_lasts q.fuse q.failures run.calls run.start last run.done
 
     geometry : run.start.geometry ≡ first.geometry
-    geometry = sym kept.geometry ∙ lasts.geometry
+    geometry = sym committed.geometry ∙ lasts.geometry
 
     flash : flash_number first.geometry run.start.flash ≡ flash_number first.geometry first.flash
-    flash = ap (λ (g : Geometry). flash_number g run.start.flash) (sym geometry) ∙ ap (λ (t : Totals). t.3) run.told_is ∙ sym same.flash
+    flash = ap (λ (g : Geometry). flash_number g run.start.flash) (sym geometry) ∙ ap (λ (t : Totals). t.3) run.reported_is ∙ sym same.flash
 
     as_first : IsAs first run.start
     as_first = record {
       geometry = geometry;
-      honest = sym kept.honest ∙ lasts.honest;
+      honest = sym committed.honest ∙ lasts.honest;
       bad = λ b lt. same_bad first.geometry run.start.flash first.flash flash b lt;
       next = λ b lt. same_next first.geometry run.start.flash first.flash flash b lt;
       page = λ b page lt less. same_page first.geometry run.start.flash first.flash flash b lt page less;
-      cuts = ap (λ (t : Totals). t.2) run.told_is ∙ sym same.cuts;
-      failures = ap (λ (t : Totals). t.1) run.told_is ∙ sym same.failures;
+      cuts = ap (λ (t : Totals). t.2) run.reported_is ∙ sym same.cuts;
+      failures = ap (λ (t : Totals). t.1) run.reported_is ∙ sym same.failures;
       changes =
-          let calls : calls_of run.start ≡ calls_of first = ap (λ (t : Totals). t.0) run.told_is ∙ sym same.calls in
-          let reads : run.start.reads ≡ first.reads = ap (λ (t : Totals). t.4) run.told_is ∙ sym same.reads in
+          let calls : calls_of run.start ≡ calls_of first = ap (λ (t : Totals). t.0) run.reported_is ∙ sym same.calls in
+          let reads : run.start.reads ≡ first.reads = ap (λ (t : Totals). t.4) run.reported_is ∙ sym same.reads in
           omega (arith, calls, reads);
-      reads = ap (λ (t : Totals). t.4) run.told_is ∙ sym same.reads;
+      reads = ap (λ (t : Totals). t.4) run.reported_is ∙ sym same.reads;
     }
 
     ran : RunsAsPlanned p first last
@@ -85,5 +85,5 @@ module _ (p : Plan) (first last : Device) (q : Plan) (told : Totals) (lasts : La
       count = let count = run.count in let calls = same.calls in omega (arith, count, calls);
     }
 
-  pub passed_runs : ∥ HasRun told q last ∥₁ → ∥ RunsAsPlanned p first last ∥₁
-  passed_runs run = ∥∥₁_elim run (λ x y. squash₁ x y) (λ (r : HasRun told q last). ∣ ran r ∣₁)
+  pub passed_runs : ∥ HasRun reported q last ∥₁ → ∥ RunsAsPlanned p first last ∥₁
+  passed_runs run = ∥∥₁_elim run (λ x y. squash₁ x y) (λ (r : HasRun reported q last). ∣ ran r ∣₁)

@@ -42,34 +42,34 @@ does_same p n call old new is does =
     unchanged (Marking b result) does = (does.0, record { ends = does.1.ends; mark = does.1.mark })
 
 -- a session of no calls
-pub runs_here : (told : Totals) (p : Plan) (d : Device) → told ≡ totals d → d.gone ≡ false → HasRun told p d
-runs_here told p d is power = record {
+pub runs_here : (reported : Totals) (p : Plan) (d : Device) → reported ≡ totals d → d.gone ≡ false → HasRun reported p d
+runs_here reported p d is power = record {
   start = d;
-  told_is = sym is;
+  reported_is = sym is;
   power = power;
   calls = [];
   done = refl;
-  count = let calls : told.0 ≡ calls_of d = ap (λ (t : Totals). t.0) is in omega (arith, calls);
+  count = let calls : reported.0 ≡ calls_of d = ap (λ (t : Totals). t.0) is in omega (arith, calls);
 }
 
 -- one call more
-module _ (told : Totals) (p q : Plan) (d e : Device) (fuse : q.fuse ≡ p.fuse) (failures : q.failures ≡ p.failures) (keeps : KeepsPlan d p told) (lasts : Lasts d e) (call : Call) (does : Does p call d e)
+module _ (reported : Totals) (p q : Plan) (d e : Device) (fuse : q.fuse ≡ p.fuse) (failures : q.failures ≡ p.failures) (keeps : KeepsPlan d p reported) (lasts : Lasts d e) (call : Call) (does : Does p call d e)
     (made : d.gone ≡ false → calls_of e ≡ calls_of d + 1) where
   -- the plan goes on
-  goes_on : (x : Device) → HasRun told p x → HasRun told q x
+  goes_on : (x : Device) → HasRun reported p x → HasRun reported q x
   goes_on x run = record {
     start = run.start;
-    told_is = run.told_is;
+    reported_is = run.reported_is;
     power = run.power;
     calls = run.calls;
     done = subst (λ f. AreDone f q.failures run.calls run.start x) (sym fuse) (subst (λ fs. AreDone p.fuse fs run.calls run.start x) (sym failures) run.done);
     count = run.count;
   }
 
-  with_call : d.gone ≡ false → HasRun told p d → HasRun told p e
+  with_call : d.gone ≡ false → HasRun reported p d → HasRun reported p e
   with_call power run = record {
     start = run.start;
-    told_is = run.told_is;
+    reported_is = run.reported_is;
     power = run.power;
     calls = call ∷ run.calls;
     done = (
@@ -77,43 +77,43 @@ module _ (told : Totals) (p q : Plan) (d e : Device) (fuse : q.fuse ≡ p.fuse) 
       run.done,
       power,
       let count = run.count in
-          let after : calls_of d - told.0 ≡ length run.calls = omega (arith, count) in
-          does_same p (length run.calls) call d e (keeps.counted power ∙ ap (λ n. min n (2 ^ 64 - 1)) after) does,
+          let after : calls_of d - reported.0 ≡ length run.calls = omega (arith, count) in
+          does_same p (length run.calls) call d e (keeps.totaled power ∙ ap (λ n. min n (2 ^ 64 - 1)) after) does,
     );
     count = let count = run.count in let one = made power in omega (arith, count, one);
   }
 
-  more : HasRun told p d → HasRun told q e
+  more : HasRun reported p d → HasRun reported q e
   more run = elim (cases_Bool d.gone) [
-    | inl gone ↦ goes_on e (subst (λ (x : Device). HasRun told p x) (sym (lasts.gone gone)) run)
+    | inl gone ↦ goes_on e (subst (λ (x : Device). HasRun reported p x) (sym (lasts.gone gone)) run)
     | inr power ↦ goes_on e (with_call power run)
   ]
 
-  pub runs_on : ∥ HasRun told p d ∥₁ → ∥ HasRun told q e ∥₁
-  runs_on run = ∥∥₁_elim run (λ x y. squash₁ x y) (λ (r : HasRun told p d). ∣ more r ∣₁)
+  pub runs_on : ∥ HasRun reported p d ∥₁ → ∥ HasRun reported q e ∥₁
+  runs_on run = ∥∥₁_elim run (λ x y. squash₁ x y) (λ (r : HasRun reported p d). ∣ more r ∣₁)
 
-module _ (told : Totals) (p q : Plan) (d e : Device) (keeps : KeepsPlan d p told) (run : ∥ HasRun told p d ∥₁) where
+module _ (reported : Totals) (p q : Plan) (d e : Device) (keeps : KeepsPlan d p reported) (run : ∥ HasRun reported p d ∥₁) where
   -- a read more
-  pub read_runs : (result : Result PageKind Gone) → Reads d e result → ReadsAsPlanned p d result → q ≡ after_read p → ∥ HasRun told q e ∥₁
+  pub read_runs : (result : Result PageKind Gone) → Reads d e result → ReadsAsPlanned p d result → q ≡ after_read p → ∥ HasRun reported q e ∥₁
   read_runs result reads planned is =
-      runs_on told p q d e (ap (λ (x : Plan). x.fuse) is) (ap (λ (x : Plan). x.failures) is) keeps reads.lasts (Reading result) (reads, planned)
+      runs_on reported p q d e (ap (λ (x : Plan). x.fuse) is) (ap (λ (x : Plan). x.failures) is) keeps reads.lasts (Reading result) (reads, planned)
       (λ power. let more = reads.reads power in let same = reads.changes in omega (arith, more, same)) run
 
   -- a program more
   pub program_runs : (b page : ℕ) (bytes tag : List ℕ) (result : Result (Unit {0}) ProgramFault) → Programs b page bytes tag d e result → ProgramsAsPlanned b page bytes tag p d e result
-      → q ≡ after_change d.gone p → ∥ HasRun told q e ∥₁
+      → q ≡ after_change d.gone p → ∥ HasRun reported q e ∥₁
   program_runs b page bytes tag result programs planned is =
-      runs_on told p q d e (ap (λ (x : Plan). x.fuse) is) (ap (λ (x : Plan). x.failures) is) keeps programs.lasts (Programming b page bytes tag result) (programs, planned)
+      runs_on reported p q d e (ap (λ (x : Plan). x.fuse) is) (ap (λ (x : Plan). x.failures) is) keeps programs.lasts (Programming b page bytes tag result) (programs, planned)
       (λ power. let more = programs.changes power in let same = programs.reads in omega (arith, more, same)) run
 
   -- an erase more
-  pub erase_runs : (b : ℕ) (result : Result (Unit {0}) EraseFault) → Erases b d e result → ErasesAsPlanned b p d e result → q ≡ after_change d.gone p → ∥ HasRun told q e ∥₁
+  pub erase_runs : (b : ℕ) (result : Result (Unit {0}) EraseFault) → Erases b d e result → ErasesAsPlanned b p d e result → q ≡ after_change d.gone p → ∥ HasRun reported q e ∥₁
   erase_runs b result erases planned is =
-      runs_on told p q d e (ap (λ (x : Plan). x.fuse) is) (ap (λ (x : Plan). x.failures) is) keeps erases.lasts (Erasing b result) (erases, planned)
+      runs_on reported p q d e (ap (λ (x : Plan). x.fuse) is) (ap (λ (x : Plan). x.failures) is) keeps erases.lasts (Erasing b result) (erases, planned)
       (λ power. let more = erases.changes power in let same = erases.reads in omega (arith, more, same)) run
 
   -- a mark more
-  pub mark_runs : (b : ℕ) (result : Result (Unit {0}) Gone) → Marks b d e result → MarksAsPlanned b p d e result → q ≡ after_change d.gone p → ∥ HasRun told q e ∥₁
+  pub mark_runs : (b : ℕ) (result : Result (Unit {0}) Gone) → Marks b d e result → MarksAsPlanned b p d e result → q ≡ after_change d.gone p → ∥ HasRun reported q e ∥₁
   mark_runs b result marks planned is =
-      runs_on told p q d e (ap (λ (x : Plan). x.fuse) is) (ap (λ (x : Plan). x.failures) is) keeps marks.lasts (Marking b result) (marks, planned)
+      runs_on reported p q d e (ap (λ (x : Plan). x.fuse) is) (ap (λ (x : Plan). x.failures) is) keeps marks.lasts (Marking b result) (marks, planned)
       (λ power. let more = marks.changes power in let same = marks.reads in omega (arith, more, same)) run

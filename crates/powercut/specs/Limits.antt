@@ -10,7 +10,7 @@ use Rattle.volume_terms.specs.Sizes.{number_limit}
 use Rattle.powercut.specs.Sessions.{failing_in}
 use Rattle.powercut.specs.declared.session.Session.{Session}
 
--- The greatest version, group or seq of a valid tag on the first flash, and one more for each change that was counted since, is
+-- The greatest version, group or seq of a valid tag on the first flash, and one more for each change that there was since, is
 -- below the limit.
 pub record NumbersLast (first last : Device) : Type 0 where
   pub versions : (n : Numbers) → AreGreatest first.flash n → n.version + last.changes < number_limit + first.changes
@@ -22,11 +22,11 @@ pub record StaysWithin (spare : ℕ) (first last : Device) : Type 0 where
   pub few_bad : bad_blocks last.geometry last.flash ≤ spare
   pub numbers : NumbersLast first last
 
--- No more failures are counted than the sessions list, where each is listed at a call below 2^64 - 1.
+-- No more failures there are than the sessions list, where each is listed at a call below 2^64 - 1.
 abbrev pub FailsAsListed : List Session → (first last : Device) → Type 0
 FailsAsListed sessions first last = are_counted (failing_in sessions) ≡ true → last.failures ≤ first.failures + length (failing_in sessions)
 
 -- The sessions list no more failures than blocks are left to spare, each at a call below 2^64 - 1.
 pub record HasReserve (spare : ℕ) (first : Device) (sessions : List Session) : Type 0 where
   pub few : bad_on first + length (failing_in sessions) ≤ spare
-  pub counted : are_counted (failing_in sessions) ≡ true
+  pub totaled : are_counted (failing_in sessions) ≡ true

@@ -36,16 +36,16 @@ pub record IsSoundOn (spare : ℕ) (tree : Objects) (device : Device) : Type 0 w
 abbrev pub LivesOn : (spare : ℕ) → Objects → (first : Device) → List SessionRecord → (last : Device) → Type 0
 LivesOn spare tree first sessions last = (left : Objects) × IsLife (sizes_of first.geometry spare) tree sessions left × IsSoundFlash last.geometry last.flash spare left
 
--- What became of a true flash in these sessions: it is true still; the numbers on it rise by no more than the changes that were counted;
+-- What became of a true flash in these sessions: it is true still; the numbers on it rise by no more than the changes that there were;
 -- its greatest numbers at first are known, unless nothing was changed; and from each tree that it soundly shows, as long as the limits are
--- kept, the sessions are a life to the tree that is there now.
+-- committed, the sessions are a life to the tree that is there now.
 pub record TrulyLived (first last : Device) (sessions : List SessionRecord) : Type 0 where
   pub truth : IsTrueOn last
   pub numbers : (group seq more : ℕ) → AreWithin first.flash group seq → last.changes ≡ first.changes + more → AreWithin last.flash (group + more) (seq + more)
   pub known : HasSame first.flash last.flash ⊎ ((n : Numbers) × AreGreatest first.flash n)
   pub life : (spare : ℕ) (tree : Objects) → IsSoundFlash first.geometry first.flash spare tree → StaysWithin spare first last → LivesOn spare tree first sessions last
 
--- The one device became the other in these sessions. Marks stay, and no more blocks become bad than failures were counted; and of a true
+-- The one device became the other in these sessions. Marks stay, and no more blocks become bad than there were failures; and of a true
 -- flash it is known what it shows.
 pub record HasLived (first last : Device) (sessions : List SessionRecord) : Type 0 where
   pub geometry : last.geometry ≡ first.geometry

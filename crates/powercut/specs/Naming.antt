@@ -69,7 +69,7 @@ totals d = (calls_of d, d.failures, d.cuts, flash_number d.geometry d.flash, d.r
 
 -- the number of a session with this fuse and these failures, that began with these counts and this flash: no two have the same
 unfoldable pub session_number : Option (ℕ × List Fate) → List (ℕ × List Fate) → Totals → ℕ
-session_number fuse failures told = name (fuse_number fuse ∷ name (map call_number failures) ∷ told.0 ∷ told.1 ∷ told.2 ∷ told.3 ∷ told.4 ∷ [])
+session_number fuse failures reported = name (fuse_number fuse ∷ name (map call_number failures) ∷ reported.0 ∷ reported.1 ∷ reported.2 ∷ reported.3 ∷ reported.4 ∷ [])
 
 -- the device as it is, but its cuts count on from a number that names its session
 abbrev pub named : ℕ → Device → Device
@@ -84,22 +84,22 @@ abbrev pub reached : List ℕ → ℕ → ℕ
 reached [] calls = 0
 reached (call ∷ more) calls = cond (nat_le call calls) 1 0 + reached more calls
 
--- A device with this plan that began with these counts: its calls are counted, power is gone from the call of the fuse on, and
+-- A device with this plan that began with these counts: its calls are numbered, power is gone from the call of the fuse on, and
 -- no more calls failed than were listed and reached.
-pub record KeepsPlan (d : Device) (plan : Plan) (told : Totals) : Type 0 where
+pub record KeepsPlan (d : Device) (plan : Plan) (reported : Totals) : Type 0 where
   pub fuse : fuse_call plan < 2 ^ 64
-  pub made : told.0 ≤ calls_of d
-  pub counted : d.gone ≡ false → plan.calls ≡ min (calls_of d - told.0) (2 ^ 64 - 1)
-  pub uncut : d.gone ≡ false → 1 ≤ fuse_call plan → calls_of d < told.0 + fuse_call plan
-  pub cut : d.gone ≡ true → (1 ≤ fuse_call plan) × (calls_of d ≡ told.0 + fuse_call plan)
-  pub failures : are_counted (failing plan) ≡ true → d.failures ≤ told.1 + reached (failing plan) (calls_of d - told.0)
-  pub cuts : d.cuts ≡ told.2 + cond d.gone 1 0
+  pub made : reported.0 ≤ calls_of d
+  pub totaled : d.gone ≡ false → plan.calls ≡ min (calls_of d - reported.0) (2 ^ 64 - 1)
+  pub uncut : d.gone ≡ false → 1 ≤ fuse_call plan → calls_of d < reported.0 + fuse_call plan
+  pub cut : d.gone ≡ true → (1 ≤ fuse_call plan) × (calls_of d ≡ reported.0 + fuse_call plan)
+  pub failures : are_counted (failing plan) ≡ true → d.failures ≤ reported.1 + reached (failing plan) (calls_of d - reported.0)
+  pub cuts : d.cuts ≡ reported.2 + cond d.gone 1 0
 
 -- Calls in turn, each of which ended as the plan says, made a device with these counts and this flash what it is.
-pub record HasRun (told : Totals) (plan : Plan) (d : Device) : Type 0 where
+pub record HasRun (reported : Totals) (plan : Plan) (d : Device) : Type 0 where
   pub start : Device
-  pub told_is : totals start ≡ told
+  pub reported_is : totals start ≡ reported
   pub power : start.gone ≡ false
   pub calls : List Call
   pub done : AreDone plan.fuse plan.failures calls start d
-  pub count : calls_of d ≡ told.0 + length calls
+  pub count : calls_of d ≡ reported.0 + length calls

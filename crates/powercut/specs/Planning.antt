@@ -26,18 +26,18 @@ calls_of d = d.reads + d.changes
 abbrev pub calls_since : (first last : Device) → ℕ
 calls_since first last = min (calls_of last - calls_of first) (2 ^ 64 - 1)
 
--- each is below the greatest number of 64 bits, from which on a device tells no more calls apart
+-- each is below the greatest number of 64 bits, from which on a device reports no more calls apart
 abbrev pub are_counted : List ℕ → Bool
 are_counted [] = true
 are_counted (call ∷ calls) = nat_lt call (2 ^ 64 - 1) && are_counted calls
 
 -- What a session makes of a device, from a power-up with this plan to its end.
 pub record IsPlanned (plan : Plan) (first last : Device) : Type 0 where
-  -- one cut is counted where power is gone at the end, and else none
+  -- there is one cut where power is gone at the end, and else none
   pub cuts : last.cuts ≡ first.cuts + (if last.gone then 1 else 0)
   -- power goes at the call of the fuse
   pub cut : last.gone ≡ true → (1 ≤ fuse_call plan) × (calls_of last ≡ calls_of first + fuse_call plan)
   -- where it does not go the session makes fewer calls
   pub uncut : last.gone ≡ false → 1 ≤ fuse_call plan → calls_of last < calls_of first + fuse_call plan
-  -- no more failures are counted than are listed
+  -- no more failures there are than are listed
   pub failures : are_counted (failing plan) ≡ true → last.failures ≤ first.failures + length (failing plan)

@@ -21,7 +21,7 @@ served_record commands served cut = record {
 }
 
 -- What is served on any flash, by a device that is so at the end: where the mount was done all commands are answered, unless the last
--- reply is EIO, and the volume is unmounted exactly as asked; where it was not, nothing is answered, and the fault has its reason.
+-- reply is EIO, and the volume is unmounted exactly as wanted; where it was not, nothing is answered, and the fault has its reason.
 pub record IsServed (commands : List Stamped) (unmount : Bool) (last : Device) (served : Served) : Type 0 where
   pub begun : served.mounted ≡ Ok tt → (length served.replies.items ≡ length commands) ⊎ EndsStopped served.replies.items
   pub none : (fault : MountFault) → served.mounted ≡ Err fault → length served.replies.items ≡ 0

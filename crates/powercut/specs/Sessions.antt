@@ -1,4 +1,4 @@
--- Sessions and their ends, as a life tells them.
+-- Sessions and their ends, as a life reports them.
 -- From: this project.
 use Rattle.std.specs.Prelude.{◌≡◌, ◌⊎◌, ◌↔◌, ◌<◌, ◌≤◌, ℕ, ◌+◌, Bool, true, false, length, List, [], ◌∷◌, ◌++◌, Option, Some, Result, Ok, Err, is_some, if◌then◌else◌}
 use Rattle.std.specs.List.{list_any}
@@ -94,7 +94,7 @@ pub record IsEnded (session : Session) (end : SessionEnd) (first last : Device) 
   pub unmounts : (is_some end.unmounted ≡ true) ↔ ((session.unmount ≡ true) × (end.mounted ≡ Ok tt))
   -- power is lost where it is gone at the end
   pub cut : end.cut ≡ last.gone
-  -- it goes at the call of the session's fuse, if so many are made; and no more failures are counted than the session lists
+  -- it goes at the call of the session's fuse, if so many are made; and no more failures there are than the session lists
   pub planned : IsPlanned (plan_of session) first last
   -- each call of the device ends by the fuse and the failures of the session, with their fates
   pub outcomes : ∥ RunsFrom (plan_of session) first last ∥₁

@@ -25,6 +25,6 @@ abbrev pub fuse_of : Option (ℕ × Vec Fate) → Option (ℕ × List Fate)
 fuse_of None = None
 fuse_of (Some fuse) = Some (fuse.0, fuse.1.items)
 
--- nothing is counted since the power-up, and fuse and failures are those of the session
+-- every count is 0 since the power-up, and fuse and failures are those of the session
 abbrev pub plan_of : Session → Plan
 plan_of session = record { calls = 0; changes = 0; fuse = fuse_of session.fuse; failures = listed session.failures.items }

@@ -6,4 +6,4 @@ use Rattle.powercut.specs.declared.device.PlannedNand.{PlannedNand}
 
 -- all that is known of the device in memory, and which session it is in
 abbrev pub state_of : PlannedNand → Device
-state_of d = named (session_number (plan d.nand).fuse (plan d.nand).failures d.start.told) (device d.nand)
+state_of d = named (session_number (plan d.nand).fuse (plan d.nand).failures d.start.reported) (device d.nand)

@@ -32,7 +32,7 @@ pub(crate) fn do_commands<V: Commanded>(
     volume: &mut V,
     commands: &[Stamped],
 ) -> Result<Vec<Reply>, AllocError>
-    ensures { IfOk result (λ told. Does V.meaning commands.now told.items volume.old volume.new) }
+    ensures { IfOk result (λ reported. Does V.meaning commands.now reported.items volume.old volume.new) }
 {
     let mut replies = Vec::new(alloc);
     for stamped in commands {

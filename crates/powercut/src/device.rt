@@ -18,8 +18,8 @@ use nand_model::{EraseFault, Geometry, Gone, MemNand, Nand, PageKind, ProgramFau
 pub struct PlannedNand {
     nand: MemNand,
     start: Start,
-    ghost kept: { KeepsPlan (device nand) (plan nand) start.told },
-    ghost run: { ∥ HasRun start.told (plan nand) (device nand) ∥₁ },
+    ghost committed: { KeepsPlan (device nand) (plan nand) start.reported },
+    ghost run: { ∥ HasRun start.reported (plan nand) (device nand) ∥₁ },
 }
 
 impl PlannedNand {
@@ -27,16 +27,16 @@ impl PlannedNand {
 
     /// A device that was just powered up, with the plan of its session.
     pub fn new(nand: MemNand) -> PlannedNand
-        ghost told: { ℕ × ℕ × ℕ × ℕ × ℕ }
+        ghost reported: { ℕ × ℕ × ℕ × ℕ × ℕ }
         requires power { (device nand).gone ≡ false }
         requires anew { (plan nand).calls ≡ 0 }
         requires fuse { fuse_call (plan nand) < 2 ^ 64 }
-        requires told { told ≡ totals (device nand) }
+        requires reported { reported ≡ totals (device nand) }
         ensures { state_of result ≡ begun (plan nand) (device nand) }
     {
         PlannedNand {
             nand,
-            start: Start::as_told(),
+            start: Start::as_reported(),
         }
     }
 

@@ -30,7 +30,7 @@ impl From<AllocError> for LiveFault {
     }
 }
 
-/// Does one session on the device, from its power-up on, and tells how it ended.
+/// Does one session on the device, from its power-up on, and returns how it ended.
 pub fn live_one(
     alloc: Global,
     nand: MemNand,
@@ -58,7 +58,7 @@ pub fn live_one(
     ))
 }
 
-/// Does the sessions in turn on the device, each from a power-up on, and tells how each ended. After a fault the device is
+/// Does the sessions in turn on the device, each from a power-up on, and returns how each ended. After a fault the device is
 /// dropped.
 ///
 /// For every list of sessions on a sound and true flash, each of which may end before or within any program, erase or mark of a block,

@@ -7,7 +7,7 @@ use std::marker::Model;
 /// The counts of a device at a power-up, and the number of its flash. It takes no memory.
 #[derive(Drop)]
 pub(crate) struct Start {
-    pub ghost told: { ℕ × ℕ × ℕ × ℕ × ℕ },
+    pub ghost reported: { ℕ × ℕ × ℕ × ℕ × ℕ },
 }
 
 impl Model for Start {
@@ -16,9 +16,9 @@ impl Model for Start {
 
 impl Start {
     /// Numbers, as a proof chooses at the call.
-    pub(crate) fn as_told() -> Start
-        ghost told: { ℕ × ℕ × ℕ × ℕ × ℕ }
-        ensures { result.told ≡ told }
+    pub(crate) fn as_reported() -> Start
+        ghost reported: { ℕ × ℕ × ℕ × ℕ × ℕ }
+        ensures { result.reported ≡ reported }
     {
         Start {}
     }

@@ -31,7 +31,7 @@ fn is_shown(rt: &HostRuntime, words: &[&str], text: &str) -> Result<bool> {
     Ok(is_help && written.contains(text))
 }
 
-/// Tells an answer.
+/// Reports an answer.
 fn tell(rt: &HostRuntime, holds: bool) -> Result<()> {
     println!(rt; "{}", if holds { "yes" } else { "no" })?;
     Ok(())

@@ -62,7 +62,7 @@ fn perform(rt: &HostRuntime, images: &mut Images, chosen: &Chosen, input: &str) 
     Ok(ran)
 }
 
-/// Tells a run of the program with these words.
+/// Reports a run of the program with these words.
 pub(crate) fn run(
     rt: &HostRuntime,
     images: &mut Images,

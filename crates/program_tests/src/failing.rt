@@ -19,7 +19,7 @@ fn an_image_that_is_cut_short_is_not_opened(rt: HostRuntime) {
 }
 
 #[test]
-fn an_image_that_fails_is_told(rt: HostRuntime) {
+fn an_image_that_fails_is_reported(rt: HostRuntime) {
     let alloc = rt.alloc();
     let image = small_image(&rt, alloc);
     for words in [["check", "I"], ["run", "I"], ["cut", "I"]] {
@@ -46,7 +46,7 @@ fn an_image_that_cannot_be_written_stops_its_volume(rt: HostRuntime) {
 }
 
 #[test]
-fn lines_that_fail_are_told(rt: HostRuntime) {
+fn lines_that_fail_are_reported(rt: HostRuntime) {
     let alloc = rt.alloc();
     let image = small_image(&rt, alloc);
     for (words, out) in [
@@ -61,7 +61,7 @@ fn lines_that_fail_are_told(rt: HostRuntime) {
 }
 
 #[test]
-fn an_output_that_fails_is_told(rt: HostRuntime) {
+fn an_output_that_fails_is_reported(rt: HostRuntime) {
     let alloc = rt.alloc();
     let image = small_image(&rt, alloc);
     for words in [["check", "I"], ["run", "I"], ["cut", "I"], ["format", "I"]] {

@@ -6,7 +6,7 @@ use Rattle.nand_model.specs.Changes.{OnlyReads}
 use Rattle.nand_model.specs.Flash.{Flash}
 use Rattle.flash_tree.specs.laws.Place.{same_flash}
 use Rattle.chunk_index.specs.declared.index.Index.{Index}
-use Rattle.page_store.specs.Shown.{kept_data}
+use Rattle.page_store.specs.Shown.{committed_data}
 use Rattle.pages.specs.Maps.{PageMap, known_pages}
 use Rattle.nand_model.specs.declared.geometry.Geometry.{Geometry}
 use Rattle.mounting.specs.NewestMaps.{IsNewestMap}
@@ -16,13 +16,13 @@ use Rattle.salvage.specs.Opened.{GoesBy, GoesBySurvivors}
 
 -- over reads of an honest device, from the flash at the end and the pages of an index to the flash at the beginning and known pages
 pub carried : (P : Flash → PageMap → Type 0) (a d e : Device) (x y : Index) → OnlyReads a d → a.honest ≡ true → e ≡ d → y ≡ x
-    → P d.flash (kept_data x d.flash) → P a.flash (known_pages e.honest (kept_data y e.flash))
+    → P d.flash (committed_data x d.flash) → P a.flash (known_pages e.honest (committed_data y e.flash))
 carried P a d e x y reads honest device index has =
-    let before : P a.flash (kept_data x d.flash) = subst (λ (f : Flash). P f (kept_data x d.flash)) (same_flash a d reads honest) has in
+    let before : P a.flash (committed_data x d.flash) = subst (λ (f : Flash). P f (committed_data x d.flash)) (same_flash a d reads honest) has in
     let still : d.honest ≡ true = reads.lasts.honest ∙ honest in
-    let known : P a.flash (known_pages d.honest (kept_data x d.flash)) = subst (λ (h : Bool). P a.flash (known_pages h (kept_data x d.flash))) (sym still) before in
-    let there : P a.flash (known_pages e.honest (kept_data x e.flash)) = subst (λ (k : Device). P a.flash (known_pages k.honest (kept_data x k.flash))) (sym device) known in
-    subst (λ (i : Index). P a.flash (known_pages e.honest (kept_data i e.flash))) (sym index) there
+    let known : P a.flash (known_pages d.honest (committed_data x d.flash)) = subst (λ (h : Bool). P a.flash (known_pages h (committed_data x d.flash))) (sym still) before in
+    let there : P a.flash (known_pages e.honest (committed_data x e.flash)) = subst (λ (k : Device). P a.flash (known_pages k.honest (committed_data x k.flash))) (sym device) known in
+    subst (λ (i : Index). P a.flash (known_pages e.honest (committed_data i e.flash))) (sym index) there
 
 -- by whether a whole tree was found: the newest pages of a flash that shows a volume, or the pages that survive
 pub goes_by : (g : Geometry) (f : Flash) (m : PageMap) (lost : List LostPlace) (whole : Bool) → (whole ≡ true → ShowsVolume g f)

@@ -1,7 +1,7 @@
 pub mod Seeing
 pub mod Elements
 pub mod Saying
-pub mod Kept
+pub mod Committed
 pub mod Chunking
 pub mod Slots
 pub mod Named

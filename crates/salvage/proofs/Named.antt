@@ -16,11 +16,11 @@ use Rattle.flash_tree.specs.laws.OneTree.{one_header, one_slot}
 use Rattle.tree_walk.specs.Walks.{IsOn}
 use Rattle.salvage.specs.Reached.{LeadsTo}
 use Rattle.salvage.specs.Reaching.{objects_in}
-use Rattle.salvage.specs.Told.{AreRead, no_slots, reads, lacks, ListsDirectory, ListsSlots, SaysInfo, pairs_in, pairs_of}
+use Rattle.salvage.specs.Reported.{AreRead, no_slots, reads, lacks, ListsDirectory, ListsSlots, SaysInfo, pairs_in, pairs_of}
 use Rattle.salvage.specs.Whole.{HasSlots}
-use Rattle.salvage.specs.declared.told.Listing.{Listing}
-use Rattle.salvage.specs.declared.told.ObjectInfo.{ObjectInfo}
-use Rattle.salvage.specs.declared.told.SalvagedName.{SalvagedName}
+use Rattle.salvage.specs.declared.reported.Listing.{Listing}
+use Rattle.salvage.specs.declared.reported.ObjectInfo.{ObjectInfo}
+use Rattle.salvage.specs.declared.reported.SalvagedName.{SalvagedName}
 use Rattle.salvage.proofs.Elements.{at_place, place_of}
 
 -- a pair is the name and the object of a slot that reads
@@ -82,12 +82,12 @@ on_pair names name o at =
     (p.0, mapped_at (λ (n : SalvagedName). n.object) names p.0 n.0 n.1 ∙ ap Some same)
 
 -- the objects that a listing names
-abbrev pub objects_told : Option Listing → List ℕ
-objects_told None = []
-objects_told (Some listing) = objects_in listing.names.items
+abbrev pub objects_reported : Option Listing → List ℕ
+objects_reported None = []
+objects_reported (Some listing) = objects_in listing.names.items
 
 module _ (z : Sizes) (few : z.page_bytes ≤ 4096) (m : NewestMap) (single : IsSingle m) (d : ℕ) where
-  pub led : (told : Option Listing) → ListsDirectory z m d told → (o : ℕ) → LeadsTo z m d o → IsOn (objects_told told) o
+  pub led : (reported : Option Listing) → ListsDirectory z m d reported → (o : ℕ) → LeadsTo z m d o → IsOn (objects_reported reported) o
   led None not o l = absurd (not l.fields l.has l.kind)
   led (Some listing) (f, has, kind, slots) o l =
       let same : l.fields ≡ f = one_header z few m single d l.fields f l.has has in
@@ -95,7 +95,7 @@ module _ (z : Sizes) (few : z.page_bytes ≤ 4096) (m : NewestMap) (single : IsS
       let pair = pair_of_slot z few m single d f.length listing.lost (pairs_of listing) slots l.place l.entry within l.slot in
       on_pair listing.names.items l.entry.name o (subst (λ (x : ℕ). Contains (pairs_of listing) (l.entry.name, x)) l.names pair)
 
-  pub leads : (told : Option Listing) → ListsDirectory z m d told → (o : ℕ) → IsOn (objects_told told) o → LeadsTo z m d o
+  pub leads : (reported : Option Listing) → ListsDirectory z m d reported → (o : ℕ) → IsOn (objects_reported reported) o → LeadsTo z m d o
   leads None not o (k, is) = absurd cc
   leads (Some listing) (f, has, kind, slots) o on =
       let pair = pair_on listing.names.items o on in

@@ -9,8 +9,8 @@ use Rattle.page_tags.specs.Headers.{Fields, is_present}
 use Rattle.flash_tree.specs.Tree.{ByteIs}
 use Rattle.pages.specs.Maps.{PageMap, has}
 use Rattle.volume_terms.specs.Sizes.{Sizes}
-use Rattle.salvage.specs.Told.{IsLostPart, ReadsPartOf, rest_of_chunk}
-use Rattle.salvage.specs.declared.told.Part.TheVariants as parts
+use Rattle.salvage.specs.Reported.{IsLostPart, ReadsPartOf, rest_of_chunk}
+use Rattle.salvage.specs.declared.reported.Part.TheVariants as parts
 
 -- the places of a chunk from an offset on
 at_offset : (offset i d : ℕ) → i < d - offset % d → ((offset + i) / d ≡ offset / d) × ((offset + i) % d ≡ offset % d + i)

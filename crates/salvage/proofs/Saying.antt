@@ -7,9 +7,9 @@ use Rattle.flash_tree.specs.Tree.{HasHeader}
 use Rattle.pages.specs.Maps.{PageMap, has}
 use Rattle.volume_terms.specs.Sizes.{Sizes}
 use Rattle.salvage.specs.Chunks.{IsChunkOf, SaysChunk}
-use Rattle.salvage.specs.Told.{IsInfoOf, SaysInfo}
+use Rattle.salvage.specs.Reported.{IsInfoOf, SaysInfo}
 use Rattle.salvage.specs.declared.reading.FileChunk.{FileChunk}
-use Rattle.salvage.specs.declared.told.ObjectInfo.{ObjectInfo}
+use Rattle.salvage.specs.declared.reported.ObjectInfo.{ObjectInfo}
 
 module _ (z : Sizes) (m : PageMap) (o : ℕ) where
   -- a key that has no page has no header
@@ -25,11 +25,11 @@ module _ (z : Sizes) (m : PageMap) (o : ℕ) where
       same : page ≡ header_bytes f
       same = let two : Some page ≡ Some (header_bytes f) = sym at ∙ h.0 in cc
 
-    pub says_info : (told : Option ObjectInfo) → IfSome told (λ info. (f : Fields) × IsHeaderOf page f × IsInfoOf info f) → IfNone told ((f : Fields) → IsHeaderOf page f → ⊥) → SaysInfo z (has m) o told
+    pub says_info : (reported : Option ObjectInfo) → IfSome reported (λ info. (f : Fields) × IsHeaderOf page f × IsInfoOf info f) → IfNone reported ((f : Fields) → IsHeaderOf page f → ⊥) → SaysInfo z (has m) o reported
     says_info None some none = λ f h. none f (of_header f h)
     says_info (Some info) some none = (some.0, header_of some.0 some.1, some.2)
 
-    pub says_chunk : (chunk : ℕ) (told : Option FileChunk) → IfSome told (λ told. (f : Fields) × IsHeaderOf page f × IsChunkOf told f chunk)
-        → IfNone told ((f : Fields) → IsHeaderOf page f → f.kind ≢ kinds.File) → SaysChunk z (has m) o chunk told
+    pub says_chunk : (chunk : ℕ) (reported : Option FileChunk) → IfSome reported (λ reported. (f : Fields) × IsHeaderOf page f × IsChunkOf reported f chunk)
+        → IfNone reported ((f : Fields) → IsHeaderOf page f → f.kind ≢ kinds.File) → SaysChunk z (has m) o chunk reported
     says_chunk chunk None some none = λ f h. none f (of_header f h)
-    says_chunk chunk (Some told) some none = (some.0, header_of some.0 some.1, some.2)
+    says_chunk chunk (Some reported) some none = (some.0, header_of some.0 some.1, some.2)

@@ -10,9 +10,9 @@ use Rattle.pages.specs.Maps.{PageMap, has}
 use Rattle.posix_profile.specs.State.{Name}
 use Rattle.volume_terms.specs.Sizes.{Sizes, page_slots}
 use Rattle.salvage.specs.Slots.{TakesSlot}
-use Rattle.salvage.specs.Told.{AreRead, no_slots, reads, lacks, ListsSlots, pairs_in, pairs_of}
-use Rattle.salvage.specs.declared.told.Listing.{Listing}
-use Rattle.salvage.specs.declared.told.SalvagedName.{SalvagedName}
+use Rattle.salvage.specs.Reported.{AreRead, no_slots, reads, lacks, ListsSlots, pairs_in, pairs_of}
+use Rattle.salvage.specs.declared.reported.Listing.{Listing}
+use Rattle.salvage.specs.declared.reported.SalvagedName.{SalvagedName}
 
 -- the same under other names
 pub read_as : (z : Sizes) (m : NewestMap) (d i j : ℕ) (ps qs : List (Name × ℕ)) (a b : ℕ) → i ≡ j → ps ≡ qs → a ≡ b → AreRead z m d i ps a → AreRead z m d j qs b

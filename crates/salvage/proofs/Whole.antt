@@ -19,11 +19,11 @@ use Rattle.flash_tree.specs.laws.OneTree.{one_header, one_slot}
 use Rattle.flash_tree.specs.laws.Shown.{pairs, found}
 use Rattle.flash_tree.specs.laws.Slot.{entry_slot}
 use Rattle.salvage.specs.Reached.{LeadsTo, IsReached, here, on}
-use Rattle.salvage.specs.Told.{AreRead, no_slots, reads, lacks, ListsDirectory, ReadsPart, pairs_of, rest_of_chunk}
+use Rattle.salvage.specs.Reported.{AreRead, no_slots, reads, lacks, ListsDirectory, ReadsPart, pairs_of, rest_of_chunk}
 use Rattle.salvage.specs.Whole.{ReachesAll, HasNames, ListsAll, HasBytes, ReadsAll}
-use Rattle.salvage.specs.declared.told.Listing.{Listing}
-use Rattle.salvage.specs.declared.told.Part.{Part}
-use Rattle.salvage.specs.declared.told.Part.TheVariants as parts
+use Rattle.salvage.specs.declared.reported.Listing.{Listing}
+use Rattle.salvage.specs.declared.reported.Part.{Part}
+use Rattle.salvage.specs.declared.reported.Part.TheVariants as parts
 use Rattle.salvage.proofs.Named.{pair_of_slot, slot_of_pair}
 
 of_some : {A : Type 0} (x : Option A) → IsSome x → (y : A) × (x ≡ Some y)
@@ -87,7 +87,7 @@ module _ (z : Sizes) (few : z.page_bytes ≤ 4096) (m : NewestMap) (single : IsS
           names = s.4;
         }
 
-    pub has_names : (told : Option Listing) → ListsDirectory z m o told → HasNames told entries
+    pub has_names : (reported : Option Listing) → ListsDirectory z m o reported → HasNames reported entries
     has_names None not = not r.fields r.has r.kind
     has_names (Some listing) (f, has, kind, slots) =
         let same : f ≡ r.fields = one_header z few m single o f r.fields has r.has in
@@ -123,7 +123,7 @@ module _ (z : Sizes) (few : z.page_bytes ≤ 4096) (m : NewestMap) (single : IsS
         (subst (λ (x : Fields). ByteIs z m o x (offset + i) (slice_index buffer i)) same (each i less)) (r.each (offset + i) (omega (arith, less, there))) in
         get_or-take n buffer i 0 less ∙ byte ∙ sym (get_or-take n (drop offset bytes) i 0 less ∙ get_or-drop offset bytes i 0))
 
-    pub has_bytes : (told : Option Part) → ReadsPart z m o offset buffer told → HasBytes z bytes offset buffer told
+    pub has_bytes : (reported : Option Part) → ReadsPart z m o offset buffer reported → HasBytes z bytes offset buffer reported
     has_bytes None not = absurd (not r.fields r.has r.kind)
     has_bytes (Some (parts.Lost part)) (f, has, kind, lost) =
         let same : f ≡ r.fields = one_header z few m single o f r.fields has r.has in
@@ -167,7 +167,7 @@ module _ (z : Sizes) (few : z.page_bytes ≤ 4096) (m : NewestMap) (single : IsS
   )
 
   pub lists_all : ListsAll z m objects
-  lists_all d moment entries told is listed = has_names z few m single d moment entries (shown.each d (Dir moment entries) is) told listed
+  lists_all d moment entries reported is listed = has_names z few m single d moment entries (shown.each d (Dir moment entries) is) reported listed
 
   pub reads_all : ReadsAll z m objects
-  reads_all o moment offset bytes buffer told is part = has_bytes z few m single o moment bytes (shown.each o (File moment bytes) is) offset buffer told part
+  reads_all o moment offset bytes buffer reported is part = has_bytes z few m single o moment bytes (shown.each o (File moment bytes) is) offset buffer reported part

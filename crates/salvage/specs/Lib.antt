@@ -1,7 +1,7 @@
 pub mod SeenBy
 pub mod StateOf
 pub mod Opened
-pub mod Told
+pub mod Reported
 pub mod Reached
 pub mod Whole
 pub mod Headers

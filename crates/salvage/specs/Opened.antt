@@ -5,8 +5,8 @@ use Rattle.nand_model.specs.Calls.{Device}
 use Rattle.nand_model.specs.Flash.{Flash}
 use Rattle.nand_model.specs.declared.geometry.Geometry.{Geometry}
 use Rattle.pages.specs.Maps.{PageMap}
-use Rattle.chunk_index.specs.Maps.{kept_pages}
-use Rattle.chunk_index.specs.declared.form.KeptPage.{KeptPage}
+use Rattle.chunk_index.specs.Maps.{committed_pages}
+use Rattle.chunk_index.specs.declared.form.CommittedPage.{CommittedPage}
 use Rattle.chunk_index.specs.declared.index.Index.{Index}
 use Rattle.page_store.specs.Shown.{data_at}
 use Rattle.mounting.specs.NewestMaps.{IsNewestMap}
@@ -38,7 +38,7 @@ GoesBy g flash m lost = (ShowsVolume g flash × IsNewestMap flash m) ⊎ GoesByS
 -- each page that the index has lies on the device, and has data where the device is honest
 pub record CanBeRead (device : Device) (x : Index) : Type 0 where
   pub lie : LiesOn device.geometry x
-  pub written : device.honest ≡ true → (o c : ℕ) (k : KeptPage) → kept_pages x o c ≡ Some k → IsSome (data_at device.flash k)
+  pub written : device.honest ≡ true → (o c : ℕ) (k : CommittedPage) → committed_pages x o c ≡ Some k → IsSome (data_at device.flash k)
 
 -- a verdict is that of a whole tree
 abbrev pub is_whole : Verdict → Bool
@@ -47,7 +47,7 @@ is_whole verdicts.NotAVolume = false
 is_whole (verdicts.Newer format) = false
 is_whole verdicts.Damaged = false
 
--- whether a check found a whole tree, or why there is no check; a device that does not give back what it was told has none
+-- whether a check found a whole tree, or why there is no check; a device that does not return what was written has none
 abbrev pub whole_by : Result Diagnosis CheckFault → Result Bool SalvageFault
 whole_by (Ok found) = Ok (is_whole found.verdict)
 whole_by (Err checks.Lost) = Ok false

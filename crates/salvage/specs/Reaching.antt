@@ -10,7 +10,7 @@ use Rattle.flash_tree.specs.Mount.{with_new}
 use Rattle.tree_walk.specs.Walks.{IsOn, IsOnce}
 use Rattle.salvage.specs.Reached.{LeadsTo, IsReached}
 use Rattle.salvage.specs.declared.reaching.NamedObjects.{NamedObjects}
-use Rattle.salvage.specs.declared.told.SalvagedName.{SalvagedName}
+use Rattle.salvage.specs.declared.reported.SalvagedName.{SalvagedName}
 
 -- the objects that names lead to
 abbrev pub objects_in : List SalvagedName → List ℕ

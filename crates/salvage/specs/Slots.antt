@@ -3,8 +3,8 @@
 use Rattle.std.specs.Prelude.{◌≡◌, ◌≢◌, ◌⊎◌, ◌+◌, ℕ, List, [], ◌∷◌, ◌++◌}
 use Rattle.page_tags.specs.Slots.{Entry, slot_bytes}
 use Rattle.flash_tree.specs.Slots.{IsTreeSlot}
-use Rattle.salvage.specs.Told.{pairs_of}
-use Rattle.salvage.specs.declared.told.Listing.{Listing}
+use Rattle.salvage.specs.Reported.{pairs_of}
+use Rattle.salvage.specs.declared.reported.Listing.{Listing}
 
 -- the bytes are a slot, whose name and object come behind the others
 pub record TakesEntry (bytes : List ℕ) (entry : Entry) (old new : Listing) : Type 0 where

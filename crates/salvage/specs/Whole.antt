@@ -8,10 +8,10 @@ use Rattle.posix_profile.specs.State.{Name, Entries, File, Dir, Objects}
 use Rattle.page_tags.specs.Slots.{Entry}
 use Rattle.flash_tree.specs.Tree.{NewestMap, SlotIs}
 use Rattle.salvage.specs.Reached.{IsReached}
-use Rattle.salvage.specs.Told.{pairs_of, ListsDirectory, ReadsPart, rest_of_chunk}
-use Rattle.salvage.specs.declared.told.Listing.{Listing}
-use Rattle.salvage.specs.declared.told.Part.{Part}
-use Rattle.salvage.specs.declared.told.Part.TheVariants as parts
+use Rattle.salvage.specs.Reported.{pairs_of, ListsDirectory, ReadsPart, rest_of_chunk}
+use Rattle.salvage.specs.declared.reported.Listing.{Listing}
+use Rattle.salvage.specs.declared.reported.Part.{Part}
+use Rattle.salvage.specs.declared.reported.Part.TheVariants as parts
 
 -- The names and objects are those of the slots that read, and with those that are lost they are as many as the slots.
 pub record HasSlots (z : Sizes) (m : NewestMap) (d count : ℕ) (listing : Listing) : Type 0 where
@@ -32,15 +32,15 @@ HasNames (Some listing) entries = (listing.lost ≡ 0) × ((name : Name) (o : �
 -- what is listed of a directory of the tree is all of it
 abbrev pub ListsAll : Sizes → NewestMap → Objects → Type 0
 ListsAll z m objects =
-    (d moment : ℕ) (entries : Entries) (told : Option Listing) → map.get objects d ≡ Some (Dir moment entries) → ListsDirectory z m d told → HasNames told entries
+    (d moment : ℕ) (entries : Entries) (reported : Option Listing) → map.get objects d ≡ Some (Dir moment entries) → ListsDirectory z m d reported → HasNames reported entries
 
 -- the bytes of a file from an offset on were read, as many as the buffer has room for and as lie in one chunk
 abbrev pub HasBytes : Sizes → List ℕ → (offset : ℕ) → (buffer : List ℕ) → Option Part → Type 0
-HasBytes z bytes offset buffer told =
-    (n : ℕ) × (told ≡ Some (parts.Bytes n)) × (n ≡ min (length buffer) (rest_of_chunk z (length bytes) offset)) × (take n buffer ≡ take n (drop offset bytes))
+HasBytes z bytes offset buffer reported =
+    (n : ℕ) × (reported ≡ Some (parts.Bytes n)) × (n ≡ min (length buffer) (rest_of_chunk z (length bytes) offset)) × (take n buffer ≡ take n (drop offset bytes))
 
 -- what is read of a file of the tree is of its bytes
 abbrev pub ReadsAll : Sizes → NewestMap → Objects → Type 0
 ReadsAll z m objects =
-    (o moment offset : ℕ) (bytes buffer : List ℕ) (told : Option Part) → map.get objects o ≡ Some (File moment bytes) → ReadsPart z m o offset buffer told
-    → HasBytes z bytes offset buffer told
+    (o moment offset : ℕ) (bytes buffer : List ℕ) (reported : Option Part) → map.get objects o ≡ Some (File moment bytes) → ReadsPart z m o offset buffer reported
+    → HasBytes z bytes offset buffer reported

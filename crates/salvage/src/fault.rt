@@ -7,7 +7,7 @@ use std::alloc::{AllocError, AllocFailed};
 /// Why nothing is read. A page that is lost is no fault.
 #[derive(Clone, Copy, Debug, PartialEq, Eq)]
 pub enum SalvageFault {
-    /// A growth was refused. What was asked can be asked again.
+    /// A growth was refused. The call can be made again.
     NoMemory,
     /// The power is gone.
     Gone,

@@ -7,11 +7,11 @@ ghost use Rattle.pages.specs.State.{OnlyFinds};
 ghost use Rattle.volume_terms.specs.Sizes.{Sizes};
 ghost use Rattle.tree_walk.specs.Visits.{IsSeen};
 ghost use Rattle.salvage.specs.SeenBy.{seen_by};
-ghost use Rattle.salvage.specs.Told.{IsInfoOf, SaysInfo, LacksPower};
+ghost use Rattle.salvage.specs.Reported.{IsInfoOf, SaysInfo, LacksPower};
 
 use crate::fault::SalvageFault;
 use crate::looking::look;
-use crate::told::ObjectInfo;
+use crate::reported::ObjectInfo;
 use flash_tree::Key;
 use nand_model::Nand;
 use page_store::NewestPages;
@@ -25,7 +25,7 @@ pub(crate) fn read_info<N: Nand>(
 ) -> Result<Option<ObjectInfo>, SalvageFault>
     ensures finds { OnlyFinds (seen_by pages.old) (seen_by pages.new) }
     ensures info { (z : Sizes) → IsSeen z (seen_by pages.old) → IfOk result (SaysInfo z (has (seen_by pages.old).present) object) }
-    ensures entries { IfOk result (λ told. IfSome told (λ info. info.kind ≡ kinds.Directory → info.length < 2 ^ 32)) }
+    ensures entries { IfOk result (λ reported. IfSome reported (λ info. info.kind ≡ kinds.Directory → info.length < 2 ^ 32)) }
     ensures fault { IfErr result (LacksPower (seen_by pages.new)) }
 {
     match look(pages, Key { object, chunk: 0 })? {
@@ -38,7 +38,7 @@ pub(crate) fn read_info<N: Nand>(
 fn info_of(page: &[u8]) -> Option<ObjectInfo>
     requires least { 32 ≤ length page.now }
     requires most { length page.now ≤ 4096 }
-    ensures told { IfSome result (λ info. (f : Fields) × IsHeaderOf page.now f × IsInfoOf info f) }
+    ensures reported { IfSome result (λ info. (f : Fields) × IsHeaderOf page.now f × IsInfoOf info f) }
     ensures none { IfNone result ((f : Fields) → IsHeaderOf page.now f → ⊥) }
     ensures entries { IfSome result (λ info. info.kind ≡ kinds.Directory → info.length < 2 ^ 32) }
 {

@@ -1,19 +1,19 @@
 // The objects of which an index keeps a header.
 ghost use Rattle.std.specs.Prelude.{IfOk, OnOk};
-ghost use Rattle.chunk_index.specs.Maps.{kept_pages};
+ghost use Rattle.chunk_index.specs.Maps.{committed_pages};
 ghost use Rattle.salvage.specs.Headers.{ListsHeaders, PutsHeader};
 
 use chunk_index::Index;
 use flash_tree::Key;
 use std::alloc::{AllocError, Global};
 
-/// The objects of which a page of chunk 0 is kept, in rising order. From the first key of each it goes on to the next object.
-pub(crate) fn kept_headers(alloc: Global, index: &Index) -> Result<Vec<u64>, AllocError>
-    ensures { IfOk result (λ headers. ListsHeaders (kept_pages index.now) headers.items) }
+/// The objects of which a page of chunk 0 is committed, in rising order. From the first key of each it goes on to the next object.
+pub(crate) fn committed_headers(alloc: Global, index: &Index) -> Result<Vec<u64>, AllocError>
+    ensures { IfOk result (λ headers. ListsHeaders (committed_pages index.now) headers.items) }
 {
     let mut headers = Vec::new(alloc);
     let mut last = None;
-    while let Some(found) = index.next_kept(last) {
+    while let Some(found) = index.next_committed(last) {
         put_header(&mut headers, found.key)?;
         last = Some(Key {
             object: found.key.object,

@@ -4,9 +4,9 @@ ghost use Rattle.pages.specs.Maps.{PageMap, has};
 ghost use Rattle.posix_profile.specs.State.{Objects};
 ghost use Rattle.volume_terms.specs.Sizes.{Sizes};
 ghost use Rattle.flash_tree.specs.Tree.{Shows};
-ghost use Rattle.salvage.specs.Told.{ListsSlots};
+ghost use Rattle.salvage.specs.Reported.{ListsSlots};
 ghost use Rattle.salvage.specs.Whole.{HasSlots, ListsAll, ReachesAll, ReadsAll};
-ghost use Rattle.salvage.specs.declared.told.Listing.{Listing};
+ghost use Rattle.salvage.specs.declared.reported.Listing.{Listing};
 
 /// What is listed of a directory, whole or not, are the names of exactly the slots that read, and with those that are lost they are as
 /// many as the slots.

@@ -12,11 +12,11 @@ mod opening;
 mod orphans;
 mod reaching;
 mod reading;
+mod reported;
 mod salvage;
-mod told;
 
 pub use fault::SalvageFault;
 pub use law::{a_listing_has_the_slots_that_read, a_tree_is_salvaged_whole};
+pub use reported::{Listing, LostPart, ObjectInfo, Part, SalvagedName};
 pub use salvage::Salvage;
 pub use surviving_pages::LostPlace;
-pub use told::{Listing, LostPart, ObjectInfo, Part, SalvagedName};

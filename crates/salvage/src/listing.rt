@@ -6,12 +6,12 @@ ghost use Rattle.volume_terms.specs.Sizes.{Sizes, page_slots};
 ghost use Rattle.tree_walk.specs.Visits.{IsSeen};
 ghost use Rattle.salvage.specs.SeenBy.{seen_by};
 ghost use Rattle.salvage.specs.Slots.{TakesSlot};
-ghost use Rattle.salvage.specs.Told.{ListsDirectory, ListsSlots, WhyNotRead};
+ghost use Rattle.salvage.specs.Reported.{ListsDirectory, ListsSlots, WhyNotRead};
 
 use crate::fault::SalvageFault;
 use crate::header::read_info;
 use crate::looking::look;
-use crate::told::{Listing, SalvagedName};
+use crate::reported::{Listing, SalvagedName};
 use flash_tree::{Key, decode_tree_slot};
 use nand_model::Nand;
 use page_store::NewestPages;

@@ -2,7 +2,7 @@
 ghost use Rattle.std.specs.Prelude.{◌≡◌, true, IfOk, IfErr};
 ghost use Rattle.pages.specs.State.{OnlyFinds, FindsPage};
 ghost use Rattle.salvage.specs.SeenBy.{seen_by};
-ghost use Rattle.salvage.specs.Told.{LacksPower};
+ghost use Rattle.salvage.specs.Reported.{LacksPower};
 
 use crate::fault::SalvageFault;
 use flash_tree::Key;
@@ -10,7 +10,7 @@ use nand_model::Nand;
 use page_store::NewestPages;
 use pages::{Pages, Presence};
 
-/// Tells whether there is a page of the key. One that a device with power does not give back counts as absent, so that only a loss
+/// Returns whether there is a page of the key. One that a device with power does not give back counts as absent, so that only a loss
 /// of power ends a look-up.
 pub(crate) fn look<N: Nand>(pages: &mut NewestPages<N>, key: Key) -> Result<Presence, SalvageFault>
     ensures finds { OnlyFinds (seen_by pages.old) (seen_by pages.new) }

@@ -3,7 +3,7 @@ ghost use Rattle.std.specs.Prelude.{◌≡◌, ℕ, true, false, IfOk, IfErr};
 ghost use Rattle.nand_model.specs.Changes.{OnlyReads};
 ghost use Rattle.posix_profile.specs.State.{Objects};
 ghost use Rattle.flash_tree.specs.Mount.{Answers, IsTreeOf};
-ghost use Rattle.page_store.specs.Shown.{kept_data};
+ghost use Rattle.page_store.specs.Shown.{committed_data};
 ghost use Rattle.mounting.specs.NewestMaps.{IsNewestMap};
 ghost use Rattle.volume_check.specs.Verdicts.{ShowsVolume};
 ghost use Rattle.salvage.specs.Opened.{CanBeRead, GoesBy, GoesBySurvivors, WhyNotOpened, is_whole, whole_by};
@@ -30,7 +30,7 @@ fn is_whole(verdict: Verdict) -> bool
     }
 }
 
-/// Whether a check found a whole tree. A device that does not give back what it was told has none.
+/// Whether a check found a whole tree. A device that does not return what was written has none.
 fn whole_by(found: Result<Diagnosis, CheckFault>) -> Result<bool, SalvageFault>
     ensures { result ≡ whole_by found }
 {
@@ -60,7 +60,7 @@ fn find_survivors<N: Nand>(alloc: Global, device: &mut N) -> Result<Survivors, S
     ensures reads { OnlyReads (N.state device.old) (N.state device.new) }
     ensures can { IfOk result (λ found. CanBeRead (N.state device.new) found.index) }
     ensures pages { (N.state device.new).honest ≡ true
-        → IfOk result (λ found. GoesBySurvivors (N.state device.new).flash (kept_data found.index (N.state device.new).flash) found.lost.items) }
+        → IfOk result (λ found. GoesBySurvivors (N.state device.new).flash (committed_data found.index (N.state device.new).flash) found.lost.items) }
     ensures fault { IfErr result (WhyNotOpened (N.state device.new)) }
 {
     the_surviving_pages_have_data();
@@ -76,7 +76,7 @@ fn find_newest<N: Nand>(alloc: Global, device: &mut N) -> Result<Survivors, Salv
     ensures reads { OnlyReads (N.state device.old) (N.state device.new) }
     ensures can { IfOk result (λ found. CanBeRead (N.state device.new) found.index) }
     ensures pages { (N.state device.new).honest ≡ true
-        → IfOk result (λ found. IsNewestMap (N.state device.new).flash (kept_data found.index (N.state device.new).flash)) }
+        → IfOk result (λ found. IsNewestMap (N.state device.new).flash (committed_data found.index (N.state device.new).flash)) }
     ensures fault { IfErr result (WhyNotOpened (N.state device.new)) }
 {
     the_opened_pages_are_the_newest();
@@ -101,9 +101,9 @@ fn find_pages<N: Nand>(
     ensures reads { OnlyReads (N.state device.old) (N.state device.new) }
     ensures can { IfOk result (λ found. CanBeRead (N.state device.new) found.index) }
     ensures whole { (N.state device.new).honest ≡ true → whole ≡ true
-        → IfOk result (λ found. IsNewestMap (N.state device.new).flash (kept_data found.index (N.state device.new).flash)) }
+        → IfOk result (λ found. IsNewestMap (N.state device.new).flash (committed_data found.index (N.state device.new).flash)) }
     ensures damaged { (N.state device.new).honest ≡ true → whole ≡ false
-        → IfOk result (λ found. GoesBySurvivors (N.state device.new).flash (kept_data found.index (N.state device.new).flash) found.lost.items) }
+        → IfOk result (λ found. GoesBySurvivors (N.state device.new).flash (committed_data found.index (N.state device.new).flash) found.lost.items) }
     ensures fault { IfErr result (WhyNotOpened (N.state device.new)) }
 {
     if whole {

@@ -10,13 +10,13 @@ ghost use Rattle.salvage.specs.Orphans.{Adds, HasNamed, IsUnnamed, ListsUnnamed,
 ghost use Rattle.salvage.specs.Reached.{LeadsTo, ListsOrphans};
 ghost use Rattle.salvage.specs.Reaching.{objects_in};
 ghost use Rattle.salvage.specs.SeenBy.{seen_by};
-ghost use Rattle.salvage.specs.Told.{WhyNotRead};
+ghost use Rattle.salvage.specs.Reported.{WhyNotRead};
 ghost use Rattle.salvage.specs.declared.fault.SalvageFault.TheVariants as faults;
 
 use crate::fault::SalvageFault;
 use crate::header::read_info;
 use crate::listing::read_names;
-use crate::told::SalvagedName;
+use crate::reported::SalvagedName;
 use nand_model::Nand;
 use page_store::NewestPages;
 use std::alloc::Global;

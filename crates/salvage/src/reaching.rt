@@ -7,12 +7,12 @@ ghost use Rattle.tree_walk.specs.Visits.{IsSeen};
 ghost use Rattle.salvage.specs.Reached.{ListsReached};
 ghost use Rattle.salvage.specs.Reaching.{Begins, IsReaching, Knows, Puts, objects_in};
 ghost use Rattle.salvage.specs.SeenBy.{seen_by};
-ghost use Rattle.salvage.specs.Told.{WhyNotRead};
+ghost use Rattle.salvage.specs.Reported.{WhyNotRead};
 ghost use Rattle.salvage.specs.declared.fault.SalvageFault.TheVariants as faults;
 
 use crate::fault::SalvageFault;
 use crate::listing::read_names;
-use crate::told::SalvagedName;
+use crate::reported::SalvagedName;
 use nand_model::Nand;
 use page_store::NewestPages;
 use std::alloc::Global;

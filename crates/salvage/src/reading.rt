@@ -8,11 +8,11 @@ ghost use Rattle.volume_terms.specs.Sizes.{Sizes};
 ghost use Rattle.tree_walk.specs.Visits.{IsSeen};
 ghost use Rattle.salvage.specs.Chunks.{IsChunkOf, SaysChunk};
 ghost use Rattle.salvage.specs.SeenBy.{seen_by};
-ghost use Rattle.salvage.specs.Told.{KeepsRest, ReadsPart, LacksPower};
+ghost use Rattle.salvage.specs.Reported.{KeepsRest, ReadsPart, LacksPower};
 
 use crate::fault::SalvageFault;
 use crate::looking::look;
-use crate::told::{LostPart, Part};
+use crate::reported::{LostPart, Part};
 use flash_tree::Key;
 use nand_model::Nand;
 use page_store::NewestPages;
@@ -38,21 +38,21 @@ pub(crate) fn read_part<N: Nand>(
     ensures size { length buffer.new ≡ length buffer.old }
     ensures reads { (z : Sizes) → IsSeen z (seen_by pages.old)
         → IfOk result (ReadsPart z (has (seen_by pages.old).present) file offset buffer.new) }
-    ensures rest { IfOk result (λ told. KeepsRest told buffer.old buffer.new) }
+    ensures rest { IfOk result (λ reported. KeepsRest reported buffer.old buffer.new) }
     ensures stays { OnErr result (buffer.new ≡ buffer.old) }
     ensures fault { IfErr result (LacksPower (seen_by pages.new)) }
 {
     let page_bytes = u64::from(pages.page_bytes());
     let chunk = 1 + offset / page_bytes;
-    let Some(told) = find_chunk(pages, file, chunk)? else {
+    let Some(reported) = find_chunk(pages, file, chunk)? else {
         return Ok(None);
     };
     let begin = offset % page_bytes;
-    let bytes = (page_bytes - begin).min(told.length.saturating_sub(offset));
+    let bytes = (page_bytes - begin).min(reported.length.saturating_sub(offset));
     if bytes == 0 {
         return Ok(Some(Part::Bytes(0)));
     }
-    if !told.present {
+    if !reported.present {
         let count = clear_front(buffer, bytes as usize);
         return Ok(Some(Part::Bytes(count)));
     }
@@ -97,7 +97,7 @@ fn chunk_in(page: &[u8], chunk: u64) -> Option<FileChunk>
     requires least { 32 ≤ length page.now }
     requires most { length page.now ≤ 4096 }
     requires from { 1 ≤ chunk }
-    ensures told { IfSome result (λ told. (f : Fields) × IsHeaderOf page.now f × IsChunkOf told f chunk) }
+    ensures reported { IfSome result (λ reported. (f : Fields) × IsHeaderOf page.now f × IsChunkOf reported f chunk) }
     ensures none { IfNone result ((f : Fields) → IsHeaderOf page.now f → f.kind ≢ kinds.File) }
 {
     match decode_header(page) {

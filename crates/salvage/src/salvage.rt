@@ -8,16 +8,16 @@ ghost use Rattle.salvage.specs.Opened.{CanBeRead};
 ghost use Rattle.salvage.specs.Headers.{HasHeaders, Rises};
 ghost use Rattle.salvage.specs.Reached.{ListsOrphans, ListsReached};
 ghost use Rattle.salvage.specs.SeenBy.{seen_by};
-ghost use Rattle.salvage.specs.Told.{KeepsRest, LacksPower, ListsDirectory, ReadsPart, SaysInfo, WhyNotRead};
+ghost use Rattle.salvage.specs.Reported.{KeepsRest, LacksPower, ListsDirectory, ReadsPart, SaysInfo, WhyNotRead};
 
 use crate::fault::SalvageFault;
 use crate::header::read_info;
-use crate::headers::kept_headers;
+use crate::headers::committed_headers;
 use crate::listing::read_names;
 use crate::orphans::find_orphans;
 use crate::reaching::find_reached;
 use crate::reading::read_part;
-use crate::told::{Listing, ObjectInfo, Part};
+use crate::reported::{Listing, ObjectInfo, Part};
 use nand_model::Nand;
 use page_store::NewestPages;
 use std::alloc::{AllocError, Global};
@@ -51,7 +51,7 @@ impl<N: Nand> Salvage<N> {
         ensures given_back { IfErr result (λ back. back.0 ≡ device) }
     {
         let Survivors { index, lost } = found;
-        let headers = match kept_headers(alloc, &index) {
+        let headers = match committed_headers(alloc, &index) {
             Ok(headers) => headers,
             Err(refused) => return Err((device, refused)),
         };
@@ -116,7 +116,7 @@ impl<N: Nand> Salvage<N> {
         ensures size { length buffer.new ≡ length buffer.old }
         ensures reads { (z : Sizes) → IsSeen z (state self.old)
             → IfOk result (ReadsPart z (has (state self.old).present) file offset buffer.new) }
-        ensures rest { IfOk result (λ told. KeepsRest told buffer.old buffer.new) }
+        ensures rest { IfOk result (λ reported. KeepsRest reported buffer.old buffer.new) }
         ensures stays { OnErr result (buffer.new ≡ buffer.old) }
         ensures fault { IfErr result (LacksPower (state self.new)) }
     {

@@ -26,9 +26,9 @@ const FURTHER: u32 = 40;
 
 const FATES: [Fate; 4] = [Fate::Old, Fate::New, Fate::Erased, Fate::Uncorrectable];
 
-/// A device after a power-up, and the pages that are kept on it.
+/// A device after a power-up, and the pages that are committed on it.
 #[derive(Drop)]
-struct Kept {
+struct Committed {
     nand: MemNand,
     map: Stamps,
 }
@@ -63,9 +63,9 @@ struct Calls {
     changes: u64,
 }
 
-impl Kept {
-    fn copy(&self, rt: &impl Abort) -> Kept {
-        Kept {
+impl Committed {
+    fn copy(&self, rt: &impl Abort) -> Committed {
+        Committed {
             nand: self.nand.copy().expect(rt, "memory"),
             map: self.map,
         }
@@ -95,8 +95,8 @@ impl Kept {
 }
 
 impl Ended {
-    /// What a scan finds after a power-up: what was kept, or all that was present where the store stopped.
-    fn found(self, rt: &impl Abort, alloc: Global, trouble: Trouble) -> Kept {
+    /// What a scan finds after a power-up: what was committed, or all that was present where the store stopped.
+    fn found(self, rt: &impl Abort, alloc: Global, trouble: Trouble) -> Committed {
         let Ended {
             mut nand,
             plain,
@@ -108,21 +108,21 @@ impl Ended {
         let map = if fault.is_some() && are_found(&plain.present, &newest) {
             plain.present
         } else {
-            plain.kept
+            plain.committed
         };
         assert!(rt; are_found(&map, &newest), "{trouble:?}");
         let (mut nand, _index) = pages.into_parts();
         nand.power_up();
-        Kept { nand, map }
+        Committed { nand, map }
     }
 }
 
-/// Takes steps in which something goes wrong, and goes on after a power-up. Tells why the store stopped, and how many blocks
+/// Takes steps in which something goes wrong, and goes on after a power-up. Says why the store stopped, and how many blocks
 /// are bad then.
 fn go_wrong(
     rt: &impl Abort,
     alloc: Global,
-    before: &Kept,
+    before: &Committed,
     steps: Steps,
     trouble: Trouble,
 ) -> (Option<StoreFault>, u64) {
@@ -136,7 +136,7 @@ fn go_wrong(
     };
     let ended = found.take(rt, alloc, further, Trouble::Nothing);
     assert_eq!(rt; ended.fault, None, "after {trouble:?}");
-    let _kept = ended.found(rt, alloc, trouble);
+    let _committed = ended.found(rt, alloc, trouble);
     (fault, bad)
 }
 
@@ -155,7 +155,7 @@ fn count_bad(nand: &MemNand) -> u64 {
 fn try_each(
     rt: &impl Abort,
     alloc: Global,
-    before: &Kept,
+    before: &Committed,
     steps: Steps,
     calls: Calls,
     way: Way,
@@ -181,7 +181,7 @@ fn try_each(
 }
 
 /// A device whose blocks were all written, without a cut, so that blocks are collected soon.
-fn written(rt: &impl Abort, alloc: Global) -> Kept {
+fn written(rt: &impl Abort, alloc: Global) -> Committed {
     let mut store = open_store(rt, alloc, erased(rt, alloc, 5), SPARE, 2);
     let mut plain = Plain::new([0; KEYS]);
     for number in 0..20u32 {
@@ -206,11 +206,11 @@ fn written(rt: &impl Abort, alloc: Global) -> Kept {
 
 /// A run in parts, each of which is taken again with each of its calls cut, or failing, with each fate.
 fn run(rt: &impl Abort, alloc: Global, way: Way) {
-    let mut kept = written(rt, alloc);
+    let mut committed = written(rt, alloc);
     for part in 0..PARTS {
         let steps = Steps { part, count: STEPS };
-        let first = calls_when_opened(rt, alloc, &kept.nand);
-        let ended = kept.copy(rt).take(rt, alloc, steps, Trouble::Nothing);
+        let first = calls_when_opened(rt, alloc, &committed.nand);
+        let ended = committed.copy(rt).take(rt, alloc, steps, Trouble::Nothing);
         assert_eq!(rt; ended.fault, None, "{steps:?}");
         let calls = Calls {
             first,
@@ -218,18 +218,18 @@ fn run(rt: &impl Abort, alloc: Global, way: Way) {
             changes: ended.nand.changes(),
         };
         for fate in FATES {
-            try_each(rt, alloc, &kept, steps, calls, way, fate);
+            try_each(rt, alloc, &committed, steps, calls, way, fate);
         }
-        kept = ended.found(rt, alloc, Trouble::Nothing);
+        committed = ended.found(rt, alloc, Trouble::Nothing);
     }
 }
 
 #[test]
-fn wherever_a_call_is_cut_all_is_kept(rt: HostRuntime) {
+fn wherever_a_call_is_cut_all_is_committed(rt: HostRuntime) {
     run(&rt, rt.alloc(), Way::Cut)
 }
 
 #[test]
-fn whichever_call_fails_all_is_kept(rt: HostRuntime) {
+fn whichever_call_fails_all_is_committed(rt: HostRuntime) {
     run(&rt, rt.alloc(), Way::Failure)
 }

@@ -10,7 +10,7 @@ use page_store::{NewestPages, Store, open, the_opened_pages_are_the_newest};
 use std::alloc::Global;
 use std::num::NonZeroUsize;
 use std::process::Abort;
-use test_devices::{open_each, open_kept, open_noted};
+use test_devices::{open_committed, open_each, open_noted};
 
 /// What is to go wrong with a device.
 #[derive(Clone, Copy, Debug)]
@@ -100,7 +100,7 @@ pub(crate) fn open_stamped(
     capacity: usize,
 ) -> Store<MemNand> {
     let capacity = NonZeroUsize::new(capacity).expect(rt, "no cache");
-    open_kept(alloc, nand, &Stamped { stamps: map }, spare, capacity).expect(rt, "a store")
+    open_committed(alloc, nand, &Stamped { stamps: map }, spare, capacity).expect(rt, "a store")
 }
 
 /// The newest pages of a device, by a scan.

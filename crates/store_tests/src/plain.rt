@@ -14,10 +14,10 @@ const MOST: usize = 8;
 /// For each key the stamp of its page, 0 where it has none.
 pub(crate) type Stamps = [u32; KEYS];
 
-/// What is kept, what is present, and which keys are buffered.
+/// What is committed, what is present, and which keys are buffered.
 #[derive(Clone, Copy)]
 pub(crate) struct Plain {
-    pub kept: Stamps,
+    pub committed: Stamps,
     pub present: Stamps,
     pub buffered: [bool; KEYS],
 }
@@ -39,11 +39,11 @@ pub(crate) fn are_found(map: &Stamps, found: &Stamps) -> bool {
 }
 
 impl Plain {
-    /// These pages are kept, and none are buffered.
-    pub fn new(kept: Stamps) -> Plain {
+    /// These pages are committed, and none are buffered.
+    pub fn new(committed: Stamps) -> Plain {
         Plain {
-            kept,
-            present: kept,
+            committed,
+            present: committed,
             buffered: [false; KEYS],
         }
     }

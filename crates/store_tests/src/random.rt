@@ -49,6 +49,6 @@ fn a_store_has_the_pages_of_plain_maps(rt: HostRuntime) {
         let mut nand = store.into_device();
         nand.power_up();
         let newest = read_all(&rt, &mut scanned(&rt, alloc, nand));
-        assert!(rt; are_found(&plain.kept, &newest));
+        assert!(rt; are_found(&plain.committed, &newest));
     }
 }

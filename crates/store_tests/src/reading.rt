@@ -13,7 +13,7 @@ const FIRST: usize = 4;
 
 const SECOND: usize = 8;
 
-/// A device on which the two pages of a file are kept.
+/// A device on which the two pages of a file are committed.
 fn file(rt: &impl Abort, alloc: Global) -> MemNand {
     let mut store = open_store(rt, alloc, erased(rt, alloc, 8), 2, 1);
     let mut plain = Plain::new([0; KEYS]);

@@ -90,7 +90,7 @@ fn pages_of_a_worn_device_are_read(rt: HostRuntime) {
     assert_eq!(rt; nand.changes(), 2, "those of the making");
 }
 
-// A commit has nothing to do until a change or a cut was refused; what is kept is still read.
+// A commit has nothing to do until a change or a cut was refused; what is committed is still read.
 #[test]
 fn a_change_of_a_worn_device_is_refused(rt: HostRuntime) {
     let alloc = rt.alloc();

@@ -103,20 +103,20 @@ module _ (flash : Flash) (kind : Spot → Type 0) (has_tag : (s : Spot) → kind
   left : (s : Spot) → s.tag.chunk < 2 ^ 32 → kind s → IsCovered list s
   left s low is = below.some s (tag_placed pages blocks flash s.block s.page s.tag within (has_tag s is)).0 low is
 
-  -- which does not come after what is kept of the key
-  not_after_kept : (x : PageCopy) (s : Spot) → Contains newest x → HaveOneKey x (copy_at s) → kind s → IsAfter s (spot_of_copy x) → ⊥
-  not_after_kept x s has key is =
+  -- which does not come after what is committed of the key
+  not_after_committed : (x : PageCopy) (s : Spot) → Contains newest x → HaveOneKey x (copy_at s) → kind s → IsAfter s (spot_of_copy x) → ⊥
+  not_after_committed x s has key is =
       let cover = left s (subst (λ k. k < 2 ^ 32) key.1 (lie.low x (latest.among x has))) is in
       not_after_on s (spot_of_copy cover.copy) (spot_of_copy x) cover.last (latest.last x cover.copy has cover.has (cover.key.0 ∙ sym key.0, cover.key.1 ∙ sym key.1))
 
-  kept_is_newest : (x : PageCopy) → Contains newest x → (s : Spot) × IsNewestOf kind s × (copy_at s ≡ x)
-  kept_is_newest x has =
+  committed_is_newest : (x : PageCopy) → Contains newest x → (s : Spot) × IsNewestOf kind s × (copy_at s ≡ x)
+  committed_is_newest x has =
       let (s, is, copied) = below.only x (latest.among x has) in (
         s,
         record {
           is = is;
           last = λ t other key after.
-              not_after_kept x t has (subst (λ (y : PageCopy). HaveOneKey y (copy_at t)) copied (sym key.0, sym key.1)) other
+              not_after_committed x t has (subst (λ (y : PageCopy). HaveOneKey y (copy_at t)) copied (sym key.0, sym key.1)) other
               (subst (λ (y : PageCopy). IsAfter t (spot_of_copy y)) copied after);
         },
         copied,
@@ -130,15 +130,15 @@ module _ (flash : Flash) (kind : Spot → Type 0) (has_tag : (s : Spot) → kind
       let tag : u.tag ≡ s.tag = one_tag flash s.block s.page u.tag s.tag here (has_tag s a.is) in
       λ i. record { block = at.0 i; page = at.1 i; tag = tag i }
 
-  newest_is_kept : (s : Spot) → s.tag.chunk < 2 ^ 32 → IsNewestOf kind s → Contains newest (copy_at s)
-  newest_is_kept s low is =
+  newest_is_committed : (s : Spot) → s.tag.chunk < 2 ^ 32 → IsNewestOf kind s → Contains newest (copy_at s)
+  newest_is_committed s low is =
       let cover = left s low is.is in
       let (x, has, key) = latest.some cover.copy cover.has in
-      let (u, other, copied) = kept_is_newest x has in
+      let (u, other, copied) = committed_is_newest x has in
       let one : HaveOneKey x (copy_at s) = (key.0 ∙ cover.key.0, key.1 ∙ cover.key.1) in
       let same : u ≡ s = one_newest s u is other (subst (λ (y : PageCopy). HaveOneKey y (copy_at s)) (sym copied) one) in
       subst (Contains newest) (sym copied ∙ ap copy_at same) has
 
   -- the latest of what is left are the newest pages of the kind
   pub newest_all : AreNewestOf kind newest
-  newest_all = record { only = kept_is_newest; each = newest_is_kept }
+  newest_all = record { only = committed_is_newest; each = newest_is_committed }

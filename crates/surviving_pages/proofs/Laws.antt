@@ -8,10 +8,10 @@ use Rattle.flash_tree.specs.Groups.{IsPart}
 use Rattle.flash_tree.specs.Newest.{Spot, Holds, HasNewest}
 use Rattle.flash_tree.specs.Places.{group_of}
 use Rattle.flash_tree.specs.laws.Place.{counts_by_tag}
-use Rattle.chunk_index.specs.declared.form.KeptPage.{KeptPage}
+use Rattle.chunk_index.specs.declared.form.CommittedPage.{CommittedPage}
 use Rattle.chunk_index.specs.declared.index.Index.{Index}
-use Rattle.chunk_index.specs.Maps.{kept_pages}
-use Rattle.page_store.specs.Shown.{data_of, data_at, kept_data}
+use Rattle.chunk_index.specs.Maps.{committed_pages}
+use Rattle.page_store.specs.Shown.{data_of, data_at, committed_data}
 use Rattle.surviving_pages.specs.Opened.{HasSurvivors}
 use Rattle.surviving_pages.specs.Surviving.{Survives, IsSurvivor, HasSurvivor, HasLostNothing}
 
@@ -64,25 +64,25 @@ module _ (flash : Flash) (nothing : HasLostNothing flash) (o c : ℕ) where
 -- ---- data
 
 module _ (flash : Flash) (x : Index) (has : HasSurvivors flash x) (o c : ℕ) where
-  pub has_data : (k : KeptPage) → kept_pages x o c ≡ Some k → IsSome (data_at flash k)
-  has_data k kept =
-      let (low, found) = has.only o c k kept in
+  pub has_data : (k : CommittedPage) → committed_pages x o c ≡ Some k → IsSome (data_at flash k)
+  has_data k committed =
+      let (low, found) = has.only o c k committed in
       let (s, newest, same) = found in
       let stored : data_at flash k ≡ Some newest.survives.has.bytes = ap (data_at flash) same ∙ ap data_of newest.survives.has.page in
       subst (λ (m : Option (List ℕ)). IsSome m) (sym stored) refl
 
-  from_kept : (xs : List ℕ) (m : Option KeptPage) → kept_pages x o c ≡ m → option_and_then (data_at flash) m ≡ Some xs → HasSurvivor flash o c xs × (c < 2 ^ 32)
-  from_kept xs None kept is = absurd cc
-  from_kept xs (Some k) kept is =
-      let (low, found) = has.only o c k kept in
+  from_committed : (xs : List ℕ) (m : Option CommittedPage) → committed_pages x o c ≡ m → option_and_then (data_at flash) m ≡ Some xs → HasSurvivor flash o c xs × (c < 2 ^ 32)
+  from_committed xs None committed is = absurd cc
+  from_committed xs (Some k) committed is =
+      let (low, found) = has.only o c k committed in
       let (s, newest, same) = found in
       let page = newest.survives.has.page in
       let two : Some newest.survives.has.bytes ≡ Some xs = sym (ap data_of page) ∙ sym (ap (data_at flash) same) ∙ is in
       let bytes : newest.survives.has.bytes ≡ xs = cc in
       (record { spot = s; newest = newest; stored = page ∙ ap (λ ys. Written ys (tag_bytes s.tag)) bytes }, low)
 
-  pub same_data : (xs : List ℕ) → (kept_data x flash o c ≡ Some xs) ↔ (HasSurvivor flash o c xs × (c < 2 ^ 32))
+  pub same_data : (xs : List ℕ) → (committed_data x flash o c ≡ Some xs) ↔ (HasSurvivor flash o c xs × (c < 2 ^ 32))
   same_data xs = (
-    λ is. from_kept xs (kept_pages x o c) refl is,
+    λ is. from_committed xs (committed_pages x o c) refl is,
     λ (survivor, low). ap (option_and_then (data_at flash)) (has.each o c survivor.spot low survivor.newest) ∙ ap data_of survivor.stored,
   )

@@ -17,7 +17,7 @@ use Rattle.surviving_pages.specs.declared.survivors.LostPlace.{LostPlace}
 use Rattle.surviving_pages.specs.Lost.{IsPlaceBefore, ListsLost, ListsLostBelow}
 use Rattle.surviving_pages.specs.Surviving.{IsLost}
 use Rattle.surviving_pages.specs.Tagged.{IsEndOfTags, IsLostIn, LieInOrder, AddsLost}
-use Rattle.surviving_pages.proofs.Tagged.{has_tag, has_none, tag_told}
+use Rattle.surviving_pages.proofs.Tagged.{has_tag, has_none, tag_reported}
 
 -- ---- page after page
 
@@ -28,13 +28,6 @@ pub record AddsLostBefore (b : ℕ) (tags : List (Option Tag)) (n : ℕ) (old ne
 
 abbrev lost_at : ℕ → ℕ → LostPlace
 lost_at b page = record { block = b; page = page }
-
--- before the first page none is
-pub adds_nothing : (b : ℕ) (tags : List (Option Tag)) (old : List LostPlace) → AddsLostBefore b tags 0 old old
-adds_nothing b tags old = record {
-  each = λ x. (λ was. inl was, λ either. elim either [ inl was ↦ was | inr is ↦ absurd (omega (arith, is.0)) ]);
-  order = λ lie. lie.order;
-}
 
 module _ (b page end : ℕ) (tags : List (Option Tag)) (ends : IsEndOfTags tags end) (before : page < end) (within : page < length tags) (old list : List LostPlace)
     (adds : AddsLostBefore b tags page old list) where
@@ -129,31 +122,31 @@ lost_on flash b list bad lists = record {
   order = lists.order;
 }
 
-module _ (f : Flash) (b pages blocks : ℕ) (tags : List (Option Tag)) (within : IsWithin pages blocks f) (len : length tags ≡ pages) (told : AreTags f b tags) (good : f.bad b ≡ false) where
-  none_told : (p : ℕ) (o : Option Tag) → ((t : Tag) → HasTag f b p t → ⊥) → slice_get tags p ≡ Some o → TagIs f b p o → slice_get tags p ≡ Some None
-  none_told p None none at is = at
-  none_told p (Some t) none at is = absurd (none t is)
+module _ (f : Flash) (b pages blocks : ℕ) (tags : List (Option Tag)) (within : IsWithin pages blocks f) (len : length tags ≡ pages) (reported : AreTags f b tags) (good : f.bad b ≡ false) where
+  none_reported : (p : ℕ) (o : Option Tag) → ((t : Tag) → HasTag f b p t → ⊥) → slice_get tags p ≡ Some o → TagIs f b p o → slice_get tags p ≡ Some None
+  none_reported p None none at is = at
+  none_reported p (Some t) none at is = absurd (none t is)
 
-  -- the lost pages of a good block are told by its tags
-  lost_told : (x : LostPlace) → IsLostIn b tags x ↔ ((x.block ≡ b) × IsLost f x.block x.page)
-  lost_told x = (
+  -- the lost pages of a good block are reported by its tags
+  lost_reported : (x : LostPlace) → IsLostIn b tags x ↔ ((x.block ≡ b) × IsLost f x.block x.page)
+  lost_reported x = (
     λ is.
         let last = is.behind in
         let lost : IsLost f b x.page = record {
           good = good;
-          none = told x.page None is.none;
-          behind = record { page = last.page; from = last.from; tag = last.tag; has = told last.page (Some last.tag) last.there };
+          none = reported x.page None is.none;
+          behind = record { page = last.page; from = last.from; tag = last.tag; has = reported last.page (Some last.tag) last.there };
         } in
         (is.block, subst (λ k. IsLost f k x.page) (sym is.block) lost),
     λ (block, is).
         let lost : IsLost f b x.page = subst (λ k. IsLost f k x.page) block is in
         let last = lost.behind in
-        let there = tag_told f b pages blocks tags within len told last.page last.tag last.has in
+        let there = tag_reported f b pages blocks tags within len reported last.page last.tag last.has in
         let end = slice_get_within tags last.page (Some last.tag) there in
         let at = slice_get-get_or tags x.page None (omega (arith, last.from, end)) in
         record {
           block = block;
-          none = none_told x.page (get_or tags x.page None) lost.none at (told x.page (get_or tags x.page None) at);
+          none = none_reported x.page (get_or tags x.page None) lost.none at (reported x.page (get_or tags x.page None) at);
           behind = record { page = last.page; from = last.from; before = end; tag = last.tag; there = there };
         },
   )
@@ -163,10 +156,10 @@ module _ (f : Flash) (b pages blocks : ℕ) (tags : List (Option Tag)) (within :
     each = λ x. (
       λ has. elim ((adds.each x).0 has) [
         | inl was ↦ let is = (lists.each x).0 was in (omega (arith, is.0), is.1)
-        | inr is ↦ let lost = (lost_told x).0 is in (omega (arith, lost.0), lost.1)
+        | inr is ↦ let lost = (lost_reported x).0 is in (omega (arith, lost.0), lost.1)
       ],
       λ is. elim (cases_eq x.block b) [
-        | inl here ↦ (adds.each x).1 (inr ((lost_told x).1 (here, is.1)))
+        | inl here ↦ (adds.each x).1 (inr ((lost_reported x).1 (here, is.1)))
         | inr ne ↦ (adds.each x).1 (inl ((lists.each x).1 (omega (arith, is.0, ne), is.1)))
       ],
     );

@@ -7,7 +7,7 @@ use Rattle.nand_model.specs.Calls.{Device}
 use Rattle.nand_model.specs.declared.geometry.Geometry.{Geometry}
 use Rattle.nand_model.specs.Changes.{OnlyReads}
 use Rattle.nand_model.specs.laws.Changes.{only_reads_on, only_reads_here}
-use Rattle.mount_scan.specs.Scanned.{good_pages, TellsGone, ReadsEach}
+use Rattle.mount_scan.specs.Scanned.{good_pages, ScanReportsGone, ReadsEach}
 use Rattle.mount_scan.specs.declared.fault.ScanFault.{ScanFault}
 use Rattle.mount_scan.specs.declared.fault.ScanFault.TheVariants as faults
 
@@ -47,9 +47,9 @@ module _ (a b c : Device) (k : ℕ) (read : HasRead (good_pages a.flash a.geomet
         power = λ is. next.gone (read.power is);
       }
 
-  gone_on : (T U : Type 0) (e : ScanFault) → TellsGone {T = T} b c (Err e) → TellsGone {T = U} a c (Err e)
-  gone_on T U faults.NoMemory tells = λ was. tells (read.power was)
-  gone_on T U faults.Gone tells = tells
+  gone_on : (T U : Type 0) (e : ScanFault) → ScanReportsGone {T = T} b c (Err e) → ScanReportsGone {T = U} a c (Err e)
+  gone_on T U faults.NoMemory reports = λ was. reports (read.power was)
+  gone_on T U faults.Gone reports = reports
 
   pub block_ends : (T U : Type 0) (n : ℕ) (e : ScanFault) → k < n → ReadsEach {T = T} (if b.flash.bad k then 0 else b.geometry.pages) b c (Err e)
       → ReadsEach {T = U} (good_pages a.flash a.geometry.pages n) a c (Err e)

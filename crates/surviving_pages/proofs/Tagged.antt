@@ -118,25 +118,25 @@ lists_more b page tags old new adds lists f = (
 
 -- ---- from the tags to the flash
 
-module _ (f : Flash) (b pages blocks : ℕ) (tags : List (Option Tag)) (within : IsWithin pages blocks f) (len : length tags ≡ pages) (told : AreTags f b tags) where
-  told_is : (p : ℕ) (t : Tag) (o : Option Tag) → HasTag f b p t → slice_get tags p ≡ Some o → TagIs f b p o → slice_get tags p ≡ Some (Some t)
-  told_is p t None has at is = absurd (is t has)
-  told_is p t (Some u) has at is = at ∙ ap (λ (v : Tag). Some (Some v)) (one_tag f b p u t is has)
+module _ (f : Flash) (b pages blocks : ℕ) (tags : List (Option Tag)) (within : IsWithin pages blocks f) (len : length tags ≡ pages) (reported : AreTags f b tags) where
+  reported_is : (p : ℕ) (t : Tag) (o : Option Tag) → HasTag f b p t → slice_get tags p ≡ Some o → TagIs f b p o → slice_get tags p ≡ Some (Some t)
+  reported_is p t None has at is = absurd (is t has)
+  reported_is p t (Some u) has at is = at ∙ ap (λ (v : Tag). Some (Some v)) (one_tag f b p u t is has)
 
   -- a tag on the flash stands in the list
-  pub tag_told : (p : ℕ) (t : Tag) → HasTag f b p t → slice_get tags p ≡ Some (Some t)
-  tag_told p t has =
+  pub tag_reported : (p : ℕ) (t : Tag) → HasTag f b p t → slice_get tags p ≡ Some (Some t)
+  tag_reported p t has =
       let lt : p < length tags = omega (arith, (tag_placed pages blocks f b p t within has).1, len) in
       let at : slice_get tags p ≡ Some (get_or tags p None) = slice_get-get_or tags p None lt in
-      told_is p t (get_or tags p None) has at (told p (get_or tags p None) at)
+      reported_is p t (get_or tags p None) has at (reported p (get_or tags p None) at)
 
-  -- the pages of a good block that survive are told by its tags
-  pub survivor_told : (x : Found) → f.bad b ≡ false → ((x.block ≡ b) × IsSurvivor f (spot_of x)) ↔ ((x.page < length tags) × SurvivesIn b tags x)
-  survivor_told x good = (
+  -- the pages of a good block that survive are reported by its tags
+  pub survivor_reported : (x : Found) → f.bad b ≡ false → ((x.block ≡ b) × IsSurvivor f (spot_of x)) ↔ ((x.page < length tags) × SurvivesIn b tags x)
+  survivor_reported x good = (
     λ (block, held).
         let last = held.completed in
-        let here = tag_told x.page x.tag (subst (λ k. HasTag f k x.page x.tag) block held.has) in
-        let there = tag_told last.page last.tag (subst (λ k. HasTag f k last.page last.tag) block last.has) in (
+        let here = tag_reported x.page x.tag (subst (λ k. HasTag f k x.page x.tag) block held.has) in
+        let there = tag_reported last.page last.tag (subst (λ k. HasTag f k last.page last.tag) block last.has) in (
           slice_get_within tags x.page (Some x.tag) here,
           record {
             block = block;
@@ -146,7 +146,7 @@ module _ (f : Flash) (b pages blocks : ℕ) (tags : List (Option Tag)) (within :
         ),
     λ (lt, is).
         let last = is.completed in
-        let tag_at : (p : ℕ) (t : Tag) → slice_get tags p ≡ Some (Some t) → HasTag f x.block p t = λ p t at. subst (λ k. HasTag f k p t) (sym is.block) (told p (Some t) at) in (
+        let tag_at : (p : ℕ) (t : Tag) → slice_get tags p ≡ Some (Some t) → HasTag f x.block p t = λ p t at. subst (λ k. HasTag f k p t) (sym is.block) (reported p (Some t) at) in (
           is.block,
           record {
             good = ap f.bad is.block ∙ good;
@@ -170,6 +170,6 @@ module _ (d : Device) (b : ℕ) (tags : List (Option Tag)) (len : length tags �
 
   pub survivors_latest : IsWithin d.geometry.pages d.geometry.blocks d.flash → AreTags d.flash b tags → d.flash.bad b ≡ false → b < d.geometry.blocks
       → HasLatestBelow (IsSurvivor d.flash) b old → HasLatestBelow (IsSurvivor d.flash) (b + 1) new
-  survivors_latest within told good lt =
-      let same = survivor_told d.flash b d.geometry.pages d.geometry.blocks tags within len told in
+  survivors_latest within reported good lt =
+      let same = survivor_reported d.flash b d.geometry.pages d.geometry.blocks tags within len reported in
       latest_block (IsSurvivor d.flash) (λ s is. let valid = is.has.valid in (valid.object.0, valid.object.1, valid.version.0)) d.geometry b added old new lt lies (λ f. (λ has. (same f good).1 ((lists f).0 has), λ is. (lists f).1 ((same f good).0 is))) thins

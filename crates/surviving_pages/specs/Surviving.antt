@@ -1,11 +1,14 @@
 -- Which pages of a flash survive where other pages of their groups were lost, and which are lost.
 -- From: the format: tags, `FORMATS.md`. The pages of a block are programmed in order, so a group is complete once its last page is written.
-use Rattle.std.specs.Prelude.{◌≡◌, ◌≤◌, ℕ, ◌+◌, ◌-◌, false, List}
+use Rattle.std.specs.Prelude.{◌≡◌, ◌≤◌, ℕ, ◌+◌, ◌-◌, false, List, true, Result, OnOk}
 use Rattle.nand_model.specs.Flash.{Flash, Written}
 use Rattle.page_tags.specs.declared.tag.Tag.{Tag}
 use Rattle.page_tags.specs.Tags.{tag_bytes}
 use Rattle.flash_tree.specs.Groups.{HasTag}
 use Rattle.flash_tree.specs.Newest.{Spot, Holds, IsAfter}
+use Rattle.nand_model.specs.Calls.{Device}
+use Rattle.mount_scan.specs.declared.page_copy.PageCopy.{PageCopy}
+use Rattle.surviving_pages.specs.Latest.{HasLatestBelow}
 
 -- a page with a valid tag lies in the block, at this page or behind it
 pub record IsWrittenFrom (flash : Flash) (b p : ℕ) : Type 0 where
@@ -51,3 +54,7 @@ pub record HasSurvivor (flash : Flash) (o c : ℕ) (bytes : List ℕ) : Type 0 w
 -- no page of a completed group is lost: each page that survives is valid
 abbrev pub HasLostNothing : Flash → Type 0
 HasLostNothing flash = (s : Spot) → Survives flash s.tag.object s.tag.chunk s → Holds flash s.tag.object s.tag.chunk s
+
+-- of an honest device: where the newest of the surviving pages below this block were listed, so are they with it
+abbrev pub KeepsSurvivors : {T E : Type 0} → Device → ℕ → List PageCopy → List PageCopy → Result T E → Type 0
+KeepsSurvivors d b old new result = d.honest ≡ true → HasLatestBelow (IsSurvivor d.flash) b old → OnOk result (HasLatestBelow (IsSurvivor d.flash) (b + 1) new)

@@ -2,10 +2,10 @@
 ghost use Rattle.std.specs.Prelude.{◌≡◌, ◌↔◌, ◌<◌, ◌^◌, ℕ, List, Some, IsSome};
 ghost use Rattle.nand_model.specs.Flash.{Flash};
 ghost use Rattle.flash_tree.specs.Newest.{Spot, Holds, HasNewest};
-ghost use Rattle.chunk_index.specs.declared.form.KeptPage.{KeptPage};
+ghost use Rattle.chunk_index.specs.declared.form.CommittedPage.{CommittedPage};
 ghost use Rattle.chunk_index.specs.declared.index.Index.{Index};
-ghost use Rattle.chunk_index.specs.Maps.{kept_pages};
-ghost use Rattle.page_store.specs.Shown.{data_at, kept_data};
+ghost use Rattle.chunk_index.specs.Maps.{committed_pages};
+ghost use Rattle.page_store.specs.Shown.{data_at, committed_data};
 ghost use Rattle.surviving_pages.specs.Opened.{HasSurvivors};
 ghost use Rattle.surviving_pages.specs.Surviving.{Survives, HasSurvivor, HasLostNothing};
 
@@ -18,7 +18,7 @@ pub fn where_nothing_is_lost_the_newest_pages_survive()
 /// Each page of an index of the pages that survive has data, and these are the newest surviving data of its key; and so has each key of
 /// a chunk that a tree may look up.
 pub fn the_surviving_pages_have_data()
-    ensures written { (flash : Flash) (x : Index) → HasSurvivors flash x → (o c : ℕ) (k : KeptPage) → kept_pages x o c ≡ Some k → IsSome (data_at flash k) }
+    ensures written { (flash : Flash) (x : Index) → HasSurvivors flash x → (o c : ℕ) (k : CommittedPage) → committed_pages x o c ≡ Some k → IsSome (data_at flash k) }
     ensures pages { (flash : Flash) (x : Index) → HasSurvivors flash x
-        → (o c : ℕ) (xs : List ℕ) → (kept_data x flash o c ≡ Some xs) ↔ (HasSurvivor flash o c xs × (c < 2 ^ 32)) }
+        → (o c : ℕ) (xs : List ℕ) → (committed_data x flash o c ≡ Some xs) ↔ (HasSurvivor flash o c xs × (c < 2 ^ 32)) }
 {}

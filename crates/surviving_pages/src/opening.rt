@@ -21,7 +21,7 @@ use std::alloc::Global;
 /// It ends with NoMemory where memory is refused, and with Gone where the device is without power; it has read some of the tags then.
 pub fn open_surviving<N: Nand>(alloc: Global, device: &mut N) -> Result<Survivors, OpenFault>
     ensures reads { OnlyReads (N.state device.old) (N.state device.new) }
-    ensures asked { (N.state device.new).reads ≤ (N.state device.old).reads + good_pages (N.state device.old).flash (N.state device.old).geometry.pages (N.state device.old).geometry.blocks }
+    ensures issued { (N.state device.new).reads ≤ (N.state device.old).reads + good_pages (N.state device.old).flash (N.state device.old).geometry.pages (N.state device.old).geometry.blocks }
     ensures power { (N.state device.old).gone ≡ false → OnOk result ((N.state device.new).gone ≡ false) }
     ensures within { IfOk result (λ found. LiesOn (N.state device.old).geometry found.index) }
     ensures survivors { (N.state device.old).honest ≡ true → IfOk result (λ found. HasSurvivors (N.state device.old).flash found.index) }

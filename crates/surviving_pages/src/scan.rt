@@ -1,10 +1,10 @@
 // The newest pages of a device that survive.
-ghost use Rattle.std.specs.Prelude.{◌≡◌, ◌+◌, ◌<◌, true, IfOk, OnOk, if◌then◌else◌};
+ghost use Rattle.std.specs.Prelude.{◌≡◌, ◌+◌, ◌<◌, true, IfOk, OnOk};
 ghost use Rattle.mount_scan.specs.Listed.{listed};
-ghost use Rattle.mount_scan.specs.Scanned.{ReadsEach, good_pages};
-ghost use Rattle.surviving_pages.specs.Latest.{LieBelow, MayBeIndexed, HasLatestBelow, AreNewestOf};
+ghost use Rattle.mount_scan.specs.Scanned.{ReadsBlock, ReadsBlocks};
+ghost use Rattle.surviving_pages.specs.Latest.{LieBelow, MayBeIndexed, AreNewestOf};
 ghost use Rattle.surviving_pages.specs.Lost.{ListsLost, AddsLostOfBlock};
-ghost use Rattle.surviving_pages.specs.Surviving.{IsSurvivor};
+ghost use Rattle.surviving_pages.specs.Surviving.{IsSurvivor, KeepsSurvivors};
 
 use crate::block::{list_survivors, read_tags};
 use crate::lost::list_lost;
@@ -26,11 +26,10 @@ fn add_block<N: Nand>(
     lost: &mut Vec<LostPlace>,
 ) -> Result<(), ScanFault>
     requires { block < (N.state device.old).geometry.blocks }
-    ensures reads { ReadsEach (if (N.state device.old).flash.bad block then 0 else (N.state device.old).geometry.pages) (N.state device.old) (N.state device.new) result }
+    ensures reads { ReadsBlock block (N.state device.old) (N.state device.new) result }
     ensures placed { LieBelow (N.state device.old).geometry.pages block (listed found.old)
         → OnOk result (LieBelow (N.state device.old).geometry.pages (block + 1) (listed found.new)) }
-    ensures latest { (N.state device.old).honest ≡ true → HasLatestBelow (IsSurvivor (N.state device.old).flash) block (listed found.old)
-        → OnOk result (HasLatestBelow (IsSurvivor (N.state device.old).flash) (block + 1) (listed found.new)) }
+    ensures latest { KeepsSurvivors (N.state device.old) block (listed found.old) (listed found.new) result }
     ensures lost { (N.state device.old).honest ≡ true → OnOk result (AddsLostOfBlock (N.state device.old).flash block lost.old.items lost.new.items) }
 {
     if device.is_bad(block) {
@@ -49,7 +48,7 @@ pub(crate) fn find_survivors<N: Nand>(
     alloc: Global,
     device: &mut N,
 ) -> Result<(FoundPages, Vec<LostPlace>), ScanFault>
-    ensures reads { ReadsEach (good_pages (N.state device.old).flash (N.state device.old).geometry.pages (N.state device.old).geometry.blocks) (N.state device.old) (N.state device.new) result }
+    ensures reads { ReadsBlocks (N.state device.old) (N.state device.new) result }
     ensures listed { IfOk result (λ found. MayBeIndexed (N.state device.old).geometry (listed found.0)) }
     ensures newest { (N.state device.old).honest ≡ true → IfOk result (λ found. AreNewestOf (IsSurvivor (N.state device.old).flash) (listed found.0)) }
     ensures lost { (N.state device.old).honest ≡ true → IfOk result (λ found. ListsLost (N.state device.old).flash found.1.items) }

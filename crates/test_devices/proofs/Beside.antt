@@ -6,8 +6,8 @@ use Rattle.nand_model.specs.Calls.{Device}
 use Rattle.nand_model.specs.declared.geometry.Geometry.{Geometry}
 use Rattle.block_state.specs.Table.{Table, is_free}
 use Rattle.chunk_index.specs.Counts.{Recounts}
-use Rattle.chunk_index.specs.Maps.{kept_pages, kept_in, CountsAgree, Retains}
-use Rattle.chunk_index.specs.declared.form.KeptPage.{KeptPage}
+use Rattle.chunk_index.specs.Maps.{committed_pages, count_committed_in, CountsAgree, Retains}
+use Rattle.chunk_index.specs.declared.form.CommittedPage.{CommittedPage}
 use Rattle.chunk_index.specs.declared.index.Index.{Index}
 use Rattle.transactions.specs.Ready.{IsReady, IsWaiting}
 use Rattle.flash_log.specs.Standing.{MayLie, Stands}
@@ -15,15 +15,15 @@ use Rattle.test_devices.proofs.Mounting.{ready_counted}
 use Rattle.test_devices.specs.Scanned.{IsScanned}
 
 module _ (keeps : ℕ → ℕ → Bool) (d : Device) (t u : Table) (x y : Index) (is : IsScanned d t x) (retains : Retains keeps x y)
-    (counts : CountsAgree u y) (recounts : Recounts (kept_in x) (kept_in y) t u) where
-  -- what is kept was kept before
-  was_kept : (o c : ℕ) (p : KeptPage) → kept_pages y o c ≡ Some p → kept_pages x o c ≡ Some p
-  was_kept o c p at = elim (cases_Bool (keeps o c)) [
-    | inl stays ↦ sym (retains.kept o c stays) ∙ at
-    | inr goes ↦ let two : None ≡ Some p = sym (retains.kept_no_more o c goes) ∙ at in absurd cc
+    (counts : CountsAgree u y) (recounts : Recounts (count_committed_in x) (count_committed_in y) t u) where
+  -- what is committed was committed before
+  was_committed : (o c : ℕ) (p : CommittedPage) → committed_pages y o c ≡ Some p → committed_pages x o c ≡ Some p
+  was_committed o c p at = elim (cases_Bool (keeps o c)) [
+    | inl stays ↦ sym (retains.committed o c stays) ∙ at
+    | inr goes ↦ let two : None ≡ Some p = sym (retains.committed_no_more o c goes) ∙ at in absurd cc
   ]
 
-  lies : (o c : ℕ) (p : KeptPage) → MayLie t o c p → MayLie u o c p
+  lies : (o c : ℕ) (p : CommittedPage) → MayLie t o c p → MayLie u o c p
   lies o c p was = record {
     block = subst (λ (g : Geometry). p.block < g.blocks) (sym recounts.geometry) was.block;
     page = subst (λ (g : Geometry). p.page < g.pages) (sym recounts.geometry) was.page;
@@ -37,11 +37,11 @@ module _ (keeps : ℕ → ℕ → Bool) (d : Device) (t u : Table) (x y : Index)
   -- it is as after a scan
   pub scanned_still : IsScanned d u y
   scanned_still = record {
-    ready = ready_counted d (kept_in x) (kept_in y) t u recounts is.ready;
+    ready = ready_counted d (count_committed_in x) (count_committed_in y) t u recounts is.ready;
     counts = counts;
     closed = recounts.open_block ∙ is.closed;
-    newest = λ o c p at. is.newest o c p (was_kept o c p at);
-    lie = λ o c p at. lies o c p (is.lie o c p (was_kept o c p at));
+    newest = λ o c p at. is.newest o c p (was_committed o c p at);
+    lie = λ o c p at. lies o c p (is.lie o c p (was_committed o c p at));
     limits = (omega (arith, is.limits, recounts.next_group), omega (arith, is.limits, recounts.next_seq));
   }
 
@@ -52,9 +52,9 @@ good t c free = left (t.entry c).bad _ free where
   left false y is = refl
   left true y is = let two : false ≡ true = is in absurd cc
 
--- and has no kept page
-unkept : (t : Table) (c : ℕ) → is_free t c ≡ true → (t.entry c).kept ≡ 0
-unkept t c free = grind (arith, free)
+-- and has no committed page
+uncommitted : (t : Table) (c : ℕ) → is_free t c ≡ true → (t.entry c).committed ≡ 0
+uncommitted t c free = grind (arith, free)
 
 module _ (d : Device) (t : Table) (c : ℕ) (closed : t.open_block ≡ None) (free : is_free t c ≡ true) where
   -- the table in which the block is noted is ready
@@ -82,8 +82,8 @@ module _ (d : Device) (t : Table) (c : ℕ) (closed : t.open_block ≡ None) (fr
       within = λ o k p at. let was = stands.tables.within o k p at in record { block = was.block; page = was.page; name = was.name };
       fits = stands.tables.fits;
       written = stands.tables.written;
-      unkept = stands.tables.unkept;
-      apart = λ b noted. let same : c ≡ b = cc in subst (λ k. (t.entry k).kept ≡ 0) same (unkept t c free);
+      uncommitted = stands.tables.uncommitted;
+      apart = λ b noted. let same : c ≡ b = cc in subst (λ k. (t.entry k).committed ≡ 0) same (uncommitted t c free);
     };
     newest = stands.newest;
     ordinary = stands.ordinary;

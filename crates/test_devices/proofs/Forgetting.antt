@@ -8,8 +8,8 @@ use Rattle.flash_tree.specs.Newest.{Numbers}
 use Rattle.flash_tree.specs.Numbering.{AreBelow}
 use Rattle.block_state.specs.Table.{Table}
 use Rattle.chunk_index.specs.Counts.{Recounts}
-use Rattle.chunk_index.specs.Maps.{kept_pages, kept_in, present, CountsAgree, Retains}
-use Rattle.chunk_index.specs.declared.form.KeptPage.{KeptPage}
+use Rattle.chunk_index.specs.Maps.{committed_pages, count_committed_in, present, CountsAgree, Retains}
+use Rattle.chunk_index.specs.declared.form.CommittedPage.{CommittedPage}
 use Rattle.chunk_index.specs.declared.form.Present.TheVariants as presents
 use Rattle.chunk_index.specs.declared.index.Index.{Index}
 use Rattle.transactions.specs.Ready.{IsReady}
@@ -18,12 +18,12 @@ use Rattle.page_store.specs.Opened.{IsOpened, AreLeft}
 use Rattle.test_devices.specs.Keeping.{KeepsNewest}
 
 module _ (keeps : ℕ → ℕ → Bool) (d : Device) (t u : Table) (x y : Index) (n : Numbers) (opened : IsOpened d t x n) (retains : Retains keeps x y)
-    (counts : CountsAgree u y) (recounts : Recounts (kept_in x) (kept_in y) t u) where
-  -- what is kept was kept before
-  was_kept : (o c : ℕ) (p : KeptPage) → kept_pages y o c ≡ Some p → kept_pages x o c ≡ Some p
-  was_kept o c p is = elim (cases_Bool (keeps o c)) [
-    | inl stays ↦ sym (retains.kept o c stays) ∙ is
-    | inr goes ↦ let two : None ≡ Some p = sym (retains.kept_no_more o c goes) ∙ is in absurd cc
+    (counts : CountsAgree u y) (recounts : Recounts (count_committed_in x) (count_committed_in y) t u) where
+  -- what is committed was committed before
+  was_committed : (o c : ℕ) (p : CommittedPage) → committed_pages y o c ≡ Some p → committed_pages x o c ≡ Some p
+  was_committed o c p is = elim (cases_Bool (keeps o c)) [
+    | inl stays ↦ sym (retains.committed o c stays) ∙ is
+    | inr goes ↦ let two : None ≡ Some p = sym (retains.committed_no_more o c goes) ∙ is in absurd cc
   ]
 
   unbuffered : (o c i : ℕ) → present y o c ≡ presents.InBuffer i → ⊥
@@ -50,9 +50,9 @@ module _ (keeps : ℕ → ℕ → Bool) (d : Device) (t u : Table) (x y : Index)
         below = λ honest. subst (λ k. AreBelow d.flash k u.next_seq) (sym recounts.next_group) (subst (λ k. AreBelow d.flash t.next_group k) (sym recounts.next_seq) (was.below honest));
       }
 
-  lie : AreLeft n → (o c : ℕ) (p : KeptPage) → kept_pages y o c ≡ Some p → MayLie u o c p
+  lie : AreLeft n → (o c : ℕ) (p : CommittedPage) → committed_pages y o c ≡ Some p → MayLie u o c p
   lie left o c p is =
-      let was = opened.tables.lie left o c p (was_kept o c p is) in
+      let was = opened.tables.lie left o c p (was_committed o c p is) in
       record {
         block = subst (λ (g : Geometry). p.block < g.blocks) (sym recounts.geometry) was.block;
         page = subst (λ (g : Geometry). p.page < g.pages) (sym recounts.geometry) was.page;
@@ -63,14 +63,14 @@ module _ (keeps : ℕ → ℕ → Bool) (d : Device) (t u : Table) (x y : Index)
         };
       }
 
-  -- the pages that are kept still are the newest ones
+  -- the pages that are committed still are the newest ones
   pub forgotten : KeepsNewest d u y n
   forgotten = record {
     counts = counts;
     closed = closed;
     checkpoint = checkpoint;
     unbuffered = unbuffered;
-    newest = λ honest o c p is. opened.tables.newest honest o c p (was_kept o c p is);
+    newest = λ honest o c p is. opened.tables.newest honest o c p (was_committed o c p is);
     ready = ready;
     lie = lie;
   }

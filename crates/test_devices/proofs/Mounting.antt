@@ -1,4 +1,4 @@
--- From what a scan tells to the table and the index.
+-- From what a scan reports to the table and the index.
 use Rattle.std.specs.Prelude.{◌≡◌, ◌⊎◌, ◌<◌, ◌≤◌, ◌^◌, ℕ, List, length, Some, None, true, false, Contains, IsSome}
 use Rattle.std.proofs.Common.{suc, zero, refl, sym, ◌∙◌, ap, subst, inl, inr, arith, get_or}
 use Rattle.std.proofs.lemmas.Bool.{cases_eq}
@@ -13,15 +13,15 @@ use Rattle.flash_tree.specs.Newest.{Spot, IsNewest, Numbers, AreAbove, AreGreate
 use Rattle.mount_scan.specs.Copies.{copy_at}
 use Rattle.mount_scan.specs.declared.page_copy.PageCopy.{PageCopy}
 use Rattle.block_state.specs.Table.{Table}
-use Rattle.chunk_index.specs.declared.form.KeptPage.{KeptPage}
+use Rattle.chunk_index.specs.declared.form.CommittedPage.{CommittedPage}
 use Rattle.chunk_index.specs.declared.index.Index.{Index}
 use Rattle.chunk_index.specs.Counts.{Recounts}
-use Rattle.chunk_index.specs.Maps.{kept_pages, CountsAgree}
+use Rattle.chunk_index.specs.Maps.{committed_pages, CountsAgree}
 use Rattle.chunk_index.specs.Newest.{IsFoundOf, Indexes, page_of}
 use Rattle.flash_tree.specs.Numbering.{AreBelow}
 use Rattle.transactions.specs.Ready.{IsOpenOn, IsReady, IsWrittenInOrder}
-use Rattle.mount_scan.specs.Scanned.{TellsNewest, AreCopiesPlaced, IsNewestCopy, AreNewest}
-use Rattle.flash_log.specs.Standing.{IsKeptAt, MayLie, IsWithinLimits}
+use Rattle.mount_scan.specs.Scanned.{ListsNewest, AreCopiesPlaced, IsNewestCopy, AreNewest}
+use Rattle.flash_log.specs.Standing.{IsCommittedAt, MayLie, IsWithinLimits}
 use Rattle.test_devices.specs.Scanned.{IsScanned}
 
 -- one of the first n pages is of the key, or none is
@@ -48,82 +48,82 @@ one_of fs d o c (suc n) = elim (one_of fs d o c n) [
 none_found : PageCopy
 none_found = record { object = 0; chunk = 0; version = 0; seq = 0; block = 0; page = 0 }
 
--- a page of the list, which is of the key and kept
-record IsListedAs (fs : List PageCopy) (o c : ℕ) (p : KeptPage) : Type 0 where
+-- a page of the list, which is of the key and committed
+record IsListedAs (fs : List PageCopy) (o c : ℕ) (p : CommittedPage) : Type 0 where
   pub page : PageCopy
   pub has : Contains fs page
   pub object : page.object ≡ o
   pub chunk : page.chunk ≡ c
   pub is : page_of page ≡ p
 
--- what is kept of a key is one of the pages that were indexed
-kept_listed : (fs : List PageCopy) (x : Index) (o c : ℕ) (p : KeptPage) → Indexes fs (length fs) x → kept_pages x o c ≡ Some p → IsListedAs fs o c p
-kept_listed fs x o c p indexes at = elim (one_of fs none_found o c (length fs)) [
+-- what is committed of a key is one of the pages that were indexed
+committed_listed : (fs : List PageCopy) (x : Index) (o c : ℕ) (p : CommittedPage) → Indexes fs (length fs) x → committed_pages x o c ≡ Some p → IsListedAs fs o c p
+committed_listed fs x o c p indexes at = elim (one_of fs none_found o c (length fs)) [
   | inl (i, lt, of) ↦
       let f : PageCopy = get_or fs i none_found in
-      let here : kept_pages x f.object f.chunk ≡ Some (page_of f) = indexes.kept_here i none_found lt in
-      let both : Some (page_of f) ≡ Some p = sym here ∙ ap (λ k. kept_pages x k f.chunk) of.0 ∙ ap (kept_pages x o) of.1 ∙ at in
+      let here : committed_pages x f.object f.chunk ≡ Some (page_of f) = indexes.committed_here i none_found lt in
+      let both : Some (page_of f) ≡ Some p = sym here ∙ ap (λ k. committed_pages x k f.chunk) of.0 ∙ ap (committed_pages x o) of.1 ∙ at in
       record { page = f; has = Contains-get_or fs i none_found lt; object = of.0; chunk = of.1; is = cc }
   | inr none ↦
-      let absent : kept_pages x o c ≡ None = indexes.kept_elsewhere o c (λ i d lt of. none i lt
+      let absent : committed_pages x o c ≡ None = indexes.committed_elsewhere o c (λ i d lt of. none i lt
       (subst (IsFoundOf o c) (get_or_from_slice_get fs i (get_or fs i none_found) d (slice_get-get_or fs i none_found lt)) of)) in
       let both : None ≡ Some p = sym absent ∙ at in
       absurd cc
 ]
 
 -- what was answers before reads is answers after them
-pub tells_read : (old new : Device) (fs : List PageCopy) → OnlyReads old new → old.honest ≡ true → TellsNewest old fs → TellsNewest new fs
-tells_read old new fs reads honest tells =
+pub reports_read : (old new : Device) (fs : List PageCopy) → OnlyReads old new → old.honest ≡ true → ListsNewest old fs → ListsNewest new fs
+reports_read old new fs reads honest reports =
     let page = reads.page honest in
     let same : new.flash ≡ old.flash = λ i. record { bad = reads.bad i; next = reads.next i; page = page i } in
     record {
-      placed = subst (λ (g : Geometry). AreCopiesPlaced g.blocks g.pages fs) (sym reads.lasts.geometry) tells.placed;
-      low = tells.low;
-      order = tells.order;
-      exact = λ _. subst (λ (f : Flash). AreNewest f fs) (sym same) (tells.exact honest);
+      placed = subst (λ (g : Geometry). AreCopiesPlaced g.blocks g.pages fs) (sym reads.lasts.geometry) reports.placed;
+      low = reports.low;
+      order = reports.order;
+      exact = λ _. subst (λ (f : Flash). AreNewest f fs) (sym same) (reports.exact honest);
     }
 
--- What was scanned, indexed and counted.
+-- What was scanned, indexed and in the count.
 pub record IsIndexed (d : Device) (t : Table) (x : Index) (fs : List PageCopy) : Type 0 where
   pub honest : d.honest ≡ true
   pub ready : IsReady d t
-  pub tells : TellsNewest d fs
+  pub reports : ListsNewest d fs
   pub indexes : Indexes fs (length fs) x
   pub counts : CountsAgree t x
   pub closed : t.open_block ≡ None
   pub limits : IsWithinLimits t
 
 module _ (d : Device) (t : Table) (x : Index) (fs : List PageCopy) (is : IsIndexed d t x fs) where
-  -- what is kept is the copy of a newest page
-  newest_of : (o c : ℕ) (p : KeptPage) → IsListedAs fs o c p → (s : Spot) × IsNewest d.flash o c s × (page_of (copy_at s) ≡ p)
+  -- what is committed is the copy of a newest page
+  newest_of : (o c : ℕ) (p : CommittedPage) → IsListedAs fs o c p → (s : Spot) × IsNewest d.flash o c s × (page_of (copy_at s) ≡ p)
   newest_of o c p listed =
-      let is : IsNewestCopy d.flash listed.page = (is.tells.exact is.honest).only listed.page listed.has in (
+      let is : IsNewestCopy d.flash listed.page = (is.reports.exact is.honest).only listed.page listed.has in (
         is.spot,
         subst (λ k. IsNewest d.flash o k is.spot) listed.chunk (subst (λ k. IsNewest d.flash k listed.page.chunk is.spot) listed.object is.newest),
         ap page_of is.copied ∙ listed.is,
       )
 
-  kept_at : (o c : ℕ) (p : KeptPage) → IsListedAs fs o c p → IsKeptAt d.flash o c p
-  kept_at o c p listed =
+  committed_at : (o c : ℕ) (p : CommittedPage) → IsListedAs fs o c p → IsCommittedAt d.flash o c p
+  committed_at o c p listed =
       let (s, newest, same) = newest_of o c p listed in
-      subst (IsKeptAt d.flash o c) same (record { tag = s.tag; newest = newest; version = refl })
+      subst (IsCommittedAt d.flash o c) same (record { tag = s.tag; newest = newest; version = refl })
 
-  may_lie : (o c : ℕ) (p : KeptPage) → IsListedAs fs o c p → MayLie t o c p
+  may_lie : (o c : ℕ) (p : CommittedPage) → IsListedAs fs o c p → MayLie t o c p
   may_lie o c p listed =
       let (s, newest, same) = newest_of o c p listed in
       let f : PageCopy = listed.page in
-      let place : (f.block < d.geometry.blocks) × (f.page < d.geometry.pages) = All-contains (λ (g : PageCopy). (g.block < d.geometry.blocks) × (g.page < d.geometry.pages)) fs f is.tells.placed listed.has in
+      let place : (f.block < d.geometry.blocks) × (f.page < d.geometry.pages) = All-contains (λ (g : PageCopy). (g.block < d.geometry.blocks) × (g.page < d.geometry.pages)) fs f is.reports.placed listed.has in
       let held = newest.holds in
       let good : d.flash.bad s.block ≡ false = ap d.flash.bad held.block ∙ held.whole.good in
       let below = is.ready.below is.honest s.block s.page s.tag good held.has in
       let valid : IsTag s.tag = held.has.valid in
       record {
-        block = subst (λ (g : Geometry). p.block < g.blocks) (sym is.ready.geometry) (subst (λ (q : KeptPage). q.block < d.geometry.blocks) listed.is place.0);
-        page = subst (λ (g : Geometry). p.page < g.pages) (sym is.ready.geometry) (subst (λ (q : KeptPage). q.page < d.geometry.pages) listed.is place.1);
+        block = subst (λ (g : Geometry). p.block < g.blocks) (sym is.ready.geometry) (subst (λ (q : CommittedPage). q.block < d.geometry.blocks) listed.is place.0);
+        page = subst (λ (g : Geometry). p.page < g.pages) (sym is.ready.geometry) (subst (λ (q : CommittedPage). q.page < d.geometry.pages) listed.is place.1);
         name = record {
           object = subst (λ k. (1 ≤ k) × (k < 2 ^ 64)) held.object valid.object;
           chunk = subst (λ k. k < 2 ^ 64) held.chunk valid.chunk;
-          version = subst (λ (q : KeptPage). (1 ≤ q.version) × (q.version ≤ t.next_group)) same (valid.version.0, omega (arith, below));
+          version = subst (λ (q : CommittedPage). (1 ≤ q.version) × (q.version ≤ t.next_group)) same (valid.version.0, omega (arith, below));
         };
       }
 
@@ -132,8 +132,8 @@ module _ (d : Device) (t : Table) (x : Index) (fs : List PageCopy) (is : IsIndex
     ready = is.ready;
     counts = is.counts;
     closed = is.closed;
-    newest = λ o c p at. kept_at o c p (kept_listed fs x o c p is.indexes at);
-    lie = λ o c p at. may_lie o c p (kept_listed fs x o c p is.indexes at);
+    newest = λ o c p at. committed_at o c p (committed_listed fs x o c p is.indexes at);
+    lie = λ o c p at. may_lie o c p (committed_listed fs x o c p is.indexes at);
     limits = is.limits;
   }
 
@@ -144,7 +144,7 @@ above_read old new n reads honest greatest =
     let same : new.flash ≡ old.flash = λ i. record { bad = reads.bad i; next = reads.next i; page = page i } in
     subst (λ (f : Flash). AreAbove f n) (sym same) greatest.above
 
--- a table stays ready whose kept pages are counted anew
+-- a table stays ready whose committed pages are in the count anew
 pub ready_counted : (d : Device) (before after : ℕ → ℕ) (t u : Table) → Recounts before after t u → IsReady d t → IsReady d u
 ready_counted d before after t u counts ready = record {
   geometry = counts.geometry ∙ ready.geometry;
@@ -166,13 +166,13 @@ ready_counted d before after t u counts ready = record {
   below = λ honest. subst (λ n. AreBelow d.flash n u.next_seq) (sym counts.next_group) (subst (λ n. AreBelow d.flash t.next_group n) (sym counts.next_seq) (ready.below honest));
 }
 
--- each key with a newest page is kept
-pub all_kept : (d : Device) (fs : List PageCopy) (x : Index) → d.honest ≡ true → TellsNewest d fs → Indexes fs (length fs) x
-    → (o c : ℕ) (s : Spot) → c < 2 ^ 32 → IsNewest d.flash o c s → IsSome (kept_pages x o c)
-all_kept d fs x honest tells indexes o c s low newest =
-    let has : Contains fs (copy_at s) = (tells.exact honest).each o c s low newest in
+-- each key with a newest page is committed
+pub all_committed : (d : Device) (fs : List PageCopy) (x : Index) → d.honest ≡ true → ListsNewest d fs → Indexes fs (length fs) x
+    → (o c : ℕ) (s : Spot) → c < 2 ^ 32 → IsNewest d.flash o c s → IsSome (committed_pages x o c)
+all_committed d fs x honest reports indexes o c s low newest =
+    let has : Contains fs (copy_at s) = (reports.exact honest).each o c s low newest in
     let there : get_or fs has.0 (copy_at s) ≡ copy_at s = has.2 in
-    let here = indexes.kept_here has.0 (copy_at s) has.1 in
-    let at : kept_pages x s.tag.object s.tag.chunk ≡ Some (page_of (copy_at s)) = subst (λ (f : PageCopy). kept_pages x f.object f.chunk ≡ Some (page_of f)) there here in
-    let is : kept_pages x o c ≡ Some (page_of (copy_at s)) = sym (ap (λ k. kept_pages x k s.tag.chunk) newest.holds.object ∙ ap (kept_pages x o) newest.holds.chunk) ∙ at in
+    let here = indexes.committed_here has.0 (copy_at s) has.1 in
+    let at : committed_pages x s.tag.object s.tag.chunk ≡ Some (page_of (copy_at s)) = subst (λ (f : PageCopy). committed_pages x f.object f.chunk ≡ Some (page_of f)) there here in
+    let is : committed_pages x o c ≡ Some (page_of (copy_at s)) = sym (ap (λ k. committed_pages x k s.tag.chunk) newest.holds.object ∙ ap (committed_pages x o) newest.holds.chunk) ∙ at in
     subst IsSome (sym is) refl

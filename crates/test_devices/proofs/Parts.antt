@@ -27,7 +27,7 @@ part_by_tag f s i t has = (
 pub no_part : (f : Flash) (s : Spot) (i : ℕ) → ((t : Tag) → HasTag f s.block (s.page - s.tag.index + i) t → ⊥) → IsPart f (group_of s) i → ⊥
 no_part f s i none part = none part.tag part.has
 
--- an answer that tells of a part as the tag does
-pub told_by_tag : (f : Flash) (s : Spot) (i : ℕ) (t : Tag) (answers : Bool) → HasTag f s.block (s.page - s.tag.index + i) t
+-- an answer that reports on a part as the tag does
+pub reported_by_tag : (f : Flash) (s : Spot) (i : ℕ) (t : Tag) (answers : Bool) → HasTag f s.block (s.page - s.tag.index + i) t
     → (IsTrue answers ↔ IsPartTag t s.tag i) → IsTrue answers ↔ IsPart f (group_of s) i
-told_by_tag f s i t answers has is = let by_tag = part_by_tag f s i t has in (λ told_so. by_tag.0 (is.0 told_so), λ part. is.1 (by_tag.1 part))
+reported_by_tag f s i t answers has is = let by_tag = part_by_tag f s i t has in (λ reported_so. by_tag.0 (is.0 reported_so), λ part. is.1 (by_tag.1 part))

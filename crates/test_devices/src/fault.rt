@@ -7,9 +7,9 @@ use std::alloc::AllocError;
 pub enum LogFault {
     NoMemory,
     Gone,
-    /// No number is left, more blocks are bad than there are to spare, or too few are without a kept page.
+    /// No number is left, more blocks are bad than there are to spare, or too few are without a committed page.
     Worn,
-    /// The block that was said to have a checkpoint is not on the device, bad, or has a kept page.
+    /// The block that was said to have a checkpoint is not on the device, bad, or has a committed page.
     NotFree,
 }
 

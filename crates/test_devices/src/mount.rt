@@ -4,7 +4,7 @@ ghost use Rattle.nand_model.specs.MemoryState.{device};
 ghost use Rattle.nand_model.specs.Changes.{OnlyReads};
 ghost use Rattle.block_state.specs.TableOf.{table};
 ghost use Rattle.flash_tree.specs.Newest.{Spot, IsNewest};
-ghost use Rattle.chunk_index.specs.Maps.{kept_pages};
+ghost use Rattle.chunk_index.specs.Maps.{committed_pages};
 ghost use Rattle.flash_log.specs.LogOf.{HasReserve};
 ghost use Rattle.flash_log.specs.Room.{IsRoomFor};
 ghost use Rattle.test_devices.specs.Scanned.{IsScanned};
@@ -34,7 +34,7 @@ struct Scanned {
 fn scan_log(alloc: Global, nand: &mut MemNand) -> Result<Scanned, LogFault>
     ensures reads { OnlyReads (device nand.old) (device nand.new) }
     ensures scanned { IfOk result (λ log. IsScanned (device nand.new) (table log.blocks) log.index) }
-    ensures all { IfOk result (λ log. (o c : ℕ) (s : Spot) → c < 2 ^ 32 → IsNewest (device nand.new).flash o c s → IsSome (kept_pages log.index o c)) }
+    ensures all { IfOk result (λ log. (o c : ℕ) (s : Spot) → c < 2 ^ 32 → IsNewest (device nand.new).flash o c s → IsSome (committed_pages log.index o c)) }
     ensures room { IfOk result (λ log. IsRoomFor (device nand.new).geometry log.room) }
 {
     let found = scan_newest(alloc, nand)?;
@@ -56,7 +56,7 @@ pub fn mount_log(alloc: Global, nand: MemNand, spare: u32) -> Result<Log<MemNand
     ensures reads { IfOk result (λ log. OnlyReads (device nand) (device log.device)) }
     ensures reserve { IfOk result HasReserve }
     ensures spare { IfOk result (λ log. log.spare ≡ spare) }
-    ensures all { IfOk result (λ log. (o c : ℕ) (s : Spot) → c < 2 ^ 32 → IsNewest (device log.device).flash o c s → IsSome (kept_pages log.index o c)) }
+    ensures all { IfOk result (λ log. (o c : ℕ) (s : Spot) → c < 2 ^ 32 → IsNewest (device log.device).flash o c s → IsSome (committed_pages log.index o c)) }
 {
     let mut nand = nand;
     let found = scan_log(alloc, &mut nand)?;

@@ -2,7 +2,7 @@
 ghost use Rattle.std.specs.Prelude.{◌<◌, ◌≤◌, ℕ, IfOk, IsTrue, true};
 ghost use Rattle.nand_model.specs.Calls.{Device};
 ghost use Rattle.flash_tree.specs.Places.{numbers_of};
-ghost use Rattle.block_state.specs.Kept.{bad_count};
+ghost use Rattle.block_state.specs.Committed.{bad_count};
 ghost use Rattle.block_state.specs.TableOf.{table};
 ghost use Rattle.chunk_index.specs.Maps.{CountsAgree};
 ghost use Rattle.transactions.specs.Ready.{IsReady};
@@ -52,12 +52,12 @@ fn forget<F: KeyFilter>(opened: &mut Opened, filter: &F)
     opened.index.retain(filter, &mut opened.blocks);
 }
 
-/// Whether no block has more kept pages than it has pages.
+/// Whether no block has more committed pages than it has pages.
 fn fit(blocks: &Blocks) -> bool
-    ensures { IsTrue result → (b : ℕ) → b < (table blocks.now).geometry.blocks → ((table blocks.now).entry b).kept ≤ (table blocks.now).geometry.pages }
+    ensures { IsTrue result → (b : ℕ) → b < (table blocks.now).geometry.blocks → ((table blocks.now).entry b).committed ≤ (table blocks.now).geometry.pages }
 {
     for block in 0..blocks.geometry().blocks() {
-        if blocks.entry(block).kept > blocks.geometry().pages() {
+        if blocks.entry(block).committed > blocks.geometry().pages() {
             return false;
         }
     }
@@ -73,7 +73,7 @@ fn has_free(blocks: &Blocks, spare: u32) -> bool
     bad <= spare && u64::from(free) + u64::from(bad) > u64::from(spare)
 }
 
-/// Whether no page of the object of checkpoints is kept.
+/// Whether no page of the object of checkpoints is committed.
 fn keeps_ordinary(index: &Index) -> bool
     ensures { IsTrue result → KeepsOrdinary index.now }
 {
@@ -81,11 +81,11 @@ fn keeps_ordinary(index: &Index) -> bool
         object: CHECK_OBJECT - 1,
         chunk: u64::MAX,
     };
-    index.next_kept(Some(last)).is_none()
+    index.next_committed(Some(last)).is_none()
 }
 
-/// Whether there is what a store with so many blocks to spare needs: numbers are left, no block has too many kept pages, no
-/// more blocks are bad than are to spare, blocks enough are free, and no page of a checkpoint is kept.
+/// Whether there is what a store with so many blocks to spare needs: numbers are left, no block has too many committed pages, no
+/// more blocks are bad than are to spare, blocks enough are free, and no page of a checkpoint is committed.
 fn may_stand(opened: &Opened, spare: u32) -> bool
     ensures ready { IsTrue result → (d : Device) → KeepsNewest d (table opened.now.blocks) opened.now.index (numbers_of opened.now.numbers)
         → IsReady d (table opened.now.blocks) }
@@ -108,7 +108,7 @@ fn may_stand(opened: &Opened, spare: u32) -> bool
 
 /// A store of the newest pages of a device, of the keys that a filter keeps, with so many blocks to spare and so many pages
 /// in the cache.
-pub fn open_kept<N: Nand + Drop, F: KeyFilter>(
+pub fn open_committed<N: Nand + Drop, F: KeyFilter>(
     alloc: Global,
     mut device: N,
     filter: &F,
@@ -138,5 +138,5 @@ pub fn open_each<N: Nand + Drop>(
     spare: u32,
     capacity: NonZeroUsize,
 ) -> Result<Store<N>, StandFault> {
-    open_kept(alloc, device, &OrdinaryKeys, spare, capacity)
+    open_committed(alloc, device, &OrdinaryKeys, spare, capacity)
 }

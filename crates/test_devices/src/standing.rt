@@ -1,9 +1,9 @@
 // Whether a log may be used.
 ghost use Rattle.std.specs.Prelude.{◌≡◌, ◌<◌, ◌≤◌, ℕ, IsTrue};
 ghost use Rattle.nand_model.specs.Calls.{Device};
-ghost use Rattle.block_state.specs.Kept.{bad_count};
+ghost use Rattle.block_state.specs.Committed.{bad_count};
 ghost use Rattle.block_state.specs.TableOf.{table};
-ghost use Rattle.flash_log.specs.Taking.{HasUnkept};
+ghost use Rattle.flash_log.specs.Taking.{HasUncommitted};
 ghost use Rattle.flash_log.specs.Standing.{KeepsOrdinary, Stands};
 ghost use Rattle.test_devices.specs.Scanned.{IsScanned};
 
@@ -11,12 +11,12 @@ use block_state::Blocks;
 use chunk_index::Index;
 use flash_tree::{CHECK_OBJECT, Key};
 
-/// Whether no block has more kept pages than it has pages.
+/// Whether no block has more committed pages than it has pages.
 fn fit(blocks: &Blocks) -> bool
-    ensures { IsTrue result → (b : ℕ) → b < (table blocks.now).geometry.blocks → ((table blocks.now).entry b).kept ≤ (table blocks.now).geometry.pages }
+    ensures { IsTrue result → (b : ℕ) → b < (table blocks.now).geometry.blocks → ((table blocks.now).entry b).committed ≤ (table blocks.now).geometry.pages }
 {
     for block in 0..blocks.geometry().blocks() {
-        if blocks.entry(block).kept > blocks.geometry().pages() {
+        if blocks.entry(block).committed > blocks.geometry().pages() {
             return false;
         }
     }
@@ -24,8 +24,8 @@ fn fit(blocks: &Blocks) -> bool
 }
 
 /// Whether no block is open, none may have a checkpoint, no more are bad than these, and blocks enough are free.
-pub fn has_unkept(blocks: &Blocks, spare: u32) -> bool
-    ensures { IsTrue result → HasUnkept (table blocks.now) spare }
+pub fn has_uncommitted(blocks: &Blocks, spare: u32) -> bool
+    ensures { IsTrue result → HasUncommitted (table blocks.now) spare }
 {
     if blocks.open_block().is_some() {
         return false;
@@ -37,7 +37,7 @@ pub fn has_unkept(blocks: &Blocks, spare: u32) -> bool
     bad <= spare && u64::from(free) + u64::from(bad) > u64::from(spare)
 }
 
-/// Whether no page of the object of checkpoints is kept.
+/// Whether no page of the object of checkpoints is committed.
 fn keeps_ordinary(index: &Index) -> bool
     ensures { IsTrue result → KeepsOrdinary index.now }
 {
@@ -45,14 +45,14 @@ fn keeps_ordinary(index: &Index) -> bool
         object: CHECK_OBJECT - 1,
         chunk: u64::MAX,
     };
-    index.next_kept(Some(last)).is_none()
+    index.next_committed(Some(last)).is_none()
 }
 
-/// Whether what a scan found may be used with so many blocks to spare: no block has too many kept pages, no more are bad
-/// than are to spare, blocks enough are free, and no page of a checkpoint is kept.
+/// Whether what a scan found may be used with so many blocks to spare: no block has too many committed pages, no more are bad
+/// than are to spare, blocks enough are free, and no page of a checkpoint is committed.
 pub(crate) fn may_stand(blocks: &Blocks, index: &Index, spare: u32) -> bool
     ensures stands { IsTrue result → (d : Device) → IsScanned d (table blocks.now) index.now → Stands spare d (table blocks.now) index.now }
     ensures few { IsTrue result → bad_count (table blocks.now) ≤ spare }
 {
-    fit(blocks) && has_unkept(blocks, spare) && keeps_ordinary(index)
+    fit(blocks) && has_uncommitted(blocks, spare) && keeps_ordinary(index)
 }

@@ -27,8 +27,8 @@ tag_not_erased f b p t has is = let no : Written has.bytes (tag_bytes t) ≡ Era
 pub tag_not_lost : (f : Flash) (b p : ℕ) (t : Tag) → HasTag f b p t → f.page b p ≢ Uncorrectable
 tag_not_lost f b p t has is = let no : Written has.bytes (tag_bytes t) ≡ Uncorrectable = sym has.page ∙ is in cc
 
-pub tag_kept : (f h : Flash) (b p : ℕ) (t : Tag) → HasTag f b p t → h.page b p ≡ f.page b p → HasTag h b p t
-tag_kept f h b p t has same = record { bytes = has.bytes; page = same ∙ has.page; valid = has.valid }
+pub tag_committed : (f h : Flash) (b p : ℕ) (t : Tag) → HasTag f b p t → h.page b p ≡ f.page b p → HasTag h b p t
+tag_committed f h b p t has same = record { bytes = has.bytes; page = same ∙ has.page; valid = has.valid }
 
 -- pages that only grow keep their groups
 pub groups_grow : (old new : Flash) → new.bad ≡ old.bad → Grows old new → (g : Group) → IsGroup old g → IsGroup new g
@@ -39,7 +39,7 @@ groups_grow old new bad grows g whole = record {
       let part : IsPart old g i = whole.each i lt in
       record {
         tag = part.tag;
-        has = tag_kept old new _ _ _ part.has (grows _ _ (tag_not_erased _ _ _ _ part.has));
+        has = tag_committed old new _ _ _ part.has (grows _ _ (tag_not_erased _ _ _ _ part.has));
         index = part.index;
         count = part.count;
         group = part.group;
@@ -96,7 +96,7 @@ module _ (g : Group) (name : ℕ → PageName) (bytes : ℕ → List ℕ) (old n
   -- a tag of another group is an old one
   old_tag : (l : ℕ) (t : Tag) → HasTag new g.block l t → t.group ≢ g.number → HasTag old g.block l t
   old_tag l t has ne = elim (place l) [
-    | inl same ↦ tag_kept new old _ _ _ has (sym same)
+    | inl same ↦ tag_committed new old _ _ _ has (sym same)
     | inr at ↦
         let has' : HasTag new g.block (g.start + at.0) t = subst (λ n. HasTag new g.block n t) at.2 has in
         let is : t ≡ tag at.0 = (here at.0 t at.1 has').1 in
@@ -111,7 +111,7 @@ module _ (g : Group) (name : ℕ → PageName) (bytes : ℕ → List ℕ) (old n
         let part : IsPart new x i = whole.each i lt in
         record {
           tag = part.tag;
-          has = tag_kept new old _ _ _ part.has (sym (wrote.others _ _ ne));
+          has = tag_committed new old _ _ _ part.has (sym (wrote.others _ _ ne));
           index = part.index;
           count = part.count;
           group = part.group;
@@ -144,7 +144,7 @@ module _ (g : Group) (name : ℕ → PageName) (bytes : ℕ → List ℕ) (old n
       let first : x.start + 0 ≡ x.start = omega arith in
       let has : HasTag new g.block x.start part.tag = subst (λ k. HasTag new k x.start part.tag) e (subst (λ k. HasTag new x.block k part.tag) first part.has) in
       elim (place x.start) [
-        | inl same ↦ absurd (fresh x.start part.tag (tag_kept new old _ _ _ has (sym same)) (part.group ∙ n))
+        | inl same ↦ absurd (fresh x.start part.tag (tag_committed new old _ _ _ has (sym same)) (part.group ∙ n))
         | inr at ↦
             let has' : HasTag new g.block (g.start + at.0) part.tag = subst (λ k. HasTag new g.block k part.tag) at.2 has in
             let is : part.tag ≡ tag at.0 = (here at.0 part.tag at.1 has').1 in
@@ -201,12 +201,12 @@ module _ (g : Group) (name : ℕ → PageName) (bytes : ℕ → List ℕ) (old n
   below_after seq lt below b p t good has =
       let was_good : old.bad b ≡ false = ap (λ f. f b) (sym wrote.bad) ∙ good in
       elim (cases_eq b g.block) [
-        | inr ne ↦ let old_below = below b p t was_good (tag_kept new old _ _ _ has (sym (wrote.others b p ne))) in (omega (arith, old_below), omega (arith, old_below), old_below.2)
+        | inr ne ↦ let old_below = below b p t was_good (tag_committed new old _ _ _ has (sym (wrote.others b p ne))) in (omega (arith, old_below), omega (arith, old_below), old_below.2)
         | inl e ↦
             let at_g : HasTag new g.block p t = subst (λ k. HasTag new k p t) e has in
             let good_g : old.bad g.block ≡ false = ap old.bad (sym e) ∙ was_good in
             elim (place p) [
-              | inl same ↦ let old_below = below g.block p t good_g (tag_kept new old _ _ _ at_g (sym same)) in (omega (arith, old_below), omega (arith, old_below), old_below.2)
+              | inl same ↦ let old_below = below g.block p t good_g (tag_committed new old _ _ _ at_g (sym same)) in (omega (arith, old_below), omega (arith, old_below), old_below.2)
               | inr at ↦
                   let has' : HasTag new g.block (g.start + at.0) t = subst (λ n. HasTag new g.block n t) at.2 at_g in
                   let is : t ≡ tag at.0 = (here at.0 t at.1 has').1 in

@@ -15,11 +15,11 @@ use Rattle.transactions.specs.declared.page.LastPage.{LastPage}
 use Rattle.transactions.specs.declared.page.LastPage.TheVariants as lasts
 use Rattle.transactions.specs.Written.{Progress, StopsBy, WritesOne, WritesLast, LastEnds, LastNext, LastLeaves, WritesAll, AllEnds, AllLeaves, IsAsked, IsNothing, OneLacks, tag_in, page_in, unwritten}
 
--- a page that is not written is not the page that was asked for
+-- a page that is not written is not the page that was wanted for
 nothing_asked : (g : Group) (name : ℕ → PageName) (bytes : ℕ → List ℕ) (k : ℕ) (page : Page) → IsNothing page → page ≢ page_in g name bytes k
-nothing_asked g name bytes k page nothing asked = elim nothing [
-  | inl is ↦ let two : Erased ≡ page_in g name bytes k = sym is ∙ asked in cc
-  | inr is ↦ let two : Uncorrectable ≡ page_in g name bytes k = sym is ∙ asked in cc
+nothing_asked g name bytes k page nothing issued = elim nothing [
+  | inl is ↦ let two : Erased ≡ page_in g name bytes k = sym is ∙ issued in cc
+  | inr is ↦ let two : Uncorrectable ≡ page_in g name bytes k = sym is ∙ issued in cc
 ]
 
 -- what is known of why a page stopped is known of the group
@@ -68,7 +68,7 @@ module _ (old mid new : Device) (g : Group) (name : ℕ → PageName) (bytes byt
   asked_same : old.honest ≡ true → (page : Page) → IsAsked g name bytes' i page → IsAsked g name bytes i page
   asked_same h page is = (is.0 ∙ page_same h, is.1)
 
-  -- where no change was counted no page was written
+  -- where there was no change no page was written
   still_yet : (mid.honest ≡ true → new.changes ≡ mid.changes → (k l : ℕ) → new.flash.page k l ≡ mid.flash.page k l) → Lasts mid new
       → old.honest ≡ true → new.changes ≡ old.changes → (k l : ℕ) → new.flash.page k l ≡ old.flash.page k l
   still_yet still lasts h same k l =
@@ -107,7 +107,7 @@ module _ (old mid new : Device) (g : Group) (name : ℕ → PageName) (bytes byt
         let apart : g.start + k ≢ g.start + i = omega arith in
         same_block h _ apart ∙ so_far.rest h _ (omega arith) ∙ erased h _ (omega arith)
 
-    -- a place before it is as asked
+    -- a place before it is as wanted
     earlier : old.honest ≡ true → (k : ℕ) → k < i → IsAsked g name bytes k (new.flash.page g.block (g.start + k))
     earlier h k less =
         let apart : g.start + k ≢ g.start + i = omega arith in
@@ -206,10 +206,10 @@ module _ (old mid new : Device) (g : Group) (name : ℕ → PageName) (bytes byt
       left : old.honest ≡ true → (result : Result LastPage GroupFault) → LastLeaves g name bytes' i result (new.flash.page g.block (g.start + i))
           → IsAsked g name bytes i (new.flash.page g.block (g.start + i)) ⊎ IsNothing (new.flash.page g.block (g.start + i))
       left h (Ok last) is = inl (asked_same h _ is)
-      left h (Err faults.NoRoom) is = elim is [ inl asked ↦ inl (asked_same h _ asked) | inr lost ↦ inr lost ]
+      left h (Err faults.NoRoom) is = elim is [ inl issued ↦ inl (asked_same h _ issued) | inr lost ↦ inr lost ]
       left h (Err faults.Failed) is = inr is
-      left h (Err faults.Lost) is = elim is [ inl asked ↦ inl (asked_same h _ asked) | inr lost ↦ inr lost ]
-      left h (Err faults.Gone) is = elim is [ inl asked ↦ inl (asked_same h _ asked) | inr lost ↦ inr lost ]
+      left h (Err faults.Lost) is = elim is [ inl issued ↦ inl (asked_same h _ issued) | inr lost ↦ inr lost ]
+      left h (Err faults.Gone) is = elim is [ inl issued ↦ inl (asked_same h _ issued) | inr lost ↦ inr lost ]
 
       lacking : IsNothing (new.flash.page g.block (g.start + i)) → OneLacks g name bytes new.flash
       lacking lost = (i, omega (arith, end), nothing_asked g name bytes i _ lost)
@@ -217,7 +217,7 @@ module _ (old mid new : Device) (g : Group) (name : ℕ → PageName) (bytes byt
       leaves : old.honest ≡ true → (result : Result LastPage GroupFault) → LastLeaves g name bytes' i result (new.flash.page g.block (g.start + i))
           → (IsAsked g name bytes i (new.flash.page g.block (g.start + i)) → AllThere g (tag_in g name) bytes new.flash) → AllLeaves g name bytes new.flash result
       leaves h (Ok last) is all = all (asked_same h _ is)
-      leaves h (Err faults.NoRoom) is all = elim is [ inl asked ↦ inl (all (asked_same h _ asked)) | inr lost ↦ inr (lacking lost) ]
+      leaves h (Err faults.NoRoom) is all = elim is [ inl issued ↦ inl (all (asked_same h _ issued)) | inr lost ↦ inr (lacking lost) ]
       leaves h (Err faults.Failed) is all = lacking is
-      leaves h (Err faults.Lost) is all = elim is [ inl asked ↦ inl (all (asked_same h _ asked)) | inr lost ↦ inr (lacking lost) ]
-      leaves h (Err faults.Gone) is all = elim is [ inl asked ↦ inl (all (asked_same h _ asked)) | inr lost ↦ inr (lacking lost) ]
+      leaves h (Err faults.Lost) is all = elim is [ inl issued ↦ inl (all (asked_same h _ issued)) | inr lost ↦ inr (lacking lost) ]
+      leaves h (Err faults.Gone) is all = elim is [ inl issued ↦ inl (all (asked_same h _ issued)) | inr lost ↦ inr (lacking lost) ]

@@ -32,7 +32,7 @@ use Rattle.transactions.specs.Naming.{AreOrdinary, BeginsOther}
 use Rattle.transactions.specs.Written.{WritesAll, AllEnds, AllLeaves, LastNext, TableAfter, MayWrite, group_at, tag_in, stays_open, is_suspect}
 use Rattle.transactions.specs.declared.group.Placed.{Placed}
 use Rattle.transactions.specs.Groups.{next_group, AddsPages, GroupsAfter, GroupEnds, OkTable, TableEnds, TakesPages, Stays, BelowAfter, WritesOpen}
-use Rattle.transactions.proofs.GroupLaws.{IsFresh, is_added, is_not_added, wrote_grows, below_after, written_tag, tag_kept, tag_not_erased, tag_not_lost}
+use Rattle.transactions.proofs.GroupLaws.{IsFresh, is_added, is_not_added, wrote_grows, below_after, written_tag, tag_committed, tag_not_erased, tag_not_lost}
 
 -- the table with the group number handed out
 abbrev pub numbered : Table → Table
@@ -130,7 +130,7 @@ module _ (old : Device) (t : Table) (count : ℕ) (place : GroupPlace) (ready : 
     tag_place : old.honest ≡ true → (l : ℕ) (u : Tag) → HasTag new.flash place.block l u
         → ((l < place.first) × HasTag old.flash place.block l u) ⊎ ((i : ℕ) × (i < place.count) × (l ≡ place.first + i) × (u ≡ tag_in (group_at place) name i))
     tag_place h l u has = elim (cases_lt l place.first) [
-      | inl before ↦ inl (before, tag_kept new.flash old.flash _ _ _ has (sym ((all.wrote h).outside l (inl before))))
+      | inl before ↦ inl (before, tag_committed new.flash old.flash _ _ _ has (sym ((all.wrote h).outside l (inl before))))
       | inr from ↦ elim (cases_lt l (place.first + place.count)) [
         | inr after ↦ absurd (tag_not_erased new.flash _ _ _ has ((all.wrote h).outside l (inr after) ∙ erased h l from))
         | inl within ↦
@@ -169,9 +169,9 @@ module _ (old : Device) (t : Table) (count : ℕ) (place : GroupPlace) (ready : 
               tag_not_erased new.flash _ _ _ has (ap (new.flash.page place.block) here ∙ blank)
           | inr later ↦
               let has' : HasTag new.flash place.block (place.first + is.0) u = subst (λ n. HasTag new.flash place.block n u) is.2 has in
-              let asked = (all.order h is.0 0 (omega (arith, later)) (tag_not_erased new.flash _ _ _ has')).0 in
+              let issued = (all.order h is.0 0 (omega (arith, later)) (tag_not_erased new.flash _ _ _ has')).0 in
               let here : place.first + 0 ≡ 0 = omega (arith, zero) in
-              let two : Written (bytes 0) (tag_bytes (tag_in (group_at place) name 0)) ≡ Erased = sym asked ∙ ap (new.flash.page place.block) here ∙ blank in
+              let two : Written (bytes 0) (tag_bytes (tag_in (group_at place) name 0)) ≡ Erased = sym issued ∙ ap (new.flash.page place.block) here ∙ blank in
               cc
         ]
       ]
@@ -273,7 +273,7 @@ module _ (old : Device) (t : Table) (count : ℕ) (place : GroupPlace) (ready : 
             below = λ h. subst (λ n. AreBelow new.flash n t'.next_seq) (sym sets.next_group) (subst (λ n. AreBelow new.flash (t.next_group + 1) n) (sym seq) (numbers_below h));
           }
 
-    -- with power an honest device counted a change
+    -- with power an honest device in the count a change
     counts : (result : Result LastPage GroupFault) → AllEnds old new place.count result → old.honest ≡ true → new.gone ≡ false → 1 + old.changes ≤ new.changes
     counts (Ok lasts.Done) ends honest power = omega (arith, ends.2, some)
     counts (Ok lasts.Suspect) ends honest power = omega (arith, ends.2, some)
@@ -283,9 +283,9 @@ module _ (old : Device) (t : Table) (count : ℕ) (place : GroupPlace) (ready : 
     counts (Err faults.Gone) ends honest power = let two : true ≡ false = sym ends ∙ power in absurd cc
 
     below_written : old.honest ≡ true → (more : ℕ) → new.changes ≡ old.changes + more → AreBelow new.flash (t.next_group + more) (t.next_seq + more)
-    below_written honest more counted = elim (cases_eq more 0) [
+    below_written honest more totaled = elim (cases_eq more 0) [
       | inl none ↦ λ b p u good_block has.
-          let page : new.flash.page b p ≡ old.flash.page b p = all.still honest (omega (arith, counted, none)) b p in
+          let page : new.flash.page b p ≡ old.flash.page b p = all.still honest (omega (arith, totaled, none)) b p in
           let was = ready.below honest b p u (ap (λ f. f b) (sym all.bad) ∙ good_block) (record { bytes = has.bytes; page = sym page ∙ has.page; valid = has.valid }) in
           (omega (arith, was), omega (arith, was), omega (arith, was))
       | inr some_more ↦ below_greater new.flash (t.next_group + 1) t.next_seq _ _ (omega (arith, some_more)) (omega arith) (numbers_below (all.lasts.honest ∙ honest))

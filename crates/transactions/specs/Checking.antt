@@ -15,7 +15,7 @@ use Rattle.transactions.specs.declared.source.PageSource.{Ghosts}
 use Rattle.transactions.specs.declared.group.Placed.{Placed}
 use Rattle.transactions.specs.declared.group.GroupFault.{GroupFault}
 use Rattle.transactions.specs.declared.group.GroupFault.TheVariants as faults
-use Rattle.transactions.specs.Groups.{next_group, TellsGroup, GroupsAfter, GroupEnds, TableEnds, Stays, WritesOpen}
+use Rattle.transactions.specs.Groups.{next_group, ReportsGroup, GroupsAfter, GroupEnds, TableEnds, Stays, WritesOpen}
 use Rattle.transactions.specs.Handing.{HandsNumbers}
 use Rattle.transactions.specs.Naming.{KeepsRight}
 use Rattle.transactions.specs.Written.{unwritten}
@@ -44,13 +44,14 @@ pub record WritesCheckpoint {T : Type 0} (pages : Ghosts T) (source : T) (d : De
   pub ordinary : (e : CheckEntry) → Contains entries e → e.object ≢ check_object
   pub fresh : AreBelow d.flash t.next_group (t.entry block).seq
 
--- What the writing of a group does, whichever its pages: what each part says is the clause of this name of `write_group`, but the
--- numbers alone of what is handed out. Where the group does not begin as a summary, each summary stays right.
+-- What the writing of a group does, whichever its pages: where there is no room; what the device and the table are in the end; where
+-- the group was written. Wherever it ends, the group counts whole or not at all, and no other group changes. For pages in memory
+-- none is read, but a last one that is said to fail. Where the group does not begin as a summary, each summary stays right.
 pub record WritesGroup {T : Type 0} (pages : Ghosts T) (source : T) (old new : LogState) (result : Result Placed GroupFault) : Type 0 where
   pub no_room : IsErrOf result faults.NoRoom ↔ (room old.table < pages.count source)
   pub ends : GroupEnds old.device new.device (pages.count source) result
   pub table : TableEnds (pages.count source) old.table new.table result
-  pub placed : (o : ℕ) → old.table.open_block ≡ Some o → IfOk result (λ placed. TellsGroup (next_group old.table (pages.count source) o) placed)
+  pub placed : (o : ℕ) → old.table.open_block ≡ Some o → IfOk result (λ placed. ReportsGroup (next_group old.table (pages.count source) o) placed)
   pub groups : old.device.honest ≡ true → (o : ℕ) → old.table.open_block ≡ Some o
       → GroupsAfter (next_group old.table (pages.count source) o) (pages.name source old.table.next_group) (pages.bytes source old.device.flash) old.device.flash new.device.flash result
   pub writes : old.device.honest ≡ true → WritesOpen old.table old.device.flash new.device.flash

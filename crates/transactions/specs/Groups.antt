@@ -18,7 +18,7 @@ abbrev pub next_group : Table → ℕ → ℕ → Group
 next_group t count o = record { block = o; start = (t.entry o).next; size = count; number = t.next_group; seq = (t.entry o).seq }
 
 -- where the group stands
-pub record TellsGroup (g : Group) (placed : Placed) : Type 0 where
+pub record ReportsGroup (g : Group) (placed : Placed) : Type 0 where
   pub block : placed.block ≡ g.block
   pub first : placed.first ≡ g.start
   pub count : placed.count ≡ g.size
@@ -39,7 +39,7 @@ GroupsAfter g name bytes old new (Err faults.Lost) = SameGroups old new
 GroupsAfter g name bytes old new (Err faults.Gone) = SameGroups old new ⊎ AddsPages g name bytes old new
 
 -- Why it ended so: each page was programmed once, and where the last one was said to fail the group is suspect; a failure
--- was counted; the device is not honest; it is gone.
+-- was in the count; the device is not honest; it is gone.
 abbrev pub GroupEnds : Device → Device → ℕ → Result Placed GroupFault → Type 0
 GroupEnds old new count (Ok placed) = (new.failures ≡ old.failures + (if placed.suspect then 1 else 0)) × (new.gone ≡ false) × (new.changes ≡ old.changes + count)
 GroupEnds old new count (Err faults.NoRoom) = new ≡ old

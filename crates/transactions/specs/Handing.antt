@@ -5,7 +5,7 @@ use Rattle.flash_tree.specs.Numbering.{AreBelow}
 use Rattle.flash_tree.specs.Truth.{KeepsTrue}
 use Rattle.block_state.specs.Table.{Table}
 
--- No number is taken back, and no more are handed out than the device counted changes: block numbers on every path, and
+-- No number is taken back, and no more are handed out than the device had changes: block numbers on every path, and
 -- group numbers where an honest device still has power. (A group of which nothing was programmed has used its number.)
 -- Where the next numbers were above all that stood on an honest device they are so still; and what stands there now is below
 -- the first ones and one more for each change, also where power went.

@@ -10,7 +10,7 @@ use Rattle.block_state.specs.Table.{Table, Sets, other_than}
 pub record MarksNoted (device : Device) (n : ℕ) (old new : Table) : Type 0 where
   pub marked : (b : ℕ) → b < n → (new.entry b).bad ≡ device.flash.bad b
   pub others : (b : ℕ) → n ≤ b → (new.entry b).bad ≡ false
-  pub kept : (b : ℕ) → (new.entry b).kept ≡ (old.entry b).kept
+  pub committed : (b : ℕ) → (new.entry b).committed ≡ (old.entry b).committed
   pub seqs : (b : ℕ) → (new.entry b).seq ≡ (old.entry b).seq
   pub nexts : (b : ℕ) → (new.entry b).next ≡ (old.entry b).next
   pub geometry : new.geometry ≡ old.geometry
@@ -26,14 +26,14 @@ pub record NotesMark (block : ℕ) (flash : Flash) (old new : Table) : Type 0 wh
   pub checkpoint : new.checkpoint ≡ (if flash.bad block then other_than block old.checkpoint else old.checkpoint)
   pub next_seq : new.next_seq ≡ old.next_seq
 
--- A table of the device that was made anew: its marks are the device's, no block is open, none may have a checkpoint, none has a kept
+-- A table of the device that was made anew: its marks are the device's, no block is open, none may have a checkpoint, none has a committed
 -- page, was allocated or was written, and the next numbers are one above these.
 pub record IsMarked (device : Device) (n : Numbers) (t : Table) : Type 0 where
   pub geometry : t.geometry ≡ device.geometry
   pub marks : (b : ℕ) → (t.entry b).bad ≡ device.flash.bad b
   pub closed : t.open_block ≡ None
   pub checkpoint : t.checkpoint ≡ None
-  pub kept : (b : ℕ) → (t.entry b).kept ≡ 0
+  pub committed : (b : ℕ) → (t.entry b).committed ≡ 0
   pub seqs : (b : ℕ) → (t.entry b).seq ≡ 0
   pub nexts : (b : ℕ) → (t.entry b).next ≡ 0
   pub group : t.next_group ≡ n.group + 1

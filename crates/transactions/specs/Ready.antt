@@ -1,5 +1,5 @@
 -- What holds of a device and its table while groups are written.
-use Rattle.std.specs.Prelude.{◌≡◌, ◌≢◌, ◌<◌, ◌≤◌, ℕ, ◌+◌, true, false, Some, None}
+use Rattle.std.specs.Prelude.{◌≡◌, ◌≢◌, ◌<◌, ◌≤◌, ℕ, ◌+◌, true, false, Some, None, List, length}
 use Rattle.nand_model.specs.Flash.{Flash, Erased}
 use Rattle.nand_model.specs.Calls.{Device}
 use Rattle.page_tags.specs.declared.tag.Tag.{Tag}
@@ -7,6 +7,7 @@ use Rattle.flash_tree.specs.Groups.{HasTag}
 use Rattle.flash_tree.specs.Numbering.{AreBelow}
 use Rattle.block_state.specs.Table.{Table}
 use Rattle.transactions.specs.declared.place.GroupPlace.{GroupPlace}
+use Rattle.volume_terms.specs.Sizes.{number_end}
 
 -- The pages of block o before its next one were programmed in order since it was erased: none is erased, and each tag in the block has
 -- the block's seq.
@@ -49,3 +50,8 @@ pub record IsPlaceIn (t : Table) (count : ℕ) (place : GroupPlace) : Type 0 whe
   pub pages : place.first + count ≤ t.geometry.pages
   pub group : place.group ≡ t.next_group
   pub seq : place.seq ≡ (t.entry place.block).seq
+
+-- a group can get a number, and the scratch page is as long as a page
+pub record CanWrite (scratch : List ℕ) (device : Device) (t : Table) : Type 0 where
+  pub number : t.next_group < number_end
+  pub size : length scratch ≡ device.geometry.bytes

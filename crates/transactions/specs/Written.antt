@@ -26,7 +26,7 @@ tag_in g name i = record { index = i; count = g.size; object = (name i).key.obje
 abbrev pub page_in : Group → (ℕ → PageName) → (ℕ → List ℕ) → ℕ → Page
 page_in g name bytes i = Written (bytes i) (tag_bytes (tag_in g name i))
 
--- page i is there as it was asked for
+-- page i is there as it was wanted
 abbrev pub IsAsked : Group → (ℕ → PageName) → (ℕ → List ℕ) → ℕ → Page → Type 0
 IsAsked g name bytes i page = (page ≡ page_in g name bytes i) × IsTag (tag_in g name i)
 
@@ -66,12 +66,12 @@ abbrev pub NextEnds : ℕ → Result (Unit {0}) GroupFault → Option ℕ → Ty
 NextEnds p (Ok done) next = next ≡ Some (p + 1)
 NextEnds p (Err fault) next = Unit {0}
 
--- page i after its writing: as asked, or where that stopped perhaps not written
+-- page i after its writing: as wanted, or where that stopped perhaps not written
 abbrev pub PageEnds : Group → (ℕ → PageName) → (ℕ → List ℕ) → ℕ → Result (Unit {0}) GroupFault → Page → Type 0
 PageEnds g name bytes i (Ok done) page = IsAsked g name bytes i page
 PageEnds g name bytes i (Err fault) page = IsAsked g name bytes i page ⊎ IsNothing page
 
--- what the writing of page i does: where no change was counted no page is other
+-- what the writing of page i does: where there was no change no page is other
 pub record WritesOne (old new : Device) (g : Group) (name : ℕ → PageName) (bytes : ℕ → List ℕ) (i : ℕ) (result : Result (Unit {0}) GroupFault) : Type 0 where
   pub lasts : Lasts old new
   pub ends : OneEnds old new result
@@ -110,7 +110,7 @@ LastLeaves g name bytes i (Err faults.Failed) page = IsNothing page
 LastLeaves g name bytes i (Err faults.Lost) page = IsAsked g name bytes i page ⊎ IsNothing page
 LastLeaves g name bytes i (Err faults.Gone) page = IsAsked g name bytes i page ⊎ IsNothing page
 
--- what the writing of the last page, page i, does: where no change was counted no page is other
+-- what the writing of the last page, page i, does: where there was no change no page is other
 pub record WritesLast (old new : Device) (g : Group) (name : ℕ → PageName) (bytes : ℕ → List ℕ) (i : ℕ) (result : Result LastPage GroupFault) : Type 0 where
   pub lasts : Lasts old new
   pub ends : LastEnds old new result
@@ -138,7 +138,7 @@ pub record Progress (old new : Device) (g : Group) (name : ℕ → PageName) (by
   pub rest : old.honest ≡ true → (l : ℕ) → g.start + i ≤ l → new.flash.page g.block l ≡ old.flash.page g.block l
   pub other_blocks : old.honest ≡ true → (k l : ℕ) → k ≢ g.block → new.flash.page k l ≡ old.flash.page k l
 
--- What the writing of a group leaves, wherever it stopped: each of its pages is as asked, or not written.
+-- What the writing of a group leaves, wherever it stopped: each of its pages is as wanted, or not written.
 pub record Wrote (g : Group) (name : ℕ → PageName) (bytes : ℕ → List ℕ) (old new : Flash) : Type 0 where
   pub bad : new.bad ≡ old.bad
   pub others : (k l : ℕ) → k ≢ g.block → new.page k l ≡ old.page k l
@@ -163,7 +163,7 @@ AllLeaves g name bytes flash (Err faults.Failed) = OneLacks g name bytes flash
 AllLeaves g name bytes flash (Err faults.Lost) = AllThere g (tag_in g name) bytes flash ⊎ OneLacks g name bytes flash
 AllLeaves g name bytes flash (Err faults.Gone) = AllThere g (tag_in g name) bytes flash ⊎ OneLacks g name bytes flash
 
--- what the writing of all pages of a group does: no page is written before those in front of it, and where no change was counted no page
+-- what the writing of all pages of a group does: no page is written before those in front of it, and where there was no change no page
 -- is other
 pub record WritesAll (old new : Device) (g : Group) (name : ℕ → PageName) (bytes : ℕ → List ℕ) (result : Result LastPage GroupFault) : Type 0 where
   pub lasts : Lasts old new

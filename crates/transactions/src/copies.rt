@@ -39,7 +39,7 @@ fn reads_back<N: Nand>(device: &mut N, of: CopyOf, page: &mut [u8]) -> Result<bo
     requires page { of.page < (N.state device.old).geometry.pages }
     requires size { length page.old ≡ (N.state device.old).geometry.bytes }
     ensures reads { OnlyReads (N.state device.old) (N.state device.new) }
-    ensures asked { (N.state device.new).reads ≤ (N.state device.old).reads + 1 }
+    ensures issued { (N.state device.new).reads ≤ (N.state device.old).reads + 1 }
     ensures gone { OnErr result ((N.state device.new).gone ≡ true) }
     ensures there { (N.state device.old).honest ≡ true → IfOk result (λ there. IsTrue there ↔ HasItsName (N.state device.old).flash of) }
     ensures bytes { (N.state device.old).honest ≡ true

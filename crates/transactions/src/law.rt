@@ -6,7 +6,7 @@ ghost use Rattle.nand_model.specs.Changes.{Grows, Shrinks};
 ghost use Rattle.nand_model.specs.declared.nand.Gone.{Gone};
 ghost use Rattle.flash_tree.specs.Groups.{Group};
 ghost use Rattle.flash_tree.specs.Mount.{bad_blocks};
-ghost use Rattle.block_state.specs.Kept.{bad_count};
+ghost use Rattle.block_state.specs.Committed.{bad_count};
 ghost use Rattle.block_state.specs.Table.{Table};
 ghost use Rattle.transactions.specs.Groups.{GroupsAfter};
 ghost use Rattle.transactions.specs.Handing.{HandsOut};
@@ -38,7 +38,7 @@ pub fn erases_and_marks_bring_no_number()
         → AreBelow old.flash group seq → AreBelow new.flash group seq }
 {}
 
-/// The numbers that two calls hand out in turn are no more than the changes that the device counted in both.
+/// The numbers that two calls hand out in turn are no more than the changes that the device had in both.
 pub fn numbers_of_calls_in_turn_add_up()
     ensures on { (a b c : Device) (t u v : Table) → Lasts a b → Lasts b c → HandsOut a b t u → HandsOut b c u v → HandsOut a c t v }
     ensures none { (a : Device) (t : Table) → HandsOut a a t t }

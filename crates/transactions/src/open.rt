@@ -1,11 +1,10 @@
 // The taking of a block.
-ghost use Rattle.std.specs.Prelude.{◌≡◌, ◌≢◌, ◌<◌, ◌^◌, true, false, Some, OnOk, OnErr};
-ghost use Rattle.volume_terms.specs.Sizes.{number_end};
+ghost use Rattle.std.specs.Prelude.{◌≡◌, ◌<◌, true, OnOk, OnErr};
 ghost use Rattle.nand_model.specs.Calls.{Erases};
 ghost use Rattle.flash_tree.specs.Keeping.{KeepsElsewhere};
 ghost use Rattle.block_state.specs.TableOf.{table};
 ghost use Rattle.transactions.specs.Handing.{HandsOut};
-ghost use Rattle.transactions.specs.Opening.{MayLose, Opens};
+ghost use Rattle.transactions.specs.Opening.{Opens, CanOpen};
 ghost use Rattle.flash_tree.specs.Numbering.{AreBelow};
 ghost use Rattle.transactions.specs.Ready.{IsReady};
 
@@ -19,11 +18,7 @@ pub fn erase_and_open<N: Nand>(
     block: u32,
 ) -> Result<(), EraseFault>
     requires ready { IsReady (N.state device.old) (table blocks.old) }
-    requires block { block < (N.state device.old).geometry.blocks }
-    requires good { ((table blocks.old).entry block).bad ≡ false }
-    requires closed { (table blocks.old).open_block ≢ Some block }
-    requires first { MayLose block (table blocks.old) }
-    requires seq { (table blocks.old).next_seq < number_end }
+    requires block { CanOpen block (N.state device.old) (table blocks.old) }
     ensures erases { Erases block (N.state device.old) (N.state device.new) result }
     ensures ready { IsReady (N.state device.new) (table blocks.new) }
     ensures opens { OnOk result (Opens block (table blocks.old) (table blocks.new)) }

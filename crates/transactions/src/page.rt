@@ -138,7 +138,7 @@ fn reads_whole<N: Nand>(
     requires page { page < (N.state device.old).geometry.pages }
     requires size { length scratch.old ≡ (N.state device.old).geometry.bytes }
     ensures reads { OnlyReads (N.state device.old) (N.state device.new) }
-    ensures asked { (N.state device.new).reads ≤ (N.state device.old).reads + 1 }
+    ensures issued { (N.state device.new).reads ≤ (N.state device.old).reads + 1 }
     ensures gone { OnErr result ((N.state device.new).gone ≡ true) }
     ensures there { (N.state device.old).gone ≡ false → IfOk result (λ _. (N.state device.new).gone ≡ false) }
     ensures whole { (N.state device.old).honest ≡ true → IfOk result (λ whole. IsTrue whole ↔ IsWrittenPage ((N.state device.old).flash.page block page)) }
@@ -184,7 +184,7 @@ fn write_last<N: Nand, S: PageSource>(
     }
 }
 
-/// Writes the pages of the group, and tells of the last one.
+/// Writes the pages of the group, and reports on the last one.
 pub(crate) fn write_pages<N: Nand, S: PageSource>(
     device: &mut N,
     source: &S,

@@ -96,7 +96,7 @@ pub trait PageSource {
         requires size { length page.old ≡ (N.state device.old).geometry.bytes }
         ensures reads { OnlyReads (N.state device.old) (N.state device.new) }
         ensures quiet { quiet self.now → (N.state device.new).reads ≡ (N.state device.old).reads }
-        ensures asked { (N.state device.new).reads ≤ (N.state device.old).reads + 1 }
+        ensures issued { (N.state device.new).reads ≤ (N.state device.old).reads + 1 }
         ensures ends { SourceEnds (N.state device.old) (N.state device.new) (has self.now (N.state device.old).flash i) result }
         ensures name { IfOk result (λ n. (n ≡ name self.now group i) × IsPageName group n) }
         ensures size { length page.new ≡ length page.old }

@@ -1,9 +1,8 @@
 // The writing of a block summary.
-ghost use Rattle.std.specs.Prelude.{◌≡◌, ◌<◌, ◌^◌, ℕ, length, true};
-ghost use Rattle.volume_terms.specs.Sizes.{number_end};
+ghost use Rattle.std.specs.Prelude.{◌≡◌, ◌<◌, ℕ, true};
 ghost use Rattle.nand_model.specs.Calls.{Lasts};
 ghost use Rattle.block_state.specs.TableOf.{table};
-ghost use Rattle.transactions.specs.Ready.{IsReady};
+ghost use Rattle.transactions.specs.Ready.{IsReady, CanWrite};
 ghost use Rattle.flash_tree.specs.Summarizing.{AddsSummary};
 ghost use Rattle.transactions.specs.Checking.{log_of, WritesGroup};
 ghost use Rattle.transactions.specs.Handing.{HandsOut};
@@ -24,8 +23,7 @@ pub fn write_summary<N: Nand, S: PageSource>(
     scratch: &mut [u8],
 ) -> Result<Placed, GroupFault>
     requires ready { IsReady (N.state device.old) (table blocks.old) }
-    requires number { (table blocks.old).next_group < number_end }
-    requires size { length scratch.old ≡ (N.state device.old).geometry.bytes }
+    requires number { CanWrite scratch.old (N.state device.old) (table blocks.old) }
     requires source { S.ready source.now (N.state device.old).geometry (table blocks.old).next_group }
     requires has { (N.state device.old).honest ≡ true → (i : ℕ) → i < S.count source.now → S.has source.now (N.state device.old).flash i }
     requires summary { (N.state device.old).honest ≡ true → WritesSummary S.PageSource source.now (N.state device.old) (table blocks.old) }

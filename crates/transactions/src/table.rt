@@ -27,7 +27,7 @@ fn note_marks<N: Nand>(device: &N, blocks: &mut Blocks)
 }
 
 /// A table of the device: it has the device's marks, and the next numbers are one above these. No block is open, none may
-/// have a checkpoint, and none has a kept page.
+/// have a checkpoint, and none has a committed page.
 pub fn marked_table<N: Nand>(
     alloc: Global,
     device: &N,
@@ -47,7 +47,7 @@ pub fn marked_table<N: Nand>(
 }
 
 /// The table of a device whose valid tags in good blocks have no numbers above these: the next ones are one above them.
-/// No block is open, none may have a checkpoint, and none has a kept page.
+/// No block is open, none may have a checkpoint, and none has a committed page.
 pub fn table_of<N: Nand>(
     alloc: Global,
     device: &N,
@@ -59,7 +59,7 @@ pub fn table_of<N: Nand>(
     ensures ready { IfOk result (λ blocks. IsReady (N.state device.now) (table blocks)) }
     ensures open { IfOk result (λ blocks. (table blocks).open_block ≡ None) }
     ensures checkpoint { IfOk result (λ blocks. (table blocks).checkpoint ≡ None) }
-    ensures kept { IfOk result (λ blocks. (b : ℕ) → ((table blocks).entry b).kept ≡ 0) }
+    ensures committed { IfOk result (λ blocks. (b : ℕ) → ((table blocks).entry b).committed ≡ 0) }
     ensures seqs { IfOk result (λ blocks. (b : ℕ) → ((table blocks).entry b).seq ≡ 0) }
     ensures group { IfOk result (λ blocks. (table blocks).next_group ≡ greatest.group + 1) }
     ensures seq { IfOk result (λ blocks. (table blocks).next_seq ≡ greatest.seq + 1) }

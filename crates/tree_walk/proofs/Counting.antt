@@ -6,7 +6,7 @@ use Rattle.std.proofs.lemmas.Bool.{ne_eqb}
 use Rattle.std.proofs.lemmas.List.Sums.{sum_by-cons}
 use Rattle.std.proofs.lemmas.Option.{slice_get_within}
 use Rattle.volume_terms.specs.Sizes.{Sizes}
-use Rattle.tree_walk.specs.Visits.{head_pages, told_pages}
+use Rattle.tree_walk.specs.Visits.{head_pages, reported_pages}
 use Rattle.tree_walk.specs.Walks.{IsOnce, Visits, pages_before}
 use Rattle.tree_walk.specs.declared.head.Head.{Head}
 use Rattle.tree_walk.specs.declared.object.Visited.{Visited}
@@ -39,8 +39,8 @@ pub pages_more : (z : Sizes) (n o : ℕ) (old : WalkState) (visited : Visited) (
     → pages_before z new (n + 1) ≡ pages_before z old n + head_pages z visited.head
 pages_more z n o old visited new once at t =
     let list : List ℕ = old.objects.items in
-    let f : ℕ → ℕ = told_pages z old.heads in
-    let g : ℕ → ℕ = told_pages z new.heads in
+    let f : ℕ → ℕ = reported_pages z old.heads in
+    let g : ℕ → ℕ = reported_pages z new.heads in
     let b : IsAdded list visited.named.items new.objects.items = subst (IsAdded list visited.named.items) (sym t.objects) (added list visited.named.items) in
     let within = slice_get_within list n o at in
     let before = same_first f g list new.objects.items n (omega (arith, within)) (λ i x lt is. (

@@ -1,4 +1,4 @@
--- What is told of a header is true of the object that is shown.
+-- What is reported of a header is true of the object that is shown.
 use Rattle.std.specs.Prelude.{◌≡◌, ◌<◌, ℕ, ◌+◌, length}
 use Rattle.std.proofs.Common.{sym, ◌∙◌, ap}
 use Rattle.std.specs.FinMap as map
@@ -38,7 +38,7 @@ said z size m single o head (Dir moment entries) (f, has, is) r =
       is.length_is ∙ ap (λ (x : Fields). x.length) same ∙ r.size ∙ sym (entries_len r.slots r.once) ∙ ap map.len (sym r.entries_are),
     )
 
--- so it tells what the object costs
+-- so it reports what the object costs
 pub costs_as : (z : Sizes) (head : Head) (x : Object) → IsHeaderOfObject head x → head_cost z head ≡ cost z x
 costs_as z head (File moment bytes) is = ap (λ k. head_cost z (record head { kind = k })) is.0 ∙ ap (λ n. head_cost z (record head { kind = kinds.File; length = n })) is.2
 costs_as z head (Dir moment entries) is = ap (λ k. head_cost z (record head { kind = k })) is.0 ∙ ap (λ n. head_cost z (record head { kind = kinds.Directory; length = n })) is.2

@@ -1,7 +1,7 @@
 pub mod SlotSteps
 pub mod SlotPages
 pub mod HeadBits
-pub mod Telling
+pub mod Reporting
 pub mod Breaking
 pub mod Visiting
 pub mod Seeing
@@ -17,7 +17,7 @@ pub mod Elements
 pub mod Whole
 pub mod HeadLaws
 pub mod Summed
-pub mod Told
+pub mod Reported
 pub mod Parts
 pub mod Bare
 pub mod Slots

@@ -12,10 +12,10 @@ use Rattle.posix_profile.specs.Names.{Names}
 use Rattle.posix_profile.specs.Changes.{with_name}
 use Rattle.posix_profile.specs.Charge.{fits}
 use Rattle.posix_profile.specs.WellFormed.{IsForest, IsNamed}
-use Rattle.posix_profile.specs.laws.Directory.{with_from, with_kept, with_here, there_after}
+use Rattle.posix_profile.specs.laws.Directory.{with_from, with_committed, with_here, there_after}
 use Rattle.posix_profile.specs.laws.Map.{insert_cases}
 use Rattle.posix_profile.specs.laws.Name.{name_same, entry_named}
-use Rattle.object_store.specs.Counted.{GetsName}
+use Rattle.object_store.specs.Totaled.{GetsName}
 use Rattle.tree_walk.specs.Building.{IsPartOf, ArePartOf, IsNameless}
 use Rattle.tree_walk.proofs.Elements.{none_of}
 use Rattle.tree_walk.proofs.Parts.{part_countable}
@@ -139,7 +139,7 @@ module _ (z : Sizes) (sizes : IsSizes z) (objects : Objects) (forest : IsForest 
           subst (IsNamedIn more) same (with_here part moment d o name is_dir)
       | inr other ↦
           let before : i < n = omega (arith, lt, other) in
-          with_kept part moment d o name is_dir t.directory t.entry.object t.entry.name (h.names i t before is) (λ dirs names. apart i t before is dirs names)
+          with_committed part moment d o name is_dir t.directory t.entry.object t.entry.name (h.names i t before is) (λ dirs names. apart i t before is dirs names)
     ];
   }
 

@@ -14,7 +14,7 @@ use Rattle.posix_profile.specs.Charge.{cost, charge, fits}
 use Rattle.posix_profile.specs.laws.Name.{name_same}
 use Rattle.posix_profile.specs.laws.Number.{capacity_few}
 use Rattle.posix_profile.specs.laws.Total.{total, total_le}
-use Rattle.object_store.specs.Counted.{IsCountable}
+use Rattle.object_store.specs.Totaled.{IsCountable}
 use Rattle.tree_walk.specs.Building.{IsPartOf, ArePartOf}
 
 -- ---- entries

@@ -1,4 +1,4 @@
--- What is told of the root's header of a tree that was gone through.
+-- What is reported of the root's header of a tree that was gone through.
 use Rattle.std.specs.Prelude.{◌≡◌, ◌⊎◌, ◌<◌, ◌≤◌, ◌+◌, Option, Some, None, IfSome, IfNone, ℕ}
 use Rattle.std.proofs.Common.{refl, sym, ◌∙◌, subst, inl, inr}
 use Rattle.nand_model.specs.declared.geometry.Geometry.{Geometry}
@@ -13,7 +13,7 @@ use Rattle.tree_walk.specs.declared.head.Head.{Head}
 use Rattle.tree_walk.specs.declared.tree.Tree.{Tree}
 
 module _ (g : Geometry) (m : PageMap) (tree : Tree) (of : IsTreeThrough (sizes_of g 0) (has m) tree) where
-  -- the root's header is told
+  -- the root's header is reported
   root_head : (head : Head) × (head_at tree root_number ≡ Some head)
   root_head = of.heads.each 0 root_number (whole_list (sizes_of g 0) (has m) root_number (objects_listed tree) of.through).begins
 
@@ -25,11 +25,11 @@ module _ (g : Geometry) (m : PageMap) (tree : Tree) (of : IsTreeThrough (sizes_o
     says = of.heads.says root_number head there
 
     pub is_volume : (r : Option ℕ) → IfSome r (λ spare. (head.kind ≡ kinds.Directory) × (head.spare ≡ spare) × (spare + 4 ≤ g.blocks)) → IfSome r (IsVolume g (has m))
-    is_volume None told = tt
+    is_volume None reported = tt
     is_volume (Some spare) (kind, same, room) =
         record { fields = says.0; has = says.1; kind = sym says.2.kind ∙ kind; spare_is = sym says.2.spare ∙ same; room = room }
 
     pub is_wrong : (r : Option ℕ) → IfNone r ((head.kind ≡ kinds.File) ⊎ (g.blocks < head.spare + 4)) → IfNone r (HasWrongRoot g (has m) IsDamaged)
-    is_wrong (Some spare) told = tt
+    is_wrong (Some spare) reported = tt
     is_wrong None (inl file) = inr (refl, says.0, says.1, inl (sym says.2.kind ∙ file))
     is_wrong None (inr many) = inr (refl, says.0, says.1, inr (subst (λ n. g.blocks < n + 4) says.2.spare many))

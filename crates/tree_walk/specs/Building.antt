@@ -13,7 +13,7 @@ use Rattle.posix_profile.specs.declared.reply.Kind.TheVariants as kinds
 use Rattle.flash_tree.specs.Tree.{Shows}
 use Rattle.pages.specs.Maps.{PageMap, has}
 use Rattle.object_store.specs.Built.{sizes_built, Builds, IsBare, CanCome}
-use Rattle.object_store.specs.Counted.{GetsName}
+use Rattle.object_store.specs.Totaled.{GetsName}
 use Rattle.object_store.specs.declared.table_builder.TableBuilder.{TableBuilder}
 use Rattle.tree_walk.specs.Trees.{IsTreeThrough, head_at}
 use Rattle.tree_walk.specs.declared.head.Head.{Head}

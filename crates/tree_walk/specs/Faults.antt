@@ -25,26 +25,26 @@ WalkFailsBy memory amiss new faults.Device = new.failed ≡ true
 WalkFailsBy memory amiss new (faults.Broken broken) = amiss broken
 
 -- a call that takes memory, where this is wrong with the pages
-abbrev pub TellsWrong : (Broken → Type 0) → PagesState → WalkFault → Type 0
-TellsWrong amiss new = WalkFailsBy (Unit {0}) amiss new
+abbrev pub ReportsWrong : (Broken → Type 0) → PagesState → WalkFault → Type 0
+ReportsWrong amiss new = WalkFailsBy (Unit {0}) amiss new
 
 -- and where nothing is known of them
-abbrev pub TellsWhy : PagesState → WalkFault → Type 0
-TellsWhy new = WalkFailsBy (Unit {0}) (λ broken. Unit {0}) new
+abbrev pub ReportsWhy : PagesState → WalkFault → Type 0
+ReportsWhy new = WalkFailsBy (Unit {0}) (λ broken. Unit {0}) new
 
 -- each fault of such a call has its cause, of which one is that this is wrong with the pages
 abbrev pub IfFault : {T : Type 0} → Result T WalkFault → (Broken → Type 0) → PagesState → Type 0
-IfFault result amiss new = IfErr result (TellsWrong amiss new)
+IfFault result amiss new = IfErr result (ReportsWrong amiss new)
 
 -- what a fault says of the root's header: that there is none, or what is wrong with it
-abbrev pub TellsRoot : Geometry → NewestMap → RootFault → Type 0
-TellsRoot g m roots.NoMemory = Unit {0}
-TellsRoot g m roots.Device = Unit {0}
-TellsRoot g m roots.NotAVolume = IsNoVolume m
-TellsRoot g m (roots.Newer format) = HasWrongRoot g m (IsNewer format)
-TellsRoot g m roots.Damaged = HasWrongRoot g m IsDamaged
+abbrev pub ReportsRoot : Geometry → NewestMap → RootFault → Type 0
+ReportsRoot g m roots.NoMemory = Unit {0}
+ReportsRoot g m roots.Device = Unit {0}
+ReportsRoot g m roots.NotAVolume = IsNoVolume m
+ReportsRoot g m (roots.Newer format) = HasWrongRoot g m (IsNewer format)
+ReportsRoot g m roots.Damaged = HasWrongRoot g m IsDamaged
 
--- memory was refused where it is wanted, and the device has failed where it is told so
+-- memory was refused where it is wanted, and the device has failed where it is reported so
 abbrev pub RootFailsBy : PagesState → PagesState → RootFault → Type 0
 RootFailsBy old new roots.NoMemory = old.refused < new.refused
 RootFailsBy old new roots.Device = new.failed ≡ true

@@ -1,4 +1,4 @@
--- What is told of an object's header.
+-- What is reported of an object's header.
 use Rattle.std.specs.Prelude.{◌≡◌, ◌≤◌, ◌/◌, ◌||◌, ℕ, Bool, List, nat_eq, nat_le}
 use Rattle.std.specs.Int.{div_ceil}
 use Rattle.page_tags.specs.Headers.{Fields, IsFirstFault, is_present}

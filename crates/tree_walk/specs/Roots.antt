@@ -9,8 +9,8 @@ use Rattle.tree_walk.specs.declared.fault.RootFault.{RootFault}
 use Rattle.tree_walk.specs.declared.fault.RootFault.TheVariants as roots
 
 -- the header of a directory with these spare blocks, which leave four more
-abbrev pub SpareTold : List ℕ → ℕ → ℕ → Type 0
-SpareTold page blocks spare = (f : Fields) × IsHeaderOf page f × (f.kind ≡ kinds.Directory) × (f.spare ≡ spare) × (spare + 4 ≤ blocks)
+abbrev pub SpareReported : List ℕ → ℕ → ℕ → Type 0
+SpareReported page blocks spare = (f : Fields) × IsHeaderOf page f × (f.kind ≡ kinds.Directory) × (f.spare ≡ spare) × (spare + 4 ≤ blocks)
 
 -- no header by a fault other than of the magic, or the header of a file or of too many spare blocks
 abbrev pub IsWrongRoot : List ℕ → ℕ → Wrong → Type 0
@@ -19,9 +19,9 @@ IsWrongRoot page blocks wrong =
     ⊎ ((wrong ≡ IsDamaged) × ((f : Fields) × IsHeaderOf page f × ((f.kind ≡ kinds.File) ⊎ (blocks < f.spare + 4))))
 
 -- the page is no such header, for this reason
-abbrev pub NoSpareTold : List ℕ → ℕ → RootFault → Type 0
-NoSpareTold page blocks roots.NoMemory = ⊥
-NoSpareTold page blocks roots.Device = ⊥
-NoSpareTold page blocks roots.NotAVolume = IsFirstFault page headers.Magic
-NoSpareTold page blocks (roots.Newer format) = IsWrongRoot page blocks (IsNewer format)
-NoSpareTold page blocks roots.Damaged = IsWrongRoot page blocks IsDamaged
+abbrev pub NoSpareReported : List ℕ → ℕ → RootFault → Type 0
+NoSpareReported page blocks roots.NoMemory = ⊥
+NoSpareReported page blocks roots.Device = ⊥
+NoSpareReported page blocks roots.NotAVolume = IsFirstFault page headers.Magic
+NoSpareReported page blocks (roots.Newer format) = IsWrongRoot page blocks (IsNewer format)
+NoSpareReported page blocks roots.Damaged = IsWrongRoot page blocks IsDamaged

@@ -8,13 +8,13 @@ use Rattle.volume_terms.specs.Sizes.{Sizes, IsSizes}
 use Rattle.tree_walk.specs.Covering.{CoversObjects}
 use Rattle.tree_walk.specs.Hashes.{CoversTree}
 use Rattle.tree_walk.specs.Looked.{looked_pages}
-use Rattle.tree_walk.specs.Trees.{IsTreeThrough, TellsHeads, IsLookedUp, keeps_key, objects_listed, page_size, tree_pages}
+use Rattle.tree_walk.specs.Trees.{IsTreeThrough, ReportsHeads, IsLookedUp, keeps_key, objects_listed, page_size, tree_pages}
 use Rattle.tree_walk.specs.declared.tree.Tree.{Tree}
 
 -- the keys that a tree looks up, by its headers, are those that are looked up to see its objects
 abbrev pub TreesLookUpTheirKeys : Type 0
 TreesLookUpTheirKeys =
-    (z : Sizes) (m : PageMap) (tree : Tree) → z.page_bytes ≡ page_size tree → TellsHeads z (has m) tree
+    (z : Sizes) (m : PageMap) (tree : Tree) → z.page_bytes ≡ page_size tree → ReportsHeads z (has m) tree
     → (o c : ℕ) → (keeps_key tree o c ≡ true) ↔ IsLookedUp z (has m) (objects_listed tree) o c
 
 -- an index that has the hashes of a tree's names has those of the objects that are shown

@@ -1,4 +1,4 @@
--- What is told of a tree that was gone through.
+-- What is reported of a tree that was gone through.
 use Rattle.std.specs.Prelude.{◌≡◌, ◌⊎◌, ℕ, zero, suc, Bool, false, List, [], ◌∷◌, ◌++◌, length, map as list_map, sum_by, Option, Some, slice_get}
 use Rattle.std.specs.Option.{option_map_or}
 use Rattle.std.specs.Ordering.{nat_cmp}
@@ -10,7 +10,7 @@ use Rattle.pages.specs.Maps.{PageMap, has}
 use Rattle.volume_terms.specs.Sizes.{Sizes, root_number}
 use Rattle.tree_walk.specs.Broken.{IsFirstBroken, wrong_of}
 use Rattle.tree_walk.specs.Heads.{SaysHead, head_looks_up}
-use Rattle.tree_walk.specs.Visits.{told_pages}
+use Rattle.tree_walk.specs.Visits.{reported_pages}
 use Rattle.tree_walk.specs.declared.broken.Broken.{Broken}
 use Rattle.tree_walk.specs.declared.head.Head.{Head}
 use Rattle.tree_walk.specs.declared.tree.NamedObject.{NamedObject}
@@ -20,7 +20,7 @@ use Rattle.tree_walk.specs.declared.tree.Tree.{Tree}
 abbrev pub objects_listed : Tree → List ℕ
 objects_listed tree = tree.objects.items
 
--- what is told of an object's header
+-- what is reported of an object's header
 abbrev pub head_at : Tree → ℕ → Option Head
 head_at tree o = get nat_cmp tree.heads o
 
@@ -30,7 +30,7 @@ page_size tree = tree.page_bytes
 
 -- how many pages the headers and the slots of the objects take
 abbrev pub tree_pages : Sizes → Tree → ℕ
-tree_pages z tree = sum_by (told_pages z tree.heads) (objects_listed tree)
+tree_pages z tree = sum_by (reported_pages z tree.heads) (objects_listed tree)
 
 -- whether the page of a key is looked up to see the tree, as the headers say
 abbrev pub keeps_key : Tree → ℕ → ℕ → Bool
@@ -59,15 +59,15 @@ AreNamesOf z m list (suc n) names =
 abbrev pub HasNames : Sizes → NewestMap → Tree → Type 0
 HasNames z m tree = AreNamesOf z m (objects_listed tree) (length (objects_listed tree)) (names_of tree)
 
--- of each object of the list, and of no other, it is told what its header says
-pub record TellsHeads (z : Sizes) (m : NewestMap) (tree : Tree) : Type 0 where
+-- of each object of the list, and of no other, it is reported what its header says
+pub record ReportsHeads (z : Sizes) (m : NewestMap) (tree : Tree) : Type 0 where
   pub each : (i o : ℕ) → slice_get (objects_listed tree) i ≡ Some o → (head : Head) × (head_at tree o ≡ Some head)
   pub only : (o : ℕ) (head : Head) → head_at tree o ≡ Some head → (i : ℕ) × (slice_get (objects_listed tree) i ≡ Some o)
   pub says : (o : ℕ) (head : Head) → head_at tree o ≡ Some head → SaysHead z m o head
 
 -- this holds, by the sizes of a volume and by its pages, of a tree that has their headers
 abbrev pub OfHeads : Tree → (Sizes → PageMap → Type 0) → Type 0
-OfHeads tree A = (z : Sizes) (m : PageMap) → z.page_bytes ≡ page_size tree → TellsHeads z (has m) tree → A z m
+OfHeads tree A = (z : Sizes) (m : PageMap) → z.page_bytes ≡ page_size tree → ReportsHeads z (has m) tree → A z m
 
 -- the page of the key is looked up to see the objects of the list
 pub record IsLookedUp (z : Sizes) (m : NewestMap) (list : List ℕ) (o c : ℕ) : Type 0 where
@@ -87,9 +87,9 @@ IsWrongTree z m wrong =
 abbrev pub IsWrongBy : Sizes → NewestMap → Broken → Type 0
 IsWrongBy z m b = IsWrongTree z m (wrong_of b.rule) × IsFirstBroken z m b
 
--- The tree of these pages was gone through wholly: no directory is named twice, and all is told that the tree keeps of them.
+-- The tree of these pages was gone through wholly: no directory is named twice, and all is reported that the tree keeps of them.
 pub record IsTreeThrough (z : Sizes) (m : NewestMap) (tree : Tree) : Type 0 where
   pub through : GoesThrough z m (root_number ∷ []) 0 (Wholly (objects_listed tree))
   pub once : NamesTwice z m (objects_listed tree) → ⊥
-  pub heads : TellsHeads z m tree
+  pub heads : ReportsHeads z m tree
   pub names : HasNames z m tree

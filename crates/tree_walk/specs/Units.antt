@@ -18,6 +18,6 @@ unit_of z kinds.Directory = page_slots z
 abbrev pub head_cost : Sizes → Head → ℕ
 head_cost z head = 1 + ceiling head.length (unit_of z head.kind)
 
--- the units that the object of this number costs, and none where no header is told
-abbrev pub told_cost : Sizes → Tree → ℕ → ℕ
-told_cost z tree o = option_map_or (head_cost z) (head_at tree o) 0
+-- the units that the object of this number costs, and none where no header is reported
+abbrev pub reported_cost : Sizes → Tree → ℕ → ℕ
+reported_cost z tree o = option_map_or (head_cost z) (head_at tree o) 0

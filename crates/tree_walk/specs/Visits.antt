@@ -1,4 +1,4 @@
--- What is told of one object of the tree.
+-- What is reported of one object of the tree.
 use Rattle.std.specs.Prelude.{◌≡◌, ◌≤◌, ℕ, ◌+◌, true}
 use Rattle.std.specs.BTreeMap.{BTreeMap, get}
 use Rattle.std.specs.Int.{div_ceil}
@@ -29,17 +29,17 @@ abbrev pub slot_pages : Sizes → ObjectKind → ℕ → ℕ
 slot_pages z kinds.File len = 0
 slot_pages z kinds.Directory len = div_ceil len (page_slots z)
 
--- at most the header of an object and the pages of its slots were asked for
-abbrev pub AsksForHead : Sizes → PagesState → PagesState → Head → Type 0
-AsksForHead z old new head = new.asked ≤ old.asked + 1 + slot_pages z head.kind head.length
+-- at most the header of an object and the pages of its slots were looked up
+abbrev pub IssuesForHead : Sizes → PagesState → PagesState → Head → Type 0
+IssuesForHead z old new head = new.issued ≤ old.issued + 1 + slot_pages z head.kind head.length
 
 -- how many pages the header of an object and its slots take
 abbrev pub head_pages : Sizes → Head → ℕ
 head_pages z head = 1 + slot_pages z head.kind head.length
 
--- and those of the object of this number, whose header may be told
-abbrev pub told_pages : Sizes → BTreeMap ℕ Head → ℕ → ℕ
-told_pages z heads o = option_map_or (head_pages z) (get nat_cmp heads o) 0
+-- and those of the object of this number, whose header may be reported
+abbrev pub reported_pages : Sizes → BTreeMap ℕ Head → ℕ → ℕ
+reported_pages z heads o = option_map_or (head_pages z) (get nat_cmp heads o) 0
 
 -- the object is there whole: what its header says, and the objects that it names
 pub record IsVisited (z : Sizes) (m : NewestMap) (o : ℕ) (visit : Visited) : Type 0 where

@@ -13,7 +13,7 @@ use Rattle.volume_terms.specs.Sizes.{Sizes, root_number}
 use Rattle.tree_walk.specs.Broken.{ComesTo, StopsAt}
 use Rattle.tree_walk.specs.Heads.{SaysHead}
 use Rattle.tree_walk.specs.Trees.{AreNamesOf, named_in}
-use Rattle.tree_walk.specs.Visits.{OfSeen, told_pages}
+use Rattle.tree_walk.specs.Visits.{OfSeen, reported_pages}
 use Rattle.tree_walk.specs.declared.broken.Broken.{Broken}
 use Rattle.tree_walk.specs.declared.head.Head.{Head}
 use Rattle.tree_walk.specs.declared.object.Visited.{Visited}
@@ -47,7 +47,7 @@ HasHead walk o head = table.get nat_cmp walk.heads o ≡ Some head
 
 -- how many pages the headers and the slots of the first n objects take
 abbrev pub pages_before : Sizes → WalkState → (n : ℕ) → ℕ
-pages_before z walk n = sum_by (told_pages z walk.heads) (take n walk.objects.items)
+pages_before z walk n = sum_by (reported_pages z walk.heads) (take n walk.objects.items)
 
 -- the objects that are named stand behind the others, each that is not known yet; the others of them are named again
 pub record Puts (named : List ℕ) (old new : WalkState) : Type 0 where
@@ -120,9 +120,9 @@ pub record IsGoing (z : Sizes) (m : NewestMap) (n : ℕ) (walk : WalkState) : Ty
 abbrev pub OfGoing : PagesState → (place : ℕ) → WalkState → (Sizes → PageMap → Type 0) → Type 0
 OfGoing p place walk A = OfSeen p (λ z m. IsGoing z (has m) place walk → A z m)
 
--- from the one walk and store to the other, at most the pages of the header and the slots of the object in this place were asked for
-abbrev pub AsksAt : Sizes → (place : ℕ) → WalkState × WalkState → PagesState × PagesState → Type 0
-AsksAt z place walks stores = stores.1.asked + pages_before z walks.0 place ≤ stores.0.asked + pages_before z walks.1 (place + 1)
+-- from the one walk and store to the other, at most the pages of the header and the slots of the object in this place were looked up
+abbrev pub IssuesAt : Sizes → (place : ℕ) → WalkState × WalkState → PagesState × PagesState → Type 0
+IssuesAt z place walks stores = stores.1.issued + pages_before z walks.0 place ≤ stores.0.issued + pages_before z walks.1 (place + 1)
 
 -- the object was named again, and is a directory
 pub record IsDirectoryAgain (walk : WalkState) (o : ℕ) : Type 0 where

@@ -7,7 +7,7 @@ ghost use Rattle.flash_tree.specs.Slots.{IsTreeSlot};
 ghost use Rattle.pages.specs.State.{PagesState, OnlyFinds, KeepsPower};
 ghost use Rattle.volume_terms.specs.Sizes.{page_slots};
 ghost use Rattle.name_index.specs.Covering.{HasHashes};
-ghost use Rattle.tree_walk.specs.Faults.{IfFault, TellsWhy};
+ghost use Rattle.tree_walk.specs.Faults.{IfFault, ReportsWhy};
 ghost use Rattle.tree_walk.specs.Hashes.{Keeps};
 ghost use Rattle.tree_walk.specs.Broken.{IsBrokenIn};
 ghost use Rattle.tree_walk.specs.Pages.{OfPageBytes, OfPages};
@@ -45,7 +45,7 @@ fn no_slots(alloc: Global) -> Slots
 }
 
 /// The objects that the slots of a directory name, in their order. The hashes of their names are added to the index. Each
-/// page is asked for once.
+/// page is looked up once.
 pub(crate) fn read_slots<P: Pages>(
     alloc: Global,
     pages: &mut P,
@@ -55,11 +55,11 @@ pub(crate) fn read_slots<P: Pages>(
 ) -> Result<Vec<u64>, WalkFault>
     requires few { length < 2 ^ 32 }
     ensures finds { OnlyFinds (P.state pages.old) (P.state pages.new) }
-    ensures asked { OfPageBytes (P.state pages.old) (λ z. (P.state pages.new).asked ≤ (P.state pages.old).asked + div_ceil length (page_slots z)) }
+    ensures issued { OfPageBytes (P.state pages.old) (λ z. (P.state pages.new).issued ≤ (P.state pages.old).issued + div_ceil length (page_slots z)) }
     ensures power { OnOk result (KeepsPower (P.state pages.old) (P.state pages.new)) }
-    ensures told { OfPages (P.state pages.old) (λ z m. IfOk result (λ objects. NamesFrom z m directory length objects.items)) }
+    ensures reported { OfPages (P.state pages.old) (λ z m. IfOk result (λ objects. NamesFrom z m directory length objects.items)) }
     ensures fault { OfPages (P.state pages.old) (λ z m. IfFault result (IsBrokenIn z m directory length) (P.state pages.new)) }
-    ensures why { IfErr result (TellsWhy (P.state pages.new)) }
+    ensures why { IfErr result (ReportsWhy (P.state pages.new)) }
     ensures keeps { Keeps names.old names.new }
     ensures hashes { OfPages (P.state pages.old) (λ z m. OnOk result (HasHashes names.new z m directory length)) }
 {
@@ -119,11 +119,11 @@ fn take_chunk<P: Pages>(
     requires room { 272 * count ≤ (P.state pages.old).page_bytes }
     requires few { at.number < 2 ^ 32 }
     ensures finds { OnlyFinds (P.state pages.old) (P.state pages.new) }
-    ensures asked { (P.state pages.new).asked ≤ (P.state pages.old).asked + 1 }
+    ensures issued { (P.state pages.new).issued ≤ (P.state pages.old).issued + 1 }
     ensures power { OnOk result (KeepsPower (P.state pages.old) (P.state pages.new)) }
-    ensures told { OfPages (P.state pages.old) (λ z m. SlotsBefore z m at seen.old → OnOk result (SlotsUpTo z m at count seen.new)) }
+    ensures reported { OfPages (P.state pages.old) (λ z m. SlotsBefore z m at seen.old → OnOk result (SlotsUpTo z m at count seen.new)) }
     ensures fault { OfPages (P.state pages.old) (λ z m. 1 ≤ count → SlotsBefore z m at seen.old → IfFault result (BreaksUpTo z m at count) (P.state pages.new)) }
-    ensures why { IfErr result (TellsWhy (P.state pages.new)) }
+    ensures why { IfErr result (ReportsWhy (P.state pages.new)) }
 {
     match pages.find(at.key())? {
         Presence::Present => take_page(alloc, pages.page(), at, count, seen),
@@ -142,9 +142,9 @@ fn take_page(
     requires room { 272 * count ≤ length page.now }
     requires few { length page.now ≤ 4096 }
     requires number { at.number < 2 ^ 32 }
-    ensures told { OfSlotPage at page.now (λ z m. SlotsBefore z m at seen.old → OnOk result (SlotsUpTo z m at count seen.new)) }
+    ensures reported { OfSlotPage at page.now (λ z m. SlotsBefore z m at seen.old → OnOk result (SlotsUpTo z m at count seen.new)) }
     ensures fault { (new : PagesState) → OfSlotPage at page.now (λ z m. SlotsBefore z m at seen.old → IfFault result (BreaksUpTo z m at count) new) }
-    ensures why { (new : PagesState) → IfErr result (TellsWhy new) }
+    ensures why { (new : PagesState) → IfErr result (ReportsWhy new) }
 {
     for place in 0..count {
         take_entry(alloc, slot_of(page, place), at, place, seen)?;
@@ -173,7 +173,7 @@ fn take_entry(
 ) -> Result<(), WalkFault>
     requires size { length bytes.now ≡ 272 }
     requires number { at.number < 2 ^ 32 }
-    ensures told { OnOk result ((entry : Entry) × IsTreeSlot entry × (bytes.now ≡ slot_bytes entry) × TakesEntry entry seen.old seen.new) }
+    ensures reported { OnOk result ((entry : Entry) × IsTreeSlot entry × (bytes.now ≡ slot_bytes entry) × TakesEntry entry seen.old seen.new) }
     ensures fault { (new : PagesState) → IfFault result (TakesNone bytes.now at place seen.old) new }
 {
     let Some(slot) = decode_tree_slot(bytes) else {

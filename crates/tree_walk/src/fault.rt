@@ -10,7 +10,7 @@ use volume_terms::StoreFault;
 /// Why the root's header gives no volume.
 #[derive(Clone, Copy, Debug, PartialEq, Eq)]
 pub enum RootFault {
-    /// A growth was refused. What was asked can be asked again.
+    /// A growth was refused. The call can be made again.
     NoMemory,
     /// The device failed or is gone.
     Device,
@@ -25,7 +25,7 @@ pub enum RootFault {
 /// Why the objects of a volume are not gone through.
 #[derive(Clone, Copy, Debug, PartialEq, Eq)]
 pub enum WalkFault {
-    /// A growth was refused. What was asked can be asked again.
+    /// A growth was refused. The call can be made again.
     NoMemory,
     /// The device failed or is gone.
     Device,

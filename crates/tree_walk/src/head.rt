@@ -7,7 +7,7 @@ ghost use Rattle.pages.specs.Maps.{has};
 ghost use Rattle.pages.specs.State.{PagesState, OnlyFinds, KeepsPower};
 ghost use Rattle.volume_terms.specs.Sizes.{Sizes};
 ghost use Rattle.tree_walk.specs.Broken.{StopsAt};
-ghost use Rattle.tree_walk.specs.Faults.{IfFault, TellsWhy};
+ghost use Rattle.tree_walk.specs.Faults.{IfFault, ReportsWhy};
 ghost use Rattle.tree_walk.specs.Heads.{IsHeadOf, IsNoHeader, SaysHead, head_looks_up};
 ghost use Rattle.tree_walk.specs.Pages.{OfPages};
 
@@ -37,7 +37,7 @@ impl Head {
     pub(crate) fn looks_up(&self, page_bytes: u32, chunk: u64) -> bool
         requires { 512 ≤ page_bytes }
         ensures chunks { (z : Sizes) (f : Fields) → z.page_bytes ≡ page_bytes → IsHeadOf self.now f → IsTrue result ↔ LooksUp z f chunk }
-        ensures told { result ≡ head_looks_up page_bytes self.now chunk }
+        ensures reported { result ≡ head_looks_up page_bytes self.now chunk }
     {
         if chunk == 0 {
             return true;
@@ -61,13 +61,13 @@ pub(crate) fn read_head<P: Pages>(
     object: u64,
 ) -> Result<Head, WalkFault>
     ensures finds { OnlyFinds (P.state pages.old) (P.state pages.new) }
-    ensures asked { (P.state pages.new).asked ≤ (P.state pages.old).asked + 1 }
+    ensures issued { (P.state pages.new).issued ≤ (P.state pages.old).issued + 1 }
     ensures power { OnOk result (KeepsPower (P.state pages.old) (P.state pages.new)) }
     ensures few { IfOk result (λ head. length head.bits.items ≤ 4064) }
     ensures entries { IfOk result (λ head. head.kind ≡ kinds.Directory → head.length < 2 ^ 32) }
-    ensures told { OfPages (P.state pages.old) (λ z m. IfOk result (SaysHead z (has m) object)) }
+    ensures reported { OfPages (P.state pages.old) (λ z m. IfOk result (SaysHead z (has m) object)) }
     ensures stops { OfPages (P.state pages.old) (λ z m. IfFault result (StopsAt z (has m) object) (P.state pages.new)) }
-    ensures why { IfErr result (TellsWhy (P.state pages.new)) }
+    ensures why { IfErr result (ReportsWhy (P.state pages.new)) }
 {
     let key = Key { object, chunk: 0 };
     match pages.find(key)? {
@@ -83,7 +83,7 @@ pub(crate) fn read_head<P: Pages>(
 fn decode_head(alloc: Global, page: &[u8], object: u64) -> Result<Head, WalkFault>
     requires least { 32 ≤ length page.now }
     requires most { length page.now ≤ 4096 }
-    ensures told { IfOk result (λ head. (f : Fields) × IsHeaderOf page.now f × IsHeadOf head f) }
+    ensures reported { IfOk result (λ head. (f : Fields) × IsHeaderOf page.now f × IsHeadOf head f) }
     ensures few { IfOk result (λ head. length head.bits.items ≤ 4064) }
     ensures fault { (new : PagesState) → IfFault result (IsNoHeader page.now object) new }
 {
@@ -100,12 +100,12 @@ fn decode_head(alloc: Global, page: &[u8], object: u64) -> Result<Head, WalkFaul
         ObjectKind::File => header.length.div_ceil(page.len() as u64),
         ObjectKind::Directory => 0,
     };
-    let kept = header.bits.len().min(chunks.div_ceil(8) as usize);
+    let committed = header.bits.len().min(chunks.div_ceil(8) as usize);
     Ok(Head {
         kind: header.kind,
         length: header.length,
         moment: header.moment,
         spare: header.spare,
-        bits: header.bits[..kept].to_vec(alloc)?,
+        bits: header.bits[..committed].to_vec(alloc)?,
     })
 }

@@ -22,7 +22,7 @@ mod walking;
 pub use broken::{Broken, Rule};
 pub use fault::{RootFault, WalkFault};
 pub use head::Head;
-pub use law::the_headers_tell_the_keys;
+pub use law::the_headers_report_the_keys;
 pub use object::{Visited, visit};
 pub use table_law::{
     the_names_of_a_tree_are_those_of_its_objects, the_pages_of_a_tree_are_those_of_its_objects,

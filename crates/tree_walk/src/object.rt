@@ -3,10 +3,10 @@ ghost use Rattle.std.specs.Prelude.{◌≡◌, ◌≤◌, ◌+◌, OnOk, IfOk, I
 ghost use Rattle.pages.specs.Maps.{has};
 ghost use Rattle.pages.specs.State.{OnlyFinds, KeepsPower};
 ghost use Rattle.tree_walk.specs.Broken.{StopsAt};
-ghost use Rattle.tree_walk.specs.Faults.{IfFault, TellsWhy};
+ghost use Rattle.tree_walk.specs.Faults.{IfFault, ReportsWhy};
 ghost use Rattle.tree_walk.specs.Hashes.{Keeps, CoversHead};
 ghost use Rattle.tree_walk.specs.Pages.{OfPageBytes};
-ghost use Rattle.tree_walk.specs.Visits.{AsksForHead, IsVisited, OfSeen};
+ghost use Rattle.tree_walk.specs.Visits.{IssuesForHead, IsVisited, OfSeen};
 
 use crate::broken::{Broken, Rule};
 use crate::directory::read_slots;
@@ -35,11 +35,11 @@ pub fn visit<P: KnownPages>(
     names: &mut NameIndex,
 ) -> Result<Visited, WalkFault>
     ensures finds { OnlyFinds (P.state pages.old) (P.state pages.new) }
-    ensures asked { OfPageBytes (P.state pages.old) (λ z. IfOk result (λ visited. AsksForHead z (P.state pages.old) (P.state pages.new) visited.head)) }
+    ensures issued { OfPageBytes (P.state pages.old) (λ z. IfOk result (λ visited. IssuesForHead z (P.state pages.old) (P.state pages.new) visited.head)) }
     ensures power { OnOk result (KeepsPower (P.state pages.old) (P.state pages.new)) }
     ensures leads { OfSeen (P.state pages.old) (λ z m. IfOk result (IsVisited z (has m) object)) }
     ensures stops { OfSeen (P.state pages.old) (λ z m. IfFault result (StopsAt z (has m) object) (P.state pages.new)) }
-    ensures why { IfErr result (TellsWhy (P.state pages.new)) }
+    ensures why { IfErr result (ReportsWhy (P.state pages.new)) }
     ensures keeps { Keeps names.old names.new }
     ensures hashes { OfSeen (P.state pages.old) (λ z m. IfOk result (λ visited. CoversHead names.new z m object visited.head)) }
 {

@@ -1,7 +1,7 @@
 // The table of the objects of a tree.
 ghost use Rattle.std.specs.Prelude.{◌≡◌, IfOk};
 ghost use Rattle.volume_terms.specs.VolumeSizes as volume;
-ghost use Rattle.object_store.specs.Told.{table_sizes, Tells};
+ghost use Rattle.object_store.specs.Reported.{table_sizes, Reports};
 ghost use Rattle.tree_walk.specs.Building.{OfFitting};
 
 use crate::tree::Tree;
@@ -14,7 +14,7 @@ use volume_terms::VolumeSizes;
 /// The table of the objects of a tree.
 pub fn table(alloc: Global, tree: &Tree, sizes: VolumeSizes) -> Result<ObjectTable, AllocError>
     ensures size { IfOk result (λ table. table_sizes table ≡ volume.sizes_of sizes) }
-    ensures tells { OfFitting (volume.sizes_of sizes) tree.now (λ objects. IfOk result (λ table. Tells table objects)) }
+    ensures reports { OfFitting (volume.sizes_of sizes) tree.now (λ objects. IfOk result (λ table. Reports table objects)) }
 {
     let mut builder = TableBuilder::new(alloc, sizes);
     insert_objects(tree, &mut builder)?;

@@ -52,7 +52,7 @@ impl Tree {
     /// Whether the page of a key is looked up to see the tree: a header, a chunk of a file that is present, or a page of
     /// slots.
     pub fn looks_up(&self, key: Key) -> bool
-        ensures told { result ≡ keeps_key self.now key.object key.chunk }
+        ensures reported { result ≡ keeps_key self.now key.object key.chunk }
         ensures keys { OfHeads self.now (λ z m. IsTrue result ↔ IsLookedUp z (has m) (objects_listed self.now) key.object key.chunk) }
     {
         match self.heads.get(&key.object) {

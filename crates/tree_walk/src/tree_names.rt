@@ -17,7 +17,7 @@ pub(crate) fn insert_names(tree: &Tree, builder: &mut TableBuilder)
     }
 }
 
-/// A directory whose header is told names an object.
+/// A directory whose header is reported names an object.
 fn insert_name(tree: &Tree, name: NamedObject, builder: &mut TableBuilder)
     ensures size { sizes_built builder.new ≡ sizes_built builder.old }
     ensures names { InsertsName tree.now name builder.old builder.new }

@@ -4,7 +4,7 @@ ghost use Rattle.volume_terms.specs.Rounding.{ceiling};
 ghost use Rattle.volume_terms.specs.VolumeSizes.{sizes_of};
 ghost use Rattle.posix_profile.specs.Charge as costs;
 ghost use Rattle.tree_walk.specs.Building.{OfThrough};
-ghost use Rattle.tree_walk.specs.Units.{head_cost, told_cost};
+ghost use Rattle.tree_walk.specs.Units.{head_cost, reported_cost};
 
 use crate::{Head, Tree};
 use page_tags::ObjectKind;
@@ -17,14 +17,14 @@ pub fn charge(tree: &Tree, sizes: VolumeSizes) -> u64
     let objects = tree.objects();
     let mut units: u64 = 0;
     for place in 0..objects.len() {
-        units = units.saturating_add(told_units(tree, objects[place], sizes));
+        units = units.saturating_add(reported_units(tree, objects[place], sizes));
     }
     units
 }
 
-/// The units that an object costs, as far as numbers of 64 bits go, and none where no header is told.
-fn told_units(tree: &Tree, object: u64, sizes: VolumeSizes) -> u64
-    ensures { result ≡ min (told_cost (sizes_of sizes) tree.now object) (2 ^ 64 - 1) }
+/// The units that an object costs, as far as numbers of 64 bits go, and none where no header is reported.
+fn reported_units(tree: &Tree, object: u64, sizes: VolumeSizes) -> u64
+    ensures { result ≡ min (reported_cost (sizes_of sizes) tree.now object) (2 ^ 64 - 1) }
 {
     match tree.head(object) {
         Some(head) => head_units(head, sizes),

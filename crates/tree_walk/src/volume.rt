@@ -4,9 +4,9 @@ ghost use Rattle.page_tags.specs.declared.header.ObjectKind.TheVariants as kinds
 ghost use Rattle.flash_tree.specs.Mount.{IsVolume, IsDamaged, HasWrongRoot, sizes_of};
 ghost use Rattle.pages.specs.Maps.{PageMap, has};
 ghost use Rattle.pages.specs.State.{OnlyFinds, KeepsPower};
-ghost use Rattle.tree_walk.specs.Faults.{RootFailsBy, TellsRoot};
+ghost use Rattle.tree_walk.specs.Faults.{RootFailsBy, ReportsRoot};
 ghost use Rattle.tree_walk.specs.Pages.{OfSized};
-ghost use Rattle.tree_walk.specs.Roots.{SpareTold, NoSpareTold};
+ghost use Rattle.tree_walk.specs.Roots.{SpareReported, NoSpareReported};
 ghost use Rattle.tree_walk.specs.Trees.{IsTreeThrough};
 
 use crate::fault::RootFault;
@@ -18,13 +18,13 @@ use page_tags::{HeaderFault, ObjectKind, decode_header};
 use pages::{Pages, Presence};
 use volume_terms::{ROOT, StoreFault};
 
-/// Reads how many blocks the volume keeps spare, on a device of these sizes. One page is asked for.
+/// Reads how many blocks the volume keeps spare, on a device of these sizes. One page is looked up.
 pub fn root<P: Pages>(pages: &mut P, geometry: Geometry) -> Result<u16, RootFault>
     ensures finds { OnlyFinds (P.state pages.old) (P.state pages.new) }
-    ensures asked { (P.state pages.new).asked ≤ (P.state pages.old).asked + 1 }
+    ensures issued { (P.state pages.new).issued ≤ (P.state pages.old).issued + 1 }
     ensures power { OnOk result (KeepsPower (P.state pages.old) (P.state pages.new)) }
     ensures volume { OfSized geometry (P.state pages.old) (IfOk result (IsVolume geometry (has (P.state pages.old).present))) }
-    ensures fault { OfSized geometry (P.state pages.old) (IfErr result (TellsRoot geometry (has (P.state pages.old).present))) }
+    ensures fault { OfSized geometry (P.state pages.old) (IfErr result (ReportsRoot geometry (has (P.state pages.old).present))) }
     ensures why { IfErr result (RootFailsBy (P.state pages.old) (P.state pages.new)) }
 {
     let key = Key {
@@ -43,8 +43,8 @@ pub fn root<P: Pages>(pages: &mut P, geometry: Geometry) -> Result<u16, RootFaul
 fn spare_in(page: &[u8], blocks: u32) -> Result<u16, RootFault>
     requires least { 32 ≤ length page.now }
     requires most { length page.now ≤ 4096 }
-    ensures told { IfOk result (SpareTold page.now blocks) }
-    ensures fault { IfErr result (NoSpareTold page.now blocks) }
+    ensures reported { IfOk result (SpareReported page.now blocks) }
+    ensures fault { IfErr result (NoSpareReported page.now blocks) }
 {
     match decode_header(page) {
         Ok(header) => {
@@ -62,21 +62,21 @@ fn spare_in(page: &[u8], blocks: u32) -> Result<u16, RootFault>
     }
 }
 
-/// How many blocks a volume keeps spare whose tree was gone through on a device of these sizes, by what is told of the root's
-/// header. There are none where that is not the header of a root. No page is asked for.
+/// How many blocks a volume keeps spare whose tree was gone through on a device of these sizes, by what is reported of the root's
+/// header. There are none where that is not the header of a root. No page is looked up.
 pub fn spare_of(tree: &Tree, geometry: Geometry) -> Option<u16>
     ensures volume { (m : PageMap) → IsTreeThrough (sizes_of geometry 0) (has m) tree.now → IfSome result (IsVolume geometry (has m)) }
     ensures none { (m : PageMap) → IsTreeThrough (sizes_of geometry 0) (has m) tree.now → IfNone result (HasWrongRoot geometry (has m) IsDamaged) }
 {
     match tree.head(ROOT) {
-        Some(head) => spare_told(head, geometry.blocks()),
+        Some(head) => spare_reported(head, geometry.blocks()),
         None => None,
     }
 }
 
 /// The spare blocks that a header says, if it is that of a root on so many blocks.
-fn spare_told(head: &Head, blocks: u32) -> Option<u16>
-    ensures told { IfSome result (λ spare. (head.now.kind ≡ kinds.Directory) × (head.now.spare ≡ spare) × (spare + 4 ≤ blocks)) }
+fn spare_reported(head: &Head, blocks: u32) -> Option<u16>
+    ensures reported { IfSome result (λ spare. (head.now.kind ≡ kinds.Directory) × (head.now.spare ≡ spare) × (spare + 4 ≤ blocks)) }
     ensures none { IfNone result ((head.now.kind ≡ kinds.File) ⊎ (blocks < head.now.spare + 4)) }
 {
     if head.kind == ObjectKind::Directory && u32::from(head.spare) + 4 <= blocks {

@@ -3,11 +3,11 @@ ghost use Rattle.std.specs.Prelude.{◌≡◌, ◌<◌, ◌≤◌, ◌+◌, ℕ,
 ghost use Rattle.page_tags.specs.declared.header.ObjectKind.TheVariants as kinds;
 ghost use Rattle.pages.specs.Maps.{has};
 ghost use Rattle.pages.specs.State.{OnlyFinds, KeepsPower};
-ghost use Rattle.tree_walk.specs.Faults.{IfFault, TellsWhy};
+ghost use Rattle.tree_walk.specs.Faults.{IfFault, ReportsWhy};
 ghost use Rattle.tree_walk.specs.Hashes.{CoversHeads, CoversTree};
 ghost use Rattle.tree_walk.specs.Visits.{OfSeen};
 ghost use Rattle.tree_walk.specs.Trees.{IsTreeThrough, IsWrongBy, named_in, page_size, tree_pages};
-ghost use Rattle.tree_walk.specs.Walks.{AsksAt, Begins, HasAgain, HasHead, IsGoing, IsDirectoryAgain, Knows, OfGoing, Puts, StopsOn, Visits};
+ghost use Rattle.tree_walk.specs.Walks.{IssuesAt, Begins, HasAgain, HasHead, IsGoing, IsDirectoryAgain, Knows, OfGoing, Puts, StopsOn, Visits};
 ghost use Rattle.tree_walk.specs.declared.fault.WalkFault.TheVariants as faults;
 
 use crate::broken::{Broken, Rule};
@@ -24,7 +24,7 @@ use std::collections::{BTreeMap, BTreeSet};
 use volume_terms::ROOT;
 
 /// Goes through all objects of a tree from the root on, each once, in the order in which they are named. The hashes of all
-/// names are added to the index. Each header is asked for once, and so is each page of a directory's slots.
+/// names are added to the index. Each header is looked up once, and so is each page of a directory's slots.
 pub fn walk<P: KnownPages>(
     alloc: Global,
     pages: &mut P,
@@ -32,11 +32,11 @@ pub fn walk<P: KnownPages>(
 ) -> Result<Tree, WalkFault>
     ensures finds { OnlyFinds (P.state pages.old) (P.state pages.new) }
     ensures power { OnOk result (KeepsPower (P.state pages.old) (P.state pages.new)) }
-    ensures asked { OfSeen (P.state pages.old) (λ z m. IfOk result (λ tree. (P.state pages.new).asked ≤ (P.state pages.old).asked + tree_pages z tree)) }
+    ensures issued { OfSeen (P.state pages.old) (λ z m. IfOk result (λ tree. (P.state pages.new).issued ≤ (P.state pages.old).issued + tree_pages z tree)) }
     ensures tree { OfSeen (P.state pages.old) (λ z m. IfOk result (IsTreeThrough z (has m))) }
     ensures size { IfOk result (λ tree. page_size tree ≡ (P.state pages.old).page_bytes) }
     ensures fault { OfSeen (P.state pages.old) (λ z m. IfFault result (IsWrongBy z (has m)) (P.state pages.new)) }
-    ensures why { IfErr result (TellsWhy (P.state pages.new)) }
+    ensures why { IfErr result (ReportsWhy (P.state pages.new)) }
     ensures hashes { OfSeen (P.state pages.old) (λ z m. IfOk result (CoversTree names.new z m)) }
 {
     let mut walk = begin(alloc)?;
@@ -113,8 +113,8 @@ impl WalkState {
         ensures knows { OnOk result (Knows self.new) }
         ensures goes { OfGoing (P.state pages.old) place self.old (λ z m. OnOk result (IsGoing z (has m) (place + 1) self.new)) }
         ensures stops { OfSeen (P.state pages.old) (λ z m. IfFault result (StopsOn z (has m) self.old place) (P.state pages.new)) }
-        ensures asked { OfGoing (P.state pages.old) place self.old (λ z m. OnOk result (AsksAt z place (self.old, self.new) (P.state pages.old, P.state pages.new))) }
-        ensures why { IfErr result (TellsWhy (P.state pages.new)) }
+        ensures issued { OfGoing (P.state pages.old) place self.old (λ z m. OnOk result (IssuesAt z place (self.old, self.new) (P.state pages.old, P.state pages.new))) }
+        ensures why { IfErr result (ReportsWhy (P.state pages.new)) }
         ensures hashes { OfSeen (P.state pages.old) (λ z m. CoversHeads names.old z m self.old.heads → OnOk result (CoversHeads names.new z m self.new.heads)) }
     {
         let object = self.objects[place];

@@ -281,10 +281,10 @@ fn without_newest(rt: &impl Abort, nand: &MemNand, object: u64, chunk: u64) -> M
     nand
 }
 
-/// A kept page of the tree is erased: the header of the root, of a directory and of a file, and entries of a directory. A page of a
+/// A committed page of the tree is erased: the header of the root, of a directory and of a file, and entries of a directory. A page of a
 /// file is not read by the mount; its loss is reported where it is read.
 #[test]
-fn a_kept_page_is_erased(rt: HostRuntime) {
+fn a_committed_page_is_erased(rt: HostRuntime) {
     let alloc = rt.alloc();
     let whole = device(&rt, alloc);
     for (object, chunk) in [(1, 0), (1, 1), (1, 2), (2, 0), (2, 1), (3, 0), (4, 0)] {

@@ -125,8 +125,8 @@ impl Trial {
     ) -> MemNand {
         let mut volume = mount(rt, alloc, nand);
         let is_there = self.has_tree(rt, &mut volume, is_done);
-        let (nand, is_kept) = unmount(volume);
-        expect(rt, is_there && is_kept, plan);
+        let (nand, is_committed) = unmount(volume);
+        expect(rt, is_there && is_committed, plan);
         nand
     }
 
@@ -250,7 +250,7 @@ fn a_cut_unmount_leaves_one_of_two_trees(rt: HostRuntime) {
 }
 
 #[test]
-fn a_failure_in_an_unmount_is_not_told(rt: HostRuntime) {
+fn a_failure_in_an_unmount_is_not_reported(rt: HostRuntime) {
     let alloc = rt.alloc();
     let trial = Trial::new(&rt, alloc, 1);
     for call in trial.first..=trial.last {

@@ -1,6 +1,6 @@
 // How many calls there were.
 ghost use Rattle.std.specs.Prelude.{◌≡◌};
-ghost use Rattle.volume_bench.specs.Counted.{calls_after};
+ghost use Rattle.volume_bench.specs.Totaled.{calls_after};
 
 /// How many calls of each kind there were.
 #[derive(Clone, Copy, Debug, PartialEq, Eq)]

@@ -1,4 +1,4 @@
-// A device whose calls are counted by their kind.
+// A device with counts of its calls by their kind.
 ghost use Rattle.std.specs.Prelude.{◌≡◌, ◌<◌, IfOk, Some};
 
 use crate::counts::Counts;
@@ -14,9 +14,9 @@ pub struct CountedNand<N: Nand> {
 }
 
 impl<N: Nand + Drop> CountedNand<N> {
-    ghost use Rattle.volume_bench.specs.Counted.{counts_of, none};
+    ghost use Rattle.volume_bench.specs.Totaled.{counts_of, none};
 
-    /// Nothing is counted yet.
+    /// every count is 0 yet.
     ///
     /// Errors: want of memory.
     pub fn new(alloc: Global, inner: N) -> Result<CountedNand<N>, AllocError>

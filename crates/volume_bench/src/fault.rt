@@ -26,7 +26,7 @@ pub enum BenchFault {
     Mount(MountFault),
     #[error("the volume could not be unmounted after the lines")]
     Unmount,
-    /// The lines could not be asked to their end.
+    /// The lines could not be run to their end.
     #[error(transparent)]
     Shell(ShellFault),
     #[error("the processor's time could not be read")]

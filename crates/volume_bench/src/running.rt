@@ -111,7 +111,7 @@ fn fresh<R: CpuClock>(rt: &R, alloc: Global, size: Size) -> Result<Served, Bench
     })
 }
 
-/// Asks the lines of a volume. Returns the processor's nanoseconds.
+/// Issues the lines of a volume. Returns the processor's nanoseconds.
 fn ask<R: CpuClock>(
     rt: &R,
     alloc: Global,
@@ -127,7 +127,7 @@ fn ask<R: CpuClock>(
     }
 }
 
-/// Asks the lines of these parts of a fresh volume. Returns its device, and what it cost from the mount on, with the time of the
+/// Issues the lines of these parts of a fresh volume. Returns its device, and what it cost from the mount on, with the time of the
 /// processor for the last part alone, or for the mount where there is none.
 fn ask_parts<R: CpuClock>(
     rt: &R,
@@ -164,7 +164,7 @@ struct Costs {
     whole: Cost,
 }
 
-/// Measures each part, on a fresh volume that was asked the parts before it, since the calls of a device are seen only when its volume
+/// Measures each part, on a fresh volume that was wanted the parts before it, since the calls of a device are seen only when its volume
 /// has ended. Returns the device of the last.
 fn measure_parts<R: CpuClock>(
     rt: &R,
@@ -195,9 +195,9 @@ fn measure_parts<R: CpuClock>(
     Ok((device, costs))
 }
 
-/// Asks lines of a shell of a fresh volume in memory, in which `reserve` blocks may go bad, then leaves it as if power were lost, mounts
+/// Issues lines of a shell of a fresh volume in memory, in which `reserve` blocks may go bad, then leaves it as if power were lost, mounts
 /// it by a scan, unmounts it, and mounts it by its checkpoint. A line `mark` ends a part of the lines. Those from `repeat N` to `end`
-/// are asked N times, with the number of the turn, from 0 on, in place of each `#`.
+/// are run N times, with the number of the turn, from 0 on, in place of each `#`.
 ///
 /// Errors: each of `BenchFault`, but `Output`.
 pub fn run<R: CpuClock>(
@@ -231,7 +231,7 @@ impl Bench {
     }
 
     /// The write amplification in hundredths: what was programmed, for each hundred bytes that were written to files, and a part of one
-    /// not counted. None where nothing was written.
+    /// not in the count. None where nothing was written.
     pub fn amplification(&self) -> Option<u64> {
         self.programmed()
             .saturating_mul(100)

@@ -3,7 +3,7 @@
 use crate::fault::BenchFault;
 use std::alloc::{AllocError, Global};
 
-/// Lines that are asked so many times.
+/// Lines that are run so many times.
 #[derive(Drop)]
 struct Turns {
     count: u64,

@@ -20,33 +20,14 @@ use Rattle.tree_walk.specs.declared.broken.Broken.{Broken}
 use Rattle.tree_walk.specs.declared.broken.Rule.{Rule}
 use Rattle.tree_walk.specs.declared.broken.Rule.TheVariants as rules
 use Rattle.volume_check.specs.Found.{RootBreaks}
-use Rattle.volume_check.specs.Verdicts.{TellsVerdict, lacks_magic, is_no_header, verdict_of_broken, verdict_of_wrong}
+use Rattle.volume_check.specs.Verdicts.{ReportsVerdict, lacks_magic, is_no_header, verdict_of_broken, verdict_of_wrong}
 use Rattle.volume_check.specs.declared.verdict.Verdict.TheVariants as verdicts
 
 module _ (g : Geometry) (m : NewestMap) where
   -- what is wrong with a tree is its verdict
-  wrong_tells : (wrong : Wrong) → HasWrongTree g m wrong → TellsVerdict g m (verdict_of_wrong wrong)
-  wrong_tells (IsNewer format) t = t
-  wrong_tells IsDamaged t = t
-
-  -- a page that is no header of a root, for another reason than its magic number
-  faulty_root : (fault : HeaderFault) → fault ≢ headers.Magic → HasHeaderFault m root_number fault → TellsVerdict g m (verdict_of_wrong (wrong_by fault))
-  faulty_root fault other faulty = wrong_tells (wrong_by fault) (inl (inl (fault, faulty, other, refl)))
-
-  pub root_tells : (rule : Rule) → RootBreaks g m rule → TellsVerdict g m (verdict_of_broken (record { rule = rule; key = header_of root_number }))
-  root_tells rules.HeaderMissing (of, (chunk, none)) = inl none
-  root_tells (rules.NoHeader headers.Magic) (of, (chunk, faulty)) = inr faulty
-  root_tells (rules.NoHeader (headers.Newer format)) (of, (chunk, faulty)) = faulty_root (headers.Newer format) (λ same. cc) faulty
-  root_tells (rules.NoHeader headers.Kind) (of, (chunk, faulty)) = faulty_root headers.Kind (λ same. cc) faulty
-  root_tells (rules.NoHeader headers.Length) (of, (chunk, faulty)) = faulty_root headers.Length (λ same. cc) faulty
-  root_tells (rules.NoHeader headers.Pad) (of, (chunk, faulty)) = faulty_root headers.Pad (λ same. cc) faulty
-  root_tells rules.RootIsFile (of, (root, (f, has, kind))) = inl (inr (refl, f, has, inl kind))
-  root_tells (rules.TooManySpare spare) (of, (root, (f, has, kind, is, few))) =
-      inl (inr (refl, f, has, inr (subst (λ n. g.blocks < n + 4) (sym is) few)))
-  root_tells rules.ChunkMissing (of, breaks) = absurd of
-  root_tells (rules.NoSlot place) (of, breaks) = absurd of
-  root_tells (rules.NameTwice place) (of, breaks) = absurd of
-  root_tells rules.DirectoryTwice (of, breaks) = absurd of
+  wrong_reports : (wrong : Wrong) → HasWrongTree g m wrong → ReportsVerdict g m (verdict_of_wrong wrong)
+  wrong_reports (IsNewer format) t = t
+  wrong_reports IsDamaged t = t
 
 both_true : (a b : Bool) → (a && b) ≡ true → (a ≡ true) × (b ≡ true)
 both_true true true is = (refl, refl)
@@ -68,15 +49,15 @@ module _ (g : Geometry) (size : IsPageSize g.bytes) (m : NewestMap) (single : Is
     go (rules.NameTwice place) is breaks = absurd cc
     go rules.DirectoryTwice is breaks = absurd cc
 
-  pub below_tells : (b : Broken) → IsWrongTree (sizes_of g spare) m (wrong_of b.rule) → Breaks (sizes_of g spare) m b.key b.rule → TellsVerdict g m (verdict_of_broken b)
-  below_tells b tree breaks = go (nat_eq b.key.object root_number && is_no_header b.rule) refl where
+  pub below_reports : (b : Broken) → IsWrongTree (sizes_of g spare) m (wrong_of b.rule) → Breaks (sizes_of g spare) m b.key b.rule → ReportsVerdict g m (verdict_of_broken b)
+  below_reports b tree breaks = go (nat_eq b.key.object root_number && is_no_header b.rule) refl where
     is_root : nat_eq b.key.object root_number ≡ true → b.key.object ≡ root_number
     is_root same = eqb-true b.key.object root_number same
 
     go : (x : Bool) → (nat_eq b.key.object root_number && is_no_header b.rule) ≡ x
-        → TellsVerdict g m (if x then verdicts.NotAVolume else verdict_of_wrong (wrong_of b.rule))
+        → ReportsVerdict g m (if x then verdicts.NotAVolume else verdict_of_wrong (wrong_of b.rule))
     go true is = let p = both_true (nat_eq b.key.object root_number) (is_no_header b.rule) is in absurd (header_there b (is_root p.0) p.1 breaks)
-    go false is = wrong_tells g m (wrong_of b.rule) (inr (spare, volume, tree))
+    go false is = wrong_reports g m (wrong_of b.rule) (inr (spare, volume, tree))
 
 -- where no rule is broken, what follows then
 pub no_rule : (rule : Option Rule) (A : Type 0) → ((r : Rule) → rule ≡ Some r → ⊥) → IfNone rule A → A

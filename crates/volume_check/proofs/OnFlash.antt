@@ -7,11 +7,11 @@ use Rattle.nand_model.specs.declared.geometry.Geometry.{Geometry}
 use Rattle.flash_tree.specs.Newest.{HasNewest}
 use Rattle.flash_tree.specs.Mount.{sizes_of, IsVolume}
 use Rattle.flash_tree.specs.declared.place.Key.{Key}
-use Rattle.chunk_index.specs.declared.form.KeptPage.{KeptPage}
+use Rattle.chunk_index.specs.declared.form.CommittedPage.{CommittedPage}
 use Rattle.chunk_index.specs.declared.index.Index.{Index}
-use Rattle.chunk_index.specs.Maps.{kept_pages}
-use Rattle.flash_log.specs.Standing.{AreKept}
-use Rattle.page_store.specs.Shown.{data_at, kept_data}
+use Rattle.chunk_index.specs.Maps.{committed_pages}
+use Rattle.flash_log.specs.Standing.{AreCommitted}
+use Rattle.page_store.specs.Shown.{data_at, committed_data}
 use Rattle.pages.specs.Maps.{PageMap, has}
 use Rattle.mounting.specs.NewestMaps.{IsNewestMap}
 use Rattle.tree_walk.specs.Broken.{Breaks, IsFirstBroken, header_of}
@@ -45,13 +45,13 @@ module _ (laws : MapsBreak) (g : Geometry) (flash : Flash) (m : PageMap) (newest
   low b (inl (key, (of, breaks))) = subst (λ (k : Key). k.chunk < 2 ^ 32) (sym key) (laws.low g m 0 (header_of root_number) b.rule breaks)
   low b (inr (spare, volume, (breaks, met))) = laws.low g m spare b.key b.rule breaks
 
--- a page that is kept is the newest of its key, and where none is kept there is none
-pub lies : (flash : Flash) (x : Index) → AreKept flash (kept_pages x) → (key : Key) → (p : KeptPage)
-    → kept_pages x key.object key.chunk ≡ Some p → LiesAt flash key (Some (record { block = p.block; page = p.page }))
-lies flash x kept key p is = let at = kept key.object key.chunk p is in (at.tag, at.newest)
+-- a page that is committed is the newest of its key, and where none is committed there is none
+pub lies : (flash : Flash) (x : Index) → AreCommitted flash (committed_pages x) → (key : Key) → (p : CommittedPage)
+    → committed_pages x key.object key.chunk ≡ Some p → LiesAt flash key (Some (record { block = p.block; page = p.page }))
+lies flash x committed key p is = let at = committed key.object key.chunk p is in (at.tag, at.newest)
 
-pub lies_nowhere : (flash : Flash) (x : Index) → IsNewestMap flash (kept_data x flash) → (key : Key) → key.chunk < 2 ^ 32
-    → kept_pages x key.object key.chunk ≡ None → LiesAt flash key None
+pub lies_nowhere : (flash : Flash) (x : Index) → IsNewestMap flash (committed_data x flash) → (key : Key) → key.chunk < 2 ^ 32
+    → committed_pages x key.object key.chunk ≡ None → LiesAt flash key None
 lies_nowhere flash x newest key low is page has_newest =
     let there = (newest key.object key.chunk page).1 (has_newest, low) in
     let two : None ≡ Some page = sym (ap (option_and_then (data_at flash)) is) ∙ there in
@@ -70,7 +70,7 @@ finds_fault laws g flash m newest found is d verdict finding place = record {
   at None is place = tt
   at (Some b) is place = place (low laws g flash m newest b is)
 
--- and where no fault kept it from being told
+-- and where no fault committed it from being reported
 pub diagnosis_finds : {E : Type 0} (laws : MapsBreak) (g : Geometry) (flash : Flash) (m : PageMap) → IsNewestMap flash m
     → (found : Option Finding) → IfSome (broken_in found) (IsFoundFirst g (has m)) → (result : Result Diagnosis E) → IfOk result (λ d. d.verdict ≡ verdict_of (broken_in found))
     → IfOk result (λ d. d.finding ≡ found) → IfOk result (λ d. IfSome (broken_in found) (LiesWhereLow flash d.place)) → IfOk result (FindsFault g flash)

@@ -13,12 +13,12 @@ use Rattle.flash_tree.specs.Mount.{Wrong, IsNewer, IsDamaged, Wholly, GoesThroug
 use Rattle.flash_tree.specs.laws.Place.{same_flash}
 use Rattle.std.specs.Prelude.{List}
 use Rattle.chunk_index.specs.declared.index.Index.{Index}
-use Rattle.page_store.specs.Shown.{kept_data}
+use Rattle.page_store.specs.Shown.{committed_data}
 use Rattle.pages.specs.Maps.{PageMap, has}
 use Rattle.tree_walk.specs.Trees.{IsWrongTree, objects_listed}
 use Rattle.mounting.specs.NewestMaps.{IsNewestMap}
 use Rattle.mounting.specs.TreeAnswers.{HasWrongTree}
-use Rattle.volume_check.specs.Verdicts.{TellsVerdict, SaysOfFlash}
+use Rattle.volume_check.specs.Verdicts.{ReportsVerdict, SaysOfFlash}
 use Rattle.volume_check.specs.declared.finding.Diagnosis.{Diagnosis}
 use Rattle.volume_check.specs.declared.verdict.Verdict.{Verdict}
 use Rattle.volume_check.specs.declared.verdict.Verdict.TheVariants as verdicts
@@ -41,33 +41,27 @@ module _ (laws : MapsAnswer) (g : Geometry) (flash : Flash) (m : PageMap) (newes
   wrong_tree wrong (inr (spare, volume, tree)) = laws.tree g flash m spare wrong newest volume tree
 
   -- what a verdict says of the pages it says of the flash
-  pub says : (v : Verdict) → IsWithin g.pages g.blocks flash → IsSized g.bytes flash → TellsVerdict g (has m) v → SaysOfFlash g flash v
-  says verdicts.Whole within sized told =
-      let is = laws.whole g flash m told.spare (objects_listed told.tree) within sized newest told.volume told.through.through told.through.once in
-      record { spare = told.spare; volume = laws.volume g flash m told.spare newest told.volume; objects = is.0; shows = is.2 }
-  says verdicts.NotAVolume within sized told = laws.no_volume g flash m newest told
-  says (verdicts.Newer format) within sized told = wrong_tree (IsNewer format) told
-  says verdicts.Damaged within sized told = wrong_tree IsDamaged told
+  pub says : (v : Verdict) → IsWithin g.pages g.blocks flash → IsSized g.bytes flash → ReportsVerdict g (has m) v → SaysOfFlash g flash v
+  says verdicts.Whole within sized reported =
+      let is = laws.whole g flash m reported.spare (objects_listed reported.tree) within sized newest reported.volume reported.through.through reported.through.once in
+      record { spare = reported.spare; volume = laws.volume g flash m reported.spare newest reported.volume; objects = is.0; shows = is.2 }
+  says verdicts.NotAVolume within sized reported = laws.no_volume g flash m newest reported
+  says (verdicts.Newer format) within sized reported = wrong_tree (IsNewer format) reported
+  says verdicts.Damaged within sized reported = wrong_tree IsDamaged reported
 
 -- an index of the newest pages after some reads is one of those before them
-pub newest_map : (a b d : Device) (x y : Index) → OnlyReads a b → a.honest ≡ true → d ≡ b → y ≡ x → IsNewestMap b.flash (kept_data x b.flash) → IsNewestMap a.flash (kept_data y d.flash)
+pub newest_map : (a b d : Device) (x y : Index) → OnlyReads a b → a.honest ≡ true → d ≡ b → y ≡ x → IsNewestMap b.flash (committed_data x b.flash) → IsNewestMap a.flash (committed_data y d.flash)
 newest_map a b d x y reads honest same index newest =
-    subst (λ (z : Index). IsNewestMap a.flash (kept_data z d.flash)) (sym index) (subst (λ (e : Device). IsNewestMap a.flash (kept_data x e.flash)) (sym same)
-    (subst (λ (f : Flash). IsNewestMap f (kept_data x b.flash)) (same_flash a b reads honest) newest))
+    subst (λ (z : Index). IsNewestMap a.flash (committed_data z d.flash)) (sym index) (subst (λ (e : Device). IsNewestMap a.flash (committed_data x e.flash)) (sym same)
+    (subst (λ (f : Flash). IsNewestMap f (committed_data x b.flash)) (same_flash a b reads honest) newest))
 
 -- and it is one of the flash before them
-pub newest_map_here : (a b : Device) (x y : Index) → OnlyReads a b → a.honest ≡ true → y ≡ x → IsNewestMap b.flash (kept_data x b.flash) → IsNewestMap a.flash (kept_data y a.flash)
+pub newest_map_here : (a b : Device) (x y : Index) → OnlyReads a b → a.honest ≡ true → y ≡ x → IsNewestMap b.flash (committed_data x b.flash) → IsNewestMap a.flash (committed_data y a.flash)
 newest_map_here a b x y reads honest index newest =
-    subst (λ (z : Index). IsNewestMap a.flash (kept_data z a.flash)) (sym index) (subst (λ (f : Flash). IsNewestMap f (kept_data x f)) (same_flash a b reads honest) newest)
-
--- an honest device that has power has not failed
-pub not_honest : (gone honest : Bool) → gone ≡ false → (gone || not honest) ≡ true → honest ≡ false
-not_honest true honest power failed = absurd cc
-not_honest false true power failed = absurd cc
-not_honest false false power failed = refl
+    subst (λ (z : Index). IsNewestMap a.flash (committed_data z a.flash)) (sym index) (subst (λ (f : Flash). IsNewestMap f (committed_data x f)) (same_flash a b reads honest) newest)
 
 -- a verdict that is given says it
 pub verdict_says : {E : Type 0} (g : Geometry) (flash : Flash) (v : Verdict) → SaysOfFlash g flash v → (result : Result Diagnosis E) → IfOk result (λ d. d.verdict ≡ v)
     → IfOk result (λ d. SaysOfFlash g flash d.verdict)
-verdict_says g flash v told (Err e) is = tt
-verdict_says g flash v told (Ok d) is = subst (SaysOfFlash g flash) (sym is) told
+verdict_says g flash v reported (Err e) is = tt
+verdict_says g flash v reported (Ok d) is = subst (SaysOfFlash g flash) (sym is) reported

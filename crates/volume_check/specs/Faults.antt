@@ -19,12 +19,12 @@ WhyNotChecked device faults.NoMemory = Unit {0}
 WhyNotChecked device faults.Gone = device.gone ≡ true
 WhyNotChecked device faults.Lost = device.honest ≡ false
 
--- the device has power, and has failed: it did not give back what it was told
+-- the device has power, and has failed: it did not return what was written
 pub record LosesPages (new : PagesState) : Type 0 where
   pub failed : new.failed ≡ true
   pub power : new.device.gone ≡ false
 
--- Why nothing is said of pages: memory was refused; the device is gone; it did not give back what it was told.
+-- Why nothing is said of pages: memory was refused; the device is gone; it did not return what was written.
 abbrev pub WhyNoVerdict : PagesState → CheckFault → Type 0
 WhyNoVerdict new faults.NoMemory = Unit {0}
 WhyNoVerdict new faults.Gone = new.device.gone ≡ true

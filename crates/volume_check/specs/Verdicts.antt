@@ -19,11 +19,11 @@ use Rattle.volume_check.specs.declared.verdict.Verdict.{Verdict}
 use Rattle.volume_check.specs.declared.verdict.Verdict.TheVariants as verdicts
 
 -- what a verdict says of pages
-abbrev pub TellsVerdict : Geometry → NewestMap → Verdict → Type 0
-TellsVerdict g m verdicts.Whole = HasWholeTree g m
-TellsVerdict g m verdicts.NotAVolume = IsNoVolume m
-TellsVerdict g m (verdicts.Newer format) = HasWrongTree g m (IsNewer format)
-TellsVerdict g m verdicts.Damaged = HasWrongTree g m IsDamaged
+abbrev pub ReportsVerdict : Geometry → NewestMap → Verdict → Type 0
+ReportsVerdict g m verdicts.Whole = HasWholeTree g m
+ReportsVerdict g m verdicts.NotAVolume = IsNoVolume m
+ReportsVerdict g m (verdicts.Newer format) = HasWrongTree g m (IsNewer format)
+ReportsVerdict g m verdicts.Damaged = HasWrongTree g m IsDamaged
 
 -- what is wrong with a tree, as a verdict
 abbrev pub verdict_of_wrong : Wrong → Verdict

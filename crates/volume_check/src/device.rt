@@ -7,7 +7,7 @@ ghost use Rattle.pages.specs.State.{OnlyFinds};
 ghost use Rattle.tree_walk.specs.Visits.{IsSeen};
 ghost use Rattle.volume_check.specs.Faults.{WhyNoVerdict, WhyNotChecked};
 ghost use Rattle.volume_check.specs.Found.{FindsFault, IsFoundFirst, LiesAt, LiesWhereLow, broken_in};
-ghost use Rattle.volume_check.specs.Verdicts.{SaysOfFlash, TellsVerdict, verdict_of};
+ghost use Rattle.volume_check.specs.Verdicts.{SaysOfFlash, ReportsVerdict, verdict_of};
 
 use crate::fault::CheckFault;
 use crate::finding::{Diagnosis, Finding, Place};
@@ -29,7 +29,7 @@ fn find<P: KnownPages>(
 ) -> Result<Option<Finding>, CheckFault>
     ensures finds { OnlyFinds (P.state pages.old) (P.state pages.new) }
     ensures verdict { IsSeen (sizes_of geometry 0) (P.state pages.old)
-        → IfOk result (λ found. TellsVerdict geometry (has (P.state pages.old).present) (verdict_of (broken_in found))) }
+        → IfOk result (λ found. ReportsVerdict geometry (has (P.state pages.old).present) (verdict_of (broken_in found))) }
     ensures first { IsSeen (sizes_of geometry 0) (P.state pages.old)
         → IfOk result (λ found. IfSome (broken_in found) (IsFoundFirst geometry (has (P.state pages.old).present))) }
     ensures fault { IfErr result (WhyNoVerdict (P.state pages.new)) }
@@ -49,7 +49,7 @@ fn place_of<N: Nand>(alloc: Global, device: &mut N, key: Key) -> Result<Option<P
 {
     the_opened_pages_are_the_newest();
     let opened = open(alloc, device)?;
-    let Some(page) = opened.index.kept(key) else {
+    let Some(page) = opened.index.committed(key) else {
         return Ok(None);
     };
     Ok(Some(Place {

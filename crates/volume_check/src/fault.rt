@@ -12,7 +12,7 @@ pub enum CheckFault {
     NoMemory,
     /// The power is gone.
     Gone,
-    /// The device did not give back what it was told.
+    /// The device did not return what was written.
     Lost,
 }
 

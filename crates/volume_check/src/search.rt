@@ -6,7 +6,7 @@ ghost use Rattle.pages.specs.State.{OnlyFinds};
 ghost use Rattle.tree_walk.specs.Visits.{IsSeen};
 ghost use Rattle.volume_check.specs.Faults.{WhyNoVerdict};
 ghost use Rattle.volume_check.specs.Found.{IsFoundFirst};
-ghost use Rattle.volume_check.specs.Verdicts.{TellsVerdict, verdict_of};
+ghost use Rattle.volume_check.specs.Verdicts.{ReportsVerdict, verdict_of};
 
 use crate::fault::CheckFault;
 use crate::root::{ROOT_HEADER, root_rule, why_failed};
@@ -25,7 +25,7 @@ pub(crate) fn find_broken<P: KnownPages>(
 ) -> Result<Option<Broken>, CheckFault>
     ensures finds { OnlyFinds (P.state pages.old) (P.state pages.new) }
     ensures verdict { IsSeen (sizes_of geometry 0) (P.state pages.old)
-        → IfOk result (λ found. TellsVerdict geometry (has (P.state pages.old).present) (verdict_of found)) }
+        → IfOk result (λ found. ReportsVerdict geometry (has (P.state pages.old).present) (verdict_of found)) }
     ensures first { IsSeen (sizes_of geometry 0) (P.state pages.old)
         → IfOk result (λ found. IfSome found (IsFoundFirst geometry (has (P.state pages.old).present))) }
     ensures fault { IfErr result (WhyNoVerdict (P.state pages.new)) }

@@ -1,4 +1,4 @@
--- Parts that are counted whole.
+-- Parts that count as whole ones.
 use Rattle.std.specs.Prelude.{ℕ, ◌+◌, ◌-◌, ◌/◌}
 
 -- n / d, rounded up

@@ -1,4 +1,4 @@
-// Why a store did not do what it was asked.
+// Why a store did not do what it is for.
 ghost use Rattle.std.specs.Prelude.{◌≡◌};
 ghost use Rattle.volume_terms.specs.declared.fault.StoreFault.TheVariants as faults;
 
@@ -7,7 +7,7 @@ use std::alloc::{AllocError, AllocFailed};
 /// Why a store of pages, or of objects, did not answer or did not change.
 #[derive(Clone, Copy, Debug, PartialEq, Eq)]
 pub enum StoreFault {
-    /// A growth was refused. What was asked can be asked again.
+    /// A growth was refused. The call can be made again.
     NoMemory,
     /// The device failed or is gone, or did not give back what was written.
     Device,

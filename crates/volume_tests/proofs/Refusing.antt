@@ -58,7 +58,7 @@ goes_nowhere a b p answers = record {
     seqs = omega arith;
     groups = λ honest power. omega arith;
     below = λ honest below. below;
-    written = λ honest below more counted. below_more p.device.flash p.next.group p.next.seq more below;
+    written = λ honest below more totaled. below_more p.device.flash p.next.group p.next.seq more below;
   };
   marks = omega arith;
   limits = λ honest left. left;

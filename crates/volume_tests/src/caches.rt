@@ -2,7 +2,7 @@
 
 use crate::devices::formatted;
 use crate::scenarios::Part::{Rows, Turns};
-use crate::scenarios::{Part, ask_part, served_after, tell, tell_part};
+use crate::scenarios::{Part, ask_part, report_part, served_after, tell};
 use crate::served::mount_by_itself;
 use crate::sessions::HELLO;
 use std::alloc::Global;
@@ -48,7 +48,7 @@ const READINGS: [(Reading, usize, bool); 5] = [
 /// The calls of a device in a scenario, which ends with these rows.
 fn calls_of(rt: &impl Abort, alloc: Global, reading: Reading, capacity: usize, last: Part) -> u64 {
     let mut served = served_after(rt, alloc, formatted(rt, alloc), capacity, reading.scenario);
-    served = tell_part(rt, alloc, served, capacity, last);
+    served = report_part(rt, alloc, served, capacity, last);
     served.abandon().calls()
 }
 

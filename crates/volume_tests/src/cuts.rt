@@ -112,7 +112,7 @@ space -> space 512 144 0",
     ),
 ];
 
-const KEPT: &str = "open /a r -> fd 0
+const COMMITTED: &str = "open /a r -> fd 0
 read 0 10 -> data 5 hello
 open /b r -> fd 1
 read 1 5 -> data 5 zzzzz
@@ -122,8 +122,8 @@ space -> space 512 144 0";
 const REWRITTEN: Trial = Trial {
     before: &[Rows("open /b rw -> fd 0\nwrite 0 [z*512] -> wrote 512")],
     last: "fsync 0",
-    old: KEPT,
-    new: KEPT,
+    old: COMMITTED,
+    new: COMMITTED,
 };
 
 /// A sync with a collection in it: an erase, a copy of each page that is read, and the pages of the buffer.

@@ -79,7 +79,7 @@ const WRITTEN: Part = Turns(
 );
 
 #[test]
-fn failures_within_the_spare_are_not_told(rt: HostRuntime) {
+fn failures_within_the_spare_are_not_reported(rt: HostRuntime) {
     let alloc = rt.alloc();
     let nand = formatted_with(&rt, alloc, erased(&rt, alloc), 4);
     let (first, _) = next_call(&rt, alloc, &nand, &[], &[]);

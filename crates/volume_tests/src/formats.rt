@@ -119,7 +119,7 @@ fn what_fails_is_marked_bad(rt: HostRuntime) {
 
 /// A cut is reported at each call of a format whose third erase fails: eight erases, with a mark after the third, and a program.
 #[test]
-fn each_cut_of_a_format_is_told(rt: HostRuntime) {
+fn each_cut_of_a_format_is_reported(rt: HostRuntime) {
     let alloc = rt.alloc();
     for call in 1..=10u64 {
         for fate in [Fate::Old, Fate::New, Fate::Uncorrectable] {

@@ -1,6 +1,6 @@
 // A volume over an image in memory whose file fails.
 
-use crate::book::commands_of;
+use crate::expected::commands_of;
 use line_shell::write_reply;
 use nand_image::{ImageNand, create_image, open_image};
 use nand_model::Geometry;

@@ -56,7 +56,7 @@ const FILLED: &str =
 const STOPPED: &str = "sync -> error EIO\nlist / -> error EIO\nspace -> error EIO";
 
 /// What a mount shows before any change, and after a stop.
-const KEPT: &str =
+const COMMITTED: &str =
     "list / -> names 1 a\nopen /a r -> fd 0\nread 0 10 -> data 5 hello\nspace -> space 512 144 140";
 
 /// A volume that can be written, of one file, on a flash with the last number.
@@ -65,9 +65,9 @@ fn mounted(rt: &impl Abort, alloc: Global, tag: &[Patch]) -> Served {
 }
 
 /// That the file is there as it was.
-fn expect_kept(rt: &impl Abort, alloc: Global, mut nand: MemNand) {
+fn expect_committed(rt: &impl Abort, alloc: Global, mut nand: MemNand) {
     nand.power_up();
-    expect(rt, alloc, &mut mount(rt, alloc, nand, 16), KEPT)
+    expect(rt, alloc, &mut mount(rt, alloc, nand, 16), COMMITTED)
 }
 
 #[test]
@@ -79,11 +79,11 @@ fn what_needs_no_number_is_answered(rt: HostRuntime) {
         let (nand, is_done) = served.unmount();
         assert!(&rt; is_done);
         assert_eq!(&rt; nand.changes(), 0);
-        expect_kept(&rt, alloc, nand);
+        expect_committed(&rt, alloc, nand);
     }
 }
 
-/// Asks rows of a volume. It does not unmount then, and a mount shows the file.
+/// Issues rows of a volume. It does not unmount then, and a mount shows the file.
 fn stop(rt: &impl Abort, alloc: Global, tag: &[Patch], rows: &[&str]) {
     let mut served = mounted(rt, alloc, tag);
     for rows in rows {
@@ -91,7 +91,7 @@ fn stop(rt: &impl Abort, alloc: Global, tag: &[Patch], rows: &[&str]) {
     }
     let (nand, is_done) = served.unmount();
     assert!(rt; !is_done, "{rows:?}");
-    expect_kept(rt, alloc, nand)
+    expect_committed(rt, alloc, nand)
 }
 
 #[test]

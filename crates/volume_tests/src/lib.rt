@@ -9,13 +9,13 @@ pub use store::RefusingPages;
 #[cfg(test)]
 mod altered;
 #[cfg(test)]
-mod book;
-#[cfg(test)]
 mod caches;
 #[cfg(test)]
 mod cuts;
 #[cfg(test)]
 mod devices;
+#[cfg(test)]
+mod expected;
 #[cfg(test)]
 mod failures;
 #[cfg(test)]

@@ -1,7 +1,7 @@
 // A session that is cut at each of its calls, beside a plain tree.
 
-use crate::book::{Book, book_of};
 use crate::devices::{ALL_LEFT, Hit, Left, cut, formatted};
+use crate::expected::{Expected, expected_of};
 use crate::served::{Served, mount, try_mount};
 use nand_model::MemNand;
 use plain_volume::Answers;
@@ -42,20 +42,20 @@ struct Reached {
     answered: usize,
 }
 
-/// Does the commands of a book until the volume stops.
+/// Does the commands of a expected until the volume stops.
 fn do_commands(
     rt: &impl Abort,
     alloc: Global,
     served: &mut Served,
-    book: &Book,
+    expected: &Expected,
     reached: &mut Reached,
 ) {
-    for stamped in &book.commands {
+    for stamped in &expected.commands {
         let reply = served.answer(stamped);
         if matches!(reply, Reply::Error(Errno::EIO)) {
             return;
         }
-        book.expect_reply(rt, alloc, reached.answered, &reply);
+        expected.expect_reply(rt, alloc, reached.answered, &reply);
         reached.answered = reached.answered.saturating_add(1);
         if matches!(stamped.command, Command::Sync | Command::Fsync { .. }) {
             reached.covered = reached.answered;
@@ -63,17 +63,17 @@ fn do_commands(
     }
 }
 
-/// Does the session of a book on a device that may be cut, and gives the device back.
+/// Does the session of a expected on a device that may be cut, and gives the device back.
 fn do_session(
     rt: &impl Abort,
     alloc: Global,
     nand: MemNand,
-    book: &Book,
+    expected: &Expected,
     reached: &mut Reached,
 ) -> MemNand {
     match try_mount(alloc, nand, 16) {
         Ok(mut served) => {
-            do_commands(rt, alloc, &mut served, book, reached);
+            do_commands(rt, alloc, &mut served, expected, reached);
             served.abandon()
         }
         Err((nand, _fault)) => nand,
@@ -85,24 +85,24 @@ fn shows_tree(
     rt: &impl Abort,
     alloc: Global,
     mut nand: MemNand,
-    book: &Book,
+    expected: &Expected,
     reached: Reached,
 ) -> bool {
     nand.power_up();
     let mut served = mount(rt, alloc, nand, 16);
-    book.has_tree(rt, &mut served, reached.covered, reached.answered)
+    expected.has_tree(rt, &mut served, reached.covered, reached.answered)
 }
 
-/// Cuts a call of a session, and looks at the tree that is left. Tells whether there is such a call.
-fn cut_at(rt: &impl Abort, alloc: Global, nand: &MemNand, book: &Book, hit: Hit) -> bool {
+/// Cuts a call of a session, and looks at the tree that is left. Returns whether there is such a call.
+fn cut_at(rt: &impl Abort, alloc: Global, nand: &MemNand, expected: &Expected, hit: Hit) -> bool {
     let mut reached = Reached {
         covered: 0,
         answered: 0,
     };
     let nand = cut(rt, alloc, nand, hit);
-    let nand = do_session(rt, alloc, nand, book, &mut reached);
+    let nand = do_session(rt, alloc, nand, expected, &mut reached);
     let is_cut = nand.gone();
-    let is_there = shows_tree(rt, alloc, nand, book, reached);
+    let is_there = shows_tree(rt, alloc, nand, expected, reached);
     assert!(rt; is_there, "{}", hit.call);
     is_cut
 }
@@ -112,12 +112,12 @@ fn cut_from(
     rt: &impl Abort,
     alloc: Global,
     nand: &MemNand,
-    book: &Book,
+    expected: &Expected,
     from: u64,
     left: Left,
 ) -> u64 {
     for call in from..1000 {
-        if !cut_at(rt, alloc, nand, book, Hit { call, left }) {
+        if !cut_at(rt, alloc, nand, expected, Hit { call, left }) {
             return call;
         }
     }
@@ -128,14 +128,14 @@ fn cut_from(
 fn a_cut_session_leaves_what_was_synced(rt: HostRuntime) {
     let alloc = rt.alloc();
     let nand = formatted(&rt, alloc);
-    let book = book_of(&rt, alloc, SESSION);
+    let expected = expected_of(&rt, alloc, SESSION);
     let mounted = mount(&rt, alloc, nand.copy().expect(&rt, "memory"), 16)
         .abandon()
         .calls();
     // A cut leaves the same of each call that only reads, as those of the mount.
     let mut from = 1;
     for left in ALL_LEFT {
-        let end = cut_from(&rt, alloc, &nand, &book, from, left);
+        let end = cut_from(&rt, alloc, &nand, &expected, from, left);
         assert!(rt; mounted < end);
         from = mounted;
     }

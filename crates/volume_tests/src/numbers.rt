@@ -20,7 +20,7 @@ const MADE: Part = Rows("mkdir /z -> ok");
 
 const STOPPED: Part = Rows("sync -> error EIO");
 
-const KEPT: Part = Rows("fsync 0 -> ok");
+const COMMITTED: Part = Rows("fsync 0 -> ok");
 
 /// The device after a session whose sync is cut at this call.
 fn cut_at(rt: &impl Abort, alloc: Global, nand: &MemNand, call: u64) -> MemNand {
@@ -99,7 +99,7 @@ fn cut_sessions_leave_nothing_but_their_numbers(rt: HostRuntime) {
     let mut nand = cut_three_times(&rt, alloc);
     assert_eq!(rt; tags_of(&rt, alloc, &mut nand).len(), 2);
     let before = greatest(&mut nand).expect(&rt, "a search");
-    let mut nand = tell(&rt, alloc, nand, &[Rows(HELLO), KEPT]);
+    let mut nand = tell(&rt, alloc, nand, &[Rows(HELLO), COMMITTED]);
     let tags = tags_of(&rt, alloc, &mut nand);
     assert_eq!(rt; count_above(&tags, before), 4);
 }

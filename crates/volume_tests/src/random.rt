@@ -1,7 +1,7 @@
 // Random commands, on a volume and on a plain tree beside it.
 
-use crate::book::{commands_of, new_tree, step, text_of};
 use crate::devices::formatted;
+use crate::expected::{commands_of, new_tree, step, text_of};
 use crate::rows::expect;
 use crate::served::{Served, mount};
 use plain_volume::{Answers, PlainTree};
@@ -116,7 +116,7 @@ fn random_commands(rt: &impl Abort, alloc: Global, seed: u64, count: u32) -> Vec
     commands_of(rt, alloc, &lines)
 }
 
-/// Does a command in both, which tell the same. Tells whether it was done.
+/// Does a command in both, which tell the same. Returns whether it was done.
 fn do_both(
     rt: &impl Abort,
     alloc: Global,
@@ -152,7 +152,7 @@ fn mount_again(
 
 /// Each fifty commands are followed by an unmount or a loss of power, in turn, and a mount.
 #[test]
-fn a_volume_tells_what_a_plain_tree_does(rt: HostRuntime) {
+fn a_volume_reports_what_a_plain_tree_does(rt: HostRuntime) {
     let alloc = rt.alloc();
     for (seed, capacity) in [(1u64, 1usize), (1, 16), (2, 2)] {
         let mut tree = new_tree(&rt, alloc);

@@ -92,7 +92,7 @@ fn a_cut_refresh_loses_nothing(rt: HostRuntime) {
 
 /// A block that fails is to spare.
 #[test]
-fn a_failure_in_a_refresh_is_not_told(rt: HostRuntime) {
+fn a_failure_in_a_refresh_is_not_reported(rt: HostRuntime) {
     let alloc = rt.alloc();
     let nand = formatted(&rt, alloc);
     let (first, end) = calls_of(&rt, alloc, &nand);

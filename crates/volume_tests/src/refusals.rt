@@ -1,8 +1,8 @@
 // Sessions over the flash of which each call of the pages that may take memory is refused in turn.
 
 use crate::RefusingPages;
-use crate::book::{Book, book_of};
 use crate::devices::formatted;
+use crate::expected::{Expected, expected_of};
 use crate::losses::SESSION;
 use crate::refused::{FILE, TREE};
 use crate::served::mount;
@@ -27,7 +27,7 @@ impl Answers for Refusing {
     ghost shows = { λ _ _ _ _. ⊥ };
 
     fn answer(&mut self, stamped: &Stamped) -> Reply {
-        self.volume.ask(&stamped.asked())
+        self.volume.ask(&stamped.as_request())
     }
 
     ghost sound = { λ v z read_only s shown. absurd shown };
@@ -79,46 +79,57 @@ fn takes_memory(command: &Command) -> bool {
     )
 }
 
-/// Does the commands of a book. One that is refused memory leaves the tree, and is done once more. Gives how many were refused.
-fn do_commands(rt: &impl Abort, alloc: Global, refusing: &mut Refusing, book: &Book) -> u32 {
+/// Does the commands of a expected. One that is refused memory leaves the tree, and is done once more. Gives how many were refused.
+fn do_commands(
+    rt: &impl Abort,
+    alloc: Global,
+    refusing: &mut Refusing,
+    expected: &Expected,
+) -> u32 {
     let mut refused = 0u32;
-    for (number, stamped) in book.commands.iter().enumerate() {
+    for (number, stamped) in expected.commands.iter().enumerate() {
         let mut reply = refusing.answer(stamped);
         if matches!(reply, Reply::Error(Errno::ENOMEM)) {
             refused = refused.saturating_add(1);
             assert!(rt; takes_memory(&stamped.command), "{number}");
-            assert!(rt; book.has_tree(rt, refusing, number, number), "{number}");
+            assert!(rt; expected.has_tree(rt, refusing, number, number), "{number}");
             reply = refusing.answer(stamped);
         }
-        book.expect_reply(rt, alloc, number, &reply);
+        expected.expect_reply(rt, alloc, number, &reply);
     }
     refused
 }
 
-/// Does the session of a book with a call refused: one command is answered by ENOMEM then. A mount shows the tree after all. Tells
+/// Does the session of a expected with a call refused: one command is answered by ENOMEM then. A mount shows the tree after all. Reports
 /// whether there is such a call.
-fn refuse_at(rt: &impl Abort, alloc: Global, nand: &MemNand, book: &Book, calls: u64) -> bool {
+fn refuse_at(
+    rt: &impl Abort,
+    alloc: Global,
+    nand: &MemNand,
+    expected: &Expected,
+    calls: u64,
+) -> bool {
     let mut refusing = mount_refusing(rt, alloc, nand.copy().expect(rt, "memory"), calls);
-    let refused = do_commands(rt, alloc, &mut refusing, book);
+    let refused = do_commands(rt, alloc, &mut refusing, expected);
     let (mut nand, is_refused) = into_device(refusing);
     assert_eq!(rt; refused, u32::from(is_refused), "{calls}");
     nand.power_up();
-    let count = book.commands.len();
+    let count = expected.commands.len();
     let mut served = mount(rt, alloc, nand, 16);
-    assert!(rt; book.has_tree(rt, &mut served, count, count), "{calls}");
+    assert!(rt; expected.has_tree(rt, &mut served, count, count), "{calls}");
     is_refused
 }
 
 /// Refuses each call of a session of these lines and a sync. Gives how many there are.
 fn refuse_each(rt: &impl Abort, alloc: Global, lines: &str) -> u64 {
     let nand = formatted(rt, alloc);
-    let book = book_of(
+    let expected = expected_of(
         rt,
         alloc,
         &format!(in alloc; "{lines}\nsync").expect(rt, "memory"),
     );
     for calls in 0..1000 {
-        if !refuse_at(rt, alloc, &nand, &book, calls) {
+        if !refuse_at(rt, alloc, &nand, &expected, calls) {
             return calls;
         }
     }

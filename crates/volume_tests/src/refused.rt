@@ -1,7 +1,7 @@
 // Sessions in which memory may be refused: what is refused is not done, and the same call again is answered.
 
-use crate::book::{Book, book_of, commands_of, new_tree, step, text_of};
 use crate::devices::formatted;
+use crate::expected::{Expected, commands_of, expected_of, new_tree, step, text_of};
 use crate::losses::SESSION;
 use crate::served::{Served, mount, try_mount};
 use nand_model::MemNand;
@@ -49,15 +49,21 @@ fn mount_again(rt: &impl Abort, alloc: Global, nand: MemNand) -> Served {
     }
 }
 
-/// Does a command of the book. Where memory is refused the tree stays, and it is done once more.
-fn call_again(rt: &impl Abort, alloc: Global, served: &mut Served, book: &Book, number: usize) {
-    let stamped = book.commands.get(number).expect(rt, "no such command");
+/// Does a command of the expected. Where memory is refused the tree stays, and it is done once more.
+fn call_again(
+    rt: &impl Abort,
+    alloc: Global,
+    served: &mut Served,
+    expected: &Expected,
+    number: usize,
+) {
+    let stamped = expected.commands.get(number).expect(rt, "no such command");
     let mut reply = served.answer(stamped);
     if matches!(reply, Reply::Error(Errno::ENOMEM)) {
-        assert!(rt; book.has_tree(rt, served, number, number), "{number}");
+        assert!(rt; expected.has_tree(rt, served, number, number), "{number}");
         reply = served.answer(stamped);
     }
-    book.expect_reply(rt, alloc, number, &reply)
+    expected.expect_reply(rt, alloc, number, &reply)
 }
 
 /// How a session ends: by an unmount, after which a mount goes by a checkpoint, or without one.
@@ -70,11 +76,11 @@ enum End {
 /// Does a session of these lines, call by call, ends it, and mounts its device again.
 fn do_calls(rt: &impl Abort, alloc: Global, lines: &str, end: End) {
     let nand = formatted(rt, alloc);
-    let book = book_of(rt, alloc, lines);
-    let count = book.commands.len();
+    let expected = expected_of(rt, alloc, lines);
+    let count = expected.commands.len();
     let mut served = mount_again(rt, alloc, nand);
     for number in 0..count {
-        call_again(rt, alloc, &mut served, &book, number);
+        call_again(rt, alloc, &mut served, &expected, number);
     }
     let (mut nand, is_done) = match end {
         End::Unmount => served.unmount(),
@@ -83,7 +89,7 @@ fn do_calls(rt: &impl Abort, alloc: Global, lines: &str, end: End) {
     assert!(rt; is_done);
     nand.power_up();
     let mut served = mount_again(rt, alloc, nand);
-    assert!(rt; book.has_tree(rt, &mut served, count, count));
+    assert!(rt; expected.has_tree(rt, &mut served, count, count));
 }
 
 // Run these with each allocation refused in turn.
@@ -135,7 +141,7 @@ fn expect_replies(
 
 /// The same commands as one list.
 #[test]
-fn a_run_tells_what_its_commands_do(rt: HostRuntime) {
+fn a_run_reports_what_its_commands_do(rt: HostRuntime) {
     let alloc = rt.alloc();
     let mut replies = Vec::new(alloc);
     let mut served = mount(&rt, alloc, formatted(&rt, alloc), 16);

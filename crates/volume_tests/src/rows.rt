@@ -55,7 +55,7 @@ fn script_of(alloc: Global, rows: &str) -> Result<Script, AllocError> {
     Ok(Script { lines, replies })
 }
 
-/// Asks the lines of the rows, which are to be answered by their replies.
+/// Issues the lines of the rows, which are to be answered by their replies.
 pub(crate) fn expect<S: Serve>(rt: &impl Abort, alloc: Global, served: &mut S, rows: &str) {
     let Script { lines, replies } = script_of(alloc, &written_out(rt, alloc, rows)).expect(
         rt,

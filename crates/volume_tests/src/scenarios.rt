@@ -21,7 +21,7 @@ pub(crate) enum Part {
     Unmounted,
 }
 
-/// Asks rows so many times.
+/// Issues rows so many times.
 fn expect_turns<S: Serve>(rt: &impl Abort, alloc: Global, served: &mut S, count: u32, rows: &str) {
     for number in 0..count {
         let number = format!(in alloc; "{number}").expect(rt, "memory");
@@ -59,8 +59,8 @@ fn end(rt: &impl Abort, served: Served, part: Part) -> MemNand {
     nand
 }
 
-/// Tells a part of a scenario.
-pub(crate) fn tell_part(
+/// Reports a part of a scenario.
+pub(crate) fn report_part(
     rt: &impl Abort,
     alloc: Global,
     mut served: Served,
@@ -85,7 +85,7 @@ pub(crate) fn served_after(
 ) -> Served {
     let mut served = mount(rt, alloc, nand, capacity);
     for part in scenario {
-        served = tell_part(rt, alloc, served, capacity, *part);
+        served = report_part(rt, alloc, served, capacity, *part);
     }
     served
 }

@@ -1,7 +1,7 @@
 // What sessions are answered on a device that was just formatted.
 
-use crate::book::new_tree;
 use crate::devices::formatted;
+use crate::expected::new_tree;
 use crate::scenarios::Part::{Lost, LostAfter, Rows, Turns, Unmounted};
 use crate::scenarios::{Part, ask_part, served_after};
 use line_shell::Serve;
@@ -300,7 +300,7 @@ const SCENARIOS: [&[Part]; 23] = [
 ];
 
 #[test]
-fn sessions_are_told_their_replies(rt: HostRuntime) {
+fn sessions_are_reported_their_replies(rt: HostRuntime) {
     let alloc = rt.alloc();
     for scenario in SCENARIOS {
         for capacity in [1usize, 2, 16] {
@@ -328,7 +328,7 @@ impl Serve for Plain {
 
 /// A plain tree answers the same, up to the first loss or unmount of a scenario.
 #[test]
-fn a_plain_tree_is_told_the_same(rt: HostRuntime) {
+fn a_plain_tree_is_reported_the_same(rt: HostRuntime) {
     let alloc = rt.alloc();
     for scenario in SCENARIOS {
         let mut plain = Plain {

@@ -4,15 +4,15 @@ use Rattle.std.proofs.Common.{sym, ap, ◌∙◌, inl, inr, arith}
 use Rattle.std.proofs.lemmas.Bool.{cases_eq, cases_lt, cases_Bool}
 use Rattle.block_state.specs.Table.{Table}
 use Rattle.chunk_index.specs.declared.form.PagePlace.{PagePlace}
-use Rattle.chunk_index.specs.declared.form.KeptPage.{KeptPage}
+use Rattle.chunk_index.specs.declared.form.CommittedPage.{CommittedPage}
 use Rattle.chunk_index.specs.declared.form.Form.TheVariants as forms
 use Rattle.chunk_index.specs.declared.form.Present.{Present}
 use Rattle.chunk_index.specs.declared.form.Present.TheVariants as presents
 use Rattle.chunk_index.specs.declared.index.Index.{Index}
-use Rattle.chunk_index.specs.Maps.{present, CountsAgree, IsEmpty, SameKept, SamePresent, Places, Cuts, Copies, Retains, moved_to}
+use Rattle.chunk_index.specs.Maps.{present, CountsAgree, IsEmpty, SameCommitted, SamePresent, Places, Cuts, Copies, Retains, moved_to}
 
--- the counts agree, where no kept page changes
-pub agree_same : (t : Table) (old new : Index) → SameKept old new → CountsAgree t old → CountsAgree t new
+-- the counts agree, where no committed page changes
+pub agree_same : (t : Table) (old new : Index) → SameCommitted old new → CountsAgree t old → CountsAgree t new
 agree_same t old new same agree = record { counts = λ b. agree.counts b ∙ sym (same.counts b); within = λ b le. same.counts b ∙ agree.within b le }
 
 -- the buffer has at most n pages that are present
@@ -48,13 +48,13 @@ below_cut n o from old new cuts below k l i is = elim (cases_eq k o) [
   ]
 ]
 
-moved_buffer : (p : KeptPage) (q : Present) (i : ℕ) → moved_to p q ≡ presents.InBuffer i → q ≡ presents.InBuffer i
+moved_buffer : (p : CommittedPage) (q : Present) (i : ℕ) → moved_to p q ≡ presents.InBuffer i → q ≡ presents.InBuffer i
 moved_buffer p presents.Absent i is = absurd cc
 moved_buffer p (presents.OnFlash k) i is = absurd cc
 moved_buffer p (presents.InBuffer j) i is = is
 
 -- after a copy
-pub below_copied : (n o c : ℕ) (place : PagePlace) (was : KeptPage) (old new : Index) → Copies o c place was old new → BufferBelow n old → BufferBelow n new
+pub below_copied : (n o c : ℕ) (place : PagePlace) (was : CommittedPage) (old new : Index) → Copies o c place was old new → BufferBelow n old → BufferBelow n new
 below_copied n o c place was old new copies below k l i is = elim (cases_eq k o) [
   | inr ne ↦ below k l i (sym (copies.present_elsewhere k l (inl ne)) ∙ is)
   | inl e ↦ elim (cases_eq l c) [

@@ -1,4 +1,4 @@
--- What follows from what is told of an object.
+-- What follows from what is reported of an object.
 use Rattle.std.specs.Prelude.{◌≡◌, ◌≤◌, ℕ, false, List, [], ◌∷◌, length, Option, Some, None, nat_le, is_some, MatchBool}
 use Rattle.std.proofs.Common.{refl, sym, ◌∙◌, ap, subst, inl, inr, arith}
 use Rattle.std.proofs.lemmas.Bool.{lt-leb, le-leb, true≢false}

@@ -20,13 +20,13 @@ use Rattle.posix_profile.specs.declared.reply.Reply.{Reply}
 use Rattle.posix_profile.specs.declared.reply.Reply.TheVariants as replies
 use Rattle.object_store.specs.Facts.{bytes_of, info_of}
 use Rattle.object_store.specs.Stores.{Meaning, IsLawful, ReadFaults, KeepsPower}
-use Rattle.object_store.specs.laws.Store.{has_on, tells_on}
+use Rattle.object_store.specs.laws.Store.{has_on, reports_on}
 use Rattle.volume_terms.specs.declared.fault.StoreFault.{StoreFault}
 use Rattle.object_store.specs.declared.refusal.Refusal.{Refusal}
 use Rattle.object_store.specs.declared.refusal.Refusal.TheVariants as refusals
 use Rattle.command_plans.specs.Paths.{place_of, Leads}
 use Rattle.command_plans.specs.declared.path.parts.PathPlace.{PathPlace}
-use Rattle.command_plans.specs.Classes.{Class, Changing, tells_if}
+use Rattle.command_plans.specs.Classes.{Class, Changing, reports_if}
 use Rattle.command_plans.specs.Places.{AtPlace, FindsPlace, AtObject, NoObject, FindsObject}
 use Rattle.command_plans.specs.Plans.{Holds, IsPlan, Plans, Tries, handed, Suits}
 use Rattle.command_plans.specs.declared.plan.Plan.{Plan}
@@ -41,27 +41,27 @@ holds_on m law z s a b reads h = record { has = has_on m law z s.objects a b rea
 -- what is meant in other words, after calls that read
 pub plans_same : {S : Type 0} (m : Meaning S) (law : IsLawful m) (z : Sizes) (class : Class) (s : State) (meant all : Outcome) (a b c : S) → m.reads a b → meant ≡ all
     → (r : Result Plan Refusal) → Plans m z class s meant b c r → Plans m z class s all a c r
-plans_same m law z class s meant all a b c reads is r told =
-    subst (λ o. Plans m z class s o a c r) is (tells_on m law a b c (IsPlan z class s meant) (λ e. refuse s e ≡ meant) reads r told)
+plans_same m law z class s meant all a b c reads is r reported =
+    subst (λ o. Plans m z class s o a c r) is (reports_on m law a b c (IsPlan z class s meant) (λ e. refuse s e ≡ meant) reads r reported)
 
 -- the same where nothing was read
 pub plans_is : {S : Type 0} (m : Meaning S) (z : Sizes) (class : Class) (s : State) (meant all : Outcome) (a b : S) → meant ≡ all → (r : Result Plan Refusal) → Plans m z class s meant a b r → Plans m z class s all a b r
-plans_is m z class s meant all a b is r told = subst (λ o. Plans m z class s o a b r) is told
+plans_is m z class s meant all a b is r reported = subst (λ o. Plans m z class s o a b r) is reported
 
 -- an error handed on
 pub plans_err : {S : Type 0} (m : Meaning S) (z : Sizes) (class : Class) (s : State) (meant : Outcome) (a b : S) (r : Result Plan Refusal) (x y : Refusal) → r ≡ Err x → x ≡ y → Plans m z class s meant a b (Err y) → Plans m z class s meant a b r
-plans_err m z class s meant a b r x y is same told = subst (λ r. Plans m z class s meant a b r) (sym is) (subst (λ x. Plans m z class s meant a b (Err x)) (sym same) told)
+plans_err m z class s meant a b r x y is same reported = subst (λ r. Plans m z class s meant a b r) (sym is) (subst (λ x. Plans m z class s meant a b (Err x)) (sym same) reported)
 
 -- a fault of a call that read
 pub plans_fault : {S : Type 0} (m : Meaning S) (law : IsLawful m) (z : Sizes) (class : Class) (s : State) (meant : Outcome) (a b c : S) (r : Result Plan Refusal) (x : Refusal) (fault : StoreFault) → r ≡ Err x → x ≡ refusals.Fault fault
     → m.reads a b → ReadFaults m b c fault → Plans m z class s meant a c r
 plans_fault m law z class s meant a b c r x fault is same reads left =
-    plans_err m z class s meant a c r x (refusals.Fault fault) is same (tells_on {A = Plan} m law a b c (IsPlan z class s meant) (λ e. refuse s e ≡ meant) reads (Err (refusals.Fault fault)) left)
+    plans_err m z class s meant a c r x (refusals.Fault fault) is same (reports_on {A = Plan} m law a b c (IsPlan z class s meant) (λ e. refuse s e ≡ meant) reads (Err (refusals.Fault fault)) left)
 
 -- a path that leads nowhere
 pub plans_nowhere : {S : Type 0} (m : Meaning S) (z : Sizes) (class : Class) (s : State) (p : Result Place Errno) (act : Place → Outcome) (a b : S) (r : Result Plan Refusal) (x y : Refusal)
     → r ≡ Err x → x ≡ y → FindsPlace m s p a b (Err y) → Plans m z class s (at_place s p act) a b r
-plans_nowhere m z class s p act a b r x y is same told = plans_err m z class s (at_place s p act) a b r x y is same (go y told)
+plans_nowhere m z class s p act a b r x y is same reported = plans_err m z class s (at_place s p act) a b r x y is same (go y reported)
   where
     go : (y : Refusal) → FindsPlace m s p a b (Err y) → Plans m z class s (at_place s p act) a b (Err y)
     go (refusals.Fault fault) t = t
@@ -70,7 +70,7 @@ plans_nowhere m z class s p act a b r x y is same told = plans_err m z class s (
 -- a path that leads to no object
 pub plans_nothing : {S : Type 0} (m : Meaning S) (z : Sizes) (class : Class) (s : State) (p : Result Place Errno) (act : Place → ℕ → Outcome) (a b : S) (r : Result Plan Refusal) (x y : Refusal)
     → r ≡ Err x → x ≡ y → FindsObject m s p a b (Err y) → Plans m z class s (at_place s p (λ place. at_object s place.object (act place))) a b r
-plans_nothing m z class s p act a b r x y is same told = plans_err m z class s (at_place s p (λ place. at_object s place.object (act place))) a b r x y is same (go y told)
+plans_nothing m z class s p act a b r x y is same reported = plans_err m z class s (at_place s p (λ place. at_object s place.object (act place))) a b r x y is same (go y reported)
   where
     go : (y : Refusal) → FindsObject m s p a b (Err y) → Plans m z class s (at_place s p (λ place. at_object s place.object (act place))) a b (Err y)
     go (refusals.Fault fault) t = t
@@ -181,13 +181,13 @@ directory_unless r x is = ap is_directory is ∙ go x ∙ ap (λ r. not (is_file
 -- a path, and the place to which it leads
 pub finds_place : {S : Type 0} (m : Meaning S) (z : Sizes) (s : State) (path : List ℕ) (a b : S) → IsForest z s.objects → AreBytes path
     → (r : Result PathPlace Refusal) → Leads m (resolve s.objects path) a b r → FindsPlace m s (resolve s.objects path) a b r
-finds_place m z s path a b forest are (Ok p) told = record {
-  place = resolve_place z s.objects forest path (place_of p) are (sym told);
-  leads = sym told;
-  act = λ act. this_place s (resolve s.objects path) act (place_of p) told;
+finds_place m z s path a b forest are (Ok p) reported = record {
+  place = resolve_place z s.objects forest path (place_of p) are (sym reported);
+  leads = sym reported;
+  act = λ act. this_place s (resolve s.objects path) act (place_of p) reported;
 }
-finds_place m z s path a b forest are (Err (refusals.Fault fault)) told = told
-finds_place m z s path a b forest are (Err (refusals.Error e)) told = λ act. no_place s (resolve s.objects path) act e told
+finds_place m z s path a b forest are (Err (refusals.Fault fault)) reported = reported
+finds_place m z s path a b forest are (Err (refusals.Error e)) reported = λ act. no_place s (resolve s.objects path) act e reported
 
 -- the object at a place
 pub finds_object : (z : Sizes) (s : State) (r : Result Place Errno) (p : Place) (o : ℕ) → IsForest z s.objects → AtPlace s r p → p.object ≡ Some o → AtObject s r p o
@@ -207,10 +207,10 @@ pub plans_of : {S : Type 0} (m : Meaning S) (z : Sizes) (class : Class) (s : Sta
 plans_of m z class s meant all a b is t r from tried = subst (λ o. Plans m z class s o a b r) is (subst (λ r. Plans m z class s meant a b r) (sym from) (go t tried))
   where
     go : (t : Result Plan Errno) → Tries z class s meant t → Plans m z class s meant a b (handed t)
-    go (Ok plan) told = told
-    go (Err error) told = told
+    go (Ok plan) reported = reported
+    go (Err error) reported = reported
 
--- the power is kept too
+-- the power is held too
 pub power_of : {S : Type 0} (m : Meaning S) (a b : S) → m.has_power b ≡ m.has_power a → (t : Result Plan Errno) (r : Result Plan Refusal) → r ≡ handed t → KeepsPower m a b r
 power_of m a b same t r from = subst (KeepsPower m a b) (sym from) (go t)
   where
@@ -219,29 +219,29 @@ power_of m a b same t r from = subst (KeepsPower m a b) (sym from) (go t)
     go (Err error) = same
 
 pub tries_same : (z : Sizes) (class : Class) (s : State) (meant all : Outcome) → meant ≡ all → (t : Result Plan Errno) → Tries z class s meant t → Tries z class s all t
-tries_same z class s meant all is t told = subst (λ o. Tries z class s o t) is told
+tries_same z class s meant all is t reported = subst (λ o. Tries z class s o t) is reported
 
 -- a plan for a command of a kind that is the same
 pub tries_kind : (z : Sizes) (class same : Class) (s : State) (meant : Outcome) → class ≡ same → (t : Result Plan Errno) → Tries z class s meant t → Tries z same s meant t
-tries_kind z class same s meant is t told = subst (λ k. Tries z k s meant t) is told
+tries_kind z class same s meant is t reported = subst (λ k. Tries z k s meant t) is reported
 
--- what changes nothing suits a command that tells and one that may change
-pub nothing_suits : (tells : Bool) (reply : Reply) → Suits (tells_if tells Changing) reply work.Nothing
+-- what changes nothing suits a command that reports and one that may change
+pub nothing_suits : (reports : Bool) (reply : Reply) → Suits (reports_if reports Changing) reply work.Nothing
 nothing_suits true reply = tt
 nothing_suits false reply = tt
 
--- what is told of an object that is there
-pub stat_told : (s : State) (o : ℕ) (info : Info) (x : Option Object) → Some info ≡ info_of s.objects o x → answer s (replies.Info info) ≡ stat_of s o x
-stat_told s o info None is = absurd cc
-stat_told s o info (Some x) is = ap (λ (i : Info). answer s (replies.Info i)) (some_same info _ is)
+-- what is reported of an object that is there
+pub stat_reported : (s : State) (o : ℕ) (info : Info) (x : Option Object) → Some info ≡ info_of s.objects o x → answer s (replies.Info info) ≡ stat_of s o x
+stat_reported s o info None is = absurd cc
+stat_reported s o info (Some x) is = ap (λ (i : Info). answer s (replies.Info i)) (some_same info _ is)
 
 -- the names of what is no file
-pub list_told : (s : State) (r : Option Object) (x : Object) (names : List Name) → r ≡ Some x → is_file r ≡ false → names ≡ map.keys (entries_of r) → answer s (replies.Names names) ≡ list_of s r
-list_told s r x names is no' told = go x is
+pub list_reported : (s : State) (r : Option Object) (x : Object) (names : List Name) → r ≡ Some x → is_file r ≡ false → names ≡ map.keys (entries_of r) → answer s (replies.Names names) ≡ list_of s r
+list_reported s r x names is no' reported = go x is
   where
     go : (x : Object) → r ≡ Some x → answer s (replies.Names names) ≡ list_of s r
     go (File moment bytes) is = let two : true ≡ false = sym (ap is_file is) ∙ no' in absurd cc
-    go (Dir moment entries) is = ap (λ (n : List Name). answer s (replies.Names n)) (told ∙ ap (λ (r : Option Object). map.keys (entries_of r)) is) ∙ ap (list_of s) (sym is)
+    go (Dir moment entries) is = ap (λ (n : List Name). answer s (replies.Names n)) (reported ∙ ap (λ (r : Option Object). map.keys (entries_of r)) is) ∙ ap (list_of s) (sym is)
 
 pub list_file : (s : State) (r : Option Object) (x : Object) → r ≡ Some x → is_file r ≡ true → refuse s errors.ENOTDIR ≡ list_of s r
 list_file s r x is yes' = go x is
@@ -256,12 +256,12 @@ file_of objects o (File moment bytes) is yes' = (moment, bytes, is)
 file_of objects o (Dir moment entries) is yes' = let two : false ≡ true = sym (ap is_file is) ∙ yes' in absurd cc
 
 -- a reply that changes nothing
-pub plan_told : (z : Sizes) (class : Class) (s : State) (reply : Reply) (meant : Outcome) (plan : Plan) → plan ≡ record { reply = reply; handles = handle_changes.Nothing; work = work.Nothing }
+pub plan_reported : (z : Sizes) (class : Class) (s : State) (reply : Reply) (meant : Outcome) (plan : Plan) → plan ≡ record { reply = reply; handles = handle_changes.Nothing; work = work.Nothing }
     → Suits class reply work.Nothing → answer s reply ≡ meant → IsPlan z class s meant plan
-plan_told z class s reply meant plan is suits told = subst (IsPlan z class s meant) (sym is) (record { means = told; can = tt; range = tt; suits = suits })
+plan_reported z class s reply meant plan is suits reported = subst (IsPlan z class s meant) (sym is) (record { means = reported; can = tt; range = tt; suits = suits })
 
 pub stat_none : (s : State) (o : ℕ) (x : Option Object) → x ≡ None → refuse s errors.ENOENT ≡ stat_of s o x
 stat_none s o x is = ap (stat_of s o) (sym is)
 
 pub plan_same : (z : Sizes) (class : Class) (s : State) (meant all : Outcome) → meant ≡ all → (plan : Plan) → IsPlan z class s meant plan → IsPlan z class s all plan
-plan_same z class s meant all is plan told = subst (λ o. IsPlan z class s o plan) is told
+plan_same z class s meant all is plan reported = subst (λ o. IsPlan z class s o plan) is reported

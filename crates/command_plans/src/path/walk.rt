@@ -1,10 +1,8 @@
 // Where a path leads.
 ghost use Rattle.std.specs.Prelude.{◌≡◌, OnOk, map as list_map};
 ghost use Rattle.posix_profile.specs.Paths.{component, leads_to, arrive, pass, walk_from_root, resolve};
-ghost use Rattle.volume_terms.specs.Sizes.{Sizes};
-ghost use Rattle.posix_profile.specs.State.{Objects, IsDirectory};
 ghost use Rattle.posix_profile.specs.Names.{parent};
-ghost use Rattle.object_store.specs.Stores.{Has, Finds, KeepsPower};
+ghost use Rattle.object_store.specs.Stores.{Finds, KeepsPower, OfDirectory, OfTree};
 ghost use Rattle.command_plans.specs.Paths.{component_of, last_of, goes_on, Passes, Leads};
 
 use crate::path::parts::{PathPart, PathPlace, ends_in_slash, part_of, parts_of, test_path};
@@ -15,7 +13,7 @@ use volume_terms::{ROOT, StoreFault};
 
 /// The directory above a directory; above the root it is the root.
 fn parent<S: ObjectStore>(store: &S, directory: u64) -> u64
-    ensures { (z : Sizes) (objects : Objects) → Has S.meaning z objects store.now → IsDirectory objects directory → result ≡ parent objects directory }
+    ensures { OfDirectory S.meaning store.now directory (λ z objects. result ≡ parent objects directory) }
 {
     match store.parent(directory) {
         Some(above) => above,
@@ -31,8 +29,7 @@ fn leads_to<S: ObjectStore>(
 ) -> Result<Option<u64>, StoreFault>
     ensures reads { S.meaning.reads store.old store.new }
     ensures power { OnOk result (S.meaning.has_power store.new ≡ S.meaning.has_power store.old) }
-    ensures finds { (z : Sizes) (objects : Objects) → Has S.meaning z objects store.old → IsDirectory objects directory
-        → Finds S.meaning (leads_to objects directory (component_of part.entry)) store.old store.new result }
+    ensures finds { OfDirectory S.meaning store.old directory (λ z objects. Finds S.meaning (leads_to objects directory (component_of part.entry)) store.old store.new result) }
 {
     match part {
         PathPart::Dot => Ok(Some(directory)),
@@ -45,8 +42,7 @@ fn leads_to<S: ObjectStore>(
 fn pass<S: ObjectStore>(store: &mut S, directory: u64, part: PathPart<'_>) -> Result<u64, Refusal>
     ensures reads { S.meaning.reads store.old store.new }
     ensures power { KeepsPower S.meaning store.old store.new result }
-    ensures passes { (z : Sizes) (objects : Objects) → Has S.meaning z objects store.old → IsDirectory objects directory
-        → Passes S.meaning objects (pass objects (leads_to objects directory (component_of part.entry))) store.old store.new result }
+    ensures passes { OfDirectory S.meaning store.old directory (λ z objects. Passes S.meaning objects (pass objects (leads_to objects directory (component_of part.entry))) store.old store.new result) }
 {
     match leads_to(store, directory, part) {
         Ok(Some(number)) => {
@@ -70,8 +66,7 @@ fn arrive<'a, S: ObjectStore>(
 ) -> Result<PathPlace<'a>, Refusal>
     ensures reads { S.meaning.reads store.old store.new }
     ensures power { KeepsPower S.meaning store.old store.new result }
-    ensures leads { (z : Sizes) (objects : Objects) → Has S.meaning z objects store.old → IsDirectory objects directory
-        → Leads S.meaning (arrive objects slash_follows directory (component_of last.entry) (leads_to objects directory (component_of last.entry))) store.old store.new result }
+    ensures leads { OfDirectory S.meaning store.old directory (λ z objects. Leads S.meaning (arrive objects slash_follows directory (component_of last.entry) (leads_to objects directory (component_of last.entry))) store.old store.new result) }
 {
     match leads_to(store, directory, last) {
         Ok(Some(number)) => {
@@ -104,8 +99,7 @@ fn step_on<S: ObjectStore>(
 ) -> Result<u64, Refusal>
     ensures reads { S.meaning.reads store.old store.new }
     ensures power { KeepsPower S.meaning store.old store.new result }
-    ensures passes { (z : Sizes) (objects : Objects) → Has S.meaning z objects store.old → IsDirectory objects directory
-        → Passes S.meaning objects (goes_on objects directory (last_of last.entry)) store.old store.new result }
+    ensures passes { OfDirectory S.meaning store.old directory (λ z objects. Passes S.meaning objects (goes_on objects directory (last_of last.entry)) store.old store.new result) }
 {
     match last {
         Some(before) => pass(store, directory, before),
@@ -121,8 +115,7 @@ fn walk<'a, S: ObjectStore>(
 ) -> Result<PathPlace<'a>, Refusal>
     ensures reads { S.meaning.reads store.old store.new }
     ensures power { KeepsPower S.meaning store.old store.new result }
-    ensures leads { (z : Sizes) (objects : Objects) → Has S.meaning z objects store.old
-        → Leads S.meaning (walk_from_root objects slash_follows (list_map (λ part. component part.now) parts.now)) store.old store.new result }
+    ensures leads { OfTree S.meaning store.old (λ z objects. Leads S.meaning (walk_from_root objects slash_follows (list_map (λ part. component part.now) parts.now)) store.old store.new result) }
 {
     let mut directory = ROOT;
     let mut last = None;
@@ -149,8 +142,7 @@ pub fn resolve<'a, S: ObjectStore>(
 ) -> Result<PathPlace<'a>, Refusal>
     ensures reads { S.meaning.reads store.old store.new }
     ensures power { KeepsPower S.meaning store.old store.new result }
-    ensures leads { (z : Sizes) (objects : Objects) → Has S.meaning z objects store.old
-        → Leads S.meaning (resolve objects path.now) store.old store.new result }
+    ensures leads { OfTree S.meaning store.old (λ z objects. Leads S.meaning (resolve objects path.now) store.old store.new result) }
 {
     let parts = parts_of(alloc, path)?;
     test_path(path, &parts)?;

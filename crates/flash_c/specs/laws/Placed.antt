@@ -59,13 +59,13 @@ seek_here : (z : Sizes) (read_only : Bool) (s : State) (fd moment : ℕ) (h : Ha
     → map.get s.objects h.object ≡ Some (File moment bytes) → h.offset ≤ offset_limit
     → step z read_only s (at 0 (commands.Seek fd (pos 0) origins.Cur)) ≡ answer s (replies.At h.offset)
 unfolding Rattle.posix_profile.specs.Steps.step_at
-seek_here z read_only s fd moment h bytes is file kept =
+seek_here z read_only s fd moment h bytes is file committed =
     let there : List ℕ → Outcome = λ found. seek_to s fd h (pos h.offset +ℤ pos 0) in
     let zero : h.offset + 0 ≡ h.offset = omega arith in
     let sum : pos h.offset +ℤ pos 0 ≡ pos h.offset = ap pos zero in
     let same : with_offset s fd h h.offset ≡ s = ap (λ (hs : Handles). record s { handles = hs }) (put_same s.handles fd h is) in
     sym (ap (λ (t : State). answer t (replies.At h.offset)) (sym same) ∙ passed_all s (answer (with_offset s fd h h.offset) (replies.At h.offset))
-    ∙ passed s (nat_lt offset_limit h.offset) errors.EOVERFLOW [] _ (le-ltb offset_limit h.offset kept) ∙ ap (seek_to s fd h) (sym sum)
+    ∙ passed s (nat_lt offset_limit h.offset) errors.EOVERFLOW [] _ (le-ltb offset_limit h.offset committed) ∙ ap (seek_to s fd h) (sym sum)
     ∙ this_file s errors.EINVAL there h.object (moment, bytes, file) _ file ∙ this_handle s _ _ h (sym is))
 
 -- a read of a file
@@ -75,9 +75,9 @@ read_there : (z : Sizes) (read_only : Bool) (s : State) (fd count moment : ℕ) 
     ≡ answer (with_offset s fd h (h.offset + length (take count (drop h.offset bytes)))) (replies.Data (take count (drop h.offset bytes)))
 unfolding Rattle.posix_profile.specs.Steps.step_at
 read_there z read_only s fd count moment h bytes is may file =
-    let told : List ℕ → Outcome =
+    let reported : List ℕ → Outcome =
     λ found. answer (with_offset s fd h (h.offset + length (take count (drop h.offset found)))) (replies.Data (take count (drop h.offset found))) in
-    sym (ap (λ (o : Option Object). told (bytes_of o)) (sym file) ∙ this_file s errors.EISDIR told h.object (moment, bytes, file) _ file ∙ passed_all s _
+    sym (ap (λ (o : Option Object). reported (bytes_of o)) (sym file) ∙ this_file s errors.EISDIR reported h.object (moment, bytes, file) _ file ∙ passed_all s _
     ∙ passed s (not (may_read h.flags.access)) errors.EBADF [] _ (ap not may) ∙ this_handle s _ _ h (sym is))
 
 -- A descriptor may read a file. A seek by nothing returns its offset, and a read of no bytes none; both leave the state. A seek to an offset, a
@@ -94,7 +94,7 @@ ReadsInPlace = (z : Sizes) (read_only : Bool) (s : State) (fd n count moment : �
     × ((step z read_only read.state (at 0 (commands.Seek fd (pos handle.offset) origins.Set))).state ≡ s)
 
 pub read_in_place : ReadsInPlace
-read_in_place z read_only s fd n count moment handle bytes is may file kept few =
+read_in_place z read_only s fd n count moment handle bytes is may file committed few =
     let m : ℕ = n + length (take count (drop n bytes)) in
     let there : State = with_offset s fd handle n in
     let left : State = with_offset there fd (record handle { offset = n }) m in
@@ -102,11 +102,11 @@ read_in_place z read_only s fd n count moment handle bytes is may file kept few 
     let seek = ap (λ (o : Outcome). o.state) (seek_there z read_only s fd n moment handle bytes is file few) in
     let read = ap (λ (t : State). step z read_only t (at 0 (commands.Read fd count))) seek
     ∙ read_there z read_only there fd count moment (record handle { offset = n }) bytes (here s.handles fd (record handle { offset = n })) may file in
-    let back = seek_there z read_only left fd handle.offset moment (record handle { offset = m }) bytes (here there.handles fd (record handle { offset = m })) file kept in
+    let back = seek_there z read_only left fd handle.offset moment (record handle { offset = m }) bytes (here there.handles fd (record handle { offset = m })) file committed in
     let zero : handle.offset + 0 ≡ handle.offset = omega arith in
     let same : with_offset s fd handle handle.offset ≡ s = ap (λ (hs : Handles). record s { handles = hs }) (put_same s.handles fd handle is) in (
       read_there z read_only s fd 0 moment handle bytes is may file ∙ ap (λ (t : State). answer t (replies.Data [])) (ap (with_offset s fd handle) zero ∙ same),
-      seek_here z read_only s fd moment handle bytes is file kept,
+      seek_here z read_only s fd moment handle bytes is file committed,
       ap (λ (o : Outcome). o.reply) read,
       ap (λ (o : Outcome). (step z read_only o.state (at 0 (commands.Seek fd (pos handle.offset) origins.Set))).state) read
           ∙ ap (λ (o : Outcome). o.state) back ∙ moved_back s fd handle n m is,
@@ -155,7 +155,7 @@ WritesInPlace = (z : Sizes) (read_only : Bool) (s : State) (fd n now moment byte
     ≡ record s { objects = with_bytes s.objects now handle.object (written bytes n (take k (byte ∷ more))) }
 
 pub write_in_place : WritesInPlace
-write_in_place z read_only s fd n now moment byte k handle bytes more is may append file kept few wrote =
+write_in_place z read_only s fd n now moment byte k handle bytes more is may append file committed few wrote =
     let new : List ℕ = written bytes n (take k (byte ∷ more)) in
     let put : State = record s { objects = with_bytes s.objects now handle.object new } in
     let there : State = with_offset s fd handle n in
@@ -166,6 +166,6 @@ write_in_place z read_only s fd n now moment byte k handle bytes more is may app
     let does : (write there).state ≡ left = write_there z read_only there fd now moment byte k (record handle { offset = n }) bytes more
     (here s.handles fd (record handle { offset = n })) may append file (ap (λ (t : State). (write t).reply) (sym seek) ∙ wrote) in
     let back = seek_there z read_only left fd handle.offset now (record handle { offset = n + k }) new
-    (here there.handles fd (record handle { offset = n + k })) (get_here nat_cmp_total map.nat_cmp-IsAntisymmetric s.objects handle.object (File now new)) kept in
+    (here there.handles fd (record handle { offset = n + k })) (get_here nat_cmp_total map.nat_cmp-IsAntisymmetric s.objects handle.object (File now new)) committed in
     ap (λ (t : State). (step z read_only t (at 0 (commands.Seek fd (pos handle.offset) origins.Set))).state) (ap (λ (t : State). (write t).state) seek ∙ does)
     ∙ ap (λ (o : Outcome). o.state) back ∙ moved_back put fd handle n (n + k) is

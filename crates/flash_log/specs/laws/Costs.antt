@@ -22,16 +22,8 @@ costs_taken pages count d0 d1 lasts take =
     let more = each_more (pages + 2) d0.failures d1.failures (omega arith) lasts.failures in
     omega (arith, take, more)
 
--- what is done after a failure that no mark has answered, and then is answered
-pub costs_join : (e o : ℕ) (a b c : Device) → Costs e e 1 a b → Costs e e o b c → Costs e e o a c
-costs_join e o a b c first second =
-    let one : e * (a.failures + 1) ≡ e * a.failures + e = omega arith in
-    let two : e * (b.failures + o) ≡ e * b.failures + e * o = omega arith in
-    let all : e * (a.failures + o) ≡ e * a.failures + e * o = omega arith in
-    omega (arith, first, second, one, two, all)
-
--- a block's kept pages are no more than a block has
-pub costs_kept : (b o : ℕ) (d e : Device) (t : Table) → t.geometry ≡ d.geometry → (t.entry b).kept ≤ t.geometry.pages → Costs ((t.entry b).kept + 1) (d.geometry.pages + 2) o d e → Costs (d.geometry.pages + 1) (d.geometry.pages + 2) o d e
-costs_kept b o d e t same fits costs =
-    let few : (t.entry b).kept ≤ d.geometry.pages = subst (λ (g : Geometry). (t.entry b).kept ≤ g.pages) same fits in
+-- a block's committed pages are no more than a block has
+pub costs_committed : (b o : ℕ) (d e : Device) (t : Table) → t.geometry ≡ d.geometry → (t.entry b).committed ≤ t.geometry.pages → Costs ((t.entry b).committed + 1) (d.geometry.pages + 2) o d e → Costs (d.geometry.pages + 1) (d.geometry.pages + 2) o d e
+costs_committed b o d e t same fits costs =
+    let few : (t.entry b).committed ≤ d.geometry.pages = subst (λ (g : Geometry). (t.entry b).committed ≤ g.pages) same fits in
     omega (arith, few, costs)

@@ -43,21 +43,6 @@ only_goes flash b goes a k l u lt begins begins' has = elim (cases_eq k b) [
       absurd (omega (arith, lt, e, less))
 ]
 
--- the marks of the table are the flash's
-abbrev pub HasMarksOf : Flash → Table → Type 0
-HasMarksOf flash t = (b : ℕ) → (t.entry b).bad ≡ flash.bad b
-
-pub only_known : (flash : Flash) (t : Table) → HasMarksOf flash t → KnowsErased flash t → OnlyFirstHasTags flash
-only_known flash t marks knows a k l u lt begins begins' has =
-    let at = knows.torn k l u begins' has in
-    let within : a < t.geometry.blocks = let inside = at.within in omega (arith, lt, inside) in
-    let le = at.lowest a (record { within = within; good = marks a ∙ begins.0; next = (knows.unwritten a within begins).next }) in
-    absurd (omega (arith, lt, le))
-
--- a device with power, whose table knows them
-pub tracks_known : (d : Device) (t : Table) → IsReady d t → KnowsErased d.flash t → LeadsErased d.flash t → TracksErased d t
-tracks_known d t ready knows leads = record { first = only_known d.flash t ready.marks knows; leads = leads; known = λ power. knows }
-
 -- ---- no block begins erased that did not
 
 -- each block that begins erased did so before, and its tags are no others
@@ -113,7 +98,7 @@ pub record LeavesBlank (flash : Flash) (old new : Table) : Type 0 where
   pub geometry : new.geometry ≡ old.geometry
   pub next : (b : ℕ) → (new.entry b).next ≡ (old.entry b).next
   pub seq : (b : ℕ) → (new.entry b).seq ≡ (old.entry b).seq
-  pub kept : (b : ℕ) → BeginsErased flash b → (old.entry b).kept ≡ 0 → (new.entry b).kept ≡ 0
+  pub committed : (b : ℕ) → BeginsErased flash b → (old.entry b).committed ≡ 0 → (new.entry b).committed ≡ 0
   pub marks : (b : ℕ) → (old.entry b).bad ≡ true → (new.entry b).bad ≡ true
   pub noted : (c : ℕ) → new.checkpoint ≡ Some c → old.checkpoint ≡ Some c
   pub opened : (o : ℕ) → new.open_block ≡ Some o → old.open_block ≡ Some o
@@ -127,7 +112,7 @@ pub knows_as : (flash : Flash) (t u : Table) → LeavesBlank flash t u → Knows
 knows_as flash t u leaves knows = record {
   unwritten = λ b within begins.
       let was = knows.unwritten b (subst (λ (g : Geometry). b < g.blocks) leaves.geometry within) begins in
-      record { next = leaves.next b ∙ was.next; kept = leaves.kept b begins was.kept };
+      record { next = leaves.next b ∙ was.next; committed = leaves.committed b begins was.committed };
   torn = λ b l x begins has.
       let was = knows.torn b l x begins has in
       record { within = subst (λ (g : Geometry). b < g.blocks) (sym leaves.geometry) was.within; lowest = λ j blank. was.lowest j (blank_was j blank) };
@@ -152,7 +137,7 @@ leaves_closed flash t u entry geometry checkpoint none = record {
   geometry = geometry;
   next = λ b. ap (λ (f : ℕ → BlockEntry). (f b).next) entry;
   seq = λ b. ap (λ (f : ℕ → BlockEntry). (f b).seq) entry;
-  kept = λ b begins is. ap (λ (f : ℕ → BlockEntry). (f b).kept) entry ∙ is;
+  committed = λ b begins is. ap (λ (f : ℕ → BlockEntry). (f b).committed) entry ∙ is;
   marks = λ b is. ap (λ (f : ℕ → BlockEntry). (f b).bad) entry ∙ is;
   noted = λ c is. sym checkpoint ∙ is;
   opened = λ o is. let two : None ≡ Some o = sym none ∙ is in absurd cc;
@@ -174,9 +159,9 @@ leaves_marked v d e t u result still marks notes = record {
     | inl is ↦ ap (λ k. (u.entry k).seq) is ∙ ap (λ (x : BlockEntry). x.seq) notes.sets.here ∙ ap (λ k. (t.entry k).seq) (sym is)
     | inr ne ↦ ap (λ (x : BlockEntry). x.seq) (notes.sets.others b ne)
   ];
-  kept = λ b begins none. elim (cases_eq b v) [
-    | inl is ↦ ap (λ k. (u.entry k).kept) is ∙ ap (λ (x : BlockEntry). x.kept) notes.sets.here ∙ ap (λ k. (t.entry k).kept) (sym is) ∙ none
-    | inr ne ↦ ap (λ (x : BlockEntry). x.kept) (notes.sets.others b ne) ∙ none
+  committed = λ b begins none. elim (cases_eq b v) [
+    | inl is ↦ ap (λ k. (u.entry k).committed) is ∙ ap (λ (x : BlockEntry). x.committed) notes.sets.here ∙ ap (λ k. (t.entry k).committed) (sym is) ∙ none
+    | inr ne ↦ ap (λ (x : BlockEntry). x.committed) (notes.sets.others b ne) ∙ none
   ];
   marks = λ b bad. elim (cases_eq b v) [
     | inl is ↦ ap (λ k. (u.entry k).bad) is ∙ ap (λ (x : BlockEntry). x.bad) notes.sets.here ∙ still (ap (λ k. (t.entry k).bad) (sym is) ∙ bad)
@@ -193,7 +178,7 @@ knows_taken flash t u o count opened seq some begun takes knows = record {
   unwritten = λ b within begins.
       let ne : b ≢ o = λ is. begun (ap (λ n. flash.page n 0) (sym is) ∙ begins.1) in
       let was = knows.unwritten b (subst (λ (g : Geometry). b < g.blocks) takes.geometry within) begins in
-      record { next = ap (λ (x : BlockEntry). x.next) (same b ne) ∙ was.next; kept = ap (λ (x : BlockEntry). x.kept) (same b ne) ∙ was.kept };
+      record { next = ap (λ (x : BlockEntry). x.next) (same b ne) ∙ was.next; committed = ap (λ (x : BlockEntry). x.committed) (same b ne) ∙ was.committed };
   torn = λ b l x begins has.
       let was = knows.torn b l x begins has in
       record { within = subst (λ (g : Geometry). b < g.blocks) (sym takes.geometry) was.within; lowest = λ j blank. was.lowest j (blank_was j blank) };
@@ -308,7 +293,7 @@ module _ (b : ℕ) (old new : Flash) (t u : Table) (goes : GoesFirst new b) (bad
   was_known : (k : ℕ) → k ≢ b → k < u.geometry.blocks → BeginsErased new k → IsUnwritten u k
   was_known k ne within begins =
       let was = knows.unwritten k (subst (λ (g : Geometry). k < g.blocks) geometry within) (sym (bads k ne) ∙ begins.0, sym (pages k 0 ne) ∙ begins.1) in
-      record { next = ap (λ (x : BlockEntry). x.next) (others k ne) ∙ was.next; kept = ap (λ (x : BlockEntry). x.kept) (others k ne) ∙ was.kept }
+      record { next = ap (λ (x : BlockEntry). x.next) (others k ne) ∙ was.next; committed = ap (λ (x : BlockEntry). x.committed) (others k ne) ∙ was.committed }
 
   was_aged : (k : ℕ) → k ≢ b → 1 ≤ (u.entry k).next → 1 ≤ (u.entry k).seq
   was_aged k ne some =
@@ -318,12 +303,12 @@ module _ (b : ℕ) (old new : Flash) (t u : Table) (goes : GoesFirst new b) (bad
       omega (arith, seq, was)
 
   -- it is open and erased
-  pub knows_opened : (t.entry b).kept ≡ 0 → Opens b t u → ((l : ℕ) → new.page b l ≡ Erased) → KnowsErased new u
+  pub knows_opened : (t.entry b).committed ≡ 0 → Opens b t u → ((l : ℕ) → new.page b l ≡ Erased) → KnowsErased new u
   knows_opened none opens blank = record {
     unwritten = λ k within begins. elim (cases_eq k b) [
       | inl is ↦ record {
         next = ap (λ n. (u.entry n).next) is ∙ ap (λ (x : BlockEntry). x.next) opens.sets.here;
-        kept = ap (λ n. (u.entry n).kept) is ∙ ap (λ (x : BlockEntry). x.kept) opens.sets.here ∙ none;
+        committed = ap (λ n. (u.entry n).committed) is ∙ ap (λ (x : BlockEntry). x.committed) opens.sets.here ∙ none;
       }
       | inr ne ↦ was_known k ne within begins
     ];
@@ -372,7 +357,7 @@ module _ (b : ℕ) (old new : Flash) (t u : Table) (goes : GoesFirst new b) (bad
   }
 
 -- its erase is done, and it is opened
-pub erased_opened : (b : ℕ) (d e : Device) (t u : Table) (done : Unit {0}) → (d.honest ≡ true → KnowsErased d.flash t → LeadsErased d.flash t → GoesFirst d.flash b) → (t.entry b).kept ≡ 0
+pub erased_opened : (b : ℕ) (d e : Device) (t u : Table) (done : Unit {0}) → (d.honest ≡ true → KnowsErased d.flash t → LeadsErased d.flash t → GoesFirst d.flash b) → (t.entry b).committed ≡ 0
     → Erases b d e (Ok done) → Opens b t u → KeepsErased d e t u
 erased_opened b d e t u done goes none does opens = erased_with_power d e t u does.lasts (λ gone. let two : true ≡ false = sym gone ∙ does.ends.was in absurd cc) (λ honest knows leads.
     let first = goes_erased b d e (Ok done) honest does (goes honest knows leads) in (
@@ -420,7 +405,7 @@ module _ (d e : Device) (t : Table) (o count : ℕ) (name : ℕ → PageName) (b
   none : d.honest ≡ true → ErasesNone d.flash e.flash
   none honest = none_written o t.next_group (t.entry o).seq d.flash e.flash ((writes honest).within o opened)
 
-  -- as long as the table stays, or another is told of the pages
+  -- as long as the table stays, or another is reported of the pages
   pub erased_pages : (u : Table) → KeepsErased d e u u
   erased_pages u = erased_none d e u u lasts none (λ honest leads. leads) (λ honest power was knows. knows)
 
@@ -479,7 +464,7 @@ module _ (d e : Device) (t : Table) (o count : ℕ) (name : ℕ → PageName) (b
 
         noted : KnowsErased e.flash u → KnowsErased e.flash (record u { open_block = None; checkpoint = Some o })
         noted ends = record {
-          unwritten = λ b within begins. let was = ends.unwritten b within begins in record { next = was.next; kept = was.kept };
+          unwritten = λ b within begins. let was = ends.unwritten b within begins in record { next = was.next; committed = was.committed };
           torn = λ b l x begins has.
               let was = ends.torn b l x begins has in
               record { within = was.within; lowest = λ j blank. was.lowest j (record { within = blank.within; good = blank.good; next = blank.next }) };

@@ -19,9 +19,9 @@ use Rattle.flash_tree.specs.laws.Findable.{fades_key, findable_same, named_finda
 use Rattle.flash_tree.specs.laws.Newest.{one_spot}
 use Rattle.flash_tree.specs.laws.Summarizing.{right_faded}
 use Rattle.block_state.specs.Table.{Table}
-use Rattle.chunk_index.specs.declared.form.KeptPage.{KeptPage}
+use Rattle.chunk_index.specs.declared.form.CommittedPage.{CommittedPage}
 use Rattle.chunk_index.specs.declared.index.Index.{Index}
-use Rattle.chunk_index.specs.Maps.{kept_pages}
+use Rattle.chunk_index.specs.Maps.{committed_pages}
 use Rattle.transactions.specs.Groups.{AddsPages, GroupsAfter, WritesOpen, next_group}
 use Rattle.transactions.specs.Naming.{BeginsOther, NamesOnce}
 use Rattle.transactions.specs.Newest.{IsOfCopies}
@@ -32,65 +32,65 @@ use Rattle.transactions.specs.declared.group.GroupFault.TheVariants as groups
 use Rattle.transactions.specs.declared.group.Placed.{Placed}
 use Rattle.transactions.specs.declared.source.PageName.{PageName}
 use Rattle.transactions.specs.laws.Newest.{copies_come_last}
-use Rattle.flash_log.specs.Copying.{KeepsKeptAt}
-use Rattle.flash_log.specs.Passing.{KeepsKept, KeepsFound}
-use Rattle.flash_log.specs.Standing.{AreHeld, IsKept, KeepsFindable, Stands}
-use Rattle.flash_log.specs.Steps.{MovesKept}
-use Rattle.flash_log.specs.laws.KeptPages.{spot_of}
+use Rattle.flash_log.specs.Copying.{KeepsCommittedAt}
+use Rattle.flash_log.specs.Passing.{KeepsCommitted, KeepsFound}
+use Rattle.flash_log.specs.Standing.{AreHeld, IsCommittedKey, KeepsFindable, Stands}
+use Rattle.flash_log.specs.Steps.{MovesCommitted}
+use Rattle.flash_log.specs.laws.CommittedPages.{spot_of}
 
 -- ---- steps in turn
 
--- each key has its newest page in the block of the one before, where that has kept pages by the table
+-- each key has its newest page in the block of the one before, where that has committed pages by the table
 abbrev pub KeepsPlaces : Table → Flash → Flash → Type 0
-KeepsPlaces t old new = (o c : ℕ) (s : Spot) → o ≢ check_object → IsNewest old o c s → 1 ≤ (t.entry s.block).kept → (r : Spot) × IsNewest new o c r × (r.block ≡ s.block)
+KeepsPlaces t old new = (o c : ℕ) (s : Spot) → o ≢ check_object → IsNewest old o c s → 1 ≤ (t.entry s.block).committed → (r : Spot) × IsNewest new o c r × (r.block ≡ s.block)
 
-pub places_kept : (t : Table) (f g : Flash) → KeepsKept t f g → KeepsPlaces t f g
-places_kept t f g keeps o c s other newest some = (s, (keeps o c s newest some).newest, refl)
+pub places_committed : (t : Table) (f g : Flash) → KeepsCommitted t f g → KeepsPlaces t f g
+places_committed t f g keeps o c s other newest some = (s, (keeps o c s newest some).newest, refl)
 
-pub places_at : (t : Table) (f g : Flash) → KeepsKeptAt t f g → KeepsPlaces t f g
+pub places_at : (t : Table) (f g : Flash) → KeepsCommittedAt t f g → KeepsPlaces t f g
 places_at t f g keeps o c s other newest some =
-    let p : KeptPage = record { block = s.block; page = s.page; version = s.tag.version } in
+    let p : CommittedPage = record { block = s.block; page = s.page; version = s.tag.version } in
     let at = keeps o c p some (record { tag = s.tag; newest = newest; version = refl }) in
     (spot_of p at.tag, at.newest, refl)
 
-pub found_on : (a b c : Device) (t u : Table) → ((k : ℕ) → (u.entry k).kept ≡ (t.entry k).kept) → KeepsPlaces t a.flash b.flash → KeepsFound t a b → KeepsFound u b c → KeepsFound t a c
-found_on a b c t u kept places first then = record {
+pub found_on : (a b c : Device) (t u : Table) → ((k : ℕ) → (u.entry k).committed ≡ (t.entry k).committed) → KeepsPlaces t a.flash b.flash → KeepsFound t a b → KeepsFound u b c → KeepsFound t a c
+found_on a b c t u committed places first then = record {
   summaries = λ right. then.summaries (first.summaries right);
   keys = λ right o k s newest some all.
       let at = places o k s (all.ordinary o k (refl, refl)) newest some in
-      let same = kept at.0.block in
-      let block : (t.entry at.0.block).kept ≡ (t.entry s.block).kept = ap (λ n. (t.entry n).kept) at.2 in
+      let same = committed at.0.block in
+      let block : (t.entry at.0.block).committed ≡ (t.entry s.block).committed = ap (λ n. (t.entry n).committed) at.2 in
       then.keys (first.summaries right) o k at.0 at.1 (omega (arith, same, block, some)) (first.keys right o k s newest some all);
 }
 
 -- another table of the same counts
-pub found_as : (t u : Table) (a b : Device) → ((k : ℕ) → (t.entry k).kept ≡ (u.entry k).kept) → KeepsFound t a b → KeepsFound u a b
-found_as t u a b kept found = record {
+pub found_as : (t u : Table) (a b : Device) → ((k : ℕ) → (t.entry k).committed ≡ (u.entry k).committed) → KeepsFound t a b → KeepsFound u a b
+found_as t u a b committed found = record {
   summaries = found.summaries;
-  keys = λ right o c s newest some all. found.keys right o c s newest (let same = kept s.block in omega (arith, same, some)) all;
+  keys = λ right o c s newest some all. found.keys right o c s newest (let same = committed s.block in omega (arith, same, some)) all;
 }
 
 -- nothing is done
 pub found_here : (t : Table) (d : Device) → KeepsFound t d d
 found_here t d = record { summaries = λ right. right; keys = λ right o c s newest some all. all }
 
--- ---- a block without a kept page fades
+-- ---- a block without a committed page fades
 
-found_faded : (b : ℕ) (d e : Device) (t : Table) → (t.entry b).kept ≡ 0 → e.geometry ≡ d.geometry → Fades b d.flash e.flash → KeepsFound t d e
+found_faded : (b : ℕ) (d e : Device) (t : Table) → (t.entry b).committed ≡ 0 → e.geometry ≡ d.geometry → Fades b d.flash e.flash → KeepsFound t d e
 found_faded b d e t none geometry fades = record {
   summaries = λ right. subst (λ (g : Geometry). AreSummariesRight g e.flash) (sym geometry) (right_faded d.geometry b d.flash e.flash fades right);
   keys = λ right o c s newest some all. subst (λ (g : Geometry). IsFindable g e.flash o c) (sym geometry) (fades_key d.geometry d.flash e.flash b o c fades (apart o c s newest some) all);
 } where
-  apart : (o c : ℕ) (s : Spot) → IsNewest d.flash o c s → 1 ≤ (t.entry s.block).kept → (p : Spot) → IsNewest d.flash o c p → p.block ≢ b
+  apart : (o c : ℕ) (s : Spot) → IsNewest d.flash o c s → 1 ≤ (t.entry s.block).committed → (p : Spot) → IsNewest d.flash o c p → p.block ≢ b
   apart o c s newest some p last at =
       let same : p ≡ s = one_spot d.flash o c p s last newest in
-      let here : (t.entry s.block).kept ≡ (t.entry b).kept = ap (λ n. (t.entry n).kept) (sym (ap (λ (x : Spot). x.block) same) ∙ at) in
+      let here : (t.entry s.block).committed ≡ (t.entry b).committed = ap (λ n. (t.entry n).committed) (sym (ap (λ (x : Spot). x.block) same) ∙ at) in
       omega (arith, here, none, some)
 
-pub found_erased : (b : ℕ) (d e : Device) (t : Table) (result : Result (Unit {0}) EraseFault) → (t.entry b).kept ≡ 0 → Erases b d e result → d.honest ≡ true → KeepsFound t d e
+pub found_erased : (b : ℕ) (d e : Device) (t : Table) (result : Result (Unit {0}) EraseFault) → (t.entry b).committed ≡ 0 → Erases b d e result → d.honest ≡ true → KeepsFound t d e
 found_erased b d e t result none does honest = found_faded b d e t none does.lasts.geometry (fades_erase b d.flash e.flash (shrinks-erase b d e result honest does))
 
-pub found_marked : (b : ℕ) (d e : Device) (t : Table) (result : Result (Unit {0}) Gone) → (t.entry b).kept ≡ 0 → Marks b d e result → d.honest ≡ true → KeepsFound t d e
+pub found_marked : (b : ℕ) (d e : Device) (t : Table) (result : Result (Unit {0}) Gone) → (t.entry b).committed ≡ 0 → Marks b d e result → d.honest ≡ true → KeepsFound t d e
 found_marked b d e t result none marks honest = found_faded b d e t none marks.lasts.geometry (fades_mark b d e result honest marks)
 
 -- ---- a group is written in the open block
@@ -162,7 +162,7 @@ module _ (t : Table) (d e : Device) (block count : ℕ) (name : ℕ → PageName
   found_after added (Err groups.Gone) (inl same) = found_same same
   found_after added (Err groups.Gone) (inr adds) = added adds
 
--- ---- kept keys
+-- ---- committed keys
 
 pub findable_here : (d : Device) (x : Index) → KeepsFindable d d x x
 findable_here d x honest right found = found
@@ -177,11 +177,11 @@ findable_still spare d e t x held lasts stands keeps honest right found o c (p, 
 ]
 
 -- and one that moves pages
-pub findable_moved : (d e : Device) (x y : Index) → MovesKept x y → KeepsFindable d e x x → KeepsFindable d e x y
-findable_moved d e x y moves stays honest right found o c (p, is) = stays honest right found o c (go (kept_pages x o c) refl) where
-  go : (q : Option KeptPage) → kept_pages x o c ≡ q → IsKept (kept_pages x) o c
+pub findable_moved : (d e : Device) (x y : Index) → MovesCommitted x y → KeepsFindable d e x x → KeepsFindable d e x y
+findable_moved d e x y moves stays honest right found o c (p, is) = stays honest right found o c (go (committed_pages x o c) refl) where
+  go : (q : Option CommittedPage) → committed_pages x o c ≡ q → IsCommittedKey (committed_pages x) o c
   go (Some q) at = (q, at)
-  go None none = let two : None ≡ Some p = sym (moves.kept o c none) ∙ is in absurd cc
+  go None none = let two : None ≡ Some p = sym (moves.committed o c none) ∙ is in absurd cc
 
 -- one step after another
 pub findable_on : (a b c : Device) (x y z : Index) → b.honest ≡ a.honest → (a.honest ≡ true → KeepsSummaries a b) → KeepsFindable a b x y → KeepsFindable b c y z → KeepsFindable a c x z

@@ -1,4 +1,4 @@
--- What holds of blocks that are free of kept pages.
+-- What holds of blocks that are free of committed pages.
 use Rattle.std.proofs.Common.{◌≡◌, ◌≢◌, ◌⊎◌, ◌<◌, ◌≤◌, ℕ, Bool, true, false, not, ◌&&◌, nat_eq, cond, List, Some, slice_get, refl, sym, ap, subst, ◌∙◌, arith, inl, inr}
 use Rattle.std.proofs.lemmas.Bool.{eqb-true, eq-eqb, ne_eqb, cases_Bool, cases_eq}
 use Rattle.nand_model.specs.Flash.{Flash}
@@ -9,19 +9,19 @@ use Rattle.flash_tree.specs.Mount.{bad_blocks}
 use Rattle.flash_tree.specs.Newest.{Spot, IsNewest}
 use Rattle.flash_tree.specs.laws.Newest.{one_spot}
 use Rattle.block_state.specs.Counting.{how_many}
-use Rattle.block_state.specs.Kept.{bad_count, unkept_count, is_unkept}
+use Rattle.block_state.specs.Committed.{bad_count, uncommitted_count, is_uncommitted}
 use Rattle.block_state.specs.Table.{Table, is_bad}
 use Rattle.block_state.specs.laws.Counting.{counts_same, counts_swap}
-use Rattle.block_state.specs.laws.Kept.{unkept_if, kept_if}
-use Rattle.chunk_index.specs.declared.form.KeptPage.{KeptPage}
+use Rattle.block_state.specs.laws.Committed.{uncommitted_if, committed_if}
+use Rattle.chunk_index.specs.declared.form.CommittedPage.{CommittedPage}
 use Rattle.chunk_index.specs.declared.index.Index.{Index}
-use Rattle.chunk_index.specs.Maps.{kept_pages}
+use Rattle.chunk_index.specs.Maps.{committed_pages}
 use Rattle.transactions.specs.Ready.{IsReady}
 use Rattle.transactions.specs.declared.copies.CopyOf.{CopyOf}
-use Rattle.flash_log.specs.Copying.{KeepsCounts, KeepsKeptAt, IsCopyOf, LieApart, StayOrLieApart, copy_in}
-use Rattle.flash_log.specs.Lists.{ListsKept, IsListed, kept_by}
-use Rattle.flash_log.specs.Standing.{IsKept, IsKeptAt, AreKept, AreHeld, TablesAgree, Stands, KeepsFree}
-use Rattle.flash_log.specs.laws.KeptPages.{spot_of}
+use Rattle.flash_log.specs.Copying.{KeepsCounts, KeepsCommittedAt, IsCopyOf, LieApart, StayOrLieApart, copy_in}
+use Rattle.flash_log.specs.Lists.{ListsCommitted, IsListed, committed_by}
+use Rattle.flash_log.specs.Standing.{IsCommittedKey, IsCommittedAt, AreCommitted, AreHeld, TablesAgree, Stands, KeepsFree}
+use Rattle.flash_log.specs.laws.CommittedPages.{spot_of}
 
 -- ---- any keys
 
@@ -35,17 +35,17 @@ leaves_fewer g flash spare keys fewer are leaves = record {
 
 -- ---- one block
 
--- what a block without a kept page is
-pub unkept_is : (t : Table) (b : ℕ) → is_unkept t b ≡ true → ((t.entry b).bad ≡ false) × ((t.entry b).kept ≡ 0)
-unkept_is t b is = let parts = both (t.entry b).bad (nat_eq (t.entry b).kept 0) is in (parts.0, eqb-true (t.entry b).kept 0 parts.1) where
+-- what a block without a committed page is
+pub uncommitted_is : (t : Table) (b : ℕ) → is_uncommitted t b ≡ true → ((t.entry b).bad ≡ false) × ((t.entry b).committed ≡ 0)
+uncommitted_is t b is = let parts = both (t.entry b).bad (nat_eq (t.entry b).committed 0) is in (parts.0, eqb-true (t.entry b).committed 0 parts.1) where
   both : (x y : Bool) → (not x && y) ≡ true → (x ≡ false) × (y ≡ true)
   both false true is = (refl, refl)
   both false false is = absurd cc
   both true y is = absurd cc
 
--- the newest page of a key lies where it is kept
-pub newest_where_kept : (flash : Flash) (o c : ℕ) (p : KeptPage) (s : Spot) → IsKeptAt flash o c p → IsNewest flash o c s → s.block ≡ p.block
-newest_where_kept flash o c p s at newest = ap (λ (x : Spot). x.block) (one_spot flash o c s (spot_of p at.tag) newest at.newest)
+-- the newest page of a key lies where it is committed
+pub newest_where_committed : (flash : Flash) (o c : ℕ) (p : CommittedPage) (s : Spot) → IsCommittedAt flash o c p → IsNewest flash o c s → s.block ≡ p.block
+newest_where_committed flash o c p s at newest = ap (λ (x : Spot). x.block) (one_spot flash o c s (spot_of p at.tag) newest at.newest)
 
 -- ---- the blocks of a table
 
@@ -56,92 +56,92 @@ same_bad_blocks d t ready =
     ∙ counts_same d.flash.bad (is_bad t) t.geometry.blocks (λ b lt. sym (ready.marks b))
 
 module _ (spare : ℕ) (d : Device) (t : Table) (x : Index) (ready : IsReady d t) (tables : TablesAgree spare t x) (held : AreHeld t x) where
-  -- where each kept page is the newest of its key, the good blocks without a kept page are free
-  pub leaves_unkept : AreKept d.flash (kept_pages x) → LeavesFree d.geometry d.flash spare (IsKept (kept_pages x))
-  leaves_unkept kept = record {
-    free = is_unkept t;
+  -- where each committed page is the newest of its key, the good blocks without a committed page are free
+  pub leaves_uncommitted : AreCommitted d.flash (committed_pages x) → LeavesFree d.geometry d.flash spare (IsCommittedKey (committed_pages x))
+  leaves_uncommitted committed = record {
+    free = is_uncommitted t;
     enough =
         let bads = same_bad_blocks d t ready in
-        let size : how_many (is_unkept t) d.geometry.blocks ≡ unkept_count t = ap (λ (g : Geometry). how_many (is_unkept t) g.blocks) (sym ready.geometry) in
-        let unkept = tables.unkept in
-        omega (arith, bads, size, unkept);
+        let size : how_many (is_uncommitted t) d.geometry.blocks ≡ uncommitted_count t = ap (λ (g : Geometry). how_many (is_uncommitted t) g.blocks) (sym ready.geometry) in
+        let uncommitted = tables.uncommitted in
+        omega (arith, bads, size, uncommitted);
     each = λ b lt is.
-        let u = unkept_is t b is in
+        let u = uncommitted_is t b is in
         record {
           good = sym (ready.marks b) ∙ u.0;
           apart = λ o c s (p, at) newest here.
-              let there : s.block ≡ p.block = newest_where_kept d.flash o c p s (kept o c p at) newest in
+              let there : s.block ≡ p.block = newest_where_committed d.flash o c p s (committed o c p at) newest in
               let some = held o c p at in
-              let same : (t.entry p.block).kept ≡ (t.entry b).kept = ap (λ k. (t.entry k).kept) (sym there ∙ here) in
+              let same : (t.entry p.block).committed ≡ (t.entry b).committed = ap (λ k. (t.entry k).committed) (sym there ∙ here) in
               omega (arith, same, some, u.1);
         };
   }
 
-  -- Where copies of all that is kept in block v are the newest of their keys, in a block that had none, this block is not
+  -- Where copies of all that is committed in block v are the newest of their keys, in a block that had none, this block is not
   -- free, and block v is.
-  module _ (v : ℕ) (copies : List CopyOf) (old : Flash) (lists : ListsKept v (kept_pages x) copies) (within : v < t.geometry.blocks) (good : (t.entry v).bad ≡ false) (some : 1 ≤ (t.entry v).kept)
-      (lie : LieApart copies t old d) (was : AreKept old (kept_pages x)) where
+  module _ (v : ℕ) (copies : List CopyOf) (old : Flash) (lists : ListsCommitted v (committed_pages x) copies) (within : v < t.geometry.blocks) (good : (t.entry v).bad ≡ false) (some : 1 ≤ (t.entry v).committed)
+      (lie : LieApart copies t old d) (was : AreCommitted old (committed_pages x)) where
     apart : v ≢ lie.at.block
-    apart e = let same : (t.entry v).kept ≡ (t.entry lie.at.block).kept = ap (λ b. (t.entry b).kept) e in let none : (t.entry lie.at.block).kept ≡ 0 = lie.unkept in omega (arith, same, some, none)
+    apart e = let same : (t.entry v).committed ≡ (t.entry lie.at.block).committed = ap (λ b. (t.entry b).committed) e in let none : (t.entry lie.at.block).committed ≡ 0 = lie.uncommitted in omega (arith, same, some, none)
 
     abbrev pick : ℕ → Bool
-    pick b = cond {A = Bool} (nat_eq b lie.at.block) false (cond {A = Bool} (nat_eq b v) true (is_unkept t b))
+    pick b = cond {A = Bool} (nat_eq b lie.at.block) false (cond {A = Bool} (nat_eq b v) true (is_uncommitted t b))
 
     none_there : (b : ℕ) → b ≡ lie.at.block → pick b ≡ false
-    none_there b e = ap (λ z. cond {A = Bool} z false (cond {A = Bool} (nat_eq b v) true (is_unkept t b))) (eq-eqb b lie.at.block e)
+    none_there b e = ap (λ z. cond {A = Bool} z false (cond {A = Bool} (nat_eq b v) true (is_uncommitted t b))) (eq-eqb b lie.at.block e)
 
-    pick_apart : (b : ℕ) → b ≢ lie.at.block → pick b ≡ cond {A = Bool} (nat_eq b v) true (is_unkept t b)
-    pick_apart b ne = ap (λ z. cond {A = Bool} z false (cond {A = Bool} (nat_eq b v) true (is_unkept t b))) (ne_eqb b lie.at.block ne)
+    pick_apart : (b : ℕ) → b ≢ lie.at.block → pick b ≡ cond {A = Bool} (nat_eq b v) true (is_uncommitted t b)
+    pick_apart b ne = ap (λ z. cond {A = Bool} z false (cond {A = Bool} (nat_eq b v) true (is_uncommitted t b))) (ne_eqb b lie.at.block ne)
 
     pick_v : pick v ≡ true
-    pick_v = pick_apart v apart ∙ ap (λ z. cond {A = Bool} z true (is_unkept t v)) (eq-eqb v v refl)
+    pick_v = pick_apart v apart ∙ ap (λ z. cond {A = Bool} z true (is_uncommitted t v)) (eq-eqb v v refl)
 
-    pick_else : (b : ℕ) → b ≢ v → b ≢ lie.at.block → pick b ≡ is_unkept t b
-    pick_else b nv nw = pick_apart b nw ∙ ap (λ z. cond {A = Bool} z true (is_unkept t b)) (ne_eqb b v nv)
+    pick_else : (b : ℕ) → b ≢ v → b ≢ lie.at.block → pick b ≡ is_uncommitted t b
+    pick_else b nv nw = pick_apart b nw ∙ ap (λ z. cond {A = Bool} z true (is_uncommitted t b)) (ne_eqb b v nv)
 
     good_there : (t.entry lie.at.block).bad ≡ false
     good_there = ready.marks lie.at.block ∙ lie.good
 
-    as_many : how_many (is_unkept t) t.geometry.blocks ≡ how_many pick t.geometry.blocks
-    as_many = counts_swap (is_unkept t) pick v lie.at.block t.geometry.blocks within lie.within (unkept_if t lie.at.block good_there lie.unkept) (none_there lie.at.block refl) (kept_if t v some) pick_v pick_else
+    as_many : how_many (is_uncommitted t) t.geometry.blocks ≡ how_many pick t.geometry.blocks
+    as_many = counts_swap (is_uncommitted t) pick v lie.at.block t.geometry.blocks within lie.within (uncommitted_if t lie.at.block good_there lie.uncommitted) (none_there lie.at.block refl) (committed_if t v some) pick_v pick_else
 
-    -- the newest page of a kept key lies in the block of the copies, or where it is kept, which is not v
-    lies : (o c : ℕ) (p : KeptPage) (s : Spot) → kept_pages x o c ≡ Some p → IsNewest d.flash o c s → (s.block ≡ lie.at.block) ⊎ ((s.block ≡ p.block) × (p.block ≢ v))
+    -- the newest page of a committed key lies in the block of the copies, or where it is committed, which is not v
+    lies : (o c : ℕ) (p : CommittedPage) (s : Spot) → committed_pages x o c ≡ Some p → IsNewest d.flash o c s → (s.block ≡ lie.at.block) ⊎ ((s.block ≡ p.block) × (p.block ≢ v))
     lies o c p s at newest = elim (cases_eq p.block v) [
       | inl here ↦
           let z : CopyOf = record { block = p.block; page = p.page; name = record { key = record { object = o; chunk = c }; version = p.version } } in
           let there = lists.all o c p at here in
-          inl (newest_where_kept d.flash o c (copy_in lie.at there.0 z) s (lie.copied.copied there.0 z there.1) newest)
+          inl (newest_where_committed d.flash o c (copy_in lie.at there.0 z) s (lie.copied.copied there.0 z there.1) newest)
       | inr ne ↦
           let none : (i : ℕ) (z : CopyOf) → slice_get copies i ≡ Some z → IsCopyOf z o c → ⊥ = λ i z there of.
-          let kept : kept_pages x o c ≡ Some (kept_by z) = sym (ap (λ q. kept_pages x q c) of.0) ∙ ap (kept_pages x z.name.key.object) (sym of.1) ∙ lists.kept i z there in
-          let both : Some p ≡ Some (kept_by z) = sym at ∙ kept in
-          let same : p ≡ kept_by z = cc in
-          ne (ap (λ (k : KeptPage). k.block) same ∙ lists.here i z there) in
-          inr (newest_where_kept d.flash o c p s (lie.copied.others o c p (held o c p at) none (was o c p at)) newest, ne)
+          let committed : committed_pages x o c ≡ Some (committed_by z) = sym (ap (λ q. committed_pages x q c) of.0) ∙ ap (committed_pages x z.name.key.object) (sym of.1) ∙ lists.committed i z there in
+          let both : Some p ≡ Some (committed_by z) = sym at ∙ committed in
+          let same : p ≡ committed_by z = cc in
+          ne (ap (λ (k : CommittedPage). k.block) same ∙ lists.here i z there) in
+          inr (newest_where_committed d.flash o c p s (lie.copied.others o c p (held o c p at) none (was o c p at)) newest, ne)
     ]
 
-    pub leaves_apart : LeavesFree d.geometry d.flash spare (IsKept (kept_pages x))
+    pub leaves_apart : LeavesFree d.geometry d.flash spare (IsCommittedKey (committed_pages x))
     leaves_apart = record {
       free = pick;
       enough =
           let bads = same_bad_blocks d t ready in
           let size : how_many pick d.geometry.blocks ≡ how_many pick t.geometry.blocks = ap (λ (g : Geometry). how_many pick g.blocks) (sym ready.geometry) in
           let many = as_many in
-          let unkept = tables.unkept in
-          omega (arith, bads, size, many, unkept);
+          let uncommitted = tables.uncommitted in
+          omega (arith, bads, size, many, uncommitted);
       each = λ b lt is. record {
         good = elim (cases_eq b v) [
           | inl e ↦ ap d.flash.bad e ∙ sym (ready.marks v) ∙ good
-          | inr nv ↦ sym (ready.marks b) ∙ (unkept_is t b (sym (pick_else b nv (not_w b is)) ∙ is)).0
+          | inr nv ↦ sym (ready.marks b) ∙ (uncommitted_is t b (sym (pick_else b nv (not_w b is)) ∙ is)).0
         ];
         apart = λ o c s (p, at) newest here. elim (lies o c p s at newest) [
           | inl there ↦ not_w b is (sym here ∙ there)
           | inr (there, ne) ↦
               let nv : b ≢ v = λ e. ne (sym there ∙ here ∙ e) in
-              let none = (unkept_is t b (sym (pick_else b nv (not_w b is)) ∙ is)).1 in
+              let none = (uncommitted_is t b (sym (pick_else b nv (not_w b is)) ∙ is)).1 in
               let some_there = held o c p at in
-              let same : (t.entry p.block).kept ≡ (t.entry b).kept = ap (λ k. (t.entry k).kept) (sym there ∙ here) in
+              let same : (t.entry p.block).committed ≡ (t.entry b).committed = ap (λ k. (t.entry k).committed) (sym there ∙ here) in
               omega (arith, same, some_there, none)
         ];
       };
@@ -153,8 +153,8 @@ module _ (spare : ℕ) (d : Device) (t : Table) (x : Index) (ready : IsReady d t
 
 -- an honest device that has power leaves blocks free
 pub free_where_stands : (spare : ℕ) (d : Device) (t : Table) (x : Index) → IsReady d t → AreHeld t x → Stands spare d t x → d.honest ≡ true → d.gone ≡ false
-    → LeavesFree d.geometry d.flash spare (IsKept (kept_pages x))
-free_where_stands spare d t x ready held stands honest power = leaves_unkept spare d t x ready stands.tables held (stands.newest honest power)
+    → LeavesFree d.geometry d.flash spare (IsCommittedKey (committed_pages x))
+free_where_stands spare d t x ready held stands honest power = leaves_uncommitted spare d t x ready stands.tables held (stands.newest honest power)
 
 -- nothing is done
 pub free_here : (spare : ℕ) (d : Device) (x : Index) → KeepsFree spare d d x x
@@ -167,20 +167,20 @@ free_on spare a b c x y z same first then honest free = then (same ∙ honest) (
 -- a step that leaves the index
 module _ (spare : ℕ) (d0 d1 : Device) (t0 t1 : Table) (x : Index) (held : AreHeld t0 x) (keeps : KeepsCounts d0 d1 t0 t1) (stands : Stands spare d0 t0 x) (tables : TablesAgree spare t1 x) where
   held_later : AreHeld t1 x
-  held_later o c p is = let some = held o c p is in let same = keeps.kept p.block in omega (arith, some, same)
+  held_later o c p is = let some = held o c p is in let same = keeps.committed p.block in omega (arith, some, same)
 
   -- a device that was gone stays as it was
-  free_where_power : (d0.honest ≡ true → d0.gone ≡ false → LeavesFree d1.geometry d1.flash spare (IsKept (kept_pages x))) → KeepsFree spare d0 d1 x x
+  free_where_power : (d0.honest ≡ true → d0.gone ≡ false → LeavesFree d1.geometry d1.flash spare (IsCommittedKey (committed_pages x))) → KeepsFree spare d0 d1 x x
   free_where_power leaves honest free = elim (cases_Bool d0.gone) [
-    | inl gone ↦ subst (λ (d : Device). LeavesFree d.geometry d.flash spare (IsKept (kept_pages x))) (sym (keeps.lasts.gone gone)) free
+    | inl gone ↦ subst (λ (d : Device). LeavesFree d.geometry d.flash spare (IsCommittedKey (committed_pages x))) (sym (keeps.lasts.gone gone)) free
     | inr power ↦ leaves honest power
   ]
 
-  free_stays : KeepsKeptAt t0 d0.flash d1.flash → d0.honest ≡ true → d0.gone ≡ false → LeavesFree d1.geometry d1.flash spare (IsKept (kept_pages x))
-  free_stays stays honest power = leaves_unkept spare d1 t1 x keeps.ready tables held_later (λ o c p is. stays o c p (held o c p is) (stands.newest honest power o c p is))
+  free_stays : KeepsCommittedAt t0 d0.flash d1.flash → d0.honest ≡ true → d0.gone ≡ false → LeavesFree d1.geometry d1.flash spare (IsCommittedKey (committed_pages x))
+  free_stays stays honest power = leaves_uncommitted spare d1 t1 x keeps.ready tables held_later (λ o c p is. stays o c p (held o c p is) (stands.newest honest power o c p is))
 
   -- and keeps newest pages in their places
-  pub free_still : (d0.honest ≡ true → KeepsKeptAt t0 d0.flash d1.flash) → KeepsFree spare d0 d1 x x
+  pub free_still : (d0.honest ≡ true → KeepsCommittedAt t0 d0.flash d1.flash) → KeepsFree spare d0 d1 x x
   free_still stays = free_where_power (λ honest. free_stays (stays honest) honest)
 
   -- or writes copies
@@ -188,7 +188,7 @@ module _ (spare : ℕ) (d0 d1 : Device) (t0 t1 : Table) (x : Index) (held : AreH
   free_copied v copies listed either = free_where_power (λ honest power. elim (either honest) [
     | inl stays ↦ free_stays stays honest power
     | inr lie ↦ leaves_apart spare d1 t1 x keeps.ready tables held_later v copies d0.flash listed.lists
-        (subst (λ (g : Geometry). v < g.blocks) (sym keeps.geometry) listed.within) still_good (let same = keeps.kept v in omega (arith, same, listed.some))
+        (subst (λ (g : Geometry). v < g.blocks) (sym keeps.geometry) listed.within) still_good (let same = keeps.committed v in omega (arith, same, listed.some))
         (lie_later lie) (stands.newest honest power)
   ]) where
     still_good : (t1.entry v).bad ≡ false
@@ -204,10 +204,10 @@ module _ (spare : ℕ) (d0 d1 : Device) (t0 t1 : Table) (x : Index) (held : AreH
     lie_later lie = record {
       at = lie.at;
       within = subst (λ (g : Geometry). lie.at.block < g.blocks) (sym keeps.geometry) lie.within;
-      unkept = keeps.kept lie.at.block ∙ lie.unkept;
+      uncommitted = keeps.committed lie.at.block ∙ lie.uncommitted;
       good = lie.good;
       copied = record {
         copied = lie.copied.copied;
-        others = λ o c p some none at. lie.copied.others o c p (let same = keeps.kept p.block in omega (arith, same, some)) none at;
+        others = λ o c p some none at. lie.copied.others o c p (let same = keeps.committed p.block in omega (arith, same, some)) none at;
       };
     }

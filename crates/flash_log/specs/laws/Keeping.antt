@@ -8,8 +8,8 @@ use Rattle.nand_model.specs.laws.Calls.{lasts_on, lasts_here}
 use Rattle.block_state.specs.declared.blocks.BlockEntry.{BlockEntry}
 use Rattle.block_state.specs.Counting.{how_many}
 use Rattle.block_state.specs.laws.Counting.{one_if, sum_below-suc}
-use Rattle.block_state.specs.Kept.{bad_count, unkept_count, SameCounts}
-use Rattle.block_state.specs.laws.Kept.{same_bad_count, same_unkept_count}
+use Rattle.block_state.specs.Committed.{bad_count, uncommitted_count, SameCounts}
+use Rattle.block_state.specs.laws.Committed.{same_bad_count, same_uncommitted_count}
 use Rattle.block_state.specs.Table.{Table, is_bad}
 use Rattle.transactions.specs.Groups.{TakesPages, OkTable, TableEnds, closed}
 use Rattle.transactions.specs.Handing.{HandsOut}
@@ -28,34 +28,34 @@ use Rattle.flash_log.specs.laws.Erased.{erased_as, erased_here, erased_on, leave
 -- ---- tables
 
 pub same_here : (t : Table) → SameCounts t t
-same_here t = record { bad = λ b. refl; kept = λ b. refl; geometry = refl }
+same_here t = record { bad = λ b. refl; committed = λ b. refl; geometry = refl }
 
 -- a table whose group number is used and that has no open block
 pub same_closed : (t u : Table) → u ≡ closed t → SameCounts t u
 same_closed t u is = record {
   bad = λ b. ap (λ (x : Table). (x.entry b).bad) is;
-  kept = λ b. ap (λ (x : Table). (x.entry b).kept) is;
+  committed = λ b. ap (λ (x : Table). (x.entry b).committed) is;
   geometry = ap (λ (x : Table). x.geometry) is;
 }
 
 same_taken : (count : ℕ) (t u : Table) → TakesPages count t u → SameCounts t u
-same_taken count t u takes = record { bad = λ b. (each b t.open_block refl).0; kept = λ b. (each b t.open_block refl).1; geometry = takes.geometry } where
-  each : (b : ℕ) (o : Option ℕ) → t.open_block ≡ o → ((u.entry b).bad ≡ (t.entry b).bad) × ((u.entry b).kept ≡ (t.entry b).kept)
+same_taken count t u takes = record { bad = λ b. (each b t.open_block refl).0; committed = λ b. (each b t.open_block refl).1; geometry = takes.geometry } where
+  each : (b : ℕ) (o : Option ℕ) → t.open_block ≡ o → ((u.entry b).bad ≡ (t.entry b).bad) × ((u.entry b).committed ≡ (t.entry b).committed)
   each b None is =
       let same : u.entry b ≡ t.entry b = takes.others b (λ at. let two : None ≡ Some b = sym is ∙ at in cc) in
-      (ap (λ (x : BlockEntry). x.bad) same, ap (λ (x : BlockEntry). x.kept) same)
+      (ap (λ (x : BlockEntry). x.bad) same, ap (λ (x : BlockEntry). x.committed) same)
   each b (Some o) is = elim (cases_eq b o) [
     | inl e ↦
         let here = takes.here o is in (
           ap (λ k. (u.entry k).bad) e ∙ ap (λ (x : BlockEntry). x.bad) here ∙ ap (λ k. (t.entry k).bad) (sym e),
-          ap (λ k. (u.entry k).kept) e ∙ ap (λ (x : BlockEntry). x.kept) here ∙ ap (λ k. (t.entry k).kept) (sym e),
+          ap (λ k. (u.entry k).committed) e ∙ ap (λ (x : BlockEntry). x.committed) here ∙ ap (λ k. (t.entry k).committed) (sym e),
         )
     | inr ne ↦
         let same : u.entry b ≡ t.entry b = takes.others b (λ at. let two : Some o ≡ Some b = sym is ∙ at in let e : o ≡ b = cc in ne (sym e)) in
-        (ap (λ (x : BlockEntry). x.bad) same, ap (λ (x : BlockEntry). x.kept) same)
+        (ap (λ (x : BlockEntry). x.bad) same, ap (λ (x : BlockEntry). x.committed) same)
   ]
 
--- however the writing of a group ends, no mark and no kept count changes
+-- however the writing of a group ends, no mark and no committed count changes
 pub same_ends : (count : ℕ) (t u : Table) (result : Result Placed GroupFault) → TableEnds count t u result → SameCounts t u
 same_ends count t u (Ok placed) ends = go placed.suspect ends where
   go : (suspect : Bool) → OkTable suspect count t u → SameCounts t u
@@ -63,7 +63,7 @@ same_ends count t u (Ok placed) ends = go placed.suspect ends where
   go false takes = same_taken count t u takes
 same_ends count t u (Err groups.NoRoom) is = record {
   bad = λ b. ap (λ (x : Table). (x.entry b).bad) is;
-  kept = λ b. ap (λ (x : Table). (x.entry b).kept) is;
+  committed = λ b. ap (λ (x : Table). (x.entry b).committed) is;
   geometry = ap (λ (x : Table). x.geometry) is;
 }
 same_ends count t u (Err groups.Failed) is = same_closed t u is
@@ -115,16 +115,16 @@ pub keeps_passes : (old new : Device) (t u v : Table) → SameCounts t u → Las
     → KeepsCounts old new t v
 keeps_passes old new t u v same lasts ready numbers limits erased passes =
     let bad : bad_count u ≡ bad_count t = same_bad_count t u same in
-    let unkept : unkept_count u ≡ unkept_count t = same_unkept_count t u same in
+    let uncommitted : uncommitted_count u ≡ uncommitted_count t = same_uncommitted_count t u same in
     record {
       lasts = lasts;
       ready = ready;
       numbers = numbers;
       geometry = passes.geometry ∙ same.geometry;
-      kept = λ b. passes.kept b ∙ same.kept b;
+      committed = λ b. passes.committed b ∙ same.committed b;
       marks = λ b is. passes.marks_stay b (same.bad b ∙ is);
-      marked = λ b is. elim (passes.marked b is) [ inl was ↦ inl (sym (same.bad b) ∙ was) | inr none ↦ inr (sym (same.kept b) ∙ none) ];
-      unkept = omega (arith, passes.unkept, bad, unkept);
+      marked = λ b is. elim (passes.marked b is) [ inl was ↦ inl (sym (same.bad b) ∙ was) | inr none ↦ inr (sym (same.committed b) ∙ none) ];
+      uncommitted = omega (arith, passes.uncommitted, bad, uncommitted);
       rises = bad_rises t v (passes.geometry ∙ same.geometry) (λ b is. passes.marks_stay b (same.bad b ∙ is));
       limits = λ is. let now = limits is in let group = passes.next_group in (omega (arith, group, now.0), passes.limit now.1);
       erased = erased_on old old new t u v refl erased passes.erased;
@@ -133,16 +133,16 @@ keeps_passes old new t u v same lasts ready numbers limits erased passes =
 pub keeps_same : (old new : Device) (t u : Table) → SameCounts t u → Lasts old new → IsReady new u → HandsOut old new t u → (IsWithinLimits t → IsWithinLimits u) → KeepsErased old new t u → KeepsCounts old new t u
 keeps_same old new t u same lasts ready numbers limits erased =
     let bad : bad_count u ≡ bad_count t = same_bad_count t u same in
-    let unkept : unkept_count u ≡ unkept_count t = same_unkept_count t u same in
+    let uncommitted : uncommitted_count u ≡ uncommitted_count t = same_uncommitted_count t u same in
     record {
       lasts = lasts;
       ready = ready;
       numbers = numbers;
       geometry = same.geometry;
-      kept = same.kept;
+      committed = same.committed;
       marks = λ b is. same.bad b ∙ is;
       marked = λ b is. inl (sym (same.bad b) ∙ is);
-      unkept = omega (arith, bad, unkept);
+      uncommitted = omega (arith, bad, uncommitted);
       rises = omega (arith, bad);
       limits = limits;
       erased = erased;
@@ -154,10 +154,10 @@ keeps_on a b c t u v first then = record {
   ready = then.ready;
   numbers = hands_on a b c t u v first.lasts then.lasts first.numbers then.numbers;
   geometry = then.geometry ∙ first.geometry;
-  kept = λ k. then.kept k ∙ first.kept k;
+  committed = λ k. then.committed k ∙ first.committed k;
   marks = λ k is. then.marks k (first.marks k is);
-  marked = λ k is. elim (then.marked k is) [ inl was ↦ first.marked k was | inr none ↦ inr (sym (first.kept k) ∙ none) ];
-  unkept = then.unkept ∙ first.unkept;
+  marked = λ k is. elim (then.marked k is) [ inl was ↦ first.marked k was | inr none ↦ inr (sym (first.committed k) ∙ none) ];
+  uncommitted = then.uncommitted ∙ first.uncommitted;
   rises = omega (arith, first.rises, then.rises);
   limits = λ is. then.limits (first.limits is);
   erased = erased_on a b c t u v first.lasts.honest first.erased then.erased;
@@ -170,7 +170,7 @@ keeps_nothing d t ready = keeps_same d d t t (same_here t) (lasts_here d) ready 
 -- no block is open any longer
 pub keeps_closed : (d : Device) (t u : Table) → u ≡ record t { open_block = None } → IsReady d t → KeepsCounts d d t u
 keeps_closed d t u is ready = keeps_same d d t u
-    (record { bad = λ b. ap (λ (x : Table). (x.entry b).bad) is; kept = λ b. ap (λ (x : Table). (x.entry b).kept) is; geometry = ap (λ (x : Table). x.geometry) is })
+    (record { bad = λ b. ap (λ (x : Table). (x.entry b).bad) is; committed = λ b. ap (λ (x : Table). (x.entry b).committed) is; geometry = ap (λ (x : Table). x.geometry) is })
     (lasts_here d)
     (subst (IsReady d) (sym is) (ready_closed d t ready))
     (hands_closed d t u is)

@@ -9,10 +9,10 @@ use Rattle.page_tags.specs.Tags.{tag_bytes, IsTag}
 use Rattle.flash_tree.specs.Groups.{HasTag, Group, IsPart, IsGroup}
 use Rattle.flash_tree.specs.Newest.{Spot, Holds, IsNewest}
 use Rattle.flash_tree.specs.laws.Newest.{one_tag}
-use Rattle.chunk_index.specs.declared.form.KeptPage.{KeptPage}
+use Rattle.chunk_index.specs.declared.form.CommittedPage.{CommittedPage}
 use Rattle.chunk_index.specs.declared.index.Index.{Index}
-use Rattle.chunk_index.specs.Maps.{KeptMap, kept_pages}
-use Rattle.flash_log.specs.Standing.{IsKeptAt, AreKept, KeepsOrdinary, IsWithinLimits, TablesAgree, Stands}
+use Rattle.chunk_index.specs.Maps.{CommittedMap, committed_pages}
+use Rattle.flash_log.specs.Standing.{IsCommittedAt, AreCommitted, KeepsOrdinary, IsWithinLimits, TablesAgree, Stands}
 use Rattle.nand_model.specs.Calls.{Device}
 use Rattle.block_state.specs.Table.{Table}
 
@@ -41,7 +41,7 @@ group_prop f g x y = λ k. record {
 }
 
 -- what is known of the group and the index of a page by its tag
-record IsTold (s : Spot) (g : Group) (i : ℕ) : Type 0 where
+record IsStated (s : Spot) (g : Group) (i : ℕ) : Type 0 where
   block : g.block ≡ s.block
   start : g.start + s.tag.index ≡ s.page
   size : g.size ≡ s.tag.count
@@ -49,8 +49,8 @@ record IsTold (s : Spot) (g : Group) (i : ℕ) : Type 0 where
   seq : g.seq ≡ s.tag.seq
   index : i ≡ s.tag.index
 
-told : (f : Flash) (o c : ℕ) (s : Spot) (h : Holds f o c s) → IsTold s h.group h.index
-told f o c s h =
+reported : (f : Flash) (o c : ℕ) (s : Spot) (h : Holds f o c s) → IsStated s h.group h.index
+reported f o c s h =
     let part : IsPart f h.group h.index = h.whole.each h.index h.within in
     let here : HasTag f h.group.block (h.group.start + h.index) s.tag = subst (λ n. HasTag f n (h.group.start + h.index) s.tag) h.block (subst (λ n. HasTag f s.block n s.tag) h.page h.has) in
     let same : part.tag ≡ s.tag = one_tag f _ _ part.tag s.tag part.has here in
@@ -64,7 +64,7 @@ told f o c s h =
       index = index;
     }
 
-same_group : (s : Spot) (g h : Group) (i j : ℕ) → IsTold s g i → IsTold s h j → ◌≡◌ {A = Group × ℕ} (g, i) (h, j)
+same_group : (s : Spot) (g h : Group) (i j : ℕ) → IsStated s g i → IsStated s h j → ◌≡◌ {A = Group × ℕ} (g, i) (h, j)
 same_group s g h i j x y =
     let block : g.block ≡ h.block = x.block ∙ sym y.block in
     let start : g.start ≡ h.start = omega (arith, x.start, y.start) in
@@ -86,7 +86,7 @@ module _ (f : Flash) (o c : ℕ) (s : Spot) where
       ap holds_from (Σ_prop_path (λ (d : Group × ℕ). let p : IsProp (Rest d) = Prim.hlevel (props, group_prop f d.0, tag_prop f s.block s.page s.tag) in p)
       {u = ((x.group, x.index), (x.whole, x.within, x.block, x.page, x.has, x.object, x.chunk))}
       {v = ((y.group, y.index), (y.whole, y.within, y.block, y.page, y.has, y.object, y.chunk))}
-      (same_group s x.group y.group x.index y.index (told f o c s x) (told f o c s y)))
+      (same_group s x.group y.group x.index y.index (reported f o c s x) (reported f o c s y)))
 
   pub newest_prop : IsProp (IsNewest f o c s)
   newest_prop x y = λ k. record {
@@ -94,21 +94,21 @@ module _ (f : Flash) (o c : ℕ) (s : Spot) where
     last = λ t h a. let p : IsProp ⊥ = Prim.hlevel props in p (x.last t h a) (y.last t h a) k;
   }
 
-abbrev kept_from : (f : Flash) (o c : ℕ) (p : KeptPage) → (t : Tag) × (IsNewest f o c (record { block = p.block; page = p.page; tag = t }) × (t.version ≡ p.version)) → IsKeptAt f o c p
-kept_from f o c p s = record { tag = s.0; newest = s.1.0; version = s.1.1 }
+abbrev committed_from : (f : Flash) (o c : ℕ) (p : CommittedPage) → (t : Tag) × (IsNewest f o c (record { block = p.block; page = p.page; tag = t }) × (t.version ≡ p.version)) → IsCommittedAt f o c p
+committed_from f o c p s = record { tag = s.0; newest = s.1.0; version = s.1.1 }
 
-kept_prop : (f : Flash) (o c : ℕ) (p : KeptPage) → IsProp (IsKeptAt f o c p)
-kept_prop f o c p x y =
-    ap (kept_from f o c p) (Σ_prop_path (λ (t : Tag). Prim.hlevel (props, newest_prop f o c (record { block = p.block; page = p.page; tag = t })))
+committed_prop : (f : Flash) (o c : ℕ) (p : CommittedPage) → IsProp (IsCommittedAt f o c p)
+committed_prop f o c p x y =
+    ap (committed_from f o c p) (Σ_prop_path (λ (t : Tag). Prim.hlevel (props, newest_prop f o c (record { block = p.block; page = p.page; tag = t })))
     {u = (x.tag, (x.newest, x.version))} {v = (y.tag, (y.newest, y.version))} (one_tag f p.block p.page x.tag y.tag x.newest.holds.has y.newest.holds.has))
 
-pub are_kept_prop : (f : Flash) (m : KeptMap) → IsProp (AreKept f m)
-are_kept_prop f m x y = λ k o c p is. kept_prop f o c p (x o c p is) (y o c p is) k
+pub are_committed_prop : (f : Flash) (m : CommittedMap) → IsProp (AreCommitted f m)
+are_committed_prop f m x y = λ k o c p is. committed_prop f o c p (x o c p is) (y o c p is) k
 
 pub stands_prop : (spare : ℕ) (d : Device) (t : Table) (x : Index) → IsProp (Stands spare d t x)
 stands_prop spare d t x a b = λ k. record {
   tables = let p : IsProp (TablesAgree spare t x) = Prim.hlevel props in p a.tables b.tables k;
-  newest = λ honest power. are_kept_prop d.flash (kept_pages x) (a.newest honest power) (b.newest honest power) k;
+  newest = λ honest power. are_committed_prop d.flash (committed_pages x) (a.newest honest power) (b.newest honest power) k;
   ordinary = λ honest. let p : IsProp (KeepsOrdinary x) = Prim.hlevel props in p (a.ordinary honest) (b.ordinary honest) k;
   limits = let p : IsProp (IsWithinLimits t) = Prim.hlevel props in p a.limits b.limits k;
 }

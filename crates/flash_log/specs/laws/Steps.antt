@@ -5,60 +5,60 @@ use Rattle.nand_model.specs.Flash.{Flash}
 use Rattle.nand_model.specs.Calls.{Device}
 use Rattle.nand_model.specs.laws.Calls.{lasts_on, lasts_here}
 use Rattle.block_state.specs.Table.{Table}
-use Rattle.chunk_index.specs.declared.form.KeptPage.{KeptPage}
+use Rattle.chunk_index.specs.declared.form.CommittedPage.{CommittedPage}
 use Rattle.chunk_index.specs.declared.index.Index.{Index}
-use Rattle.chunk_index.specs.Maps.{kept_pages, present, moved_to}
+use Rattle.chunk_index.specs.Maps.{committed_pages, present, moved_to}
 use Rattle.chunk_index.specs.Shelves.{look}
 use Rattle.transactions.specs.Checking.{LogState, log_of}
 use Rattle.transactions.specs.Ready.{IsReady}
 use Rattle.transactions.specs.laws.Handing.{hands_on, hands_nothing, hands_closed}
 use Rattle.transactions.specs.laws.Ready.{ready_closed}
 use Rattle.flash_log.specs.Copying.{KeepsCounts, KeepsDataAt}
-use Rattle.flash_log.specs.Moving.{IsKeptIn, MovesOut}
+use Rattle.flash_log.specs.Moving.{IsCommittedPageIn, MovesOut}
 use Rattle.flash_log.specs.Passing.{KeepsFound}
 use Rattle.flash_log.specs.Standing.{AreHeld, HasVersion, KeepsFree, SameData, Stands}
-use Rattle.flash_log.specs.Steps.{MovesKept, Step}
+use Rattle.flash_log.specs.Steps.{MovesCommitted, Step}
 use Rattle.flash_log.specs.laws.Erased.{erased_as, erased_here, erased_on, leaves_closed}
 use Rattle.flash_log.specs.laws.Found.{findable_here, findable_on, findable_still}
 use Rattle.flash_log.specs.laws.FreeBlocks.{free_here, free_on}
-use Rattle.flash_log.specs.laws.Moves.{follows_here, moves_out_none, same_data, same_kept_sum}
+use Rattle.flash_log.specs.laws.Moves.{follows_here, moves_out_none, same_data, same_committed_sum}
 use Rattle.flash_log.specs.laws.Turns.{moved_twice, stands_closed}
 
 -- ---- committed pages
 
 -- pages that were moved out of one block
-pub moves_kept_out : (v : ℕ) (x y : Index) → MovesOut v x y → MovesKept x y
-moves_kept_out v x y moves = record {
+pub moves_committed_out : (v : ℕ) (x y : Index) → MovesOut v x y → MovesCommitted x y
+moves_committed_out v x y moves = record {
   moved = λ o c p is. elim (cases_eq p.block v) [
     | inl e ↦ moves.moved o c p is e
     | inr ne ↦
-        let apart : IsKeptIn v x o c → ⊥ = λ k. let same : Some k.0 ≡ Some p = sym k.1 ∙ is in let e : k.0 ≡ p = cc in ne (sym (ap (λ (q : KeptPage). q.block) e) ∙ k.2) in
-        record { at = p; is = moves.kept o c apart ∙ is; version = refl; present = moves.present o c apart ∙ follows_here (look x.shelf.objects o c) p is }
+        let apart : IsCommittedPageIn v x o c → ⊥ = λ k. let same : Some k.0 ≡ Some p = sym k.1 ∙ is in let e : k.0 ≡ p = cc in ne (sym (ap (λ (q : CommittedPage). q.block) e) ∙ k.2) in
+        record { at = p; is = moves.committed o c apart ∙ is; version = refl; present = moves.present o c apart ∙ follows_here (look x.shelf.objects o c) p is }
   ];
-  kept = λ o c none. moves.kept o c (apart o c none) ∙ none;
+  committed = λ o c none. moves.committed o c (apart o c none) ∙ none;
   present = λ o c none. moves.present o c (apart o c none);
   prepared = moves.prepared;
   ready = moves.ready;
 } where
-  apart : (o c : ℕ) → kept_pages x o c ≡ None → IsKeptIn v x o c → ⊥
+  apart : (o c : ℕ) → committed_pages x o c ≡ None → IsCommittedPageIn v x o c → ⊥
   apart o c none k = let two : None ≡ Some k.0 = sym none ∙ k.1 in cc
 
-pub moves_kept_none : (x : Index) → MovesKept x x
-moves_kept_none x = moves_kept_out 0 x x (moves_out_none 0 x)
+pub moves_committed_none : (x : Index) → MovesCommitted x x
+moves_committed_none x = moves_committed_out 0 x x (moves_out_none 0 x)
 
-pub moves_kept_on : (x y z : Index) → MovesKept x y → MovesKept y z → MovesKept x z
-moves_kept_on x y z first then = record {
+pub moves_committed_on : (x y z : Index) → MovesCommitted x y → MovesCommitted y z → MovesCommitted x z
+moves_committed_on x y z first then = record {
   moved = λ o c p is.
       let a = first.moved o c p is in
       let b = then.moved o c a.at a.is in
       record { at = b.at; is = b.is; version = b.version ∙ a.version; present = b.present ∙ ap (moved_to b.at) a.present ∙ moved_twice a.at b.at (present x o c) };
-  kept = λ o c none. then.kept o c (first.kept o c none);
-  present = λ o c none. then.present o c (first.kept o c none) ∙ first.present o c none;
+  committed = λ o c none. then.committed o c (first.committed o c none);
+  present = λ o c none. then.present o c (first.committed o c none) ∙ first.present o c none;
   prepared = λ o c is. then.prepared o c (first.prepared o c is);
   ready = λ o c is. then.ready o c (first.ready o c is);
 }
 
-pub same_data_on : (x y : Index) (f g h : Flash) → MovesKept x y → SameData (kept_pages x) f g → SameData (kept_pages y) g h → SameData (kept_pages x) f h
+pub same_data_on : (x y : Index) (f g h : Flash) → MovesCommitted x y → SameData (committed_pages x) f g → SameData (committed_pages y) g h → SameData (committed_pages x) f h
 same_data_on x y f g h moves first then o c p xs is v =
     let m = moves.moved o c p is in
     subst (λ n. HasVersion h o c n xs) m.version (then o c m.at xs m.is (subst (λ n. HasVersion g o c n xs) (sym m.version) (first o c p xs is v)))
@@ -74,8 +74,8 @@ step_none spare d t x ready stands = record {
   numbers = hands_nothing d t;
   geometry = refl;
   marks = λ b is. is;
-  kept_count = refl;
-  index = moves_kept_none x;
+  committed_count = refl;
+  index = moves_committed_none x;
   same_data = λ honest o c p bytes is has. has;
   free = free_here spare d x;
   findable = findable_here d x;
@@ -91,8 +91,8 @@ step_closed spare d t u x is ready stands = subst (λ (s : Table). Step spare (l
   numbers = hands_closed d t (record t { open_block = None }) refl;
   geometry = refl;
   marks = λ b is. is;
-  kept_count = refl;
-  index = moves_kept_none x;
+  committed_count = refl;
+  index = moves_committed_none x;
   same_data = λ honest o c p bytes is has. has;
   free = free_here spare d x;
   findable = findable_here d x;
@@ -100,17 +100,17 @@ step_closed spare d t u x is ready stands = subst (λ (s : Table). Step spare (l
 })
 
 -- the index stays
-pub step_kept : (spare : ℕ) (d0 d1 : Device) (t0 t1 : Table) (x : Index) → AreHeld t0 x → KeepsCounts d0 d1 t0 t1 → Stands spare d0 t0 x → Stands spare d1 t1 x
+pub step_committed : (spare : ℕ) (d0 d1 : Device) (t0 t1 : Table) (x : Index) → AreHeld t0 x → KeepsCounts d0 d1 t0 t1 → Stands spare d0 t0 x → Stands spare d1 t1 x
     → (d0.honest ≡ true → KeepsDataAt t0 d0.flash d1.flash) → (d0.honest ≡ true → KeepsFound t0 d0 d1) → KeepsFree spare d0 d1 x x → Step spare (log_of d0 t0) (log_of d1 t1) x x
-step_kept spare d0 d1 t0 t1 x held keeps stands stand stays found free = record {
+step_committed spare d0 d1 t0 t1 x held keeps stands stand stays found free = record {
   lasts = keeps.lasts;
   ready = keeps.ready;
   stands = stand;
   numbers = keeps.numbers;
   geometry = keeps.geometry;
   marks = keeps.marks;
-  kept_count = same_kept_sum t0 t1 keeps.geometry keeps.kept;
-  index = moves_kept_none x;
+  committed_count = same_committed_sum t0 t1 keeps.geometry keeps.committed;
+  index = moves_committed_none x;
   same_data = same_data spare d0 d1 t0 t1 x held keeps stands stays;
   free = free;
   findable = findable_still spare d0 d1 t0 x held keeps.lasts stands found;
@@ -126,8 +126,8 @@ step_on spare a b c x y z first then = record {
   numbers = hands_on a.device b.device c.device a.table b.table c.table first.lasts then.lasts first.numbers then.numbers;
   geometry = then.geometry ∙ first.geometry;
   marks = λ k is. then.marks k (first.marks k is);
-  kept_count = then.kept_count ∙ first.kept_count;
-  index = moves_kept_on x y z first.index then.index;
+  committed_count = then.committed_count ∙ first.committed_count;
+  index = moves_committed_on x y z first.index then.index;
   same_data = λ honest. same_data_on x y a.device.flash b.device.flash c.device.flash first.index (first.same_data honest) (then.same_data (first.lasts.honest ∙ honest));
   free = free_on spare a.device b.device c.device x y z first.lasts.honest first.free then.free;
   findable = findable_on a.device b.device c.device x y z first.lasts.honest first.numbers.truth.summaries first.findable then.findable;

@@ -123,9 +123,9 @@ module _ (g : Geometry) where
             room = was.room;
           }
 
-      -- where the newest pages of the tree stay, the entries tell of it still
-      pub lists_kept : ListsTree g new entries
-      lists_kept = record {
+      -- where the newest pages of the tree stay, the entries list it still
+      pub lists_committed : ListsTree g new entries
+      lists_committed = record {
         spare = tree.spare;
         objects = tree.objects;
         volume = volume;
@@ -166,7 +166,7 @@ module _ (g : Geometry) where
           right.apart listed.0 listed.1 (ap (λ (e : CheckEntry). e.block) of_key.2 ∙ ap (λ (t : Spot). t.block) same ∙ at ∙ sym there)
 
       lists : ListsTree g new c.entries
-      lists = lists_kept old new c.entries tree (λ o k s foot newest. keeps_elsewhere b old new (loses_fading b old new fades) o k s newest (elsewhere o k s foot newest))
+      lists = lists_committed old new c.entries tree (λ o k s foot newest. keeps_elsewhere b old new (loses_fading b old new fades) o k s newest (elsewhere o k s foot newest))
 
       -- the checkpoint is right still
       right_still : IsRight g new c
@@ -300,7 +300,7 @@ module _ (g : Geometry) where
           (λ i lt object chunk. let e = tree.all o k foot in other e.0 e.1 (e.2 ∙ sym object)) newest
 
       lists_written : ListsTree g new c.entries
-      lists_written = lists_kept old new c.entries tree keeps_written
+      lists_written = lists_committed old new c.entries tree keeps_written
 
       only_this : (d : Checkpoint) → IsWhole g new d → d.block ≡ c.block
       only_this d there = elim ((adds (check_group d)).0 (group_whole new d there)) [

@@ -5,7 +5,7 @@ use Rattle.std.proofs.Common.{◌∙◌, ap, arith}
 use Rattle.std.proofs.Math.Numerals.{add-one}
 use Rattle.std.proofs.lemmas.List.Sums.{sum_by-cons}
 
--- one more number is counted where it passes
+-- one more number is in the count where it passes
 count_longer : (p : ℕ → Bool) (a n : ℕ) → count_by p (range_with_len a (suc n)) ≡ count_by p (range_with_len a n) + cond (p (a + n)) 1 0
 count_longer p a zero =
     let w : ℕ → ℕ = λ x. cond (p x) 1 0 in
@@ -21,8 +21,8 @@ count_longer p a (suc n) =
     omega (arith, here, less, rest, at)
 
 -- the next number passes, or it doesn't
-pub counted : (p : ℕ → Bool) (n : ℕ) → p n ≡ true → count_by p (range_with_len 0 (n + 1)) ≡ count_by p (range_with_len 0 n) + 1
-counted p n is =
+pub totaled : (p : ℕ → Bool) (n : ℕ) → p n ≡ true → count_by p (range_with_len 0 (n + 1)) ≡ count_by p (range_with_len 0 n) + 1
+totaled p n is =
     let at : p (0 + n) ≡ true = ap p (omega arith) ∙ is in
     rw (add-one n) (count_longer p 0 n ∙ ap (λ b. count_by p (range_with_len 0 n) + cond b 1 0) at)
 

@@ -86,9 +86,6 @@ module _ (g : Geometry) (flash : Flash) (keys : ℕ → ℕ → Type 0) where
   pub one_findable : AreFindable g flash keys → (o c : ℕ) → keys o c → IsFindable g flash o c
   one_findable all o c key = of_keys g flash (IsKey o c) (λ k d is. same_key (FindsKey g flash) o c k d (sym is.0) (sym is.1) (at_key g flash keys all o c key))
 
-  pub each_findable : ((o c : ℕ) → keys o c → IsFindable g flash o c) → AreFindable g flash keys
-  each_findable each = of_keys g flash keys (λ o c key. at_key g flash (IsKey o c) (each o c key) o c (refl, refl))
-
 module _ (g : Geometry) (old new : Flash) where
   -- each summary that may claim a page afterwards did so before
   abbrev ClaimsNoMore : Type 0
@@ -124,8 +121,8 @@ module _ (g : Geometry) (old new : Flash) where
 
   -- ---- the same pages and marks
 
-  pub findable_kept : (keys : ℕ → ℕ → Type 0) → new.bad ≡ old.bad → new.page ≡ old.page → AreFindable g old keys → AreFindable g new keys
-  findable_kept keys bad page all = of_keys g new keys (λ o c key.
+  pub findable_committed : (keys : ℕ → ℕ → Type 0) → new.bad ≡ old.bad → new.page ≡ old.page → AreFindable g old keys → AreFindable g new keys
+  findable_committed keys bad page all = of_keys g new keys (λ o c key.
       let fades = fades_same old new bad page in
       let back = fades_same new old (sym bad) (sym page) in
       let groups : SameGroups old new = λ x. (group_before 0 old new (loses_fading 0 old new fades) x, group_before 0 new old (loses_fading 0 new old back) x) in
@@ -279,12 +276,3 @@ module _ (g : Geometry) (x : Group) (tag : ℕ → Tag) (bytes : ℕ → List �
 
       pub named_findable : IsFindable g new o c
       named_findable = of_keys g new (IsKey o c) (λ k d is. same_key (FindsKey g new) s.tag.object s.tag.chunk k d (names.object ∙ sym is.0) (names.chunk ∙ sym is.1) finds_it)
-
-    -- keys of which each is named once, and renewed, or is findable and not named
-    pub group_findable : (now : ℕ → ℕ → Type 0)
-        → ((o c : ℕ) → now o c → ((i : ℕ) × NamesOnce x tag o c i × Renews g old x.number (spot_in x tag i)) ⊎ (NamesNot x tag o c × IsFindable g old o c))
-        → AreFindable g new now
-    group_findable now each = each_findable g new now (λ o c key. elim (each o c key) [
-      | inl (i, names, renews) ↦ named_findable o c i names renews
-      | inr (other, was) ↦ unnamed_findable o c other was
-    ])

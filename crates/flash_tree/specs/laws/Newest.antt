@@ -82,7 +82,7 @@ held_page old new grows o c t h was =
     ap (λ k. new.page k t.page) h.block ∙ ap (new.page h.group.block) h.page ∙ tag_grows old new grows _ _ _ part.has
     ∙ ap (old.page h.group.block) (sym h.page) ∙ ap (λ k. old.page k t.page) (sym h.block)
 
--- and so it counted before
+-- and so it was valid before
 pub held_before : (old new : Flash) → Grows old new → (o c : ℕ) (t : Spot) (h : Holds new o c t) → IsGroup old h.group → Holds old o c t
 held_before old new grows o c t h was =
     holds_with new old o c t h was (tag_stays new old _ _ _ (sym (held_page old new grows o c t h was)) h.has)

@@ -1,4 +1,4 @@
--- On a flash of some size it can be told of each key whether it has a newest page.
+-- On a flash of some size it can be decided of each key whether it has a newest page.
 use Rattle.std.specs.Prelude.{◌≡◌, ◌⊎◌, ◌<◌, ◌≤◌, ℕ, zero, suc, ◌+◌, ◌-◌, true, false}
 use Rattle.std.proofs.Common.{refl, sym, ◌∙◌, ap, subst, inl, inr, arith}
 use Rattle.std.proofs.lemmas.Bool.{cases_Bool, cases_eq, cases_lt, cases_order}
@@ -10,16 +10,16 @@ use Rattle.flash_tree.specs.Groups.{HasTag, Group, IsPart, IsGroup}
 use Rattle.flash_tree.specs.Newest.{Spot, Holds, IsAfter}
 use Rattle.flash_tree.specs.laws.Newest.{one_tag}
 
--- a fact that can be told
-abbrev pub IsTold : Type 0 → Type 0
-IsTold P = P ⊎ (P → ⊥)
+-- a fact that can be decided
+abbrev pub IsStated : Type 0 → Type 0
+IsStated P = P ⊎ (P → ⊥)
 
--- of facts that can be told, all below n hold, or one does not
-pub all_or_one : (P : ℕ → Type 0) → ((i : ℕ) → IsTold (P i)) → (n : ℕ) → ((i : ℕ) → i < n → P i) ⊎ ((i : ℕ) × (i < n) × (P i → ⊥))
-all_or_one P told zero = inl (λ i lt. absurd (omega arith))
-all_or_one P told (suc n) = elim (all_or_one P told n) [
+-- of facts that can be decided, all below n hold, or one does not
+pub all_or_one : (P : ℕ → Type 0) → ((i : ℕ) → IsStated (P i)) → (n : ℕ) → ((i : ℕ) → i < n → P i) ⊎ ((i : ℕ) × (i < n) × (P i → ⊥))
+all_or_one P reported zero = inl (λ i lt. absurd (omega arith))
+all_or_one P reported (suc n) = elim (all_or_one P reported n) [
   | inr (i, lt, not) ↦ inr (i, omega arith, not)
-  | inl all ↦ elim (told n) [
+  | inl all ↦ elim (reported n) [
     | inl is ↦ inl (λ i lt. elim (cases_eq i n) [
       | inl same ↦ subst P (sym same) is
       | inr ne ↦ all i (omega arith)
@@ -41,7 +41,7 @@ module _ (flash : Flash) where
     ]
 
   -- whether a page of a group is there
-  part_at : (g : Group) (i : ℕ) → IsTold (IsPart flash g i)
+  part_at : (g : Group) (i : ℕ) → IsStated (IsPart flash g i)
   part_at g i = elim (tag_at g.block (g.start + i)) [
     | inr none ↦ inr (λ part. none part.tag part.has)
     | inl (t, has) ↦ elim (cases_eq t.index i) [
@@ -60,7 +60,7 @@ module _ (flash : Flash) where
   ]
 
   -- whether a group is whole
-  pub group_at : (g : Group) → IsTold (IsGroup flash g)
+  pub group_at : (g : Group) → IsStated (IsGroup flash g)
   group_at g = elim (cases_Bool (flash.bad g.block)) [
     | inl bad ↦ inr (λ whole. let two : true ≡ false = sym bad ∙ whole.good in cc)
     | inr good ↦ elim (cases_lt zero g.size) [
@@ -72,7 +72,7 @@ module _ (flash : Flash) where
     ]
   ]
 
-  -- the group that a tag at a place tells of
+  -- the group that a tag at a place names
   abbrev group_by : ℕ → ℕ → Tag → Group
   group_by b p t = record { block = b; start = p - t.index; size = t.count; number = t.group; seq = t.seq }
 
@@ -108,7 +108,7 @@ module _ (flash : Flash) where
   tag_of o c b p h = subst (λ k. HasTag flash k p h.spot.tag) h.block (subst (λ l. HasTag flash h.spot.block l h.spot.tag) h.page h.holds.has)
 
   -- whether the page at a place counts for the key
-  pub holds_at : (o c b p : ℕ) → IsTold (HoldsAt o c b p)
+  pub holds_at : (o c b p : ℕ) → IsStated (HoldsAt o c b p)
   holds_at o c b p = elim (tag_at b p) [
     | inr none ↦ inr (λ h. none h.spot.tag (tag_of o c b p h))
     | inl (t, has) ↦ elim (cases_eq t.object o) [
@@ -143,7 +143,7 @@ module _ (flash : Flash) where
 -- ---- the order of places
 
 -- whether one place comes after another
-pub after_or_not : (s t : Spot) → IsTold (IsAfter s t)
+pub after_or_not : (s t : Spot) → IsStated (IsAfter s t)
 after_or_not s t = elim (cases_order t.tag.version s.tag.version) [
   | inr (inl lt) ↦ inl (inl lt)
   | inr (inr gt) ↦ inr (λ after. elim after [ inl lt ↦ omega arith | inr (v, rest) ↦ omega arith ])

@@ -98,8 +98,8 @@ module _ (g : Geometry) where
       begun_before k ne begins = (sym (fades.other_marks k ne) ∙ begins.0, sym (fades.other_pages k 0 ne) ∙ begins.1)
 
     -- where no page is other, no block begins erased that did not
-    pages_kept : ((k l : ℕ) → new.page k l ≡ old.page k l) → IsSummarized g old → IsSummarized g new
-    pages_kept same was = record {
+    pages_committed : ((k l : ℕ) → new.page k l ≡ old.page k l) → IsSummarized g old → IsSummarized g new
+    pages_committed same was = record {
       right = right_faded was.right;
       first = λ a k l t lt begins begins' has. was.first a k l t lt (begun_before a begins) (begun_before k begins') (has_before b old new loses k l t has);
     } where
@@ -111,10 +111,10 @@ module _ (g : Geometry) where
 
   pub summarized_mark : (b : ℕ) (old new : Device) (result : Result (Unit {0}) Gone) → old.honest ≡ true → Marks b old new result → IsSummarized g old.flash → IsSummarized g new.flash
   summarized_mark b old new result honest marks =
-      pages_kept b old.flash new.flash (fades_mark b old new result honest marks) (λ k l. ap (λ f. f k l) (marks.page honest))
+      pages_committed b old.flash new.flash (fades_mark b old new result honest marks) (λ k l. ap (λ f. f k l) (marks.page honest))
 
   pub summarized_same : (old new : Flash) → new.bad ≡ old.bad → new.page ≡ old.page → IsSummarized g old → IsSummarized g new
-  summarized_same old new bad page = pages_kept 0 old new (fades_same old new bad page) (λ k l. ap (λ f. f k l) page)
+  summarized_same old new bad page = pages_committed 0 old new (fades_same old new bad page) (λ k l. ap (λ f. f k l) page)
 
   -- ---- nothing is written
 

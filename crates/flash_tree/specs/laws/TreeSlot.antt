@@ -1,4 +1,4 @@
--- The slots of a tree's directories are told by their bytes.
+-- The slots of a tree's directories are given by their bytes.
 use Rattle.std.specs.Prelude.{◌≡◌, ◌≢◌, ◌⊎◌, ℕ, List}
 use Rattle.std.proofs.Common.{sym, ◌∙◌, ap, inl, inr}
 use Rattle.std.proofs.lemmas.Bool.{cases_eq}

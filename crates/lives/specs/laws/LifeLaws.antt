@@ -21,10 +21,6 @@ pub life_append : (z : Sizes) (first between last : Objects) (xs ys : List Sessi
 life_append z first between last [] ys one two = subst (λ (t : Objects). IsLife z t ys last) one two
 life_append z first between last (x ∷ xs) ys one two = (one.0, one.1, life_append z one.0 between last xs ys one.2 two)
 
--- and one session more
-pub life_more : (z : Sizes) (first between last : Objects) (xs : List SessionRecord) (x : SessionRecord) → IsLife z first xs between → IsSessionFrom z between x last → IsLife z first (xs ++ x ∷ []) last
-life_more z first between last xs x one is = life_append z first between last xs (x ∷ []) one (last, is, refl)
-
 -- a life has a tree wherever it is divided
 pub life_split : (z : Sizes) (first last : Objects) (xs ys : List SessionRecord) → IsLife z first (xs ++ ys) last → (between : Objects) × IsLife z first xs between × IsLife z between ys last
 life_split z first last [] ys is = (first, refl, is)

@@ -85,10 +85,10 @@ uncut_session z before after session is uncut = (mount is.ends, goes_on session 
     mount (inr serves) = inl serves.mounted
 
     done : FailsToMount before session after ⊎ Serves z before session after → (reply : Reply) → session.unmounted ≡ Some reply → reply ≡ replies.Done
-    done (inl fails) reply told = let two : None ≡ Some reply = sym fails.unmounted ∙ told in absurd cc
-    done (inr serves) reply told = elim (serves.unmounted reply told) [
+    done (inl fails) reply reported = let two : None ≡ Some reply = sym fails.unmounted ∙ reported in absurd cc
+    done (inr serves) reply reported = elim (serves.unmounted reply reported) [
       | inl is_done ↦ is_done
-      | inr stop ↦ let two : true ≡ false = sym (is.cuts.unmount (told ∙ ap Some stop)) ∙ uncut in absurd cc
+      | inr stop ↦ let two : true ≡ false = sym (is.cuts.unmount (reported ∙ ap Some stop)) ∙ uncut in absurd cc
     ]
 
 -- a stop at the end is a stop
@@ -181,8 +181,8 @@ whole_is_plain z before session after is (calm, unmounted) =
 -- and the plain one is a session
 pub plain_is_session : (z : Sizes) (before : Objects) (commands : List Stamped) → IsSessionFrom z before (plain_session z before commands) (plain_tree z before commands)
 plain_is_session z before commands =
-    let told : List Reply = step_replies z (at_mount before) commands in
-    let long : length told ≡ length commands = steps_length z (at_mount before) commands in
+    let reported : List Reply = step_replies z (at_mount before) commands in
+    let long : length reported ≡ length commands = steps_length z (at_mount before) commands in
     record {
       ends = inr (record {
         mounted = refl;
@@ -195,7 +195,7 @@ plain_is_session z before commands =
           covers = λ i (command, reply, there, is, done). omega (arith, slice_get_within commands i command there);
           within = omega arith;
           unmounted = λ is. refl;
-          tree = ap (λ (t : State). (settle t).objects) (sym (steps_after z (at_mount before) commands)) ∙ sym (whole_prefix z (at_mount before) commands told (length commands) (sym long));
+          tree = ap (λ (t : State). (settle t).objects) (sym (steps_after z (at_mount before) commands)) ∙ sym (whole_prefix z (at_mount before) commands reported (length commands) (sym long));
         };
       });
       cuts = record {
@@ -210,7 +210,7 @@ pub synced_whole : (z : Sizes) (before : Objects) (session : SessionRecord) (aft
     → IsSyncDone session.commands session.replies i → i + 1 ≡ session.begun
     → after ≡ settled_after z false (at_mount before) session.commands session.replies session.begun
 synced_whole z before session after i is synced last = elim is.ends [
-  | inl fails ↦ let none : i < 0 = (let (command, reply, there, told, done) = synced in subst (λ (x : List Reply). i < length x) fails.replies (slice_get_within session.replies i reply told)) in absurd (omega (arith, none))
+  | inl fails ↦ let none : i < 0 = (let (command, reply, there, reported, done) = synced in subst (λ (x : List Reply). i < length x) fails.replies (slice_get_within session.replies i reply reported)) in absurd (omega (arith, none))
   | inr serves ↦
       let all : serves.keeps.count ≡ session.begun = omega (arith, serves.keeps.covers i synced, serves.keeps.within, last) in
       serves.keeps.tree ∙ ap (λ n. settled_after z false (at_mount before) session.commands session.replies n) all

@@ -20,11 +20,11 @@ pub(crate) const SPARE: u32 = 3;
 
 const WRITTEN: u32 = BLOCKS - SPARE - 1;
 
-/// The tag of a page. Block `b` has the pages of object `b + 1`; but block 1 has newer pages of object 1 from chunk `kept`
+/// The tag of a page. Block `b` has the pages of object `b + 1`; but block 1 has newer pages of object 1 from chunk `committed`
 /// on, so that block 0 keeps no more than those before.
-fn tag(block: u32, page: u32, kept: u32) -> Tag {
+fn tag(block: u32, page: u32, committed: u32) -> Tag {
     let group = 1 + block as u64 * 8 + (page / GROUP) as u64;
-    let object = if block == 1 && page >= kept {
+    let object = if block == 1 && page >= committed {
         1
     } else {
         1 + block as u64
@@ -41,14 +41,14 @@ fn tag(block: u32, page: u32, kept: u32) -> Tag {
 }
 
 /// A flash whose block 0 keeps so many pages, and all other written blocks all of theirs, after a power-up.
-pub(crate) fn full_flash(alloc: Global, kept: u32) -> Result<MemNand> {
+pub(crate) fn full_flash(alloc: Global, committed: u32) -> Result<MemNand> {
     let Ok(geometry) = Geometry::new(BYTES, PAGES, BLOCKS) else {
         return Err(anyhow!("the sizes are out of range"));
     };
     let mut flash = TestFlash::new(alloc, geometry)?;
     for block in 0..WRITTEN {
         for page in 0..PAGES {
-            if flash.write(block, &tag(block, page, kept), 7).is_err() {
+            if flash.write(block, &tag(block, page, committed), 7).is_err() {
                 return Err(anyhow!("a page was not written"));
             }
         }

@@ -21,7 +21,7 @@ pub struct Filled {
 }
 
 impl Filled {
-    /// No page is kept. There is none where the number of blocks is out of range.
+    /// No page is committed. There is none where the number of blocks is out of range.
     pub fn new(alloc: Global, blocks: u32) -> Result<Option<Filled>, AllocError> {
         let Ok(geometry) = Geometry::new(512, 256, blocks) else {
             return Ok(None);

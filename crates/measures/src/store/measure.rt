@@ -112,7 +112,7 @@ fn open(alloc: Global, nand: MemNand) -> Result<CountedStore> {
     }
 }
 
-/// Finds pages at random. Tells the time of a hundred.
+/// Finds pages at random. Reports the time of a hundred.
 fn find_pages<R: CpuClock>(rt: &R, store: &mut CountedStore, keys: u64) -> Result<u128> {
     let mut random = Pcg32::new(42, 54);
     let start = rt.thread_cpu_time()?;
@@ -137,7 +137,7 @@ fn drawn_change(alloc: Global, random: &mut Pcg32, keys: u64) -> Result<Apart> {
     Ok(apart)
 }
 
-/// Makes changes at random, and commits each. Tells the mean time of one.
+/// Makes changes at random, and commits each. Reports the mean time of one.
 fn commit_changes<R: CpuClock>(
     rt: &R,
     alloc: Global,
@@ -164,7 +164,7 @@ fn commit_changes<R: CpuClock>(
     Ok(time / ROUNDS as u128)
 }
 
-/// Cuts objects, and commits each cut. Tells the mean time of one.
+/// Cuts objects, and commits each cut. Reports the mean time of one.
 fn settle_cuts<R: CpuClock>(rt: &R, store: &mut CountedStore) -> Result<u128> {
     let start = rt.thread_cpu_time()?;
     for round in 0..ROUNDS {

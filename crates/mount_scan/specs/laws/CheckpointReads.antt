@@ -15,24 +15,6 @@ use Rattle.mount_scan.specs.declared.first_page.FirstPage.{FirstPage}
 use Rattle.mount_scan.specs.declared.first_page.FirstPage.TheVariants as firsts
 use Rattle.mount_scan.specs.declared.first_page.FirstPages.{FirstPages}
 
-pub form_read : (a b : Device) (c : Checkpoint) → OnlyReads a b → HasForm a c → HasForm b c
-form_read a b c reads form = record {
-  block = subst (λ (g : Geometry). c.block < g.blocks) same form.block;
-  good = ap (λ (f : ℕ → Bool). f c.block) reads.bad ∙ form.good;
-  room = subst (λ (g : Geometry). c.size ≤ g.pages) same form.room;
-  tag = form.tag;
-  size = subst (λ (g : Geometry). c.size ≡ ceiling (32 * (1 + length c.entries)) g.bytes) same form.size;
-  entries = form.entries;
-  rise = form.rise;
-} where
-  same : a.geometry ≡ b.geometry
-  same = sym reads.lasts.geometry
-
-pub whole_read : (a b : Device) (c : Checkpoint) → OnlyReads a b → IsWholeOn a c → IsWholeOn b c
-whole_read a b c reads whole honest =
-    let before : a.honest ≡ true = sym reads.lasts.honest ∙ honest in
-    subst (λ (g : Geometry). IsWhole g b.flash c) (sym reads.lasts.geometry) (subst (λ (f : Flash). IsWhole a.geometry f c) (sym (same_flash a b reads before)) (whole before))
-
 good_first_read : (a b : Device) (k : ℕ) (first : FirstPage) → OnlyReads a b → IsGoodFirst a k first → IsGoodFirst b k first
 good_first_read a b k firsts.Bad reads is = is
 good_first_read a b k firsts.Erased reads is = is

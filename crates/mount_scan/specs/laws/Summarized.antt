@@ -19,9 +19,3 @@ one_findable g flash keys o c are key = record {
 } where
   moved : (k l : ℕ) → IsKey o c k l → keys k l
   moved k l is = subst (λ n. keys k n) (sym is.1) (subst (λ n. keys n c) (sym is.0) key)
-
--- what is found of each key that can be found is found of them all
-pub finds_each : (device : Device) (keys : ℕ → ℕ → Type 0) (list : List PageCopy) → FindsNeeded device list → HasSummarizedFlash device → AreFindable device.geometry device.flash keys
-    → FindsEach device.flash keys list
-finds_each device keys list finds summarized are o c s key low newest =
-    finds.found summarized o c (one_findable device.geometry device.flash keys o c are key) o c s (refl, refl) low newest

@@ -105,7 +105,7 @@ module _ {K X L Y : Type 0} (R : L → L → Ordering) (key : K → L) (value : 
           ∙ ap (λ (x : Option Y). cond (eq_by_cmp R q k) None x) (sym (map.get-from_entries o (seen es) q))
           ∙ sym (map.get-remove o (map.from_entries {R = R} (seen es)) k q))
 
-      -- after the keys are kept by a test
+      -- after the keys are held by a test
       pub retain_seen : (p : L → Bool) (es fs : List (K × X)) → fs ≡ filter (λ e. p (key e.0)) es → map.from_entries {R = R} (seen fs) ≡ map.retain_keys (map.from_entries (seen es)) p
       retain_seen p es fs is = map.same_map o same _ _ (λ q.
           map.get-from_entries o (seen fs) q

@@ -4,7 +4,7 @@ use Rattle.std.proofs.Common.{refl, ◌∙◌, ap, arith, inl, inr}
 use Rattle.std.proofs.lemmas.Bool.{cases_lt}
 use Rattle.nand_model.specs.Calls.{Device, Lasts}
 
--- what one call keeps and then another is kept
+-- what one call keeps and then another is held
 pub lasts_on : (a b c : Device) → Lasts a b → Lasts b c → Lasts a c
 lasts_on a b c first then = record {
   geometry = then.geometry ∙ first.geometry;

@@ -8,7 +8,7 @@ use Rattle.volume_terms.specs.declared.fault.StoreFault.{StoreFault}
 use Rattle.volume_terms.specs.declared.fault.StoreFault.TheVariants as faults
 use Rattle.object_store.specs.declared.refusal.Refusal.{Refusal}
 use Rattle.object_store.specs.declared.refusal.Refusal.TheVariants as refusals
-use Rattle.object_store.specs.Stores.{Meaning, IsLawful, Has, ReadFaults, Tells}
+use Rattle.object_store.specs.Stores.{Meaning, IsLawful, Has, ReadFaults, Reports}
 
 -- the store goes on to have its objects
 pub has_on : {S : Type 0} (m : Meaning S) (law : IsLawful m) (z : Sizes) (objects : Objects) (a b : S) → m.reads a b → Has m z objects a → Has m z objects b
@@ -26,9 +26,9 @@ unread_after m law a b c reads faults.NoMemory left = law.reads_on a b c reads l
 unread_after m law a b c reads faults.Device left = law.unread_on a b c reads left
 unread_after m law a b c reads faults.Worn left = absurd left
 
--- what is told after calls that read
-pub tells_on : {S A : Type 0} (m : Meaning S) (law : IsLawful m) (a b c : S) (P : A → Type 0) (Q : Errno → Type 0)
-    → m.reads a b → (r : Result A Refusal) → Tells m b c P Q r → Tells m a c P Q r
-tells_on m law a b c P Q reads (Ok x) told = told
-tells_on m law a b c P Q reads (Err (refusals.Fault fault)) told = unread_after m law a b c reads fault told
-tells_on m law a b c P Q reads (Err (refusals.Error error)) told = told
+-- what is reported after calls that read
+pub reports_on : {S A : Type 0} (m : Meaning S) (law : IsLawful m) (a b c : S) (P : A → Type 0) (Q : Errno → Type 0)
+    → m.reads a b → (r : Result A Refusal) → Reports m b c P Q r → Reports m a c P Q r
+reports_on m law a b c P Q reads (Ok x) reported = reported
+reports_on m law a b c P Q reads (Err (refusals.Fault fault)) reported = unread_after m law a b c reads fault reported
+reports_on m law a b c P Q reads (Err (refusals.Error error)) reported = reported

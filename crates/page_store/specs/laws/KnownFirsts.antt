@@ -33,7 +33,7 @@ known_same flash t t' geometry next seq known = record {
   within : (b : ℕ) → b < t'.geometry.blocks → b < t.geometry.blocks
   within b lt = subst (λ (g : Geometry). b < g.blocks) geometry lt
 
--- as one whose committed pages were counted anew
+-- as one whose committed pages were recounted
 pub known_counted : (flash : Flash) (before after : ℕ → ℕ) (t t' : Table) → Recounts before after t t' → KnowsFirsts flash t → KnowsFirsts flash t'
 known_counted flash before after t t' recounts = known_same flash t t' recounts.geometry recounts.next recounts.seq
 
@@ -42,7 +42,7 @@ pub opened_noted : (d : Device) (t t' : Table) (x : Index) (n : Numbers) → Onl
 opened_noted d t t' x n only opened = record {
   tables = record {
     counts = record {
-      counts = λ b. only.kept b ∙ was.counts.counts b;
+      counts = λ b. only.committed b ∙ was.counts.counts b;
       within = λ b le. was.counts.within b (subst (λ (g : Geometry). g.blocks ≤ b) only.geometry le);
     };
     geometry = only.geometry ∙ was.geometry;

@@ -7,9 +7,9 @@ use Rattle.nand_model.specs.Flash.{Flash, Written}
 use Rattle.page_tags.specs.Tags.{tag_bytes}
 use Rattle.flash_tree.specs.Newest.{Spot, IsNewest, HasNewest}
 use Rattle.flash_tree.specs.laws.Newest.{one_spot}
-use Rattle.chunk_index.specs.Maps.{KeptMap}
-use Rattle.flash_log.specs.Standing.{AreKept}
-use Rattle.flash_log.specs.laws.OneProof.{are_kept_prop, newest_prop}
+use Rattle.chunk_index.specs.Maps.{CommittedMap}
+use Rattle.flash_log.specs.Standing.{AreCommitted}
+use Rattle.flash_log.specs.laws.OneProof.{are_committed_prop, newest_prop}
 use Rattle.pages.specs.Maps.{PageMap}
 use Rattle.pages.specs.Stores.{Carries}
 
@@ -25,5 +25,5 @@ pub carries_prop : (f : Flash) (m : PageMap) → IsProp (Carries f m)
 carries_prop f m x y = λ k o c xs is. with_prop f o c xs (x o c xs is) (y o c xs is) k
 
 -- where no commit failed, and of an honest device
-pub newest_kept_prop : (broken honest : Bool) (f : Flash) (m : KeptMap) → IsProp (broken ≡ false → honest ≡ true → AreKept f m)
-newest_kept_prop broken honest f m x y = λ k whole told. are_kept_prop f m (x whole told) (y whole told) k
+pub newest_committed_prop : (broken honest : Bool) (f : Flash) (m : CommittedMap) → IsProp (broken ≡ false → honest ≡ true → AreCommitted f m)
+newest_committed_prop broken honest f m x y = λ k whole reported. are_committed_prop f m (x whole reported) (y whole reported) k

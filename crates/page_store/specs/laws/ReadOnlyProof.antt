@@ -1,4 +1,4 @@
--- There is at most one proof that an honest device has what the pages hold, so that it can be kept as a fact.
+-- There is at most one proof that an honest device has what the pages hold, so that it can be held as a fact.
 use Rattle.page_store.specs.laws.OneProof.{carries_prop}
 use Rattle.pages.specs.State.{PagesState}
 use Rattle.page_store.specs.ReadOnly.{IsCarrying}

@@ -8,10 +8,10 @@ use Rattle.nand_model.specs.Calls.{Device}
 use Rattle.nand_model.specs.Changes.{OnlyReads}
 use Rattle.nand_model.specs.declared.geometry.Geometry.{Geometry}
 use Rattle.flash_tree.specs.laws.Place.{same_flash}
-use Rattle.chunk_index.specs.declared.form.KeptPage.{KeptPage}
+use Rattle.chunk_index.specs.declared.form.CommittedPage.{CommittedPage}
 use Rattle.chunk_index.specs.declared.index.Index.{Index}
-use Rattle.chunk_index.specs.Maps.{KeptMap, kept_pages}
-use Rattle.page_store.specs.Shown.{data_at, kept_data}
+use Rattle.chunk_index.specs.Maps.{CommittedMap, committed_pages}
+use Rattle.page_store.specs.Shown.{data_at, committed_data}
 use Rattle.pages.specs.Maps.{known_pages}
 use Rattle.pages.specs.laws.Known.{known_same}
 use Rattle.pages.specs.State.{FailsBy, FindsPage, OnlyFinds, PagesState}
@@ -21,9 +21,9 @@ use Rattle.volume_terms.specs.declared.fault.StoreFault.{StoreFault}
 use Rattle.volume_terms.specs.declared.fault.StoreFault.TheVariants as faults
 use Rattle.page_store.specs.Newest.{seen}
 
--- kept pages still have data
-pub written_same : (a b : Device) (m : KeptMap) → OnlyReads a b → (a.honest ≡ true → (o c : ℕ) (k : KeptPage) → m o c ≡ Some k → IsSome (data_at a.flash k))
-    → b.honest ≡ true → (o c : ℕ) (k : KeptPage) → m o c ≡ Some k → IsSome (data_at b.flash k)
+-- committed pages still have data
+pub written_same : (a b : Device) (m : CommittedMap) → OnlyReads a b → (a.honest ≡ true → (o c : ℕ) (k : CommittedPage) → m o c ≡ Some k → IsSome (data_at a.flash k))
+    → b.honest ≡ true → (o c : ℕ) (k : CommittedPage) → m o c ≡ Some k → IsSome (data_at b.flash k)
 written_same a b m reads written honest o c k is =
     let before : a.honest ≡ true = sym reads.lasts.honest ∙ honest in
     subst (λ (f : Flash). IsSome (data_at f k)) (sym (same_flash a b reads before)) (written before o c k is)
@@ -33,14 +33,14 @@ pub finds_seen : (a b : Device) (x y : Index) (page page' : List ℕ) → OnlyRe
 finds_seen a b x y page page' reads index = record {
   page_bytes = ap (λ (g : Geometry). g.bytes) reads.lasts.geometry;
   most = refl;
-  present = ap (λ i. known_pages b.honest (kept_data i b.flash)) index ∙ known_same a b (kept_data x) reads;
-  kept = ap (λ i. known_pages b.honest (kept_data i b.flash)) index ∙ known_same a b (kept_data x) reads;
+  present = ap (λ i. known_pages b.honest (committed_data i b.flash)) index ∙ known_same a b (committed_data x) reads;
+  committed = ap (λ i. known_pages b.honest (committed_data i b.flash)) index ∙ known_same a b (committed_data x) reads;
   buffered = refl;
   sound = reads.lasts.honest;
   failed = failed;
   refused = omega arith;
   commits = refl;
-  asked = reads.lasts.reads;
+  issued = reads.lasts.reads;
   device = reads;
   next = refl;
   spare = refl;
@@ -58,38 +58,38 @@ finds_seen a b x y page page' reads index = record {
         or_right b.gone (not b.honest) (ap not reads.lasts.honest ∙ rest)
   ]
 
--- a kept key has the page that is lent
-pub kept_lent : (a : Device) (x : Index) (page : List ℕ) (o c : ℕ) (at : KeptPage) (result : Result Presence StoreFault) → kept_pages x o c ≡ Some at → a.honest ≡ true
+-- a committed key has the page that is lent
+pub committed_lent : (a : Device) (x : Index) (page : List ℕ) (o c : ℕ) (at : CommittedPage) (result : Result Presence StoreFault) → committed_pages x o c ≡ Some at → a.honest ≡ true
     → IfOk result (λ presence. presence ≡ presences.Present) → (a.honest ≡ true → OnOk result (data_at a.flash at ≡ Some page))
-    → IfOk result (FindsPage (known_pages a.honest (kept_data x a.flash)) o c page)
-kept_lent a x page o c at (Err fault) is honest there read = tt
-kept_lent a x page o c at (Ok told) is honest there read =
-    subst (FindsPage (known_pages a.honest (kept_data x a.flash)) o c page) (sym there)
-    (ap (λ h. known_pages h (kept_data x a.flash) o c) honest ∙ ap (option_and_then (data_at a.flash)) is ∙ read honest)
+    → IfOk result (FindsPage (known_pages a.honest (committed_data x a.flash)) o c page)
+committed_lent a x page o c at (Err fault) is honest there read = tt
+committed_lent a x page o c at (Ok reported) is honest there read =
+    subst (FindsPage (known_pages a.honest (committed_data x a.flash)) o c page) (sym there)
+    (ap (λ h. known_pages h (committed_data x a.flash) o c) honest ∙ ap (option_and_then (data_at a.flash)) is ∙ read honest)
 
--- a key that is not kept has none
-pub absent : (a : Device) (x : Index) (o c : ℕ) → kept_pages x o c ≡ None → a.honest ≡ true → known_pages a.honest (kept_data x a.flash) o c ≡ None
-absent a x o c is honest = ap (λ h. known_pages h (kept_data x a.flash) o c) honest ∙ ap (option_and_then (data_at a.flash)) is
+-- a key that is not committed has none
+pub absent : (a : Device) (x : Index) (o c : ℕ) → committed_pages x o c ≡ None → a.honest ≡ true → known_pages a.honest (committed_data x a.flash) o c ≡ None
+absent a x o c is honest = ap (λ h. known_pages h (committed_data x a.flash) o c) honest ∙ ap (option_and_then (data_at a.flash)) is
 
 some_or_none : {A : Type 0} (m : Option A) → IsSome m → m ≡ None → ⊥
 some_or_none None some is = absurd cc
 some_or_none (Some x) some is = absurd cc
 
--- one that is kept has one
-pub not_absent : (a : Device) (x : Index) (o c : ℕ) (at : KeptPage) → kept_pages x o c ≡ Some at
-    → (a.honest ≡ true → (o c : ℕ) (k : KeptPage) → kept_pages x o c ≡ Some k → IsSome (data_at a.flash k))
-    → a.honest ≡ true → known_pages a.honest (kept_data x a.flash) o c ≡ None → ⊥
+-- one that is committed has one
+pub not_absent : (a : Device) (x : Index) (o c : ℕ) (at : CommittedPage) → committed_pages x o c ≡ Some at
+    → (a.honest ≡ true → (o c : ℕ) (k : CommittedPage) → committed_pages x o c ≡ Some k → IsSome (data_at a.flash k))
+    → a.honest ≡ true → known_pages a.honest (committed_data x a.flash) o c ≡ None → ⊥
 not_absent a x o c at is written honest none =
-    let here : known_pages a.honest (kept_data x a.flash) o c ≡ data_at a.flash at =
-    ap (λ h. known_pages h (kept_data x a.flash) o c) honest ∙ ap (option_and_then (data_at a.flash)) is in
+    let here : known_pages a.honest (committed_data x a.flash) o c ≡ data_at a.flash at =
+    ap (λ h. known_pages h (committed_data x a.flash) o c) honest ∙ ap (option_and_then (data_at a.flash)) is in
     some_or_none (data_at a.flash at) (written honest o c at is) (sym here ∙ none)
 
 -- each fault has its cause
-pub fault_seen : (old : PagesState) (a b : Device) (x y : Index) (page : List ℕ) (o c : ℕ) (at : KeptPage) (result : Result Presence StoreFault) → OnlyReads a b → kept_pages x o c ≡ Some at
-    → (a.honest ≡ true → (o c : ℕ) (k : KeptPage) → kept_pages x o c ≡ Some k → IsSome (data_at a.flash k))
+pub fault_seen : (old : PagesState) (a b : Device) (x y : Index) (page : List ℕ) (o c : ℕ) (at : CommittedPage) (result : Result Presence StoreFault) → OnlyReads a b → committed_pages x o c ≡ Some at
+    → (a.honest ≡ true → (o c : ℕ) (k : CommittedPage) → committed_pages x o c ≡ Some k → IsSome (data_at a.flash k))
     → IfErr result (λ fault. (fault ≡ faults.Device) × ((b.gone ≡ true) ⊎ (a.honest ≡ true → data_at a.flash at ≡ None)))
     → IfErr result (FailsBy old (seen b y page))
-fault_seen old a b x y page o c at (Ok told) reads is written why = tt
+fault_seen old a b x y page o c at (Ok reported) reads is written why = tt
 fault_seen old a b x y page o c at (Err fault) reads is written why =
     subst (FailsBy old (seen b y page)) (sym why.0) (elim why.1 [
       | inl gone ↦ or_left b.gone (not b.honest) gone

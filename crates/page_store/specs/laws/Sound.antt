@@ -2,7 +2,7 @@
 use Rattle.std.specs.Prelude.{◌≡◌, ◌≤◌, ℕ, Bool, true, false, not, ◌&&◌, ◌||◌}
 use Rattle.std.proofs.Common.{refl, arith}
 use Rattle.nand_model.specs.Calls.{Device}
-use Rattle.block_state.specs.Kept.{bad_count}
+use Rattle.block_state.specs.Committed.{bad_count}
 use Rattle.block_state.specs.Table.{Table}
 use Rattle.transactions.specs.Ready.{IsReady}
 use Rattle.flash_log.specs.laws.FreeBlocks.{same_bad_blocks}

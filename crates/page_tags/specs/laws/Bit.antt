@@ -80,7 +80,7 @@ past_or_none bits last = elim (search_past bits last (8 * length bits)) [
   ])
 ]
 
--- ---- what the bytes tell of the chunks past the last one
+-- ---- what the bytes say of the chunks past the last one
 
 module _ (bits : List ℕ) (last : ℕ) where
   -- by the byte of the last chunk

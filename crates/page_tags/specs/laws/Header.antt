@@ -10,7 +10,7 @@ use Rattle.page_tags.specs.declared.header.ObjectKind.{ObjectKind}
 use Rattle.page_tags.specs.declared.header.ObjectKind.TheVariants as kinds
 use Rattle.page_tags.specs.declared.header.HeaderFault.{HeaderFault}
 use Rattle.page_tags.specs.declared.header.HeaderFault.TheVariants as faults
-use Rattle.page_tags.specs.Headers.{Fields, magic, format_number, kind_number, header_bytes, is_present, IsBytes, greatest_told, MayBeSet, IsHeader, IsHeaderOf, length_in, moment_in, HasFault, rank, IsFirstFault}
+use Rattle.page_tags.specs.Headers.{Fields, magic, format_number, kind_number, header_bytes, is_present, IsBytes, greatest_recorded, MayBeSet, IsHeader, IsHeaderOf, length_in, moment_in, HasFault, rank, IsFirstFault}
 use Rattle.page_tags.specs.laws.Byte.{joined, little_bytes_at, IsBytes-drop}
 use Rattle.volume_terms.specs.laws.List.{same_or_not}
 use Rattle.page_tags.specs.HeaderParts.{HasFormat, HasNonePast, HasPast, IsSoundHeader, fields_in, last_chunk}
@@ -51,7 +51,7 @@ unfolding header_bytes
 moment_at f fits = little_number-reads_back 8 f.moment (replicate 8 0 ++ f.bits) (omega arith)
 
 -- no length over pages of at most 4096 bytes needs more than 64 bits
-pub length_small : (d : ℕ) (kind : ObjectKind) (n : ℕ) → d ≤ 4096 → n ≤ greatest_told d kind → n < 2 ^ 64
+pub length_small : (d : ℕ) (kind : ObjectKind) (n : ℕ) → d ≤ 4096 → n ≤ greatest_recorded d kind → n < 2 ^ 64
 length_small d kinds.File n few fits = omega (arith, mul-le (8 * (d - 32)) d (8 * 4096) 4096 (omega arith) few)
 length_small d kinds.Directory n few fits = omega arith
 
@@ -135,9 +135,9 @@ no_newer_fault page format n begins newer = omega (arith, format_range format, b
 no_kind_fault : (page : List ℕ) (kind : ObjectKind) → get_or page 5 0 ≡ kind_number kind → HasFault page faults.Kind → ⊥
 no_kind_fault page kind is unknown = kind_known kind (λ e. unknown.0 (is ∙ e), λ e. unknown.1 (is ∙ e))
 
-no_length_fault : (page : List ℕ) (kind : ObjectKind) → get_or page 5 0 ≡ kind_number kind → length_in page ≤ greatest_told (length page) kind → HasFault page faults.Length → ⊥
+no_length_fault : (page : List ℕ) (kind : ObjectKind) → get_or page 5 0 ≡ kind_number kind → length_in page ≤ greatest_recorded (length page) kind → HasFault page faults.Length → ⊥
 no_length_fault page kind is fits long =
-    let greatest = ap (greatest_told (length page)) (same_kind long.0 kind (sym long.1 ∙ is)) in
+    let greatest = ap (greatest_recorded (length page)) (same_kind long.0 kind (sym long.1 ∙ is)) in
     omega (arith, long.2)
 
 no_pad_fault : (page : List ℕ) (format : Format) (kind : ObjectKind) → IsSoundHeader page format kind → HasFault page faults.Pad → ⊥
@@ -206,14 +206,14 @@ before_length page format kind faults.Pad begins is before = λ fault. omega ari
 pub length_first : (page : List ℕ) (format : Format) (kind : ObjectKind) → HasFormat page format → get_or page 5 0 ≡ kind_number kind → HasFault page faults.Length → IsFirstFault page faults.Length
 length_first page format kind begins is fault = record { here = fault; first = λ other. before_length page format kind other begins is }
 
-before_pad : (page : List ℕ) (format : Format) (kind : ObjectKind) (other : HeaderFault) → HasFormat page format → get_or page 5 0 ≡ kind_number kind → length_in page ≤ greatest_told (length page) kind → rank other < 4 → HasFault page other → ⊥
+before_pad : (page : List ℕ) (format : Format) (kind : ObjectKind) (other : HeaderFault) → HasFormat page format → get_or page 5 0 ≡ kind_number kind → length_in page ≤ greatest_recorded (length page) kind → rank other < 4 → HasFault page other → ⊥
 before_pad page format kind faults.Magic begins is fits before = no_magic_fault page format begins
 before_pad page format kind (faults.Newer n) begins is fits before = no_newer_fault page format n begins
 before_pad page format kind faults.Kind begins is fits before = no_kind_fault page kind is
 before_pad page format kind faults.Length begins is fits before = no_length_fault page kind is fits
 before_pad page format kind faults.Pad begins is fits before = λ fault. omega arith
 
-pub pad_first : (page : List ℕ) (format : Format) (kind : ObjectKind) → HasFormat page format → get_or page 5 0 ≡ kind_number kind → length_in page ≤ greatest_told (length page) kind → HasFault page faults.Pad → IsFirstFault page faults.Pad
+pub pad_first : (page : List ℕ) (format : Format) (kind : ObjectKind) → HasFormat page format → get_or page 5 0 ≡ kind_number kind → length_in page ≤ greatest_recorded (length page) kind → HasFault page faults.Pad → IsFirstFault page faults.Pad
 pad_first page format kind begins is fits fault = record { here = fault; first = λ other. before_pad page format kind other begins is fits }
 
 -- ---- there is one first fault
@@ -266,7 +266,7 @@ moment_or_fault page formats.Two is = inr (λ e. absurd (two_not_one e))
 
 -- from the length of the page on
 sound_or_first : (page : List ℕ) (format : Format) (kind : ObjectKind) → HasFormat page format → get_or page 5 0 ≡ kind_number kind → IsSoundHeader page format kind ⊎ ((fault : HeaderFault) × IsFirstFault page fault)
-sound_or_first page format kind begins is = elim (cases_lt (greatest_told (length page) kind) (length_in page)) [
+sound_or_first page format kind begins is = elim (cases_lt (greatest_recorded (length page) kind) (length_in page)) [
   | inl long ↦ inr (faults.Length, length_first page format kind begins is (kind, is, long))
   | inr fits ↦
       let pad : HasFault page faults.Pad → (fault : HeaderFault) × IsFirstFault page fault = λ fault. (faults.Pad, pad_first page format kind begins is fits fault) in
@@ -292,7 +292,7 @@ sound_or_first page format kind begins is = elim (cases_lt (greatest_told (lengt
 -- a page whose padding is right is sound
 pub sound_from_no_pad_fault :
     (page : List ℕ) (format : Format) (kind : ObjectKind) → HasFormat page format → get_or page 5 0 ≡ kind_number kind
-    → length_in page ≤ greatest_told (length page) kind → (HasFault page faults.Pad → ⊥) → IsSoundHeader page format kind
+    → length_in page ≤ greatest_recorded (length page) kind → (HasFault page faults.Pad → ⊥) → IsSoundHeader page format kind
 sound_from_no_pad_fault page format kind begins is fits right = record {
   begins = begins;
   kind_next = is;

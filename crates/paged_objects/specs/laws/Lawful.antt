@@ -6,8 +6,8 @@ use Rattle.volume_terms.specs.Sizes.{Sizes}
 use Rattle.posix_profile.specs.State.{Objects}
 use Rattle.posix_profile.specs.Charge.{charge}
 use Rattle.object_store.specs.Stores.{IsLawful, settled}
-use Rattle.object_store.specs.TableFacts.{IsTold}
-use Rattle.object_store.specs.Told.{Tells, TellsTheSame}
+use Rattle.object_store.specs.TableFacts.{IsStated}
+use Rattle.object_store.specs.Reported.{Reports, ReportsTheSame}
 use Rattle.object_store.specs.declared.table.ObjectTable.{ObjectTable}
 use Rattle.pages.specs.State.{PagesState}
 use Rattle.directories.specs.Hashing.{HoldsMore}
@@ -24,17 +24,17 @@ use Rattle.paged_objects.specs.Meaning.{paged_meaning}
 use Rattle.paged_objects.specs.laws.Going.{stays_here, stays_on, stays_goes, goes_on}
 use Rattle.paged_objects.specs.laws.Showing.{stays_shown, stays_stands, changes_after, fails_after, commits_after, read_fails}
 
--- a table that tells the same
-pub same_here : (t : ObjectTable) → TellsTheSame t t
+-- a table that reports the same
+pub same_here : (t : ObjectTable) → ReportsTheSame t t
 same_here t = record { sizes = refl; each = λ o. refl; charge = refl; next = refl }
 
-pub same_on : (a b c : ObjectTable) → TellsTheSame a b → TellsTheSame b c → TellsTheSame a c
+pub same_on : (a b c : ObjectTable) → ReportsTheSame a b → ReportsTheSame b c → ReportsTheSame a c
 same_on a b c x y = record { sizes = y.sizes ∙ x.sizes; each = λ o. y.each o ∙ x.each o; charge = y.charge ∙ x.charge; next = y.next ∙ x.next }
 
-pub tells_on : (a b : ObjectTable) (objects : Objects) → TellsTheSame a b → Tells a objects → Tells b objects
-tells_on a b objects same tells = record {
-  each = λ o. subst (IsTold objects o (map.get objects o)) (sym (same.each o)) (tells.each o);
-  charge = same.charge ∙ tells.charge ∙ ap (λ z. charge z objects) (sym same.sizes);
+pub reports_on : (a b : ObjectTable) (objects : Objects) → ReportsTheSame a b → Reports a objects → Reports b objects
+reports_on a b objects same reports = record {
+  each = λ o. subst (IsStated objects o (map.get objects o)) (sym (same.each o)) (reports.each o);
+  charge = same.charge ∙ reports.charge ∙ ap (λ z. charge z objects) (sym same.sizes);
 }
 
 -- what has no power is gone
@@ -72,7 +72,7 @@ stays_on_in a b c x y = record {
 pub stands_in : (a b : ObjectsState) (objects : Objects) → StaysIn a b → StandsIn a objects → StandsIn b objects
 stands_in a b objects x stands = record {
   stands = subst (λ (z : Sizes). StandsFor z b.pages objects) (sym x.table.sizes) (stays_stands (sizes_in a) a.pages b.pages objects x.pages stands.stands);
-  tells = tells_on a.table b.table objects x.table stands.tells;
+  reports = reports_on a.table b.table objects x.table stands.reports;
   named = subst (λ (z : Sizes). HasNames b.names z b.pages.present objects) (sym x.table.sizes)
       (more_names (sizes_in a) a.names b.names a.pages.present b.pages.present objects x.names x.pages.present stands.named);
 }

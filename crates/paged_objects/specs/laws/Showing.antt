@@ -12,7 +12,7 @@ use Rattle.posix_profile.specs.State.{Objects}
 use Rattle.object_store.specs.Stores.{settled}
 use Rattle.pages.specs.Maps.{PageMap}
 use Rattle.pages.specs.State.{PagesState}
-use Rattle.pages.specs.Stores.{Carries, HasPage, HasNumbersLeft, HasFailed, IsCarried, SamePages, GoesOn, KeptAs, KeepsEither}
+use Rattle.pages.specs.Stores.{Carries, HasPage, HasNumbersLeft, HasFailed, IsCarried, SamePages, GoesOn, CommittedAs, KeepsEither}
 use Rattle.pages.specs.laws.Mountable.{finds_read}
 use Rattle.paged_objects.specs.Holding.{HoldsObjects, HoldsIn}
 use Rattle.object_store.specs.Stores.{CanHave}
@@ -40,7 +40,7 @@ stays_shown z p q tree stays shown = record {
   carried = λ honest.
       let before : p.device.honest ≡ true = sym stays.device.lasts.honest ∙ honest in
       subst (λ spare. IsCarried q.device spare shown.pages) (sym stays.spare) (carried_read p.device q.device p.spare shown.pages stays.device before (shown.carried before));
-  kept = λ sound o c. stays.kept o c ∙ shown.kept (sym stays.sound ∙ sound) o c;
+  committed = λ sound o c. stays.committed o c ∙ shown.committed (sym stays.sound ∙ sound) o c;
   found = finds_read p q shown.pages stays.device stays.first shown.found;
   holds = shown.holds;
   can = shown.can;
@@ -79,38 +79,38 @@ changed_stands z p q old new m goes stands sound holds same turns = record {
   shown = tree_after z q stands.shown.0 (settled old) (turns stands.shown.0 stands.shown.1);
 }
 
--- pages that are kept show what they hold, settled
-pub kept_shown : (z : Sizes) (q : PagesState) (m : PageMap) (objects : Objects) → volume_of q ≡ z → KeptAs q m → HoldsObjects z m objects → CanHave z objects → Shown z q (settled objects)
-kept_shown z q m objects sizes kept holds can = record {
+-- pages that are committed show what they hold, settled
+pub committed_shown : (z : Sizes) (q : PagesState) (m : PageMap) (objects : Objects) → volume_of q ≡ z → CommittedAs q m → HoldsObjects z m objects → CanHave z objects → Shown z q (settled objects)
+committed_shown z q m objects sizes committed holds can = record {
   pages = m;
   objects = objects;
   sizes = sizes;
-  carried = kept.carried;
-  kept = kept.kept;
-  found = kept.found;
+  carried = committed.carried;
+  committed = committed.committed;
+  found = committed.found;
   holds = holds;
   can = can;
   settles = refl;
 }
 
--- where the kept pages of a sound store are kept, the tree that was shown is shown
-pub still_shown : (z : Sizes) (p q : PagesState) (tree : Objects) → GoesOn p q → p.sound ≡ true → KeptAs q p.kept → Shown z p tree → Shown z q tree
-still_shown z p q tree goes sound kept shown = record {
-  pages = p.kept;
+-- where the committed pages of a sound store are committed, the tree that was shown is shown
+pub still_shown : (z : Sizes) (p q : PagesState) (tree : Objects) → GoesOn p q → p.sound ≡ true → CommittedAs q p.committed → Shown z p tree → Shown z q tree
+still_shown z p q tree goes sound committed shown = record {
+  pages = p.committed;
   objects = shown.objects;
   sizes = volume_on p q goes ∙ shown.sizes;
-  carried = kept.carried;
-  kept = kept.kept;
-  found = kept.found;
-  holds = same_objects z shown.pages p.kept shown.objects shown.holds (shown.kept sound);
+  carried = committed.carried;
+  committed = committed.committed;
+  found = committed.found;
+  holds = same_objects z shown.pages p.committed shown.objects shown.holds (shown.committed sound);
   can = shown.can;
   settles = shown.settles;
 }
 
--- kept as they were, or as they are present: the tree that was shown, or the settled objects
+-- committed as they were, or as they are present: the tree that was shown, or the settled objects
 pub either_turns : (z : Sizes) (p q : PagesState) (objects : Objects) → GoesOn p q → StandsFor z p objects → CanHave z objects → KeepsEither p q → Turns z objects p q
-either_turns z p q objects goes stands can (inl kept) tree shown = inl (still_shown z p q tree goes stands.sound kept shown)
-either_turns z p q objects goes stands can (inr present) tree shown = inr (kept_shown z q p.present objects (volume_on p q goes ∙ stands.sizes) present stands.holds can)
+either_turns z p q objects goes stands can (inl committed) tree shown = inl (still_shown z p q tree goes stands.sound committed shown)
+either_turns z p q objects goes stands can (inr present) tree shown = inr (committed_shown z q p.present objects (volume_on p q goes ∙ stands.sizes) present stands.holds can)
 
 -- reads before a call do not matter
 pub turns_after : (z : Sizes) (p q r : PagesState) (objects : Objects) → StaysAs p q → Turns z objects q r → Turns z objects p r

@@ -9,8 +9,8 @@ use Rattle.posix_profile.specs.State.{Name, Object, File, Dir, Objects, State}
 use Rattle.posix_profile.specs.declared.reply.Errno.{Errno}
 use Rattle.posix_profile.specs.declared.reply.Info.{Info}
 use Rattle.volume_terms.specs.Sizes.{Sizes}
-use Rattle.plain_volume.specs.Items.{Told, OfFile, OfDirectory, Item, IsFound, IsInfo, AreNames, AreBytesAt, IsContent, IsRead, AreRead, content_of, paths_below, root_path}
-use Rattle.plain_volume.specs.Reading.{Tells}
+use Rattle.plain_volume.specs.Items.{Reported, OfFile, OfDirectory, Item, IsFound, IsInfo, AreNames, AreBytesAt, IsContent, IsRead, AreRead, content_of, paths_below, root_path}
+use Rattle.plain_volume.specs.Reading.{Reports}
 
 -- a path leads to one object
 pub one_found : (objects : Objects) (path : List ℕ) (o p : ℕ) (x y : Object) → IsFound objects path o x → IsFound objects path p y → (o ≡ p) × (x ≡ y)
@@ -23,9 +23,9 @@ one_found objects path o p x y a b =
 pub one_item : (objects : Objects) (a b : Item) → a.path ≡ b.path → IsRead objects a → IsRead objects b → a ≡ b
 one_item objects a b same x y =
     let found = one_found objects b.path x.number y.number x.object y.object (subst (λ p. IsFound objects p x.number x.object) same x.found) y.found in
-    let told : a.told ≡ b.told = x.told_is ∙ ap content_of found.1 ∙ sym y.told_is in
+    let reported : a.reported ≡ b.reported = x.reported_is ∙ ap content_of found.1 ∙ sym y.reported_is in
     let informed : a.info ≡ b.info = x.info_is ∙ (λ i. info objects (found.0 i) (found.1 i)) ∙ sym y.info_is in
-    λ i. record { path = same i; info = informed i; told = told i }
+    λ i. record { path = same i; info = informed i; reported = reported i }
 
 -- so is a tree
 pub one_reading : (objects : Objects) (paths others : List (List ℕ)) (items more : List Item) → paths ≡ others → AreRead objects paths items → AreRead objects others more → items ≡ more
@@ -34,7 +34,7 @@ one_reading objects (path ∷ paths) (other ∷ others) (x ∷ items) (y ∷ mor
     let head : path ≡ other = cc in
     let tail : paths ≡ others = cc in
     let item : x ≡ y = one_item objects x y (a.0 ∙ head ∙ sym b.0) a.1 b.1 in
-    let rest = one_reading objects (paths ++ paths_below x.path x.told) (others ++ paths_below y.path y.told) items more (λ i. tail i ++ paths_below (item i).path (item i).told) a.2 b.2 in
+    let rest = one_reading objects (paths ++ paths_below x.path x.reported) (others ++ paths_below y.path y.reported) items more (λ i. tail i ++ paths_below (item i).path (item i).reported) a.2 b.2 in
     λ i. item i ∷ rest i
 one_reading objects [] others (x ∷ items) more same a b = absurd a
 one_reading objects (path ∷ paths) others [] more same a b = absurd a
@@ -43,27 +43,15 @@ one_reading objects paths (other ∷ others) items [] same a b = absurd b
 one_reading objects [] (other ∷ others) items more same a b = absurd cc
 one_reading objects (path ∷ paths) [] items more same a b = absurd cc
 
-pub file_content : (objects : Objects) (path bytes : List ℕ) → AreBytesAt objects path bytes → IsContent objects path (OfFile bytes)
-file_content objects path bytes (o, moment, found) = (o, File moment bytes, found, refl)
-
-pub directory_content : (objects : Objects) (path : List ℕ) (names : List Name) → AreNames objects path names → IsContent objects path (OfDirectory names)
-directory_content objects path names (o, moment, entries, found, is) = (o, Dir moment entries, found, ap OfDirectory is)
-
-pub item_read : (objects : Objects) (p q path : List ℕ) (told : Info) (content : Told) → p ≡ path → q ≡ path → IsInfo objects p told → IsContent objects q content → IsRead objects (record { path = path; info = told; told = content })
-item_read objects p q path told content a b (o, x, found, is) (n, y, holds, has) =
-    let x_at = subst (λ k. IsFound objects k o x) a found in
-    let same = one_found objects path n o y x (subst (λ k. IsFound objects k n y) b holds) x_at in
-    record { number = o; object = x; found = x_at; info_is = is; told_is = has ∙ ap content_of same.1 }
-
--- what tells afterwards too
-pub tells_both : {V : Type 0} (shows : V → Sizes → Bool → State → Type 0) (old between new : V) (P Q R : Objects → Type 0) → Tells shows old between P → Tells shows between new Q → ((objects : Objects) → P objects → Q objects → R objects) → Tells shows old new R
-tells_both shows old between new P Q R first second both = λ z read_only s shown.
+-- what reports afterwards too
+pub reports_both : {V : Type 0} (shows : V → Sizes → Bool → State → Type 0) (old between new : V) (P Q R : Objects → Type 0) → Reports shows old between P → Reports shows between new Q → ((objects : Objects) → P objects → Q objects → R objects) → Reports shows old new R
+reports_both shows old between new P Q R first second both = λ z read_only s shown.
     let a = first z read_only s shown in
     let b = second z read_only s a.1 in
     (both s.objects a.0 b.0, b.1)
 
-pub tells_then : {V : Type 0} (shows : V → Sizes → Bool → State → Type 0) (old new : V) (P Q : Objects → Type 0) → ((objects : Objects) → P objects → Q objects) → Tells shows old new P → Tells shows old new Q
-tells_then shows old new P Q on told = λ z read_only s shown. let a = told z read_only s shown in (on s.objects a.0, a.1)
+pub reports_then : {V : Type 0} (shows : V → Sizes → Bool → State → Type 0) (old new : V) (P Q : Objects → Type 0) → ((objects : Objects) → P objects → Q objects) → Reports shows old new P → Reports shows old new Q
+reports_then shows old new P Q on reported = λ z read_only s shown. let a = reported z read_only s shown in (on s.objects a.0, a.1)
 
 -- the items so far, and those of the paths that wait, are those of the tree
 abbrev pub AreReadSoFar : Objects → List (List ℕ) → List Item → Type 0
@@ -72,7 +60,7 @@ AreReadSoFar objects waiting items = (more : List Item) → AreRead objects wait
 pub so_far_none : (objects : Objects) → AreReadSoFar objects (root_path ∷ []) []
 so_far_none objects = λ more are. are
 
-pub so_far_next : (objects : Objects) (path : List ℕ) (waiting after : List (List ℕ)) (items : List Item) (item : Item) → item.path ≡ path → IsRead objects item → after ≡ waiting ++ paths_below item.path item.told
+pub so_far_next : (objects : Objects) (path : List ℕ) (waiting after : List (List ℕ)) (items : List Item) (item : Item) → item.path ≡ path → IsRead objects item → after ≡ waiting ++ paths_below item.path item.reported
     → AreReadSoFar objects (path ∷ waiting) items → AreReadSoFar objects after (items ++ item ∷ [])
 so_far_next objects path waiting after items item is read grown so_far = λ more are.
     subst (AreRead objects (root_path ∷ [])) (sym (append_assoc items (item ∷ []) more)) (so_far (item ∷ more) (is, read, subst (λ p. AreRead objects p more) grown are))

@@ -22,8 +22,8 @@ unfolding resolve
 walked objects path place is = go (first_error (path_tests path)) is
   where
     go : (e : Option Errno) → walk_unless objects path e ≡ Ok place → walk_from_root objects (ends_in_slash path) (list_map component (parts path)) ≡ Ok place
-    go (Some error) told = absurd cc
-    go None told = told
+    go (Some error) reported = absurd cc
+    go None reported = reported
 
 -- a name is a component of its own
 named : (name : Name) → IsName name → component name ≡ Named name
@@ -87,7 +87,7 @@ arrives objects s d c place (Some o) is = go (is_file (map.get objects o) && s) 
 -- a walk goes on by a name from where it ended
 walk_below : (objects : Objects) (s t : Bool) (name : Name) (cs : List Component) (from d : ℕ) (c : Component) (place next : Place)
     → walk objects s from c cs ≡ Ok place → place.object ≡ Some d → walk objects t from c (cs ++ Named name ∷ []) ≡ Ok next → next.object ≡ leads_to objects d (Named name)
-walk_below objects s t name [] from d c place next is object_is told = go (leads_to objects from c) (sym (arrives objects s from c place (leads_to objects from c) is) ∙ object_is) told
+walk_below objects s t name [] from d c place next is object_is reported = go (leads_to objects from c) (sym (arrives objects s from c place (leads_to objects from c) is) ∙ object_is) reported
   where
     go : (found : Option ℕ) → found ≡ Some d → pass objects found (λ o. walk objects t o (Named name) []) ≡ Ok next → next.object ≡ leads_to objects d (Named name)
     go None e on = absurd cc
@@ -99,7 +99,7 @@ walk_below objects s t name [] from d c place next is object_is told = go (leads
         at : (b : Bool) → cond b (Err errors.ENOTDIR) (walk objects t o (Named name) []) ≡ Ok next → next.object ≡ leads_to objects d (Named name)
         at true k = absurd cc
         at false k = arrives objects t o (Named name) next (leads_to objects o (Named name)) k ∙ ap (λ n. leads_to objects n (Named name)) same
-walk_below objects s t name (more ∷ cs) from d c place next is object_is told = go (λ o i j. walk_below objects s t name cs o d more place next i object_is j) (leads_to objects from c) is told
+walk_below objects s t name (more ∷ cs) from d c place next is object_is reported = go (λ o i j. walk_below objects s t name cs o d more place next i object_is j) (leads_to objects from c) is reported
   where
     go : ((o : ℕ) → walk objects s o more cs ≡ Ok place → walk objects t o more (cs ++ Named name ∷ []) ≡ Ok next → next.object ≡ leads_to objects d (Named name))
         → (found : Option ℕ) → pass objects found (λ o. walk objects s o more cs) ≡ Ok place → pass objects found (λ o. walk objects t o more (cs ++ Named name ∷ [])) ≡ Ok next → next.object ≡ leads_to objects d (Named name)
@@ -112,13 +112,13 @@ walk_below objects s t name (more ∷ cs) from d c place next is object_is told 
 
 root_below : (objects : Objects) (s t : Bool) (name : Name) (cs : List Component) (d : ℕ) (place next : Place)
     → walk_from_root objects s cs ≡ Ok place → place.object ≡ Some d → walk_from_root objects t (cs ++ Named name ∷ []) ≡ Ok next → next.object ≡ leads_to objects d (Named name)
-root_below objects s t name [] d place next is object_is told =
+root_below objects s t name [] d place next is object_is reported =
     let same : 1 ≡ d = (let two : Some 1 ≡ Some d = ap (λ (p : Place). p.object) (root_place place is) ∙ object_is in cc) in
-    arrives objects t 1 (Named name) next (leads_to objects 1 (Named name)) told ∙ ap (λ n. leads_to objects n (Named name)) same
+    arrives objects t 1 (Named name) next (leads_to objects 1 (Named name)) reported ∙ ap (λ n. leads_to objects n (Named name)) same
   where
     root_place : (p : Place) → ◌≡◌ {A = Result Place Errno} (Ok (record { directory = 1; last = None; object = Some 1; slash_follows = s })) (Ok p) → record { directory = 1; last = None; object = Some 1; slash_follows = s } ≡ p
     root_place p e = cc
-root_below objects s t name (c ∷ cs) d place next is object_is told = walk_below objects s t name cs _ d c place next is object_is told
+root_below objects s t name (c ∷ cs) d place next is object_is reported = walk_below objects s t name cs _ d c place next is object_is reported
 
 -- the path of a name in a directory leads to what the directory names so
 pub found_below : (objects : Objects) (path : List ℕ) (name : Name) (d o moment : ℕ) (entries : Entries) (object : Object) → IsName name

@@ -40,8 +40,8 @@ pub(crate) fn forget(objects: &mut ObjectMap, number: u64)
     let _ = objects.remove(&number);
 }
 
-/// Takes the object away that is told.
-fn drop_told(objects: &mut ObjectMap, dropped: Option<u64>)
+/// Takes the object away that is reported.
+fn drop_reported(objects: &mut ObjectMap, dropped: Option<u64>)
     ensures { objects_in objects.new ≡ without dropped (objects_in objects.old) }
 {
     if let Some(number) = dropped {
@@ -117,7 +117,7 @@ fn resize(
     put_object(objects, number, PlainObject::File { moment, bytes })
 }
 
-/// Gives an object another name, and takes the object away that is told.
+/// Gives an object another name, and takes the object away that is reported.
 fn move_name(
     alloc: Global,
     objects: &mut ObjectMap,
@@ -131,7 +131,7 @@ fn move_name(
 {
     remove_name(alloc, objects, moment, from.directory, from.name)?;
     put_name(alloc, objects, moment, to.directory, to.name, number)?;
-    drop_told(objects, dropped);
+    drop_reported(objects, dropped);
     Ok(())
 }
 
@@ -162,7 +162,7 @@ fn name(
     put_name(alloc, objects, moment, entry.directory, entry.name, number)
 }
 
-/// Takes a name away, and the object that is told.
+/// Takes a name away, and the object that is returned.
 fn remove(
     alloc: Global,
     objects: &mut ObjectMap,
@@ -173,7 +173,7 @@ fn remove(
     ensures { OnOk result (objects_in objects.new ≡ without dropped (without_name (objects_in objects.old) moment entry.entry.directory entry.entry.name.now)) }
 {
     remove_name(alloc, objects, moment, entry.directory, entry.name)?;
-    drop_told(objects, dropped);
+    drop_reported(objects, dropped);
     Ok(())
 }
 
@@ -230,11 +230,11 @@ fn change(
 pub(crate) fn changed(
     alloc: Global,
     old: &ObjectMap,
-    asked: &ObjectChange<'_>,
+    issued: &ObjectChange<'_>,
 ) -> Result<ObjectMap, AllocError>
-    ensures { IfOk result (λ new. objects_in new ≡ made (objects_in old.now) asked.now) }
+    ensures { IfOk result (λ new. objects_in new ≡ made (objects_in old.now) issued.now) }
 {
     let mut objects = copy_objects(old)?;
-    change(alloc, &mut objects, asked)?;
+    change(alloc, &mut objects, issued)?;
     Ok(objects)
 }

@@ -69,8 +69,8 @@ impl PlainObjects {
 
     /// Those that names keep, which a mount would show.
     pub fn settled(&self) -> Result<PlainObjects, AllocError>
-        ensures objects { IfOk result (λ kept. objects_of kept ≡ settled (objects_of self.now)) }
-        ensures sizes { IfOk result (λ kept. numbers_of kept ≡ numbers_of self.now) }
+        ensures objects { IfOk result (λ committed. objects_of committed ≡ settled (objects_of self.now)) }
+        ensures sizes { IfOk result (λ committed. numbers_of committed ≡ numbers_of self.now) }
     {
         let objects = settled(&self.objects)?;
         Ok(PlainObjects {

@@ -111,8 +111,8 @@ pub fn add_object(
 pub fn resized(alloc: Global, bytes: &[u8], length: usize) -> Result<Vec<u8>, AllocError>
     ensures { IfOk result (λ new. new.items ≡ resized bytes.now length) }
 {
-    let kept = bytes.len().min(length);
-    let mut new = bytes[..kept].to_vec(alloc)?;
+    let committed = bytes.len().min(length);
+    let mut new = bytes[..committed].to_vec(alloc)?;
     new.resize(length, 0)?;
     Ok(new)
 }

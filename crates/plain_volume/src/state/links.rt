@@ -152,7 +152,7 @@ fn subdirectories(objects: &ObjectMap, entries: &EntryMap) -> u64
     count
 }
 
-/// What is told of an object.
+/// What is reported of an object.
 pub fn info(sizes: VolumeSizes, objects: &ObjectMap, number: u64, object: &PlainObject) -> Info
     requires { fits (sizes_of sizes) (objects_in objects.now) ≡ true }
     ensures { result ≡ info (objects_in objects.now) number (object_of object.now) }

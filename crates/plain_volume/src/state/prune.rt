@@ -12,7 +12,7 @@ use std::alloc::AllocError;
 use volume_terms::ROOT;
 
 /// Whether the object is the root, or some directory names it.
-fn is_kept(objects: &ObjectMap, number: u64) -> bool
+fn is_retained(objects: &ObjectMap, number: u64) -> bool
     ensures { result ≡ (nat_eq number root_number || is_named (objects_in objects.now) number) }
 {
     number == ROOT || is_named(objects, number)
@@ -20,9 +20,9 @@ fn is_kept(objects: &ObjectMap, number: u64) -> bool
 
 /// The objects that names keep: what a mount shows.
 pub fn settled(objects: &ObjectMap) -> Result<ObjectMap, AllocError>
-    ensures { IfOk result (λ kept. objects_in kept ≡ (settle (record { objects = objects_in objects.now; handles = map.empty })).objects) }
+    ensures { IfOk result (λ committed. objects_in committed ≡ (settle (record { objects = objects_in objects.now; handles = map.empty })).objects) }
 {
-    let mut kept = copy_objects(objects)?;
-    kept.retain(|number, _object| is_kept(objects, *number));
-    Ok(kept)
+    let mut committed = copy_objects(objects)?;
+    committed.retain(|number, _object| is_retained(objects, *number));
+    Ok(committed)
 }

@@ -16,7 +16,7 @@ as_it_is t d is = ap (λ h. record d { honest = h }) (honest_where d.honest t is
 
 -- of a true flash the device is seen as it is since a mount
 pub seen_since : (old now seen : Device) → IsTrustedSince old now seen → HasTrueFlash old → seen ≡ now
-seen_since old now seen since truth = since.read.seen_is ∙ as_it_is since.told now (since.trusted truth)
+seen_since old now seen since truth = since.read.seen_is ∙ as_it_is since.reported now (since.trusted truth)
 
 -- and it was only read
 pub read_since : (old now seen : Device) → IsTrustedSince old now seen → HasTrueFlash old → OnlyReads old seen
@@ -24,13 +24,13 @@ read_since old now seen since truth = subst (λ (x : Device). OnlyReads old x) (
 
 -- a device that is honest as it is seen is given back as it is seen
 pub left_as_seen : (pages : PagesState) (device : Device) → LiesOn pages device → pages.device.honest ≡ true → pages.device ≡ device
-left_as_seen pages device (told, is) honest = is ∙ as_it_is told device (trusted_of device.honest told (sym (ap (λ (x : Device). x.honest) is) ∙ honest))
+left_as_seen pages device (reported, is) honest = is ∙ as_it_is reported device (trusted_of device.honest reported (sym (ap (λ (x : Device). x.honest) is) ∙ honest))
 
 -- one device that is seen in two ways is one device, if it is as honest
 pub same_seen : (s t : Bool) (a b : Device) → trusted_as t b ≡ trusted_as s a → b.honest ≡ a.honest → b ≡ a
 same_seen s t a b same honest = λ i. record (same i) { honest = honest i }
 
--- what is kept of two devices as they are seen is kept of them, if the one is as honest as the other
+-- what is committed of two devices as they are seen is committed of them, if the one is as honest as the other
 pub lasts_seen : (s t : Bool) (a b : Device) → Lasts (trusted_as s a) (trusted_as t b) → b.honest ≡ a.honest → Lasts a b
 lasts_seen s t a b lasts honest = record {
   geometry = lasts.geometry;

@@ -91,8 +91,8 @@ module _ (objects : Objects) (moment d o : ℕ) (name : Name) (dir : IsDirectory
     | inr out ↦ inr ((λ is _. out.0 is), out.1)
   ]
 
-  pub with_kept : (p c : ℕ) (n : Name) → Names objects p n c → (p ≡ d → n ≡ name → ⊥) → Names (with_name objects moment d name o) p n c
-  with_kept p c n names other = elim (cases_eq p d) [
+  pub with_committed : (p c : ℕ) (n : Name) → Names objects p n c → (p ≡ d → n ≡ name → ⊥) → Names (with_name objects moment d name o) p n c
+  with_committed p c n names other = elim (cases_eq p d) [
     | inl is ↦
         let was : Names objects d n c = subst (λ k. Names objects k n c) is names in
         let got = get_there nat_list_cmp_total name_same (entries_of (map.get objects d)) name o n (other is) ∙ named_entry objects d c n was in
@@ -116,8 +116,8 @@ module _ (objects : Objects) (moment d : ℕ) (name : Name) (dir : IsDirectory o
     | inr out ↦ ((λ is _. out.0 is), out.1)
   ]
 
-  pub without_kept : (p c : ℕ) (n : Name) → Names objects p n c → (p ≡ d → n ≡ name → ⊥) → Names (without_name objects moment d name) p n c
-  without_kept p c n names other = elim (cases_eq p d) [
+  pub without_committed : (p c : ℕ) (n : Name) → Names objects p n c → (p ≡ d → n ≡ name → ⊥) → Names (without_name objects moment d name) p n c
+  without_committed p c n names other = elim (cases_eq p d) [
     | inl is ↦
         let was : Names objects d n c = subst (λ k. Names objects k n c) is names in
         let got = get_removed nat_list_cmp_total name_same (entries_of (map.get objects d)) name n (other is) ∙ named_entry objects d c n was in

@@ -13,8 +13,8 @@ use Rattle.volume_terms.specs.Names.{IsName}
 use Rattle.posix_profile.specs.laws.Map.{get_here, get_there, insert_cases}
 use Rattle.posix_profile.specs.laws.Name.{one_object, not_both, named_entry, namer_directory}
 use Rattle.posix_profile.specs.laws.Forest.{Moves, Edits, edited_forest, below_self}
-use Rattle.posix_profile.specs.laws.Directory.{there_after, file_after, directory_after, directory_before, each_after, with_from, with_kept, with_here, without_from, without_kept, names_with, names_without}
-use Rattle.posix_profile.specs.laws.Handle.{handles_over, zero_absent, Keeps, kept_forest}
+use Rattle.posix_profile.specs.laws.Directory.{there_after, file_after, directory_after, directory_before, each_after, with_from, with_committed, with_here, without_from, without_committed, names_with, names_without}
+use Rattle.posix_profile.specs.laws.Handle.{handles_over, zero_absent, Keeps, committed_forest}
 use Rattle.posix_profile.specs.laws.Prune.{prune_well_formed}
 
 -- a state whose names stay, and whose new objects have names, stays well formed
@@ -24,7 +24,7 @@ well_formed_over : (z : Sizes) (s : State) (new : Objects) → IsWellFormed z s 
 well_formed_over z s new sound forest handles was names = record {
   forest = forest;
   handles = handles;
-  kept = λ o object is. from o (was o object is);
+  committed = λ o object is. from o (was o object is);
 }
   where
     old : (o : ℕ) → (o ≡ root_number) ⊎ IsNamed s.objects o ⊎ IsOpen s.handles o → (o ≡ root_number) ⊎ IsNamed new o ⊎ IsOpen s.handles o
@@ -33,7 +33,7 @@ well_formed_over z s new sound forest handles was names = record {
     old o (inr (inr open')) = inr (inr open')
 
     from : (o : ℕ) → ((was : Object) × (map.get s.objects o ≡ Some was)) ⊎ IsNamed new o → (o ≡ root_number) ⊎ IsNamed new o ⊎ IsOpen s.handles o
-    from o (inl there) = old o (sound.kept o there.0 there.1)
+    from o (inl there) = old o (sound.committed o there.0 there.1)
     from o (inr named) = inr (inl named)
 
 -- a name that a directory hasn't leads nowhere
@@ -87,7 +87,7 @@ module _ (z : Sizes) (s : State) (sound : IsWellFormed z s) (moment d n : ℕ) (
   ]
 
   names_added : (p c : ℕ) (k : Name) → Names s.objects p k c → Names added p k c
-  names_added p c k names = with_kept base moment d n name base_dir p c k (names_base p c k names)
+  names_added p c k names = with_committed base moment d n name base_dir p c k (names_base p c k names)
       (λ is same. no_name s.objects d c name absent (subst (λ m. Names s.objects d m c) same (subst (λ q. Names s.objects q k c) is names)))
 
   there_added : (o : ℕ) (object : Object) → map.get s.objects o ≡ Some object → (now : Object) × (map.get added o ≡ Some now)
@@ -95,7 +95,7 @@ module _ (z : Sizes) (s : State) (sound : IsWellFormed z s) (moment d n : ℕ) (
 
   moves_added : Moves s.objects added n 0 d
   moves_added = record {
-    kept = λ p c k names ne ney. names_added p c k names;
+    committed = λ p c k names ne ney. names_added p c k names;
     moved = λ named. absurd (n_unnamed named);
     empty = λ c k names. zero_absent z s.objects sound.forest _ names.directory_is;
     apart = λ named b. n_unnamed named;
@@ -149,7 +149,7 @@ module _ (z : Sizes) (s : State) (sound : IsWellFormed z s) (moment d o : ℕ) (
   linked = with_name s.objects moment d name o
 
   names_linked : (p c : ℕ) (k : Name) → Names s.objects p k c → Names linked p k c
-  names_linked p c k names = with_kept s.objects moment d o name dir p c k names
+  names_linked p c k names = with_committed s.objects moment d o name dir p c k names
       (λ is same. no_name s.objects d c name absent (subst (λ m. Names s.objects d m c) same (subst (λ q. Names s.objects q k c) is names)))
 
   file_names_none : (c : ℕ) (k : Name) → Names s.objects o k c → ⊥
@@ -161,7 +161,7 @@ module _ (z : Sizes) (s : State) (sound : IsWellFormed z s) (moment d o : ℕ) (
   edits_linked : Edits z s.objects linked o 0 d name
   edits_linked = record {
     moves = record {
-      kept = λ p c k names ne ney. names_linked p c k names;
+      committed = λ p c k names ne ney. names_linked p c k names;
       moved = λ named. (name, with_here s.objects moment d o name dir);
       empty = λ c k names. zero_absent z s.objects sound.forest _ names.directory_is;
       apart = λ named b. not_both s.objects d (subst (IsFile s.objects) (sym (below_self s.objects o d file_names_none b)) file) dir;
@@ -188,7 +188,7 @@ module _ (z : Sizes) (s : State) (sound : IsWellFormed z s) (moment d o : ℕ) (
   name_added = well_formed_over z s linked sound (edited_forest z s.objects linked o 0 d name edits_linked sound.forest)
       (handles_over s.objects linked s.handles there_linked (file_after s.objects d moment _ dir) sound.handles) was_linked names_linked
 
--- A name of an object that names nothing goes, and what only the name kept.
+-- A name of an object that names nothing goes, and what only the name held.
 module _ (z : Sizes) (s : State) (sound : IsWellFormed z s) (moment d o : ℕ) (name : Name)
     (names : Names s.objects d name o) (small : moment < 2 ^ 64) (empty : (c : ℕ) (k : Name) → Names s.objects o k c → ⊥) where
   abbrev removed : Objects
@@ -199,7 +199,7 @@ module _ (z : Sizes) (s : State) (sound : IsWellFormed z s) (moment d o : ℕ) (
 
   keeps_removed : Keeps z s.objects removed o
   keeps_removed = record {
-    kept = λ p c k old ne. without_kept s.objects moment d name dir p c k old
+    committed = λ p c k old ne. without_committed s.objects moment d name dir p c k old
         (λ is same. ne (one_object s.objects d c o name (subst (λ m. Names s.objects d m c) same (subst (λ q. Names s.objects q k c) is old)) names));
     empty = empty;
     not_root = λ is. sound.forest.root_unnamed d name (subst (λ c. Names s.objects d name c) (sym is) names);
@@ -211,10 +211,10 @@ module _ (z : Sizes) (s : State) (sound : IsWellFormed z s) (moment d o : ℕ) (
   }
 
   pub name_gone : IsWellFormed z (prune (record s { objects = without_name s.objects moment d name }))
-  name_gone = prune_well_formed z (record s { objects = removed }) (kept_forest z s.objects removed o keeps_removed sound.forest)
+  name_gone = prune_well_formed z (record s { objects = removed }) (committed_forest z s.objects removed o keeps_removed sound.forest)
       (handles_over s.objects removed s.handles (there_after s.objects d moment _ dir) (file_after s.objects d moment _ dir) sound.handles)
 
--- An object goes from one name to another, in the place of y, which names nothing, and what only the names kept goes.
+-- An object goes from one name to another, in the place of y, which names nothing, and what only the names held goes.
 module _ (z : Sizes) (s : State) (sound : IsWellFormed z s) (moment d q x y : ℕ) (a b : Name)
     (was : Names s.objects d a x) (to : IsDirectory s.objects q) (up : Reached s.objects q) (ok : IsName b) (small : moment < 2 ^ 64)
     (other : (c : ℕ) → Names s.objects q b c → c ≡ y) (empty : (c : ℕ) (k : Name) → Names s.objects y k c → ⊥) (not_y : q ≢ y)
@@ -240,11 +240,11 @@ module _ (z : Sizes) (s : State) (sound : IsWellFormed z s) (moment d q x y : �
     | inr old ↦ inr (without_from s.objects moment d a old_dir p c k old.1)
   ]
 
-  kept_moved : (p c : ℕ) (k : Name) → Names s.objects p k c → c ≢ x → c ≢ y → Names moved p k c
-  kept_moved p c k names nex ney =
-      let mid : Names middle p k c = without_kept s.objects moment d a old_dir p c k names
+  committed_moved : (p c : ℕ) (k : Name) → Names s.objects p k c → c ≢ x → c ≢ y → Names moved p k c
+  committed_moved p c k names nex ney =
+      let mid : Names middle p k c = without_committed s.objects moment d a old_dir p c k names
       (λ is same. nex (one_object s.objects d c x a (subst (λ m. Names s.objects d m c) same (subst (λ e. Names s.objects e k c) is names)) was)) in
-      with_kept middle moment q x b mid_dir p c k mid
+      with_committed middle moment q x b mid_dir p c k mid
       (λ is same. ney (other c (subst (λ m. Names s.objects q m c) same (subst (λ e. Names s.objects e k c) is names))))
 
   there_moved : (o : ℕ) (object : Object) → map.get s.objects o ≡ Some object → (now : Object) × (map.get moved o ≡ Some now)
@@ -258,7 +258,7 @@ module _ (z : Sizes) (s : State) (sound : IsWellFormed z s) (moment d q x y : �
   edits_moved : Edits z s.objects moved x y q b
   edits_moved = record {
     moves = record {
-      kept = kept_moved;
+      committed = committed_moved;
       moved = λ named. (b, with_here middle moment q x b mid_dir);
       empty = empty;
       apart = λ named below'. apart below';

@@ -39,8 +39,8 @@ module _ (z : Sizes) (read_only : Bool) (moment : ℕ) (s : State) where
   at : (new : State) (n : ℕ) → P (answer new (replies.At n))
   at new n = record { keeps = λ e is. cc }
 
-  told : (reply : Reply) → P (answer s reply)
-  told reply = record { keeps = λ e is. refl }
+  reported : (reply : Reply) → P (answer s reply)
+  reported reply = record { keeps = λ e is. refl }
 
   read : (new : State) (bytes : List ℕ) → P (answer new (replies.Data bytes))
   read new bytes = record { keeps = λ e is. cc }
@@ -52,7 +52,7 @@ module _ (z : Sizes) (read_only : Bool) (moment : ℕ) (s : State) where
       by_unless P s refused _ _ (λ _. by_descriptor P s refused _ _ (λ fd _. by_unless P s refused _ _ (λ _. by_change P s refused z _ _ (λ _. fd_done _ _))))
 
   write_keeps : (fd : ℕ) (handle : Handle) (new : List ℕ) → P (write_bytes z moment s fd handle new)
-  write_keeps fd handle [] = told _
+  write_keeps fd handle [] = reported _
   write_keeps fd handle (byte ∷ bytes) = by_file P s refused _ _ _ (λ _ there _. by_unless P s refused _ _ (λ _. wrote _ _))
 
   seek_keeps : (fd : ℕ) (handle : Handle) (offset : ℤ) → P (seek_to s fd handle offset)
@@ -65,7 +65,7 @@ module _ (z : Sizes) (read_only : Bool) (moment : ℕ) (s : State) where
 
   stat_keeps : (o : ℕ) (object : Option Object) → P (stat_of s o object)
   stat_keeps o None = refused _
-  stat_keeps o (Some object) = told _
+  stat_keeps o (Some object) = reported _
 
   mkdir_keeps : (place : Place) (o : Option ℕ) → P (mkdir_at z read_only moment s place o)
   mkdir_keeps place (Some o) = refused _
@@ -78,7 +78,7 @@ module _ (z : Sizes) (read_only : Bool) (moment : ℕ) (s : State) where
   list_keeps : (object : Option Object) → P (list_of s object)
   list_keeps None = refused _
   list_keeps (Some (File m bytes)) = refused _
-  list_keeps (Some (Dir m entries)) = told _
+  list_keeps (Some (Dir m entries)) = reported _
 
   same_or : (b : Bool) (o : Outcome) → P o → P (cond b (answer s replies.Done) o)
   same_or true o h = done s
@@ -105,4 +105,4 @@ module _ (z : Sizes) (read_only : Bool) (moment : ℕ) (s : State) where
   error_keeps (commands.Unlink path) = by_place P s refused _ _ (λ place _. by_object P s refused _ _ (λ o _. by_unless P s refused _ _ (λ _. done _)))
   error_keeps (commands.Rename old new) = by_place P s refused _ _ (λ from _. by_place P s refused _ _ (λ to _. by_unless P s refused _ _ (λ _. by_object P s refused _ _ (λ o _. rename_keeps from to o))))
   error_keeps (commands.List path) = by_place P s refused _ _ (λ place _. by_object P s refused _ _ (λ o _. list_keeps _))
-  error_keeps commands.Space = told _
+  error_keeps commands.Space = reported _

@@ -10,7 +10,7 @@ use Rattle.posix_profile.specs.WellFormed.{IsForest, IsNamed, IsObject}
 
 -- The object x goes from where it was to the directory q, and y, which names nothing, may go. All other names stay.
 pub record Moves (old new : Objects) (x y q : ℕ) : Type 0 where
-  pub kept : (p c : ℕ) (n : Name) → Names old p n c → c ≢ x → c ≢ y → Names new p n c
+  pub committed : (p c : ℕ) (n : Name) → Names old p n c → c ≢ x → c ≢ y → Names new p n c
   pub moved : IsNamed old x → (name : Name) × Names new q name x
   pub empty : (c : ℕ) (n : Name) → Names old y n c → ⊥
   pub apart : IsNamed old x → Below old x q → ⊥
@@ -25,7 +25,7 @@ module _ (old new : Objects) (x y q : ℕ) (moves : Moves old new x y q) where
       let parent_out : Below old x directory → ⊥ = λ b. out (next name b names) in
       let parent_ne : directory ≢ y = λ is. moves.empty object name (subst (λ n. Names old n name object) is names) in
       let child_ne : object ≢ x = λ is. out (subst (Below old x) (sym is) self) in
-      below name (beside directory up parent_out parent_ne) (moves.kept directory object name names child_ne ne)
+      below name (beside directory up parent_out parent_ne) (moves.committed directory object name names child_ne ne)
 
   -- all that was reached, and isn't replaced, is reached
   pub moved_reached : (o : ℕ) → Reached old o → o ≢ y → Reached new o
@@ -37,7 +37,7 @@ module _ (old new : Objects) (x y q : ℕ) (moves : Moves old new x y q) where
         subst (Reached new) (sym is) (below now.0 (beside q moves.top (moves.apart was) moves.not_y) now.1)
     | inr child_ne ↦
         let parent_ne : directory ≢ y = λ is. moves.empty object name (subst (λ n. Names old n name object) is names) in
-        below name (moved_reached directory up parent_ne) (moves.kept directory object name names child_ne ne)
+        below name (moved_reached directory up parent_ne) (moves.committed directory object name names child_ne ne)
   ]
 
 -- Besides, every object of the new ones is right by itself, none is lost, and only x has a new name and may be new.

@@ -58,7 +58,7 @@ fresh_forest z = record {
 }
 
 pub fresh_well_formed : (z : Sizes) → IsWellFormed z fresh
-fresh_well_formed z = record { forest = fresh_forest z; handles = no_handles fresh.objects; kept = λ o object is. inl (only_root o object is).0 }
+fresh_well_formed z = record { forest = fresh_forest z; handles = no_handles fresh.objects; committed = λ o object is. inl (only_root o object is).0 }
 
 nothing : (z : Sizes) → charge z map.empty ≡ 0
 nothing z = ap (λ es. sum_by (cost z) (list_map (λ (e : ℕ × Object). e.1) es))

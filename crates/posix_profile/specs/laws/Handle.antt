@@ -54,7 +54,7 @@ zero_unnamed z objects forest n = let there = forest.leads n.0 0 n.1 n.2 in zero
 
 -- Names stay but those of y, which names nothing, and nothing is moved.
 pub record Keeps (z : Sizes) (old new : Objects) (y : ℕ) : Type 0 where
-  pub kept : (p c : ℕ) (n : Name) → Names old p n c → c ≢ y → Names new p n c
+  pub committed : (p c : ℕ) (n : Name) → Names old p n c → c ≢ y → Names new p n c
   pub empty : (c : ℕ) (n : Name) → Names old y n c → ⊥
   pub not_root : root_number ≢ y
   pub each : (o : ℕ) (object : Object) → map.get new o ≡ Some object → IsObject z o object
@@ -63,11 +63,11 @@ pub record Keeps (z : Sizes) (old new : Objects) (y : ℕ) : Type 0 where
   pub back : (o : ℕ) → IsDirectory new o → IsDirectory old o
   pub from : (p c : ℕ) (n : Name) → Names new p n c → Names old p n c
 
-pub kept_forest : (z : Sizes) (old new : Objects) (y : ℕ) → Keeps z old new y → IsForest z old → IsForest z new
-kept_forest z old new y keeps forest =
+pub committed_forest : (z : Sizes) (old new : Objects) (y : ℕ) → Keeps z old new y → IsForest z old → IsForest z new
+committed_forest z old new y keeps forest =
     let none : IsNamed old 0 → ⊥ = zero_unnamed z old forest in
     let moves : Moves old new 0 y root_number = record {
-      kept = λ p c n names ne ney. keeps.kept p c n names ney;
+      committed = λ p c n names ne ney. keeps.committed p c n names ney;
       moved = λ named. absurd (none named);
       empty = keeps.empty;
       apart = λ named b. none named;
@@ -96,14 +96,14 @@ module _ (z : Sizes) (s : State) (sound : IsWellFormed z s) where
       record {
         forest = sound.forest;
         handles = handles_with s.objects s.handles fd (record handle { offset = offset }) sound.handles (record { descriptor = h.descriptor; offset = small; there = h.there; writes = h.writes });
-        kept = λ o object get. kept_so o (sound.kept o object get);
+        committed = λ o object get. committed_so o (sound.committed o object get);
       }
     where
-      kept_so : (o : ℕ) → (o ≡ root_number) ⊎ IsNamed s.objects o ⊎ IsOpen s.handles o
+      committed_so : (o : ℕ) → (o ≡ root_number) ⊎ IsNamed s.objects o ⊎ IsOpen s.handles o
           → (o ≡ root_number) ⊎ IsNamed s.objects o ⊎ IsOpen (map.insert s.handles fd (record handle { offset = offset })) o
-      kept_so o (inl top) = inl top
-      kept_so o (inr (inl named)) = inr (inl named)
-      kept_so o (inr (inr open')) = inr (inr (open_with s.handles fd (record handle { offset = offset })
+      committed_so o (inl top) = inl top
+      committed_so o (inr (inl named)) = inr (inl named)
+      committed_so o (inr (inr open')) = inr (inr (open_with s.handles fd (record handle { offset = offset })
           (λ was got. let two : Some was ≡ Some handle = sym got ∙ is in let same : was ≡ handle = cc in ap (λ (h : Handle). h.object) same) o open'))
 
   -- a descriptor is opened on an object that is there
@@ -113,16 +113,16 @@ module _ (z : Sizes) (s : State) (sound : IsWellFormed z s) where
   handle_opened fd o flags free low there file = record {
     forest = sound.forest;
     handles = handles_with s.objects s.handles fd new sound.handles (record { descriptor = low; offset = omega arith; there = there; writes = file });
-    kept = λ k object get. kept_so k (sound.kept k object get);
+    committed = λ k object get. committed_so k (sound.committed k object get);
   }
     where
       new : Handle
       new = record { object = o; flags = flags; offset = 0 }
 
-      kept_so : (k : ℕ) → (k ≡ root_number) ⊎ IsNamed s.objects k ⊎ IsOpen s.handles k → (k ≡ root_number) ⊎ IsNamed s.objects k ⊎ IsOpen (map.insert s.handles fd new) k
-      kept_so k (inl top) = inl top
-      kept_so k (inr (inl named)) = inr (inl named)
-      kept_so k (inr (inr open')) = inr (inr (open_with s.handles fd new (λ was got. let two : None ≡ Some was = sym free ∙ got in absurd cc) k open'))
+      committed_so : (k : ℕ) → (k ≡ root_number) ⊎ IsNamed s.objects k ⊎ IsOpen s.handles k → (k ≡ root_number) ⊎ IsNamed s.objects k ⊎ IsOpen (map.insert s.handles fd new) k
+      committed_so k (inl top) = inl top
+      committed_so k (inr (inl named)) = inr (inl named)
+      committed_so k (inr (inr open')) = inr (inr (open_with s.handles fd new (λ was got. let two : None ≡ Some was = sym free ∙ got in absurd cc) k open'))
 
   -- a descriptor is closed
   pub handle_closed : (fd : ℕ) → IsWellFormed z (prune (record s { handles = map.remove s.handles fd }))
@@ -142,8 +142,8 @@ module _ (z : Sizes) (s : State) (sound : IsWellFormed z s) where
     directory_ne : (k : ℕ) → IsDirectory s.objects k → k ≢ o
     directory_ne k d is = not_both s.objects o file (subst (IsDirectory s.objects) is d)
 
-    directory_kept : (k : ℕ) → IsDirectory s.objects k → IsDirectory new k
-    directory_kept k d = (d.0, d.1, there k (directory_ne k d) ∙ d.2)
+    directory_committed : (k : ℕ) → IsDirectory s.objects k → IsDirectory new k
+    directory_committed k d = (d.0, d.1, there k (directory_ne k d) ∙ d.2)
 
     directory_was : (k : ℕ) → IsDirectory new k → IsDirectory s.objects k
     directory_was k d = elim (cases_eq k o) [
@@ -151,8 +151,8 @@ module _ (z : Sizes) (s : State) (sound : IsWellFormed z s) where
       | inr ne ↦ (d.0, d.1, sym (there k ne) ∙ d.2)
     ]
 
-    names_kept : (p c : ℕ) (n : Name) → Names s.objects p n c → Names new p n c
-    names_kept p c n names = record {
+    names_committed : (p c : ℕ) (n : Name) → Names s.objects p n c → Names new p n c
+    names_committed p c n names = record {
       moment = names.moment;
       entries = names.entries;
       object_is = names.object_is;
@@ -184,33 +184,33 @@ module _ (z : Sizes) (s : State) (sound : IsWellFormed z s) where
       | inr ne ↦ (object, sym (there k ne) ∙ is)
     ]
 
-    pub file_kept : (k : ℕ) → IsFile s.objects k → IsFile new k
-    file_kept k f = elim (cases_eq k o) [
+    pub file_committed : (k : ℕ) → IsFile s.objects k → IsFile new k
+    file_committed k f = elim (cases_eq k o) [
       | inl same ↦ (moment, bytes, ap (map.get new) same ∙ here)
       | inr ne ↦ (f.0, f.1, there k ne ∙ f.2)
     ]
 
     keeps : Keeps z s.objects new 0
     keeps = record {
-      kept = λ p c n names ne. names_kept p c n names;
+      committed = λ p c n names ne. names_committed p c n names;
       empty = λ c n names. zero_absent z s.objects sound.forest _ names.directory_is;
       not_root = λ is. omega arith;
       each = each_new;
-      root = directory_kept root_number sound.forest.root;
+      root = directory_committed root_number sound.forest.root;
       there = there_new;
       back = directory_was;
       from = names_were;
     }
 
-    kept_new : (k : ℕ) → (k ≡ root_number) ⊎ IsNamed s.objects k ⊎ IsOpen s.handles k → (k ≡ root_number) ⊎ IsNamed new k ⊎ IsOpen s.handles k
-    kept_new k (inl top) = inl top
-    kept_new k (inr (inl named)) = inr (inl (named.0, named.1, names_kept named.0 k named.1 named.2))
-    kept_new k (inr (inr open')) = inr (inr open')
+    committed_new : (k : ℕ) → (k ≡ root_number) ⊎ IsNamed s.objects k ⊎ IsOpen s.handles k → (k ≡ root_number) ⊎ IsNamed new k ⊎ IsOpen s.handles k
+    committed_new k (inl top) = inl top
+    committed_new k (inr (inl named)) = inr (inl (named.0, named.1, names_committed named.0 k named.1 named.2))
+    committed_new k (inr (inr open')) = inr (inr open')
 
     -- the bytes of a file change
     pub bytes_changed : IsWellFormed z (record s { objects = with_bytes s.objects moment o bytes })
     bytes_changed = record {
-      forest = kept_forest z s.objects new 0 keeps sound.forest;
-      handles = handles_over s.objects new s.handles there_new file_kept sound.handles;
-      kept = λ k object is. let was = there_old k object is in kept_new k (sound.kept k was.0 was.1);
+      forest = committed_forest z s.objects new 0 keeps sound.forest;
+      handles = handles_over s.objects new s.handles there_new file_committed sound.handles;
+      committed = λ k object is. let was = there_old k object is in committed_new k (sound.committed k was.0 was.1);
     }

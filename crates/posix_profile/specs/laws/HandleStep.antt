@@ -16,7 +16,7 @@ use Rattle.volume_terms.specs.Names.{AreBytes}
 use Rattle.posix_profile.specs.laws.Outcome.{by_unless, by_place, by_handle, by_file, by_descriptor, by_change}
 use Rattle.posix_profile.specs.laws.Number.{IsFreeDescriptor, free_descriptor_is, new_number_is, new_number_few, greatest_cases, greatest_length_few}
 use Rattle.posix_profile.specs.laws.Charge.{fits_less, prune_less}
-use Rattle.posix_profile.specs.laws.Handle.{offset_moved, handle_opened, handle_closed, bytes_changed, file_kept}
+use Rattle.posix_profile.specs.laws.Handle.{offset_moved, handle_opened, handle_closed, bytes_changed, file_committed}
 use Rattle.posix_profile.specs.laws.Entry.{object_added, object_there}
 use Rattle.posix_profile.specs.laws.Path.{IsPlace, resolve_place}
 use Rattle.posix_profile.specs.laws.Place.{absent_name, found_there}
@@ -55,7 +55,7 @@ module _ (z : Sizes) (sizes : IsSizes z) (read_only : Bool) (moment : ℕ) (smal
   opened_found flags o fd there none free true trunc fit =
       let file : IsFile s.objects o = file_or s.objects o there.0 there.1 (first_fails _ _ none (or_right (flags.create || may_write flags.access) flags.trunc trunc)) in
       let cut = bytes_changed z s sound.well_formed moment o [] file small (All-nil _) (omega arith) in
-      let now = file_kept z s sound.well_formed moment o [] file small (All-nil _) (omega arith) o file in
+      let now = file_committed z s sound.well_formed moment o [] file small (All-nil _) (omega arith) o file in
       record {
         well_formed = handle_opened z (record s { objects = with_bytes s.objects moment o [] }) cut fd o flags free.free free.low (File now.0 now.1, now.2) (λ may. now);
         fit = fit;

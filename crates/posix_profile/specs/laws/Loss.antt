@@ -17,7 +17,7 @@ use Rattle.posix_profile.specs.declared.reply.Reply.{Reply}
 -- after one reply more a done sync is one of before, or the last command is one
 sync_cases : (cs : List Stamped) (rs : List Reply) (c : Stamped) (r : Reply) → slice_get cs (length rs) ≡ Some c → (i : ℕ) → IsSyncDone cs (rs ++ r ∷ []) i
     → IsSyncDone cs rs i ⊎ ((i ≡ length rs) × (is_synced c.command r ≡ true))
-sync_cases cs rs c r at i (command, reply, there, told, done) = elim (get_push rs r i reply told) [
+sync_cases cs rs c r at i (command, reply, there, reported, done) = elim (get_push rs r i reply reported) [
   | inl before ↦ inl (command, reply, there, before.1, done)
   | inr last ↦
       let one : Some command ≡ Some c = sym there ∙ ap (slice_get cs) last.0 ∙ at in
@@ -27,7 +27,7 @@ sync_cases cs rs c r at i (command, reply, there, told, done) = elim (get_push r
 
 -- a sync that is done has its reply
 sync_within : (cs : List Stamped) (rs : List Reply) (i : ℕ) → IsSyncDone cs rs i → i < length rs
-sync_within cs rs i (command, reply, there, told, done) = slice_get_within rs i reply told
+sync_within cs rs i (command, reply, there, reported, done) = slice_get_within rs i reply reported
 
 -- a command that is no done sync leaves as many covered
 covers_more : (cs : List Stamped) (rs : List Reply) (c : Stamped) (r : Reply) → slice_get cs (length rs) ≡ Some c → is_synced c.command r ≡ false

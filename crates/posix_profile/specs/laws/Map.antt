@@ -118,7 +118,7 @@ module _ {K X : Type 0} {R : K → K → Ordering} (o : IsTotalOrder R) (same : 
   pub get_retained : (m : map.FinMap R X) (p : K → Bool) (q : K) → map.get (map.retain_keys m p) q ≡ cond (p q) (map.get m q) None
   get_retained m p q = map.get-retain_keys m p q (λ x e. ap p (sym (same q x e)))
 
-  -- what is in the map after keys are kept by a test
+  -- what is in the map after keys are held by a test
   pub retain_cases : (m : map.FinMap R X) (p : K → Bool) (q : K) (x : X) → map.get (map.retain_keys m p) q ≡ Some x → (p q ≡ true) × (map.get m q ≡ Some x)
   retain_cases m p q x is = elim (cases_Bool (p q)) [
     | inl yes' ↦ (yes', sym (cond-true _ _ _ yes') ∙ sym (get_retained m p q) ∙ is)
@@ -198,18 +198,18 @@ module _ {K X : Type 0} {R : K → K → Ordering} (o : IsTotalOrder R) (same : 
 
   -- the entries that a test keeps
   pub entries-retain_keys : (m : map.FinMap R X) (p : K → Bool) → map.entries (map.retain_keys m p) ≡ where_key R p (map.entries m)
-  entries-retain_keys m p = ap map.entries same_as ∙ map.entries-from_sorted R kept sorted
+  entries-retain_keys m p = ap map.entries same_as ∙ map.entries-from_sorted R committed sorted
     where
-      kept : List (K × X)
-      kept = where_key R p (map.entries m)
+      committed : List (K × X)
+      committed = where_key R p (map.entries m)
 
-      sorted : T (is_sorted R kept)
+      sorted : T (is_sorted R committed)
       sorted = is_sorted-where_key R p (map.entries m) (map.entries_sorted m)
 
-      same_as : map.retain_keys m p ≡ map.from_sorted kept
+      same_as : map.retain_keys m p ≡ map.from_sorted committed
       same_as = map.same_map o same _ _ (λ q.
           get_retained m p q ∙ ap (λ (x : Option X). cond (p q) x None) (map.get-entries m q)
-          ∙ sym (find-where_key R p q (λ x e. ap p (sym (same q x e))) (map.entries m)) ∙ sym (map.get-from_sorted R kept q sorted))
+          ∙ sym (find-where_key R p q (λ x e. ap p (sym (same q x e))) (map.entries m)) ∙ sym (map.get-from_sorted R committed q sorted))
 
   -- the entries that are left without a key
   pub entries-remove : (m : map.FinMap R X) (k : K) → map.entries (map.remove m k) ≡ where_key R (λ x. not (eq_by_cmp R k x)) (map.entries m)

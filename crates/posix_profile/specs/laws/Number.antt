@@ -136,16 +136,3 @@ module _ (z : Sizes) (sizes : IsSizes z) where
       ]
     ]
   ]
-
--- where the root is there, a new number is at most one above the number of objects
-pub new_number_high : (objects : Objects) → (object : Object) × (map.get objects root_number ≡ Some object) → new_number objects ≤ map.len objects + 1
-new_number_high objects top =
-    let new = new_number_is objects in
-    let many : new_number objects - 1 ≤ map.len objects =
-    keys_fit nat_cmp_total map.nat_cmp-IsAntisymmetric (new_number objects - 1) (λ i. 1 + i) objects
-    (λ i lt. elim (cases_lt 0 i) [
-      | inl some ↦ new.least (1 + i) (omega arith) (omega arith)
-      | inr none ↦ let same : root_number ≡ 1 + i = omega arith in (top.0, ap (map.get objects) (sym same) ∙ top.1)
-    ])
-    (λ i j lt le is. omega arith) in
-    omega arith

@@ -17,7 +17,7 @@ abbrev pub Passed : List (Bool × Errno) → Type 0
 Passed [] = Unit {0}
 Passed (test ∷ tests) = (test.0 ≡ false) × Passed tests
 
--- where no test told an error, none holds
+-- where no test gave an error, none holds
 pub passed_from_none : (tests : List (Bool × Errno)) → first_error tests ≡ None → Passed tests
 passed_from_none [] is = tt
 passed_from_none (test ∷ tests) is = go test.0 test.1 (first_error tests) is (passed_from_none tests)

@@ -190,8 +190,8 @@ module _ (z : Sizes) (objects : Objects) (forest : IsForest z objects) where
   root_place s (c ∷ cs) place ok is = walk_place s root_number c cs place forest.root root ok is
 
   unless_place : (path : List ℕ) (place : Place) → AreBytes path → (e : Option Errno) → first_error (path_tests path) ≡ e → walk_unless objects path e ≡ Ok place → IsPlace objects place
-  unless_place path place are (Some error) told is = absurd cc
-  unless_place path place are None told is = root_place (ends_in_slash path) (list_map component (parts path)) place (components_are path are (passed_from_none (path_tests path) told)) is
+  unless_place path place are (Some error) reported is = absurd cc
+  unless_place path place are None reported is = root_place (ends_in_slash path) (list_map component (parts path)) place (components_are path are (passed_from_none (path_tests path) reported)) is
 
   -- where a path leads
   pub resolve_place : (path : List ℕ) (place : Place) → AreBytes path → resolve objects path ≡ Ok place → IsPlace objects place

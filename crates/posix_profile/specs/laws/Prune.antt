@@ -13,14 +13,14 @@ use Rattle.posix_profile.specs.laws.Map.{retain_cases, retained, get_retained}
 use Rattle.posix_profile.specs.laws.Name.{named_from_test, test_from_named, open_from_test, test_from_open}
 
 -- the object is the root, has a name, or is open
-abbrev pub IsKept : State → ℕ → Type 0
-IsKept s o = (o ≡ root_number) ⊎ IsNamed s.objects o ⊎ IsOpen s.handles o
+abbrev pub IsCommittedKey : State → ℕ → Type 0
+IsCommittedKey s o = (o ≡ root_number) ⊎ IsNamed s.objects o ⊎ IsOpen s.handles o
 
 abbrev keep_test : State → ℕ → Bool
 keep_test s o = nat_eq o root_number || is_named s.objects o || is_open s o
 
-kept_from_test : (s : State) (o : ℕ) → keep_test s o ≡ true → IsKept s o
-kept_from_test s o e = elim (or_cases (nat_eq o root_number || is_named s.objects o) (is_open s o) e) [
+committed_from_test : (s : State) (o : ℕ) → keep_test s o ≡ true → IsCommittedKey s o
+committed_from_test s o e = elim (or_cases (nat_eq o root_number || is_named s.objects o) (is_open s o) e) [
   | inl f ↦ elim (or_cases (nat_eq o root_number) (is_named s.objects o) f) [
     | inl top ↦ inl (eqb-true o root_number top)
     | inr named ↦ inr (inl (named_from_test s.objects o named))
@@ -28,27 +28,27 @@ kept_from_test s o e = elim (or_cases (nat_eq o root_number || is_named s.object
   | inr open' ↦ inr (inr (open_from_test s o open'))
 ]
 
-test_from_kept : (s : State) (o : ℕ) → IsKept s o → keep_test s o ≡ true
-test_from_kept s o (inl top) = or_left (nat_eq o root_number || is_named s.objects o) (is_open s o) (or_left (nat_eq o root_number) (is_named s.objects o) (eq-eqb o root_number top))
-test_from_kept s o (inr (inl named)) = or_left (nat_eq o root_number || is_named s.objects o) (is_open s o) (or_right (nat_eq o root_number) (is_named s.objects o) (test_from_named s.objects o named))
-test_from_kept s o (inr (inr open')) = or_right (nat_eq o root_number || is_named s.objects o) (is_open s o) (test_from_open s o open')
+test_from_committed : (s : State) (o : ℕ) → IsCommittedKey s o → keep_test s o ≡ true
+test_from_committed s o (inl top) = or_left (nat_eq o root_number || is_named s.objects o) (is_open s o) (or_left (nat_eq o root_number) (is_named s.objects o) (eq-eqb o root_number top))
+test_from_committed s o (inr (inl named)) = or_left (nat_eq o root_number || is_named s.objects o) (is_open s o) (or_right (nat_eq o root_number) (is_named s.objects o) (test_from_named s.objects o named))
+test_from_committed s o (inr (inr open')) = or_right (nat_eq o root_number || is_named s.objects o) (is_open s o) (test_from_open s o open')
 
 -- what is reached is the root or has a name
-reached_kept : (s : State) (o : ℕ) → Reached s.objects o → IsKept s o
-reached_kept s o root = inl refl
-reached_kept s o (below {directory} {object} name up names) = inr (inl (directory, name, names))
+reached_committed : (s : State) (o : ℕ) → Reached s.objects o → IsCommittedKey s o
+reached_committed s o root = inl refl
+reached_committed s o (below {directory} {object} name up names) = inr (inl (directory, name, names))
 
 module _ (z : Sizes) (s : State) (forest : IsForest z s.objects) where
   abbrev left : Objects
   left = (prune s).objects
 
-  was : (o : ℕ) (object : Object) → map.get left o ≡ Some object → IsKept s o × (map.get s.objects o ≡ Some object)
+  was : (o : ℕ) (object : Object) → map.get left o ≡ Some object → IsCommittedKey s o × (map.get s.objects o ≡ Some object)
   was o object is =
       let c = retain_cases nat_cmp_total map.nat_cmp-IsAntisymmetric s.objects (keep_test s) o object is in
-      (kept_from_test s o c.0, c.1)
+      (committed_from_test s o c.0, c.1)
 
-  stays : (o : ℕ) (object : Object) → IsKept s o → map.get s.objects o ≡ Some object → map.get left o ≡ Some object
-  stays o object kept is = retained nat_cmp_total map.nat_cmp-IsAntisymmetric s.objects (keep_test s) o object (test_from_kept s o kept) is
+  stays : (o : ℕ) (object : Object) → IsCommittedKey s o → map.get s.objects o ≡ Some object → map.get left o ≡ Some object
+  stays o object committed is = retained nat_cmp_total map.nat_cmp-IsAntisymmetric s.objects (keep_test s) o object (test_from_committed s o committed) is
 
   names_before : (p c : ℕ) (n : Name) → Names left p n c → Names s.objects p n c
   names_before p c n names = record { moment = names.moment; entries = names.entries; directory_is = (was p _ names.directory_is).1; object_is = names.object_is }
@@ -57,7 +57,7 @@ module _ (z : Sizes) (s : State) (forest : IsForest z s.objects) where
   names_stay p c n names = record {
     moment = names.moment;
     entries = names.entries;
-    directory_is = stays p _ (reached_kept s p (forest.reached p c n names)) names.directory_is;
+    directory_is = stays p _ (reached_committed s p (forest.reached p c n names)) names.directory_is;
     object_is = names.object_is;
   }
 
@@ -81,22 +81,22 @@ module _ (z : Sizes) (s : State) (forest : IsForest z s.objects) where
     one_name = λ o a b m n dir na nb. forest.one_name o a b m n (directory_was o dir) (names_before a o m na) (names_before b o n nb);
   }
 
-  pruned_kept : (o : ℕ) (object : Object) → map.get left o ≡ Some object → (o ≡ root_number) ⊎ IsNamed left o ⊎ IsOpen s.handles o
-  pruned_kept o object is = go (was o object is).0
+  pruned_committed : (o : ℕ) (object : Object) → map.get left o ≡ Some object → (o ≡ root_number) ⊎ IsNamed left o ⊎ IsOpen s.handles o
+  pruned_committed o object is = go (was o object is).0
     where
-      go : IsKept s o → (o ≡ root_number) ⊎ IsNamed left o ⊎ IsOpen s.handles o
+      go : IsCommittedKey s o → (o ≡ root_number) ⊎ IsNamed left o ⊎ IsOpen s.handles o
       go (inl top) = inl top
       go (inr (inl named)) = inr (inl (named.0, named.1, names_stay named.0 o named.1 named.2))
       go (inr (inr open')) = inr (inr open')
 
   pruned_handle : (fd : ℕ) (handle : Handle) → map.get s.handles fd ≡ Some handle → IsHandle s.objects fd handle → IsHandle left fd handle
   pruned_handle fd handle is h =
-      let kept : IsKept s handle.object = inr (inr (fd, handle, is, refl)) in
+      let committed : IsCommittedKey s handle.object = inr (inr (fd, handle, is, refl)) in
       record {
         descriptor = h.descriptor;
         offset = h.offset;
-        there = (h.there.0, stays handle.object h.there.0 kept h.there.1);
-        writes = λ may. let file = h.writes may in (file.0, file.1, stays handle.object _ kept file.2);
+        there = (h.there.0, stays handle.object h.there.0 committed h.there.1);
+        writes = λ may. let file = h.writes may in (file.0, file.1, stays handle.object _ committed file.2);
       }
 
   -- a prune leaves a state that is well formed
@@ -104,7 +104,7 @@ module _ (z : Sizes) (s : State) (forest : IsForest z s.objects) where
   prune_well_formed handles = record {
     forest = pruned_forest;
     handles = λ fd handle is. pruned_handle fd handle is (handles fd handle is);
-    kept = pruned_kept;
+    committed = pruned_committed;
   }
 
 -- in a well formed state there is nothing to prune
@@ -120,7 +120,7 @@ prune_same z s sound =
         none : (b : Bool) (x : Option Object) → x ≡ None → cond b x None ≡ x
         none true x e = refl
         none false x e = sym e
-    go o (Some object) is = get_retained nat_cmp_total map.nat_cmp-IsAntisymmetric s.objects (keep_test s) o ∙ cond-true _ _ _ (test_from_kept s o (sound.kept o object is))
+    go o (Some object) is = get_retained nat_cmp_total map.nat_cmp-IsAntisymmetric s.objects (keep_test s) o ∙ cond-true _ _ _ (test_from_committed s o (sound.committed o object is))
 
 pub no_handles : (objects : Objects) → AreHandles objects map.empty
 no_handles objects fd handle is = let two : None ≡ Some handle = sym (map.get-empty nat_cmp fd) ∙ is in absurd cc
@@ -131,7 +131,7 @@ settle_well_formed z s sound = prune_well_formed z (record s { handles = map.emp
 
 -- a state without descriptors that is well formed is a tree
 pub well_formed_tree : (z : Sizes) (objects : Objects) → IsWellFormed z (record { objects = objects; handles = map.empty }) → IsTree z objects
-well_formed_tree z objects sound = record { forest = sound.forest; all_reached = λ o object is. go o (sound.kept o object is) }
+well_formed_tree z objects sound = record { forest = sound.forest; all_reached = λ o object is. go o (sound.committed o object is) }
   where
     go : (o : ℕ) → (o ≡ root_number) ⊎ IsNamed objects o ⊎ IsOpen map.empty o → Reached objects o
     go o (inl top) = subst (Reached objects) (sym top) root
@@ -143,7 +143,7 @@ pub tree_well_formed : (z : Sizes) (objects : Objects) → IsTree z objects → 
 tree_well_formed z objects tree = record {
   forest = tree.forest;
   handles = no_handles objects;
-  kept = λ o object is. reached_kept (record { objects = objects; handles = map.empty }) o (tree.all_reached o object is);
+  committed = λ o object is. reached_committed (record { objects = objects; handles = map.empty }) o (tree.all_reached o object is);
 }
 
 -- what a mount shows of a well formed state is a tree

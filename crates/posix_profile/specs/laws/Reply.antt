@@ -1,4 +1,4 @@
--- The numbers of a reply fit their types, and what it tells is bytes and names.
+-- The numbers of a reply fit their types, and what it reports is bytes and names.
 use Rattle.std.specs.Prelude.{◌≡◌, ◌<◌, ◌≤◌, ◌^◌, ℕ, ◌+◌, ◌-◌, ◌*◌, min, Bool, true, false, List, [], ◌∷◌, length, take, drop, map as list_map, filter, Option, Some, None, cond, nat_eq, ℤ, pos, negsuc, All}
 use Rattle.std.proofs.Common.{refl, sym, ap, subst, inl, inr, arith}
 use Rattle.std.proofs.lemmas.Bool.{leb-true, ltb-false}
@@ -39,14 +39,14 @@ use Rattle.posix_profile.specs.declared.reply.SpaceInfo.{SpaceInfo}
 use Rattle.posix_profile.specs.declared.reply.Reply.{Reply}
 use Rattle.posix_profile.specs.declared.reply.Reply.TheVariants as replies
 
--- the numbers of what is told of an object
+-- the numbers of what is reported of an object
 pub record IsInfo (i : Info) : Type 0 where
   pub object : i.object < 2 ^ 64
   pub links : i.links < 2 ^ 64
   pub size : i.size < 2 ^ 64
   pub moment : i.moment < 2 ^ 64
 
--- the numbers of what is told of a volume's room
+-- the numbers of what is reported of a volume's room
 pub record IsSpaceInfo (i : SpaceInfo) : Type 0 where
   pub unit : i.unit < 2 ^ 64
   pub total : i.total < 2 ^ 64
@@ -65,7 +65,7 @@ IsReply (replies.SpaceInfo i) = IsSpaceInfo i
 IsReply (replies.Error error) = Unit {0}
 
 -- the outcome's reply is one
-pub record TellsRight (o : Outcome) : Type 0 where
+pub record ReportsRight (o : Outcome) : Type 0 where
   pub reply : IsReply o.reply
 
 -- an object has no more names of another than its cost allows entries
@@ -143,7 +143,7 @@ module _ (z : Sizes) (sizes : IsSizes z) (s : State) (sound : IsSound z s) where
   written_few n a = omega (arith, mul-le (buffer_pages z - 3) z.page_bytes 64 4096 (omega (arith, pages_few z sizes)) bytes_few)
 
   abbrev P : Outcome → Type 0
-  P = TellsRight
+  P = ReportsRight
 
   refused : (error : Errno) → P (refuse s error)
   refused error = record { reply = tt }
@@ -151,62 +151,62 @@ module _ (z : Sizes) (sizes : IsSizes z) (s : State) (sound : IsSound z s) where
   done : (new : State) → P (answer new replies.Done)
   done new = record { reply = tt }
 
-  fd_told : (new : State) (fd : ℕ) → fd < 64 → P (answer new (replies.Fd fd))
-  fd_told new fd low = record { reply = omega arith }
+  fd_reported : (new : State) (fd : ℕ) → fd < 64 → P (answer new (replies.Fd fd))
+  fd_reported new fd low = record { reply = omega arith }
 
   module _ (read_only : Bool) (moment : ℕ) where
-    open_told : (flags : OpenFlags) (place : Place) (o : Option ℕ) → P (open_at z read_only moment s flags place o)
-    open_told flags place (Some o) = by_unless P s refused _ _ (λ _. by_descriptor P s refused _ _ (λ fd free. by_unless P s refused _ _ (λ _. by_change P s refused z _ _ (λ _.
-        fd_told _ fd (free_descriptor_is s.handles fd free).low))))
-    open_told flags place None = by_unless P s refused _ _ (λ _. by_descriptor P s refused _ _ (λ fd free. by_unless P s refused _ _ (λ _. by_change P s refused z _ _ (λ _.
-        fd_told _ fd (free_descriptor_is s.handles fd free).low))))
+    open_reported : (flags : OpenFlags) (place : Place) (o : Option ℕ) → P (open_at z read_only moment s flags place o)
+    open_reported flags place (Some o) = by_unless P s refused _ _ (λ _. by_descriptor P s refused _ _ (λ fd free. by_unless P s refused _ _ (λ _. by_change P s refused z _ _ (λ _.
+        fd_reported _ fd (free_descriptor_is s.handles fd free).low))))
+    open_reported flags place None = by_unless P s refused _ _ (λ _. by_descriptor P s refused _ _ (λ fd free. by_unless P s refused _ _ (λ _. by_change P s refused z _ _ (λ _.
+        fd_reported _ fd (free_descriptor_is s.handles fd free).low))))
 
-    data_told : (new : State) (o m count offset : ℕ) (bytes : List ℕ) → map.get s.objects o ≡ Some (File m bytes) → P (answer new (replies.Data (take count (drop offset bytes))))
-    data_told new o m count offset bytes is =
+    data_reported : (new : State) (o m count offset : ℕ) (bytes : List ℕ) → map.get s.objects o ≡ Some (File m bytes) → P (answer new (replies.Data (take count (drop offset bytes))))
+    data_reported new o m count offset bytes is =
         let are = (sound.well_formed.forest.each o (File m bytes) is).content.0 in
         record { reply = All-take (λ b. b < 256) count (drop offset bytes) (All-drop (λ b. b < 256) offset bytes are) }
 
-    write_told : (fd : ℕ) (handle : Handle) (new : List ℕ) → P (write_bytes z moment s fd handle new)
-    write_told fd handle [] = record { reply = omega arith }
-    write_told fd handle (byte ∷ rest) = by_file P s refused _ _ _ (λ m bytes is. by_unless P s refused _ _ (λ _. record {
+    write_reported : (fd : ℕ) (handle : Handle) (new : List ℕ) → P (write_bytes z moment s fd handle new)
+    write_reported fd handle [] = record { reply = omega arith }
+    write_reported fd handle (byte ∷ rest) = by_file P s refused _ _ _ (λ m bytes is. by_unless P s refused _ _ (λ _. record {
       reply =
           (let most = greatest_cases (λ k. fits z (objects_written moment s handle bytes (byte ∷ rest) k)) (min (length (byte ∷ rest)) (min (most_written z) (greatest_length z - write_offset handle bytes))) in
           let few = written_few (length (byte ∷ rest)) (greatest_length z - write_offset handle bytes) in
           omega (arith, most.0, few));
     }))
 
-    seek_told : (fd : ℕ) (handle : Handle) (offset : ℤ) → P (seek_to s fd handle offset)
-    seek_told fd handle (pos n) = by_unless P s refused _ _ (λ tests. record { reply = omega (arith, ltb-false offset_limit n tests.0) })
-    seek_told fd handle (negsuc n) = refused _
+    seek_reported : (fd : ℕ) (handle : Handle) (offset : ℤ) → P (seek_to s fd handle offset)
+    seek_reported fd handle (pos n) = by_unless P s refused _ _ (λ tests. record { reply = omega (arith, ltb-false offset_limit n tests.0) })
+    seek_reported fd handle (negsuc n) = refused _
 
-    truncate_told : (handle : Handle) (length : ℤ) → P (truncate_to z moment s handle length)
-    truncate_told handle (pos n) = by_unless P s refused _ _ (λ _. by_file P s refused _ _ _ (λ _ there _. by_change P s refused z _ _ (λ _. done _)))
-    truncate_told handle (negsuc n) = refused _
+    truncate_reported : (handle : Handle) (length : ℤ) → P (truncate_to z moment s handle length)
+    truncate_reported handle (pos n) = by_unless P s refused _ _ (λ _. by_file P s refused _ _ _ (λ _ there _. by_change P s refused z _ _ (λ _. done _)))
+    truncate_reported handle (negsuc n) = refused _
 
-    info_told : (o : ℕ) (x : Object) → map.get s.objects o ≡ Some x → IsInfo (info s.objects o x)
-    info_told o (File m bytes) is =
+    info_reported : (o : ℕ) (x : Object) → map.get s.objects o ≡ Some x → IsInfo (info s.objects o x)
+    info_reported o (File m bytes) is =
         let object = sound.well_formed.forest.each o (File m bytes) is in
         record { object = omega (arith, object.number); links = omega (arith, links_few o (File m bytes) is); size = omega (arith, object.content.1, greatest_length_few z sizes); moment = object.moment }
-    info_told o (Dir m entries) is =
+    info_reported o (Dir m entries) is =
         let object = sound.well_formed.forest.each o (Dir m entries) is in
         record { object = omega (arith, object.number); links = omega (arith, links_few o (Dir m entries) is); size = omega arith; moment = object.moment }
 
-    stat_told : (o : ℕ) (object : Option Object) → map.get s.objects o ≡ object → P (stat_of s o object)
-    stat_told o None is = refused _
-    stat_told o (Some object) is = record { reply = info_told o object is }
+    stat_reported : (o : ℕ) (object : Option Object) → map.get s.objects o ≡ object → P (stat_of s o object)
+    stat_reported o None is = refused _
+    stat_reported o (Some object) is = record { reply = info_reported o object is }
 
-    mkdir_told : (place : Place) (o : Option ℕ) → P (mkdir_at z read_only moment s place o)
-    mkdir_told place (Some o) = refused _
-    mkdir_told place None = by_unless P s refused _ _ (λ _. by_change P s refused z _ _ (λ _. done _))
+    mkdir_reported : (place : Place) (o : Option ℕ) → P (mkdir_at z read_only moment s place o)
+    mkdir_reported place (Some o) = refused _
+    mkdir_reported place None = by_unless P s refused _ _ (λ _. by_change P s refused z _ _ (λ _. done _))
 
-    link_told : (o : ℕ) (place : Place) (there : Option ℕ) → P (link_at z read_only moment s o place there)
-    link_told o place (Some there) = refused _
-    link_told o place None = by_unless P s refused _ _ (λ _. by_change P s refused z _ _ (λ _. done _))
+    link_reported : (o : ℕ) (place : Place) (there : Option ℕ) → P (link_at z read_only moment s o place there)
+    link_reported o place (Some there) = refused _
+    link_reported o place None = by_unless P s refused _ _ (λ _. by_change P s refused z _ _ (λ _. done _))
 
-    list_told : (o : ℕ) (object : Option Object) → map.get s.objects o ≡ object → P (list_of s object)
-    list_told o None is = refused _
-    list_told o (Some (File m bytes)) is = refused _
-    list_told o (Some (Dir m entries)) is = record {
+    list_reported : (o : ℕ) (object : Option Object) → map.get s.objects o ≡ object → P (list_of s object)
+    list_reported o None is = refused _
+    list_reported o (Some (File m bytes)) is = refused _
+    list_reported o (Some (Dir m entries)) is = record {
       reply = all_from_members IsName (map.keys entries) (λ name in'.
           let e = map_member (λ (e : Name × ℕ). e.0) (map.entries entries) name in' in
           let got = member_get nat_list_cmp_total name_same entries e.0 e.1 in
@@ -217,25 +217,25 @@ module _ (z : Sizes) (sizes : IsSizes z) (s : State) (sound : IsSound z s) where
     same_or true o h = done s
     same_or false o h = h
 
-    rename_told : (from to : Place) (o : ℕ) → P (rename_to z read_only moment s from to o)
-    rename_told from to o = same_or (is_object o to.object) _
+    rename_reported : (from to : Place) (o : ℕ) → P (rename_to z read_only moment s from to o)
+    rename_reported from to o = same_or (is_object o to.object) _
         (by_unless P s refused _ _ (λ _. by_unless P s refused _ _ (λ _. by_unless P s refused _ _ (λ _. by_change P s refused z _ _ (λ _. done _)))))
 
-    pub command_told : (command : Command) → TellsRight (step_at z read_only s moment command)
+    pub command_reported : (command : Command) → ReportsRight (step_at z read_only s moment command)
     unfolding step_at
-    command_told (commands.Open path flags) = by_unless P s refused _ _ (λ _. by_place P s refused _ _ (λ place _. open_told flags place place.object))
-    command_told (commands.Close fd) = by_handle P s refused _ _ (λ handle _. done _)
-    command_told (commands.Read fd count) = by_handle P s refused _ _ (λ handle _. by_unless P s refused _ _ (λ _. by_file P s refused _ _ _ (λ m bytes is. data_told _ handle.object m count handle.offset bytes is)))
-    command_told (commands.Write fd bytes) = by_handle P s refused _ _ (λ handle _. by_unless P s refused _ _ (λ _. write_told fd handle bytes))
-    command_told (commands.Seek fd offset whence) = by_handle P s refused _ _ (λ handle _. by_file P s refused _ _ _ (λ _ bytes _. seek_told fd handle _))
-    command_told (commands.Truncate fd length) = by_handle P s refused _ _ (λ handle _. by_unless P s refused _ _ (λ _. truncate_told handle length))
-    command_told (commands.Fsync fd) = by_handle P s refused _ _ (λ handle _. done s)
-    command_told commands.Sync = done s
-    command_told (commands.Stat path) = by_place P s refused _ _ (λ place _. by_object P s refused _ _ (λ o _. stat_told o _ refl))
-    command_told (commands.Mkdir path) = by_place P s refused _ _ (λ place _. mkdir_told place place.object)
-    command_told (commands.Rmdir path) = by_place P s refused _ _ (λ place _. by_unless P s refused _ _ (λ _. by_object P s refused _ _ (λ o _. by_unless P s refused _ _ (λ _. done _))))
-    command_told (commands.Link old new) = by_place P s refused _ _ (λ from _. by_object P s refused _ _ (λ o _. by_unless P s refused _ _ (λ _. by_place P s refused _ _ (λ to _. link_told o to to.object))))
-    command_told (commands.Unlink path) = by_place P s refused _ _ (λ place _. by_object P s refused _ _ (λ o _. by_unless P s refused _ _ (λ _. done _)))
-    command_told (commands.Rename old new) = by_place P s refused _ _ (λ from _. by_place P s refused _ _ (λ to _. by_unless P s refused _ _ (λ _. by_object P s refused _ _ (λ o _. rename_told from to o))))
-    command_told (commands.List path) = by_place P s refused _ _ (λ place _. by_object P s refused _ _ (λ o _. list_told o _ refl))
-    command_told commands.Space = record { reply = record { unit = omega (arith, bytes_few); total = omega (arith, capacity_few z sizes); free = omega arith } }
+    command_reported (commands.Open path flags) = by_unless P s refused _ _ (λ _. by_place P s refused _ _ (λ place _. open_reported flags place place.object))
+    command_reported (commands.Close fd) = by_handle P s refused _ _ (λ handle _. done _)
+    command_reported (commands.Read fd count) = by_handle P s refused _ _ (λ handle _. by_unless P s refused _ _ (λ _. by_file P s refused _ _ _ (λ m bytes is. data_reported _ handle.object m count handle.offset bytes is)))
+    command_reported (commands.Write fd bytes) = by_handle P s refused _ _ (λ handle _. by_unless P s refused _ _ (λ _. write_reported fd handle bytes))
+    command_reported (commands.Seek fd offset whence) = by_handle P s refused _ _ (λ handle _. by_file P s refused _ _ _ (λ _ bytes _. seek_reported fd handle _))
+    command_reported (commands.Truncate fd length) = by_handle P s refused _ _ (λ handle _. by_unless P s refused _ _ (λ _. truncate_reported handle length))
+    command_reported (commands.Fsync fd) = by_handle P s refused _ _ (λ handle _. done s)
+    command_reported commands.Sync = done s
+    command_reported (commands.Stat path) = by_place P s refused _ _ (λ place _. by_object P s refused _ _ (λ o _. stat_reported o _ refl))
+    command_reported (commands.Mkdir path) = by_place P s refused _ _ (λ place _. mkdir_reported place place.object)
+    command_reported (commands.Rmdir path) = by_place P s refused _ _ (λ place _. by_unless P s refused _ _ (λ _. by_object P s refused _ _ (λ o _. by_unless P s refused _ _ (λ _. done _))))
+    command_reported (commands.Link old new) = by_place P s refused _ _ (λ from _. by_object P s refused _ _ (λ o _. by_unless P s refused _ _ (λ _. by_place P s refused _ _ (λ to _. link_reported o to to.object))))
+    command_reported (commands.Unlink path) = by_place P s refused _ _ (λ place _. by_object P s refused _ _ (λ o _. by_unless P s refused _ _ (λ _. done _)))
+    command_reported (commands.Rename old new) = by_place P s refused _ _ (λ from _. by_place P s refused _ _ (λ to _. by_unless P s refused _ _ (λ _. by_object P s refused _ _ (λ o _. rename_reported from to o))))
+    command_reported (commands.List path) = by_place P s refused _ _ (λ place _. by_object P s refused _ _ (λ o _. list_reported o _ refl))
+    command_reported commands.Space = record { reply = record { unit = omega (arith, bytes_few); total = omega (arith, capacity_few z sizes); free = omega arith } }

@@ -19,9 +19,6 @@ module _ (g : Geometry) (a b : Flash) (same : HasSame a b) where
   back : HasSame b a
   back = same_back a b same
 
-  good_same : (k : ℕ) → a.bad k ≡ false → b.bad k ≡ false
-  good_same k good = ap (λ (bad : ℕ → Bool). bad k) same.bad ∙ good
-
   good_back : (k : ℕ) → b.bad k ≡ false → a.bad k ≡ false
   good_back k good = ap (λ (bad : ℕ → Bool). bad k) (sym same.bad) ∙ good
 

@@ -38,13 +38,13 @@ numbers_on a b c t u v before after first then = record {
   ]
 
   written : a.honest ≡ true → AreBelow a.flash t.next_group t.next_seq → (more : ℕ) → c.changes ≡ a.changes + more → AreBelow c.flash (t.next_group + more) (t.next_seq + more)
-  written honest is more counted = elim (cases_Bool b.gone) [
-    | inl gone ↦ rw (after.gone gone) (first.written honest is more (ap (λ (d : Device). d.changes) (sym (after.gone gone)) ∙ counted))
+  written honest is more totaled = elim (cases_Bool b.gone) [
+    | inl gone ↦ rw (after.gone gone) (first.written honest is more (ap (λ (d : Device). d.changes) (sym (after.gone gone)) ∙ totaled))
     | inr power ↦
         let still : b.honest ≡ true = before.honest ∙ honest in
         let rest : c.changes ≡ b.changes + (c.changes - b.changes) = omega (arith, after.changes) in
         below_greater c.flash (u.next_group + (c.changes - b.changes)) (u.next_seq + (c.changes - b.changes)) _ _
-        (omega (arith, first.groups honest power, counted, after.changes)) (omega (arith, first.seqs, counted, after.changes))
+        (omega (arith, first.groups honest power, totaled, after.changes)) (omega (arith, first.seqs, totaled, after.changes))
         (then.written still (first.below honest is) (c.changes - b.changes) rest)
   ]
 
@@ -64,7 +64,7 @@ numbers_unwritten old new t t' groups rise seqs stays = record {
   seqs = seqs;
   groups = λ honest power. omega (arith, groups, rise, seqs);
   below = λ honest is. below_greater new.flash t.next_group t.next_seq _ _ (omega (arith, groups)) rise (stays honest _ _ is);
-  written = λ honest is more counted. below_greater new.flash t.next_group t.next_seq _ _ (omega arith) (omega arith) (stays honest _ _ is);
+  written = λ honest is more totaled. below_greater new.flash t.next_group t.next_seq _ _ (omega arith) (omega arith) (stays honest _ _ is);
 }
 
 -- where no call is made none is handed out
@@ -104,7 +104,7 @@ hands_marked b old new t t' result does first notes = record {
   seqs : t'.next_seq ≡ t.next_seq
   seqs = notes.next_seq
 
--- an erase, however it ends, hands out one block's number at most, and only where it was counted
+-- an erase, however it ends, hands out one block's number at most, and only where there was one
 pub hands_erased : (b : ℕ) (old new : Device) (t t' : Table) (result : Result (Unit {0}) EraseFault) → Erases b old new result → t'.next_group ≡ t.next_group
     → t.next_seq ≤ t'.next_seq → t'.next_seq + old.changes ≤ t.next_seq + new.changes → KeepsTrue old new t.checkpoint t'.checkpoint → HandsOut old new t t'
 hands_erased b old new t t' result does groups rise seqs truth = record {

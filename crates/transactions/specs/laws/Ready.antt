@@ -18,7 +18,7 @@ use Rattle.block_state.specs.declared.blocks.BlockEntry.{BlockEntry}
 use Rattle.block_state.specs.laws.Checkpoint.{other_is_other}
 use Rattle.flash_tree.specs.Mount.{bad_blocks}
 use Rattle.block_state.specs.Counting.{how_many}
-use Rattle.block_state.specs.Kept.{bad_count}
+use Rattle.block_state.specs.Committed.{bad_count}
 use Rattle.block_state.specs.Table.{Table, blank, is_bad, other_than}
 use Rattle.flash_tree.specs.Numbering.{AreBelow}
 use Rattle.transactions.specs.Ready.{IsOpenOn, IsWaiting, IsReady, IsWrittenInOrder}
@@ -217,7 +217,7 @@ made_marked d n t0 t1 t2 within fresh noted raised =
       ];
       closed = noted.open_block;
       checkpoint = noted.checkpoint;
-      kept = λ b. noted.kept b ∙ ap (λ (t : Table). (t.entry b).kept) fresh;
+      committed = λ b. noted.committed b ∙ ap (λ (t : Table). (t.entry b).committed) fresh;
       seqs = λ b. noted.seqs b ∙ ap (λ (t : Table). (t.entry b).seq) fresh;
       nexts = λ b. noted.nexts b ∙ ap (λ (t : Table). (t.entry b).next) fresh;
       group = omega (arith, group_one);

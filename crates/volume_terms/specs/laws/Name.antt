@@ -1,4 +1,4 @@
--- Whether bytes are a name can be told; bytes by place are bytes.
+-- Whether bytes are a name can be decided; bytes by place are bytes.
 use Rattle.std.proofs.Common.{◌≡◌, ℕ, zero, suc, List, [], ◌∷◌, length, inl, inr, ◌⊎◌, Contains, arith, slice_index, ◌<◌, subst, sym, lit<}
 use Rattle.std.proofs.lemmas.Bool.{cases_eq, cases_lt}
 use Rattle.std.proofs.lemmas.List.{get_or_past}
@@ -6,7 +6,7 @@ use Rattle.std.proofs.lemmas.List.Elements.{All-from_get_or, All-get_or}
 use Rattle.volume_terms.specs.Names.{AreBytes, IsName}
 use Rattle.volume_terms.specs.laws.List.{same_or_not}
 
--- bytes, told place by place, are bytes
+-- bytes, given place by place, are bytes
 pub are_bytes : (bytes : List ℕ) → ((i : ℕ) → slice_index bytes i < 256) → AreBytes bytes
 are_bytes bytes each = All-from_get_or (λ byte. byte < 256) bytes 0 (λ i lt. each i)
 
@@ -31,7 +31,7 @@ contains_or_not (b ∷ bytes) x = elim (cases_eq b x) [
   ]
 ]
 
--- whether bytes are a name can be told
+-- whether bytes are a name can be decided
 pub name_or_not : (name : List ℕ) → AreBytes name → IsName name ⊎ (IsName name → ⊥)
 name_or_not name bytes = elim (cases_lt 0 (length name)) [
   | inr none ↦ inr (λ h. omega (arith, h.some))

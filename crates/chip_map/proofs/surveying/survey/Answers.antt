@@ -23,7 +23,7 @@ note_valid-requires-clause-within g c =
     ap length c.deref_mut.ensures.value ∙ c.in_ok-pages.ensures.len ∙ ap (λ (x : Geometry). x.blocks * x.pages) first.lasts.geometry in
     subst (λ n. AreWithin n c.deref.result.now c.deref_mut.result.now) (sym count)
     (subst (λ (xs : List Found). AreWithin old.geometry.pages xs c.deref_mut.result.now) (sym c.deref.ensures.value)
-    (placed_within old.geometry.pages old.geometry.blocks _ c.deref_mut.result.now c.in_ok-found.ensures.counted.placed len))
+    (placed_within old.geometry.pages old.geometry.blocks _ c.deref_mut.result.now c.in_ok-found.ensures.valid_pages.placed len))
 
 pub returns-clause-pages : goal.returns-clause-pages
 returns-clause-pages g c = λ honest.
@@ -33,7 +33,7 @@ returns-clause-pages g c = λ honest.
     let first : OnlyReads old mid = c.in_ok-found.ensures.reads.only in
     let next : OnlyReads mid new = c.in_ok-pages.ensures.reads in
     let count : c.pages.result ≡ old.geometry.pages = c.pages.ensures ∙ ap (λ (x : Geometry). x.pages) (c.geometry-geometry.ensures ∙ next.lasts.geometry ∙ first.lasts.geometry) in
-    let valid : AreValid old.flash c.deref.result.now = subst (AreValid old.flash) (sym c.deref.ensures.value) (valid_listed old.flash _ (c.in_ok-found.ensures.counted.exact honest)) in
+    let valid : AreValid old.flash c.deref.result.now = subst (AreValid old.flash) (sym c.deref.ensures.value) (valid_listed old.flash _ (c.in_ok-found.ensures.valid_pages.exact honest)) in
     let newest = c.in_ok-found.ensures.newest.exact honest in
     let read : AreNoted old.flash old.geometry.pages c.in_ok-pages.pages.items = noted_back old mid _ first honest (c.in_ok-pages.ensures.noted (first.lasts.honest ∙ honest)) in
     let noted : AreNoted old.flash c.pages.result c.deref_mut.result.now =

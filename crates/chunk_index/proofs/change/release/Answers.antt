@@ -6,4 +6,4 @@ use Rattle.chunk_index.proofs.Counting.{counted_block}
 use Rattle.chunk_index.proofs.change.release.Goals as goal
 
 pub release-requires-clause-block : goal.release-requires-clause-block
-release-requires-clause-block c = counted_block _ c.in-Some.page (subst (λ p. HasCounted (table c.args.blocks.now) (one_at p)) c.in-Some.is c.requires.counted)
+release-requires-clause-block c = counted_block _ c.in-Some.page (subst (λ p. HasCounted (table c.args.blocks.now) (one_at p)) c.in-Some.is c.requires.totaled)

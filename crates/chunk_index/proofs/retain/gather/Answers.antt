@@ -1,6 +1,6 @@
 use Rattle.std.proofs.Common.{arith, ap, sym, subst, ◌∙◌, ◌≡◌}
 use Rattle.block_state.specs.TableOf.{table}
-use Rattle.chunk_index.specs.Entries.{one_at, kept_of}
+use Rattle.chunk_index.specs.Entries.{one_at, committed_of}
 use Rattle.chunk_index.specs.Counts.{Recounts}
 use Rattle.chunk_index.specs.Retained.{retained}
 use Rattle.chunk_index.proofs.Finding.{same_element}
@@ -11,8 +11,8 @@ use Rattle.chunk_index.proofs.retain.gather.Goals as goal
 pub loop-at-init : goal.loop-at-init
 loop-at-init g c = gathers_none _ _ _
 
-pub retained-requires-clause-counted : goal.retained-requires-clause-counted
-retained-requires-clause-counted g c = next_counted (g.F.KeyFilter.keeps c.args.filter.now c.args.object) _ _ _ _ _ _ c.loop-at.invariant (omega (arith, c.loop-at-test.true, c.len-at-end.ensures)) c.unpack-entry.result (same_element _ c.loop-at.at _ _ c.unpack-entry.ensures.entry c.index.ensures) c.requires.counted
+pub retained-requires-clause-totaled : goal.retained-requires-clause-totaled
+retained-requires-clause-totaled g c = next_counted (g.F.KeyFilter.keeps c.args.filter.now c.args.object) _ _ _ _ _ _ c.loop-at.invariant (omega (arith, c.loop-at-test.true, c.len-at-end.ensures)) c.unpack-entry.result (same_element _ c.loop-at.at _ _ c.unpack-entry.ensures.entry c.index.ensures) c.requires.totaled
 
 pub loop-at-preserved : goal.loop-at-preserved
 loop-at-preserved g c =
@@ -27,11 +27,11 @@ loop-at-preserved g c =
     let result : c.retained.result ≡ retained (keeps e.chunk) e = c.retained.ensures.result ∙ ap (λ b. retained b e) c.keeps-stays.ensures in
     elim c.match-retained.branch [
       | in-Some w ↦
-          let counts = subst (λ v. Recounts (one_at e.kept) (one_at (kept_of v)) u after) w.in-Some.is c.retained.ensures.counts in
-          rw (w.entries-is, w.kept-is, w.pack.ensures) (gathers_left keeps first c.loop-at.at now c.loop-at.kept t u c.loop-at.invariant (omega (arith, c.loop-at-test.true, c.len-at-end.ensures)) e here w.in-Some.left after (sym w.in-Some.is ∙ result) counts)
+          let counts = subst (λ v. Recounts (one_at e.committed) (one_at (committed_of v)) u after) w.in-Some.is c.retained.ensures.counts in
+          rw (w.entries-is, w.committed-is, w.pack.ensures) (gathers_left keeps first c.loop-at.at now c.loop-at.committed t u c.loop-at.invariant (omega (arith, c.loop-at-test.true, c.len-at-end.ensures)) e here w.in-Some.left after (sym w.in-Some.is ∙ result) counts)
       | in_default w ↦
-          let counts = subst (λ v. Recounts (one_at e.kept) (one_at (kept_of v)) u after) w.in_default.is c.retained.ensures.counts in
-          rw (w.entries-is, w.kept-is) (gathers_gone keeps first c.loop-at.at now c.loop-at.kept t u c.loop-at.invariant (omega (arith, c.loop-at-test.true, c.len-at-end.ensures)) e here after (sym w.in_default.is ∙ result) counts)
+          let counts = subst (λ v. Recounts (one_at e.committed) (one_at (committed_of v)) u after) w.in_default.is c.retained.ensures.counts in
+          rw (w.entries-is, w.committed-is) (gathers_gone keeps first c.loop-at.at now c.loop-at.committed t u c.loop-at.invariant (omega (arith, c.loop-at-test.true, c.len-at-end.ensures)) e here after (sym w.in_default.is ∙ result) counts)
     ]
 
 pub returns-clause-items : goal.returns-clause-items

@@ -11,7 +11,7 @@ use Rattle.directories.proofs.leaving.left_slot.Goals.{in-Some+else-written-hash
 
 pub returns-in_err-slot-clause-none : goal.returns-in_err-slot-clause-none
 returns-in_err-slot-clause-none c = rw c.from_residual.ensures (λ z size s holds. elim (cases_lt s c.loop-slot.from) [
-  | inl less ↦ c.loop-slot.invariant.kept z size s less holds
+  | inl less ↦ c.loop-slot.invariant.committed z size s less holds
   | inr later ↦ absurd (c.in_err-slot.ensures s later (subst (λ h. Holds c.args.names.now c.args.directory h s) (sym c.name_hash-hash.ensures) holds))
 ])
 
@@ -25,7 +25,7 @@ returns-in_err-from-clause-none c = rw c.from_residual-in_err-from.ensures (λ z
     ] in
     let here = stays_by z c.args.change.now c.args.directory (fnv1a c.args.name.now) c.in_ok-slot.slot c.args.page_bytes c.deref.result.now c.deref.ensures.value size c.hash_in.result c.hash_in.ensures.hash c.hash_in.ensures.none is in
     let most : s ≤ c.in_ok-slot.slot = elim (cases_lt c.in_ok-slot.slot s) [ inl more ↦ absurd (full (omega (arith, small, more))) | inr most ↦ most ] in
-    stays_on z c.args.change.now c.args.directory (fnv1a c.args.name.now) c.args.names.now c.loop-slot.from c.in_ok-slot.slot (c.loop-slot.invariant.kept z size)
+    stays_on z c.args.change.now c.args.directory (fnv1a c.args.name.now) c.args.names.now c.loop-slot.from c.in_ok-slot.slot (c.loop-slot.invariant.committed z size)
     (λ k later held. c.in_ok-slot.ensures.2 k later (subst (λ h. Holds c.args.names.now c.args.directory h k) (sym c.name_hash-hash.ensures) held)) here s most holds)
 
 pub returns-then-written-hash-clause-left : goal.returns-then-written-hash-clause-left
@@ -45,13 +45,13 @@ loop-slot-smaller c =
 pub loop-slot-preserved : goal.loop-slot-preserved
 loop-slot-preserved c = record {
   hash = c.name_hash-hash.ensures;
-  kept = λ z size s less holds.
+  committed = λ z size s less holds.
       let is : IfSome c.hash_in.result (λ h. h ≡ fnv1a c.args.name.now) = elim c.match-hash_in.branch [
         | in-Some+else-written-hash w ↦ rw w.in-Some.is (w.if-written-hash.false ∙ c.name_hash-hash.ensures)
         | in_default w ↦ rw w.in_default.is tt
       ] in
       let here = stays_by z c.args.change.now c.args.directory (fnv1a c.args.name.now) c.in_ok-slot.slot c.args.page_bytes c.deref.result.now c.deref.ensures.value size c.hash_in.result c.hash_in.ensures.hash c.hash_in.ensures.none is in
       let most : s ≤ c.in_ok-slot.slot = let next : c.in_ok-from.from ≡ c.in_ok-slot.slot + 1 = c.in_ok-from.ensures.1 in omega (arith, next, less) in
-      stays_on z c.args.change.now c.args.directory (fnv1a c.args.name.now) c.args.names.now c.loop-slot.from c.in_ok-slot.slot (c.loop-slot.invariant.kept z size)
+      stays_on z c.args.change.now c.args.directory (fnv1a c.args.name.now) c.args.names.now c.loop-slot.from c.in_ok-slot.slot (c.loop-slot.invariant.committed z size)
       (λ k later held. c.in_ok-slot.ensures.2 k later (subst (λ h. Holds c.args.names.now c.args.directory h k) (sym c.name_hash-hash.ensures) held)) here s most holds;
 }

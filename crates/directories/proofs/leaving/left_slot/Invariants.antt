@@ -9,7 +9,7 @@ use Rattle.directories.proofs.leaving.left_slot.Given as goal
 abbrev pub invariant-loop-slot : goal.invariant-loop-slot
 invariant-loop-slot l = record {
   hash : l.hash ≡ fnv1a l.name;
-  kept : (z : Sizes) → z.page_bytes ≡ l.page_bytes → (s : ℕ) → s < l.from → Holds l.names l.directory (fnv1a l.name) s → HasKey l.change l.directory (1 + s / page_slots z)
+  committed : (z : Sizes) → z.page_bytes ≡ l.page_bytes → (s : ℕ) → s < l.from → Holds l.names l.directory (fnv1a l.name) s → HasKey l.change l.directory (1 + s / page_slots z)
       → WritesHash z l.change.pages.items l.directory s (fnv1a l.name);
 }
 

@@ -8,7 +8,7 @@ abbrev pub invariant-loop-chunk : goal.invariant-loop-chunk
 invariant-loop-chunk g l = record {
   finds : OnlyFinds (g.P.Pages.state l.fn.pages) (g.P.Pages.state l.pages);
   power : KeepsPower (g.P.Pages.state l.fn.pages) (g.P.Pages.state l.pages);
-  asked : (g.P.Pages.state l.pages).asked ≤ (g.P.Pages.state l.fn.pages).asked + 1 + l.chunk;
+  issued : (g.P.Pages.state l.pages).issued ≤ (g.P.Pages.state l.fn.pages).issued + 1 + l.chunk;
   first : (g.P.Pages.state l.fn.pages).sound ≡ true → (z : Sizes) → z.page_bytes ≡ (g.P.Pages.state l.fn.pages).page_bytes
       → ReadsFirst z (g.P.Pages.state l.fn.pages).present l.directory (min l.head.length (l.chunk * page_slots z)) l.entries;
 }

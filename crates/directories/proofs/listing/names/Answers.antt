@@ -12,7 +12,7 @@ returns-in_err-entries-clause-fault g c = λ z moment entries d.
 pub returns-clause-found : goal.returns-clause-found
 returns-clause-found g c = λ z moment entries d. c.in_ok-names.ensures ∙ ap (λ (m : Entries). map.keys m) (c.in_ok-entries.ensures.found z moment entries d)
 
-pub returns-clause-told : goal.returns-clause-told
-returns-clause-told g c = λ sound z size.
-    let t = c.in_ok-entries.ensures.told sound z size in
+pub returns-clause-reported : goal.returns-clause-reported
+returns-clause-reported g c = λ sound z size.
+    let t = c.in_ok-entries.ensures.reported sound z size in
     (t.0, c.in_ok-entries.entries, t.1, c.in_ok-names.ensures)

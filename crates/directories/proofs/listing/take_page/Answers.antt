@@ -37,8 +37,8 @@ loop-place-preserved c = λ z m d at size first.
     let n : ℕ = c.args.chunk * page_slots z + place in
     let fits : c.args.count ≤ page_slots z = slots_fit z.page_bytes (length page) c.args.count size c.requires.room in
     let less : place < c.args.count = c.loop-place-test.true in
-    let told = c.in_ok-take_entry.ensures.told in
-    let slot = slot_of_page z m d c.args.chunk place told.0 page (omega (arith, less, fits)) at (told.1, sym c.slot_of.ensures.bytes ∙ told.2) in
-    let more = one_more_read z m d n c.loop-place.entries (c.loop-place.invariant z m d at size first) told.0 slot told.3.was_new in
+    let reported = c.in_ok-take_entry.ensures.reported in
+    let slot = slot_of_page z m d c.args.chunk place reported.0 page (omega (arith, less, fits)) at (reported.1, sym c.slot_of.ensures.bytes ∙ reported.2) in
+    let more = one_more_read z m d n c.loop-place.entries (c.loop-place.invariant z m d at size first) reported.0 slot reported.3.was_new in
     let index : n + 1 ≡ c.args.chunk * page_slots z + (place + 1) = omega arith in
-    subst (λ k. ReadsFirst z m d k c.take_entry.new.entries) index (subst (ReadsFirst z m d (n + 1)) (sym told.3.put) more)
+    subst (λ k. ReadsFirst z m d k c.take_entry.new.entries) index (subst (ReadsFirst z m d (n + 1)) (sym reported.3.put) more)

@@ -11,6 +11,6 @@ returns-clause-hashes c = λ z m d before later size w had.
     let slots : c.args.page_bytes / 272 ≡ page_slots z = ap (λ n. n / 272) (sym size) in
     let some : 1 ≤ page_slots z = omega (arith, size, c.requires.least) in
     on_done _ _ c.hash_pages.result
-    (λ all. hashes_on z some c.args.names.now c.hash_pages.new.names c.hash_pages.ensures.kept m c.args.change.now (subst (AreSized c.args.change.now.pages.items) (sym size) c.requires.sized)
+    (λ all. hashes_on z some c.args.names.now c.hash_pages.new.names c.hash_pages.ensures.committed m c.args.change.now (subst (AreSized c.args.change.now.pages.items) (sym size) c.requires.sized)
     (subst (λ (ps : List FreshPage). HoldsAll c.hash_pages.new.names (page_slots z) ps) c.deref.ensures.value (subst (λ n. HoldsAll c.hash_pages.new.names n c.deref.result.now) slots all)) d before later w had)
     c.hash_pages.ensures.all

@@ -6,14 +6,14 @@ use Rattle.page_tags.specs.Slots.{slot_bytes}
 use Rattle.directories.proofs.Hashed.{more_on, held_as}
 use Rattle.directories.proofs.naming.hash_page.Goals as goal
 
-pub returns-in_err-hash_slot-clause-kept : goal.returns-in_err-hash_slot-clause-kept
-returns-in_err-hash_slot-clause-kept c = more_on c.args.names.now c.loop-place.names c.hash_slot.new.names c.loop-place.invariant.kept c.hash_slot.ensures.kept
+pub returns-in_err-hash_slot-clause-committed : goal.returns-in_err-hash_slot-clause-committed
+returns-in_err-hash_slot-clause-committed c = more_on c.args.names.now c.loop-place.names c.hash_slot.new.names c.loop-place.invariant.committed c.hash_slot.ensures.committed
 
 pub loop-place-preserved : goal.loop-place-preserved
 loop-place-preserved c = record {
-  kept = more_on c.args.names.now c.loop-place.names c.hash_slot.new.names c.loop-place.invariant.kept c.hash_slot.ensures.kept;
+  committed = more_on c.args.names.now c.loop-place.names c.hash_slot.new.names c.loop-place.invariant.committed c.hash_slot.ensures.committed;
   done = λ k e less at small. elim (cases_eq k c.loop-place.place) [
-    | inr other ↦ c.hash_slot.ensures.kept c.args.page.now.key.object (fnv1a e.name) (c.in-Some.first + k) (c.loop-place.invariant.done k e (omega (arith, less, other)) at small)
+    | inr other ↦ c.hash_slot.ensures.committed c.args.page.now.key.object (fnv1a e.name) (c.in-Some.first + k) (c.loop-place.invariant.done k e (omega (arith, less, other)) at small)
     | inl here ↦
         let number : c.in-Some.first + c.from-in-loop-place.result ≡ c.in-Some.first + k = omega (arith, here, c.from-in-loop-place.ensures) in
         let bytes : c.slot_of-bytes.result.now ≡ slot_bytes e =

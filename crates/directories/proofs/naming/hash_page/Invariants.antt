@@ -8,6 +8,6 @@ use Rattle.directories.proofs.naming.hash_page.Given as goal
 
 abbrev pub invariant-loop-place : goal.invariant-loop-place
 invariant-loop-place l = record {
-  kept : HoldsMore l.fn.names l.names;
+  committed : HoldsMore l.fn.names l.names;
   done : (k : ℕ) (e : Entry) → k < l.place → SlotAt l.page.bytes.items k e → l.first + k < 4294967296 → Holds l.names l.page.key.object (fnv1a e.name) (l.first + k);
 }

@@ -6,8 +6,8 @@ use Rattle.directories.specs.Hashing.{HoldsPage, SaysNoDirectory}
 use Rattle.directories.proofs.Hashed.{more_on, page_more}
 use Rattle.directories.proofs.naming.hash_pages.Goals as goal
 
-pub returns-in_err-hash_one-clause-kept : goal.returns-in_err-hash_one-clause-kept
-returns-in_err-hash_one-clause-kept c = more_on c.args.names.now c.loop-page.names c.hash_one.new.names c.loop-page.invariant.kept c.hash_one.ensures.kept
+pub returns-in_err-hash_one-clause-committed : goal.returns-in_err-hash_one-clause-committed
+returns-in_err-hash_one-clause-committed c = more_on c.args.names.now c.loop-page.names c.hash_one.new.names c.loop-page.invariant.committed c.hash_one.ensures.committed
 
 pub loop-page-preserved : goal.loop-page-preserved
 loop-page-preserved c =
@@ -15,9 +15,9 @@ loop-page-preserved c =
     let here : slice_get c.args.pages.now c.loop-page.page-index ≡ Some c.page-item.result =
     slice_get_read c.args.pages.now (length c.args.pages.now) c.loop-page.page-index c.page-item.result refl within c.page-item.is in
     record {
-      kept = more_on c.args.names.now c.loop-page.names c.hash_one.new.names c.loop-page.invariant.kept c.hash_one.ensures.kept;
+      committed = more_on c.args.names.now c.loop-page.names c.hash_one.new.names c.loop-page.invariant.committed c.hash_one.ensures.committed;
       done = λ i p less at some directory. elim (cases_eq i c.loop-page.page-index) [
-        | inr other ↦ page_more c.loop-page.names c.hash_one.new.names (c.args.page_bytes / 272) p c.hash_one.ensures.kept (c.loop-page.invariant.done i p (omega (arith, less, other)) at some directory)
+        | inr other ↦ page_more c.loop-page.names c.hash_one.new.names (c.args.page_bytes / 272) p c.hash_one.ensures.committed (c.loop-page.invariant.done i p (omega (arith, less, other)) at some directory)
         | inl same ↦
             let both : Some p ≡ Some c.page-item.result = sym at ∙ ap (slice_get c.args.pages.now) same ∙ here in
             let one : p ≡ c.page-item.result = cc in

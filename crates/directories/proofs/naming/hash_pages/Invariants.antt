@@ -5,6 +5,6 @@ use Rattle.directories.proofs.naming.hash_pages.Given as goal
 
 abbrev pub invariant-loop-page : goal.invariant-loop-page
 invariant-loop-page l = record {
-  kept : HoldsMore l.fn.names l.names;
+  committed : HoldsMore l.fn.names l.names;
   done : (i : ℕ) (page : FreshPage) → i < l.page-index → slice_get l.pages i ≡ Some page → 1 ≤ page.key.chunk → (SaysNoDirectory l.pages page.key.object → ⊥) → HoldsPage l.names (l.page_bytes / 272) page;
 }

@@ -7,8 +7,8 @@ use Rattle.directories.proofs.Hashed.{more_added, held_as}
 use Rattle.directories.proofs.Results.{on_done}
 use Rattle.directories.proofs.naming.hash_slot.Goals as goal
 
-pub returns-clause-kept : goal.returns-clause-kept
-returns-clause-kept c = more_added c.args.directory c.name_hash.result _ c.args.names.now c.add.new.self c.add.result c.add.ensures.ok c.add.ensures.err
+pub returns-clause-committed : goal.returns-clause-committed
+returns-clause-committed c = more_added c.args.directory c.name_hash.result _ c.args.names.now c.add.new.self c.add.result c.add.ensures.ok c.add.ensures.err
 
 pub returns-clause-here : goal.returns-clause-here
 returns-clause-here c = on_done _ _ c.add.result

@@ -16,8 +16,8 @@ returns-then-eq c = λ is.
         c.loop-page.page-index,
         (record { page = c.page-item.result; there = at; object = of.1; chunk = of.2 }, c.loop-page.invariant),
         λ f header kind.
-            let told : c.is_directory_page.result ≡ true = c.is_directory_page.ensures f (subst (λ (xs : List ℕ). IsHeaderOf xs f) (sym c.deref.ensures.value) header) kind in
-            let two : false ≡ true = sym (ap not told) ∙ is in
+            let reported : c.is_directory_page.result ≡ true = c.is_directory_page.ensures f (subst (λ (xs : List ℕ). IsHeaderOf xs f) (sym c.deref.ensures.value) header) kind in
+            let two : false ≡ true = sym (ap not reported) ∙ is in
             absurd cc,
       )
       | inr other ↦ let two : true ≡ false = sym c.if-eq.true ∙ c.eq.ensures ∙ other.0 in absurd cc

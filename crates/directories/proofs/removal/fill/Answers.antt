@@ -10,7 +10,7 @@ use Rattle.directories.specs.Directories.{SlotOf}
 use Rattle.directories.specs.Slots.{AreSlots}
 use Rattle.directories.specs.Writes.{HasHead, KeepsSlots}
 use Rattle.volume_terms.specs.Sizes.{page_slots}
-use Rattle.directories.proofs.PageCounts.{kept_behind}
+use Rattle.directories.proofs.PageCounts.{committed_behind}
 use Rattle.directories.proofs.Results.{on_ok}
 use Rattle.directories.proofs.Written.{bytes_slot, slot_of_bytes}
 use Rattle.directories.proofs.removal.fill.Goals as goal
@@ -27,7 +27,7 @@ returns-in_default-clause-fault g c = λ sound z size are.
     let m : PageMap = changed_by (option_copied c.args.earlier) old.present in
     let s = are c.args.shorter.length (omega arith) (omega arith) in
     let none = rw c.in_default.is at c.decode_tree_slot.ensures.none in
-    none s.0 s.1.2 (bytes_slot z m c.args.directory c.args.shorter.length c.in_ok-bytes.bytes s.0 (c.in_ok-bytes.ensures.told sound z size) s.1)
+    none s.0 s.1.2 (bytes_slot z m c.args.directory c.args.shorter.length c.in_ok-bytes.bytes s.0 (c.in_ok-bytes.ensures.reported sound z size) s.1)
 
 pub returns-clause-fills : goal.returns-clause-fills
 returns-clause-fills g c = λ sound z size.
@@ -39,7 +39,7 @@ returns-clause-fills g c = λ sound z size.
     let len : ℕ = c.args.shorter.length in
     let found = rw c.in-Some.is at c.decode_tree_slot.ensures.found in
     let e : Entry = entry_of c.in-Some.last in
-    let last : SlotOf z m c.args.directory len e = slot_of_bytes z m c.args.directory len c.in_ok-bytes.bytes e (c.in_ok-bytes.ensures.told sound z size) found.0 found.1 in
+    let last : SlotOf z m c.args.directory len e = slot_of_bytes z m c.args.directory len c.in_ok-bytes.bytes e (c.in_ok-bytes.ensures.reported sound z size) found.0 found.1 in
     let count : min (len + 1) len ≡ len = grind arith in
     on_ok _ _ c.write.result
     (λ change w. record {
@@ -63,5 +63,5 @@ returns-clause-pages g c = λ sound z size m.
     let finds = c.slot_bytes.ensures.finds in
     let low = (g.met.P.Pages.sized c.args.pages.now).0 in
     let some : 1 ≤ page_slots z = omega (arith, low, size) in
-    on_ok _ _ c.write.result (λ change keeps. kept_behind z m (changed change m) c.args.directory c.args.place c.args.shorter.length some c.requires.within keeps)
+    on_ok _ _ c.write.result (λ change keeps. committed_behind z m (changed change m) c.args.directory c.args.place c.args.shorter.length some c.requires.within keeps)
     (c.write.ensures.pages (finds.sound ∙ sound) z (size ∙ sym finds.page_bytes) m)

@@ -5,8 +5,8 @@ use Rattle.pages.specs.Maps.{PageMap}
 use Rattle.pages.specs.State.{PagesState}
 use Rattle.directories.proofs.removal.slot_bytes.Goals as goal
 
-pub returns-clause-told : goal.returns-clause-told
-returns-clause-told g c = λ sound z size.
+pub returns-clause-reported : goal.returns-clause-reported
+returns-clause-reported g c = λ sound z size.
     let old : PagesState = g.P.Pages.state c.args.pages.now in
     let m : PageMap = changed_by (option_copied c.args.earlier) old.present in
     let slots : c.page_bytes.result / 272 ≡ page_slots z = ap (λ n. n / 272) (c.page_bytes.ensures.bytes ∙ sym size) in

@@ -12,15 +12,15 @@ pub returns-clause-pushes : goal.returns-clause-pushes
 returns-clause-pushes g c = λ sound z size.
     let old : PagesState = g.P.Pages.state c.args.pages.now in
     let m : PageMap = changed_by (option_copied c.args.earlier) old.present in
-    let counted : c.in-Some.length ≡ c.args.head.length + 1 = search rules in
-    let count : min c.args.head.length c.in-Some.length ≡ c.args.head.length = grind (arith, counted) in
+    let totaled : c.in-Some.length ≡ c.args.head.length + 1 = search rules in
+    let count : min c.args.head.length c.in-Some.length ≡ c.args.head.length = grind (arith, totaled) in
     let by : ℕ → DirectoryHead = λ k. record { spare = c.args.head.spare; length = k; moment = c.args.moment } in
     on_ok _ _ c.write.result
     (λ change w. (
-      subst (λ k. HasHead z (changed change m) c.args.directory (by k)) counted w.0,
+      subst (λ k. HasHead z (changed change m) c.args.directory (by k)) totaled w.0,
       w.1,
       subst (λ k. KeepsSlots z m (changed change m) c.args.directory k c.args.head.length) count w.2,
-      subst (λ k. EndsInZeros z change c.args.directory k) counted w.3,
+      subst (λ k. EndsInZeros z change c.args.directory k) totaled w.3,
     ))
     (c.write.ensures.writes sound z size)
 

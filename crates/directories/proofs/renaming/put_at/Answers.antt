@@ -21,7 +21,7 @@ use Rattle.directories.proofs.Results.{on_all, on_ok, on_err}
 use Rattle.directories.proofs.PageCounts.{only_written}
 use Rattle.directories.proofs.Reading.{count_after}
 use Rattle.directories.proofs.SlotLists.{push_elsewhere, set_elsewhere, writes_slots}
-use Rattle.directories.proofs.Told.{page_size, some_slots, sound_on, size_on, are_on, head_says, length_is, count_is}
+use Rattle.directories.proofs.Reported.{page_size, some_slots, sound_on, size_on, are_on, head_says, length_is, count_is}
 use Rattle.directories.proofs.renaming.put_at.Goals as goal
 
 pub returns-then-number-head-clause-fault : goal.returns-then-number-head-clause-fault
@@ -31,7 +31,7 @@ returns-then-number-head-clause-fault g c = λ z moment entries d stands.
     let p : PagesState = after e old in
     let q : PagesState = after e (g.P.Pages.state c.head_after.new.pages) in
     let finds = finds_after e old (g.P.Pages.state c.head_after.new.pages) c.head_after.ensures.finds in
-    let s = c.in_ok-head.ensures.told d.sound in
+    let s = c.in_ok-head.ensures.reported d.sound in
     let sized = g.met.P.Pages.sized c.args.pages.now in
     let at = rw c.in-Some.is at stands in
     let within = slice_get_within d.reads.slots c.in-Some.number at.0 at.1 in
@@ -46,7 +46,7 @@ returns-else-number-head-clause-fault g c = λ z moment entries d stands.
     let p : PagesState = after e old in
     let q : PagesState = after e (g.P.Pages.state c.head_after.new.pages) in
     let finds = finds_after e old (g.P.Pages.state c.head_after.new.pages) c.head_after.ensures.finds in
-    let s = c.in_ok-head.ensures.told d.sound in
+    let s = c.in_ok-head.ensures.reported d.sound in
     let sized = g.met.P.Pages.sized c.args.pages.now in
     on_err _ _ c.write.result (λ fault is. says_more _ _ _ _ _ _ (g.P.Pages.state c.write.new.pages) fault (λ x. x) (λ x. x) (λ x. absurd x) is)
     (c.write.ensures.fault (sound_on p q finds z c.args.directory moment entries d sized c.in_ok-head.head s) z (size_on p q finds z c.args.directory moment entries d sized c.in_ok-head.head s)
@@ -59,7 +59,7 @@ returns-in-None-clause-fault g c = λ z moment entries d stands.
     let p : PagesState = after e old in
     let q : PagesState = after e (g.P.Pages.state c.head_after.new.pages) in
     let finds = finds_after e old (g.P.Pages.state c.head_after.new.pages) c.head_after.ensures.finds in
-    let s = c.in_ok-head.ensures.told d.sound in
+    let s = c.in_ok-head.ensures.reported d.sound in
     let sized = g.met.P.Pages.sized c.args.pages.now in
     on_err _ _ c.push_slot.result
     (λ fault is. says_more _ _ _ _ _ _ (g.P.Pages.state c.push_slot.new.pages) fault (λ x. x) (λ x. x) (λ full. sym (count_is p q finds z c.args.directory moment entries d sized c.in_ok-head.head s) ∙ full) is)
@@ -73,7 +73,7 @@ returns-else-number-head-clause-puts g c = λ z moment entries d stands.
     let p : PagesState = after e old in
     let q : PagesState = after e (g.P.Pages.state c.head_after.new.pages) in
     let finds = finds_after e old (g.P.Pages.state c.head_after.new.pages) c.head_after.ensures.finds in
-    let s = c.in_ok-head.ensures.told d.sound in
+    let s = c.in_ok-head.ensures.reported d.sound in
     let sized = g.met.P.Pages.sized c.args.pages.now in
     let says = head_says p q finds z c.args.directory moment entries d sized c.in_ok-head.head s in
     let len = length_is p q finds z c.args.directory moment entries d sized c.in_ok-head.head s in
@@ -88,9 +88,9 @@ returns-else-number-head-clause-puts g c = λ z moment entries d stands.
     let header = subst (λ (k : PageMap). HasHead z (changed change (changed_by e k)) c.args.directory head) all w.0 in
     let slot = subst (λ (k : PageMap). SlotOf z (changed change (changed_by e k)) c.args.directory place (entry_of c.args.slot.now)) all w.1 in
     let count : min n n ≡ length d.reads.slots = grind (arith, len) in
-    let kept = subst (λ k. KeepsSlots z m (changed change m) c.args.directory k place) count
+    let committed = subst (λ k. KeepsSlots z m (changed change m) c.args.directory k place) count
     (subst (λ (k : PageMap). KeepsSlots z (changed_by e k) (changed change (changed_by e k)) c.args.directory (min n n) place) all w.2) in
-    reads_put z m (changed change m) c.args.directory moment c.args.moment entries d.reads head header says.spare refl len place at.0 at.1 (entry_of c.args.slot.now) (sym at.2) slot kept)
+    reads_put z m (changed change m) c.args.directory moment c.args.moment entries d.reads head header says.spare refl len place at.0 at.1 (entry_of c.args.slot.now) (sym at.2) slot committed)
     (c.write.ensures.writes (sound_on p q finds z c.args.directory moment entries d sized c.in_ok-head.head s) z (size_on p q finds z c.args.directory moment entries d sized c.in_ok-head.head s))
 
 pub returns-in-None-clause-puts : goal.returns-in-None-clause-puts
@@ -100,7 +100,7 @@ returns-in-None-clause-puts g c = λ z moment entries d stands.
     let p : PagesState = after e old in
     let q : PagesState = after e (g.P.Pages.state c.head_after.new.pages) in
     let finds = finds_after e old (g.P.Pages.state c.head_after.new.pages) c.head_after.ensures.finds in
-    let s = c.in_ok-head.ensures.told d.sound in
+    let s = c.in_ok-head.ensures.reported d.sound in
     let sized = g.met.P.Pages.sized c.args.pages.now in
     let says = head_says p q finds z c.args.directory moment entries d sized c.in_ok-head.head s in
     let len = length_is p q finds z c.args.directory moment entries d sized c.in_ok-head.head s in
@@ -114,9 +114,9 @@ returns-in-None-clause-puts g c = λ z moment entries d stands.
     let header = subst (λ (k : PageMap). HasHead z (changed change (changed_by e k)) c.args.directory head) all w.0 in
     let slot = subst (λ k. SlotOf z (changed change m) c.args.directory k (entry_of c.args.slot.now)) len
     (subst (λ (k : PageMap). SlotOf z (changed change (changed_by e k)) c.args.directory n (entry_of c.args.slot.now)) all w.1) in
-    let kept = subst (λ k. KeepsSlots z m (changed change m) c.args.directory k k) len
+    let committed = subst (λ k. KeepsSlots z m (changed change m) c.args.directory k k) len
     (subst (λ (k : PageMap). KeepsSlots z (changed_by e k) (changed change (changed_by e k)) c.args.directory n n) all w.2) in
-    reads_added z m (changed change m) c.args.directory moment c.args.moment entries d.reads head header says.spare refl (omega (arith, len)) (entry_of c.args.slot.now) absent slot kept)
+    reads_added z m (changed change m) c.args.directory moment c.args.moment entries d.reads head header says.spare refl (omega (arith, len)) (entry_of c.args.slot.now) absent slot committed)
     (c.push_slot.ensures.pushes (sound_on p q finds z c.args.directory moment entries d sized c.in_ok-head.head s) z (size_on p q finds z c.args.directory moment entries d sized c.in_ok-head.head s))
 
 pub returns-else-number-head-clause-besides : goal.returns-else-number-head-clause-besides
@@ -126,11 +126,11 @@ returns-else-number-head-clause-besides g c = λ z moment entries d stands only.
     let p : PagesState = after e old in
     let q : PagesState = after e (g.P.Pages.state c.head_after.new.pages) in
     let finds = finds_after e old (g.P.Pages.state c.head_after.new.pages) c.head_after.ensures.finds in
-    let s = c.in_ok-head.ensures.told d.sound in
+    let s = c.in_ok-head.ensures.reported d.sound in
     let sized = g.met.P.Pages.sized c.args.pages.now in
     let size = page_size p q finds z c.args.directory moment entries d sized c.in_ok-head.head s in
     let some = some_slots p q finds z c.args.directory moment entries d sized c.in_ok-head.head s in
-    let counted = count_is p q finds z c.args.directory moment entries d sized c.in_ok-head.head s in
+    let totaled = count_is p q finds z c.args.directory moment entries d sized c.in_ok-head.head s in
     let sound_on' = sound_on p q finds z c.args.directory moment entries d sized c.in_ok-head.head s in
     let size_on' = size_on p q finds z c.args.directory moment entries d sized c.in_ok-head.head s in
     let n : ℕ = c.in_ok-head.head.length in
@@ -143,7 +143,7 @@ returns-else-number-head-clause-besides g c = λ z moment entries d stands only.
     let header = subst (λ (k : PageMap). HasHead z (changed change (changed_by e k)) c.args.directory head) all w.0 in
     let count = count_after z size (changed change m) c.args.directory c.args.moment (map.insert entries c.args.slot.now.name.now c.args.slot.now.object) r.0 head header in
     subst (HasOnly z (changed change m) c.args.directory) (sym count)
-    (only_written z m (changed change m) c.args.directory c.in-Some.number n some within keeps (map.len entries) (omega (arith, counted)) only))
+    (only_written z m (changed change m) c.args.directory c.in-Some.number n some within keeps (map.len entries) (omega (arith, totaled)) only))
     (returns-else-number-head-clause-puts g c z moment entries d stands)
     (c.write.ensures.writes sound_on' z size_on')
     (c.write.ensures.pages sound_on' z size_on' m)
@@ -155,11 +155,11 @@ returns-in-None-clause-besides g c = λ z moment entries d stands only.
     let p : PagesState = after e old in
     let q : PagesState = after e (g.P.Pages.state c.head_after.new.pages) in
     let finds = finds_after e old (g.P.Pages.state c.head_after.new.pages) c.head_after.ensures.finds in
-    let s = c.in_ok-head.ensures.told d.sound in
+    let s = c.in_ok-head.ensures.reported d.sound in
     let sized = g.met.P.Pages.sized c.args.pages.now in
     let size = page_size p q finds z c.args.directory moment entries d sized c.in_ok-head.head s in
     let some = some_slots p q finds z c.args.directory moment entries d sized c.in_ok-head.head s in
-    let counted = count_is p q finds z c.args.directory moment entries d sized c.in_ok-head.head s in
+    let totaled = count_is p q finds z c.args.directory moment entries d sized c.in_ok-head.head s in
     let sound_on' = sound_on p q finds z c.args.directory moment entries d sized c.in_ok-head.head s in
     let size_on' = size_on p q finds z c.args.directory moment entries d sized c.in_ok-head.head s in
     let n : ℕ = c.in_ok-head.head.length in
@@ -171,7 +171,7 @@ returns-in-None-clause-besides g c = λ z moment entries d stands only.
     let header = subst (λ (k : PageMap). HasHead z (changed change (changed_by e k)) c.args.directory head) all w.0 in
     let count = count_after z size (changed change m) c.args.directory c.args.moment (map.insert entries c.args.slot.now.name.now c.args.slot.now.object) r.0 head header in
     subst (HasOnly z (changed change m) c.args.directory) (sym count)
-    (only_written z m (changed change m) c.args.directory n (n + 1) some (omega arith) keeps (map.len entries) (omega (arith, counted)) only))
+    (only_written z m (changed change m) c.args.directory n (n + 1) some (omega arith) keeps (map.len entries) (omega (arith, totaled)) only))
     (returns-in-None-clause-puts g c z moment entries d stands)
     (c.push_slot.ensures.pushes sound_on' z size_on')
     (c.push_slot.ensures.pages sound_on' z size_on' m)
@@ -183,10 +183,10 @@ returns-else-number-head-clause-slot g c = λ z moment entries d stands.
     let p : PagesState = after e old in
     let q : PagesState = after e (g.P.Pages.state c.head_after.new.pages) in
     let finds = finds_after e old (g.P.Pages.state c.head_after.new.pages) c.head_after.ensures.finds in
-    let s = c.in_ok-head.ensures.told d.sound in
+    let s = c.in_ok-head.ensures.reported d.sound in
     let sized = g.met.P.Pages.sized c.args.pages.now in
     let size = page_size p q finds z c.args.directory moment entries d sized c.in_ok-head.head s in
-    let counted = count_is p q finds z c.args.directory moment entries d sized c.in_ok-head.head s in
+    let totaled = count_is p q finds z c.args.directory moment entries d sized c.in_ok-head.head s in
     let sound_on' = sound_on p q finds z c.args.directory moment entries d sized c.in_ok-head.head s in
     let size_on' = size_on p q finds z c.args.directory moment entries d sized c.in_ok-head.head s in
     let n : ℕ = c.in_ok-head.head.length in
@@ -197,7 +197,7 @@ returns-else-number-head-clause-slot g c = λ z moment entries d stands.
     (λ change r w keeps.
     let header = subst (λ (k : PageMap). HasHead z (changed change (changed_by e k)) c.args.directory head) all w.0 in
     let count = count_after z size (changed change m) c.args.directory c.args.moment (map.insert entries c.args.slot.now.name.now c.args.slot.now.object) r.0 head header in
-    λ k low high. absurd (omega (arith, count, counted, low, high)))
+    λ k low high. absurd (omega (arith, count, totaled, low, high)))
     (returns-else-number-head-clause-puts g c z moment entries d stands)
     (c.write.ensures.writes sound_on' z size_on')
     (c.write.ensures.pages sound_on' z size_on' m)
@@ -209,10 +209,10 @@ returns-in-None-clause-slot g c = λ z moment entries d stands.
     let p : PagesState = after e old in
     let q : PagesState = after e (g.P.Pages.state c.head_after.new.pages) in
     let finds = finds_after e old (g.P.Pages.state c.head_after.new.pages) c.head_after.ensures.finds in
-    let s = c.in_ok-head.ensures.told d.sound in
+    let s = c.in_ok-head.ensures.reported d.sound in
     let sized = g.met.P.Pages.sized c.args.pages.now in
     let size = page_size p q finds z c.args.directory moment entries d sized c.in_ok-head.head s in
-    let counted = count_is p q finds z c.args.directory moment entries d sized c.in_ok-head.head s in
+    let totaled = count_is p q finds z c.args.directory moment entries d sized c.in_ok-head.head s in
     let sound_on' = sound_on p q finds z c.args.directory moment entries d sized c.in_ok-head.head s in
     let size_on' = size_on p q finds z c.args.directory moment entries d sized c.in_ok-head.head s in
     let n : ℕ = c.in_ok-head.head.length in
@@ -223,7 +223,7 @@ returns-in-None-clause-slot g c = λ z moment entries d stands.
     (λ change r w keeps.
     let header = subst (λ (k : PageMap). HasHead z (changed change (changed_by e k)) c.args.directory head) all w.0 in
     let count = count_after z size (changed change m) c.args.directory c.args.moment (map.insert entries c.args.slot.now.name.now c.args.slot.now.object) r.0 head header in
-    λ k low high. subst (λ j. HasKey change c.args.directory (1 + j / page_slots z)) (omega (arith, count, counted, low, high)) keeps)
+    λ k low high. subst (λ j. HasKey change c.args.directory (1 + j / page_slots z)) (omega (arith, count, totaled, low, high)) keeps)
     (returns-in-None-clause-puts g c z moment entries d stands)
     (c.push_slot.ensures.pushes sound_on' z size_on')
     (c.push_slot.ensures.slot sound_on' z size_on')
@@ -236,7 +236,7 @@ returns-else-number-head-clause-slots g c = λ z moment entries d stands.
     let mid : PagesState = g.P.Pages.state c.head_after.new.pages in
     let q : PagesState = after e mid in
     let finds = finds_after e old mid c.head_after.ensures.finds in
-    let s = c.in_ok-head.ensures.told d.sound in
+    let s = c.in_ok-head.ensures.reported d.sound in
     let sized = g.met.P.Pages.sized c.args.pages.now in
     let len = length_is p q finds z c.args.directory moment entries d sized c.in_ok-head.head s in
     let sound_on' = sound_on p q finds z c.args.directory moment entries d sized c.in_ok-head.head s in
@@ -253,12 +253,12 @@ returns-else-number-head-clause-slots g c = λ z moment entries d stands.
     (λ change is w key.
     let slot = subst (λ (k : PageMap). SlotOf z (changed change (changed_by e k)) c.args.directory place entry) all w.1 in
     let count : min n n ≡ length slots = grind (arith, len) in
-    let kept = subst (λ k. KeepsSlots z m (changed change m) c.args.directory k place) count
+    let committed = subst (λ k. KeepsSlots z m (changed change m) c.args.directory k place) count
     (subst (λ (k : PageMap). KeepsSlots z (changed_by e k) (changed change (changed_by e k)) c.args.directory (min n n) place) all w.2) in
     let zeros = subst (EndsInZeros z change c.args.directory) (len ∙ sym (put_len slots place entry)) w.3 in (
       new,
       inl (place, at.0, at.1, at.2, refl),
-      writes_slots z m change c.args.directory mid.page_bytes 2 is size_on' new zeros (put_each z m (changed change m) c.args.directory moment entries d.reads place entry slot kept),
+      writes_slots z m change c.args.directory mid.page_bytes 2 is size_on' new zeros (put_each z m (changed change m) c.args.directory moment entries d.reads place entry slot committed),
       λ k none. set_elsewhere z slots place entry k (λ same. none (subst (λ j. HasKey change c.args.directory (1 + j)) (sym same) key)),
     ))
     c.write.ensures.change
@@ -273,7 +273,7 @@ returns-in-None-clause-slots g c = λ z moment entries d stands.
     let mid : PagesState = g.P.Pages.state c.head_after.new.pages in
     let q : PagesState = after e mid in
     let finds = finds_after e old mid c.head_after.ensures.finds in
-    let s = c.in_ok-head.ensures.told d.sound in
+    let s = c.in_ok-head.ensures.reported d.sound in
     let sized = g.met.P.Pages.sized c.args.pages.now in
     let len = length_is p q finds z c.args.directory moment entries d sized c.in_ok-head.head s in
     let sound_on' = sound_on p q finds z c.args.directory moment entries d sized c.in_ok-head.head s in
@@ -288,12 +288,12 @@ returns-in-None-clause-slots g c = λ z moment entries d stands.
     on_all _ _ _ _ c.push_slot.result
     (λ change is w key.
     let slot = subst (λ k. SlotOf z (changed change m) c.args.directory k entry) len (subst (λ (k : PageMap). SlotOf z (changed change (changed_by e k)) c.args.directory n entry) all w.1) in
-    let kept = subst (λ k. KeepsSlots z m (changed change m) c.args.directory k k) len
+    let committed = subst (λ k. KeepsSlots z m (changed change m) c.args.directory k k) len
     (subst (λ (k : PageMap). KeepsSlots z (changed_by e k) (changed change (changed_by e k)) c.args.directory n n) all w.2) in
     let zeros = subst (EndsInZeros z change c.args.directory) (ap (λ k. k + 1) len ∙ sym (length-append slots (entry ∷ []))) w.3 in (
       new,
       inr (no_slot slots d.reads.once entries d.reads.entries_are entry absent, refl),
-      writes_slots z m change c.args.directory mid.page_bytes 2 is size_on' new zeros (added_each z m (changed change m) c.args.directory moment entries d.reads entry slot kept),
+      writes_slots z m change c.args.directory mid.page_bytes 2 is size_on' new zeros (added_each z m (changed change m) c.args.directory moment entries d.reads entry slot committed),
       λ k none. push_elsewhere z slots entry k (λ same. none (subst (λ j. HasKey change c.args.directory (1 + j)) (ap (λ j. j / page_slots z) len ∙ sym same) key)),
     ))
     c.push_slot.ensures.change

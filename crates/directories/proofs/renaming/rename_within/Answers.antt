@@ -19,14 +19,14 @@ use Rattle.directories.specs.laws.Keys.{key_both}
 use Rattle.directories.proofs.Hashed.{len_less}
 use Rattle.directories.proofs.Held.{asks_both, asks_first}
 use Rattle.directories.proofs.Results.{memory_room}
-use Rattle.directories.proofs.Renamed.{counted, named_later, same, then_in, spare_then, stands_in}
+use Rattle.directories.proofs.Renamed.{totaled, named_later, same, then_in, spare_then, stands_in}
 use Rattle.directories.proofs.SlotLists.{left_are, left_slots, left_without, left_writes, writes_both}
 use Rattle.directories.proofs.Sought.{dir, was_named}
 use Rattle.directories.proofs.renaming.rename_within.Goals as goal
 
-pub returns-in_err-sought-clause-asked : goal.returns-in_err-sought-clause-asked
-returns-in_err-sought-clause-asked g c =
-    asks_first c.args.names.now c.args.directory c.args.directory c.args.to.now.name.now c.args.from.now (g.P.Pages.state c.args.pages.now).asked (g.P.Pages.state c.seek.new.pages).asked c.seek.ensures.asked
+pub returns-in_err-sought-clause-issued : goal.returns-in_err-sought-clause-issued
+returns-in_err-sought-clause-issued g c =
+    asks_first c.args.names.now c.args.directory c.args.directory c.args.to.now.name.now c.args.from.now (g.P.Pages.state c.args.pages.now).issued (g.P.Pages.state c.seek.new.pages).issued c.seek.ensures.issued
 
 pub returns-in_err-sought-clause-fault : goal.returns-in_err-sought-clause-fault
 returns-in_err-sought-clause-fault g c = λ z moment entries d.
@@ -35,10 +35,10 @@ returns-in_err-sought-clause-fault g c = λ z moment entries d.
     let r = err_from_is_err_and c.from_residual.result c.from_residual.ensures.1 in
     rw (r.1, r.2) (memory_room (map.len (map.remove entries c.args.from.now)) mid _ (lacks_memory old mid _ (c.in_err-sought.ensures.fault z moment entries (dir c.args.names.now old z c.args.directory moment entries d))))
 
-pub returns-in_err-taken-clause-asked : goal.returns-in_err-taken-clause-asked
-returns-in_err-taken-clause-asked g c =
-    asks_both c.args.names.now c.args.directory c.args.directory c.args.to.now.name.now c.args.from.now (g.P.Pages.state c.args.pages.now).asked (g.P.Pages.state c.seek.new.pages).asked
-    (g.P.Pages.state c.take_name.new.pages).asked _ c.seek.ensures.asked c.take_name.ensures.asked (omega arith)
+pub returns-in_err-taken-clause-issued : goal.returns-in_err-taken-clause-issued
+returns-in_err-taken-clause-issued g c =
+    asks_both c.args.names.now c.args.directory c.args.directory c.args.to.now.name.now c.args.from.now (g.P.Pages.state c.args.pages.now).issued (g.P.Pages.state c.seek.new.pages).issued
+    (g.P.Pages.state c.take_name.new.pages).issued _ c.seek.ensures.issued c.take_name.ensures.issued (omega arith)
 
 pub returns-in_err-taken-clause-fault : goal.returns-in_err-taken-clause-fault
 returns-in_err-taken-clause-fault g c = λ z moment entries d.
@@ -49,10 +49,10 @@ returns-in_err-taken-clause-fault g c = λ z moment entries d.
     rw (r.1, r.2) (memory_room (map.len (map.remove entries c.args.from.now)) (g.P.Pages.state c.take_name.new.pages) _
     (c.in_err-taken.ensures.fault z moment entries (dir c.args.names.now mid z c.args.directory moment entries later_d)))
 
-pub returns-in_default-clause-asked : goal.returns-in_default-clause-asked
-returns-in_default-clause-asked g c =
-    asks_both c.args.names.now c.args.directory c.args.directory c.args.to.now.name.now c.args.from.now (g.P.Pages.state c.args.pages.now).asked (g.P.Pages.state c.seek.new.pages).asked
-    (g.P.Pages.state c.take_name.new.pages).asked _ c.seek.ensures.asked c.take_name.ensures.asked (omega arith)
+pub returns-in_default-clause-issued : goal.returns-in_default-clause-issued
+returns-in_default-clause-issued g c =
+    asks_both c.args.names.now c.args.directory c.args.directory c.args.to.now.name.now c.args.from.now (g.P.Pages.state c.args.pages.now).issued (g.P.Pages.state c.seek.new.pages).issued
+    (g.P.Pages.state c.take_name.new.pages).issued _ c.seek.ensures.issued c.take_name.ensures.issued (omega arith)
 
 pub returns-in_default-clause-named : goal.returns-in_default-clause-named
 returns-in_default-clause-named g c = λ z moment entries d.
@@ -60,20 +60,20 @@ returns-in_default-clause-named g c = λ z moment entries d.
     let mid : PagesState = g.P.Pages.state c.seek.new.pages in
     rw c.in_default.is at (c.in_ok-taken.ensures.named z moment entries (named_later c.args.names.now old mid z c.args.directory moment entries c.seek.ensures.finds d))
 
-pub returns-in_err-second-clause-asked : goal.returns-in_err-second-clause-asked
-returns-in_err-second-clause-asked g c =
-    asks_both c.args.names.now c.args.directory c.args.directory c.args.to.now.name.now c.args.from.now (g.P.Pages.state c.args.pages.now).asked (g.P.Pages.state c.seek.new.pages).asked
-    (g.P.Pages.state c.take_name.new.pages).asked _ c.seek.ensures.asked c.take_name.ensures.asked c.put_at.ensures.asked
+pub returns-in_err-second-clause-issued : goal.returns-in_err-second-clause-issued
+returns-in_err-second-clause-issued g c =
+    asks_both c.args.names.now c.args.directory c.args.directory c.args.to.now.name.now c.args.from.now (g.P.Pages.state c.args.pages.now).issued (g.P.Pages.state c.seek.new.pages).issued
+    (g.P.Pages.state c.take_name.new.pages).issued _ c.seek.ensures.issued c.take_name.ensures.issued c.put_at.ensures.issued
 
-pub returns-in_err-change-clause-asked : goal.returns-in_err-change-clause-asked
-returns-in_err-change-clause-asked g c =
-    asks_both c.args.names.now c.args.directory c.args.directory c.args.to.now.name.now c.args.from.now (g.P.Pages.state c.args.pages.now).asked (g.P.Pages.state c.seek.new.pages).asked
-    (g.P.Pages.state c.take_name.new.pages).asked _ c.seek.ensures.asked c.take_name.ensures.asked c.put_at.ensures.asked
+pub returns-in_err-change-clause-issued : goal.returns-in_err-change-clause-issued
+returns-in_err-change-clause-issued g c =
+    asks_both c.args.names.now c.args.directory c.args.directory c.args.to.now.name.now c.args.from.now (g.P.Pages.state c.args.pages.now).issued (g.P.Pages.state c.seek.new.pages).issued
+    (g.P.Pages.state c.take_name.new.pages).issued _ c.seek.ensures.issued c.take_name.ensures.issued c.put_at.ensures.issued
 
-pub returns-clause-asked : goal.returns-clause-asked
-returns-clause-asked g c =
-    asks_both c.args.names.now c.args.directory c.args.directory c.args.to.now.name.now c.args.from.now (g.P.Pages.state c.args.pages.now).asked (g.P.Pages.state c.seek.new.pages).asked
-    (g.P.Pages.state c.take_name.new.pages).asked _ c.seek.ensures.asked c.take_name.ensures.asked c.put_at.ensures.asked
+pub returns-clause-issued : goal.returns-clause-issued
+returns-clause-issued g c =
+    asks_both c.args.names.now c.args.directory c.args.directory c.args.to.now.name.now c.args.from.now (g.P.Pages.state c.args.pages.now).issued (g.P.Pages.state c.seek.new.pages).issued
+    (g.P.Pages.state c.take_name.new.pages).issued _ c.seek.ensures.issued c.take_name.ensures.issued c.put_at.ensures.issued
 
 pub returns-in_err-second-clause-fault : goal.returns-in_err-second-clause-fault
 returns-in_err-second-clause-fault g c = λ z moment entries d.
@@ -145,96 +145,41 @@ returns-clause-moves g c = λ z moment entries d.
     c.args.to.now.name.now c.in_ok-sought.sought.found c.moved-place.result (c.in_ok-sought.ensures.sought z moment entries d).found c.moved-place.ensures in
     let first : Change = taken.change in
     let second : Change = c.in_ok-second.second in
-    let puts = c.in_ok-second.ensures.puts z c.args.moment (map.remove entries c.args.from.now) at stands in
-    let now : Entries = map.insert (map.remove entries c.args.from.now) c.args.to.now.name.now c.args.to.now.object in
+    let left : Entries = map.remove entries c.args.from.now in
+    let now : Entries = map.insert left c.args.to.now.name.now c.args.to.now.object in
+    let change : Change = c.in_ok-change.change in
+    let puts = c.in_ok-second.ensures.puts z c.args.moment left at stands in
     let spare = spare_then names old mid next c.seek.ensures.finds c.take_name.ensures.finds z size o moment entries d c.args.from.now taken c.args.moment t reads in
     let present : next.present ≡ old.present = c.take_name.ensures.finds.present ∙ c.seek.ensures.finds.present in
-    let both : changed second (changed first old.present) ≡ changed c.in_ok-change.change old.present = λ i x k. sym (c.in_ok-change.ensures.pages old.present x k) i in
-    subst (λ (m : PageMap). ReadsDirectory z m o c.args.moment now d.reads.fields.spare) both
-    (subst (λ (k : PageMap). ReadsDirectory z (changed second (changed first k)) o c.args.moment now d.reads.fields.spare) present
-    (subst (λ n. ReadsDirectory z (changed second (changed first next.present)) o c.args.moment now n) spare puts))
-
-pub returns-clause-besides : goal.returns-clause-besides
-returns-clause-besides g c = λ z moment entries d only.
-    let names = c.args.names.now in
-    let o : ℕ = c.args.directory in
-    let old : PagesState = g.P.Pages.state c.args.pages.now in
-    let mid : PagesState = g.P.Pages.state c.seek.new.pages in
-    let next : PagesState = g.P.Pages.state c.take_name.new.pages in
-    let sized = g.met.P.Pages.sized c.args.pages.now in
-    let size : IsPageSize z.page_bytes = record { least = omega (arith, d.size, sized.0); most = omega (arith, d.size, sized.1) } in
-    let later_d = named_later names old mid z o moment entries c.seek.ensures.finds d in
-    let taken : Taken = c.in-Some.taken in
-    let t = rw c.in-Some.is at (c.in_ok-taken.ensures.takes z moment entries later_d) in
-    let reads = rw c.in-Some.is at (c.in_ok-taken.ensures.removes z moment entries later_d) in
-    let at = then_in names old mid next c.seek.ensures.finds c.take_name.ensures.finds z size o moment entries d c.args.from.now taken c.args.moment t reads in
-    let stands = stands_in names old mid next c.seek.ensures.finds c.take_name.ensures.finds z size o moment entries d c.args.from.now taken c.args.moment t reads
-    c.args.to.now.name.now c.in_ok-sought.sought.found c.moved-place.result (c.in_ok-sought.ensures.sought z moment entries d).found c.moved-place.ensures in
-    let first : Change = taken.change in
-    let second : Change = c.in_ok-second.second in
-    let left : Entries = map.remove entries c.args.from.now in
-    let n : ℕ = map.len (map.insert left c.args.to.now.name.now c.args.to.now.object) in
-    let only_mid : HasOnly z mid.present o (map.len entries) = subst (λ (k : PageMap). HasOnly z k o (map.len entries)) (sym c.seek.ensures.finds.present) only in
-    let few = rw c.in-Some.is at (c.in_ok-taken.ensures.besides z moment entries later_d only_mid) in
-    let few_then : HasOnly z (changed first next.present) o (map.len left) = subst (λ (k : PageMap). HasOnly z (changed first k) o (map.len left)) (sym c.take_name.ensures.finds.present) few in
-    let present : next.present ≡ old.present = c.take_name.ensures.finds.present ∙ c.seek.ensures.finds.present in
-    let both : changed second (changed first old.present) ≡ changed c.in_ok-change.change old.present = λ i x k. sym (c.in_ok-change.ensures.pages old.present x k) i in
-    subst (λ (m : PageMap). HasOnly z m o n) both
-    (subst (λ (k : PageMap). HasOnly z (changed second (changed first k)) o n) present
-    (c.in_ok-second.ensures.besides z c.args.moment left at stands few_then))
-
-pub returns-clause-slot : goal.returns-clause-slot
-returns-clause-slot g c = λ z moment entries d.
-    let names = c.args.names.now in
-    let o : ℕ = c.args.directory in
-    let old : PagesState = g.P.Pages.state c.args.pages.now in
-    let mid : PagesState = g.P.Pages.state c.seek.new.pages in
-    let next : PagesState = g.P.Pages.state c.take_name.new.pages in
-    let sized = g.met.P.Pages.sized c.args.pages.now in
-    let size : IsPageSize z.page_bytes = record { least = omega (arith, d.size, sized.0); most = omega (arith, d.size, sized.1) } in
-    let later_d = named_later names old mid z o moment entries c.seek.ensures.finds d in
-    let taken : Taken = c.in-Some.taken in
-    let t = rw c.in-Some.is at (c.in_ok-taken.ensures.takes z moment entries later_d) in
-    let reads = rw c.in-Some.is at (c.in_ok-taken.ensures.removes z moment entries later_d) in
-    let at = then_in names old mid next c.seek.ensures.finds c.take_name.ensures.finds z size o moment entries d c.args.from.now taken c.args.moment t reads in
-    let stands = stands_in names old mid next c.seek.ensures.finds c.take_name.ensures.finds z size o moment entries d c.args.from.now taken c.args.moment t reads
-    c.args.to.now.name.now c.in_ok-sought.sought.found c.moved-place.result (c.in_ok-sought.ensures.sought z moment entries d).found c.moved-place.ensures in
-    let first : Change = taken.change in
-    let second : Change = c.in_ok-second.second in
-    let slots = c.in_ok-second.ensures.slot z c.args.moment (map.remove entries c.args.from.now) at stands in
-    let fewer : map.len (map.remove entries c.args.from.now) ≤ map.len entries = len_less entries c.args.from.now in
-    λ k low high. key_both first second c.in_ok-change.change c.in_ok-change.ensures.pages o (1 + k / page_slots z) (slots k (omega (arith, low, fewer)) high)
-
-pub returns-clause-slots : goal.returns-clause-slots
-returns-clause-slots g c = λ z moment entries d.
-    let names = c.args.names.now in
-    let o : ℕ = c.args.directory in
-    let old : PagesState = g.P.Pages.state c.args.pages.now in
-    let mid : PagesState = g.P.Pages.state c.seek.new.pages in
-    let next : PagesState = g.P.Pages.state c.take_name.new.pages in
-    let sized = g.met.P.Pages.sized c.args.pages.now in
-    let size : IsPageSize z.page_bytes = record { least = omega (arith, d.size, sized.0); most = omega (arith, d.size, sized.1) } in
-    let later_d = named_later names old mid z o moment entries c.seek.ensures.finds d in
-    let taken : Taken = c.in-Some.taken in
-    let t = rw c.in-Some.is at (c.in_ok-taken.ensures.takes z moment entries later_d) in
-    let reads = rw c.in-Some.is at (c.in_ok-taken.ensures.removes z moment entries later_d) in
-    let at = then_in names old mid next c.seek.ensures.finds c.take_name.ensures.finds z size o moment entries d c.args.from.now taken c.args.moment t reads in
-    let stands = stands_in names old mid next c.seek.ensures.finds c.take_name.ensures.finds z size o moment entries d c.args.from.now taken c.args.moment t reads
-    c.args.to.now.name.now c.in_ok-sought.sought.found c.moved-place.result (c.in_ok-sought.ensures.sought z moment entries d).found c.moved-place.ensures in
-    let first : Change = taken.change in
-    let second : Change = c.in_ok-second.second in
-    let both : Change = c.in_ok-change.change in
-    let entry : Entry = entry_of c.args.to.now in
-    let puts = c.in_ok-second.ensures.slots z c.args.moment (map.remove entries c.args.from.now) at stands in
+    let both : changed second (changed first old.present) ≡ changed change old.present = λ i x k. sym (c.in_ok-change.ensures.pages old.present x k) i in
+    let slots = c.in_ok-second.ensures.slot z c.args.moment left at stands in
+    let fewer : map.len left ≤ map.len entries = len_less entries c.args.from.now in
+    let lists = c.in_ok-second.ensures.slots z c.args.moment left at stands in
     let a : IsChange first mid.page_bytes 2 = rw c.in-Some.is at c.in_ok-taken.ensures.change in
-    let left : List Entry = left_slots z size.most mid.present o moment entries later_d.reads c.args.from.now taken t in
+    let list : List Entry = left_slots z size.most mid.present o moment entries later_d.reads c.args.from.now taken t in
     let without = left_without z size.most mid.present o moment entries later_d.reads c.args.from.now taken t in
     let writes = left_writes z size.most mid.present o moment entries later_d.reads c.args.from.now taken t mid.page_bytes 2 a later_d.size in
-    let one : left ≡ at.reads.slots = left_are z size.most mid.present o moment entries later_d.reads c.args.from.now taken t (changed first next.present)
+    let one : list ≡ at.reads.slots = left_are z size.most mid.present o moment entries later_d.reads c.args.from.now taken t (changed first next.present)
     (same names old mid next c.seek.ensures.finds c.take_name.ensures.finds z size o moment entries d c.args.from.now taken c.args.moment t reads) at.reads.slots
-    (counted names old mid next c.seek.ensures.finds c.take_name.ensures.finds z size o moment entries d c.args.from.now taken c.args.moment t reads) at.reads.each in (
-      puts.0,
-      (left, without, subst (λ (s : List Entry). IsPut entry s puts.0) (sym one) puts.1),
-      writes_both z first second both (c.in_ok-change.ensures.apart a.apart c.in_ok-second.ensures.change.apart) c.in_ok-change.ensures.pages o left puts.0 writes puts.2
-          (λ k none. puts.3 k none ∙ ap (λ (s : List Entry). slots_page z s k) (sym one)),
-    )
+    (totaled names old mid next c.seek.ensures.finds c.take_name.ensures.finds z size o moment entries d c.args.from.now taken c.args.moment t reads) at.reads.each in
+    record {
+      makes = record {
+        becomes = subst (λ (m : PageMap). ReadsDirectory z m o c.args.moment now d.reads.fields.spare) both
+            (subst (λ (k : PageMap). ReadsDirectory z (changed second (changed first k)) o c.args.moment now d.reads.fields.spare) present
+            (subst (λ n. ReadsDirectory z (changed second (changed first next.present)) o c.args.moment now n) spare puts));
+        ends = λ only.
+            let only_mid : HasOnly z mid.present o (map.len entries) = subst (λ (k : PageMap). HasOnly z k o (map.len entries)) (sym c.seek.ensures.finds.present) only in
+            let few = rw c.in-Some.is at (c.in_ok-taken.ensures.besides z moment entries later_d only_mid) in
+            let few_then : HasOnly z (changed first next.present) o (map.len left) = subst (λ (k : PageMap). HasOnly z (changed first k) o (map.len left)) (sym c.take_name.ensures.finds.present) few in
+            subst (λ (m : PageMap). HasOnly z m o (map.len now)) both
+            (subst (λ (k : PageMap). HasOnly z (changed second (changed first k)) o (map.len now)) present
+            (c.in_ok-second.ensures.besides z c.args.moment left at stands few_then));
+      };
+      more = λ k low high. key_both first second change c.in_ok-change.ensures.pages o (1 + k / page_slots z) (slots k (omega (arith, low, fewer)) high);
+      slots = (
+        lists.0,
+        (list, without, subst (λ (s : List Entry). IsPut (entry_of c.args.to.now) s lists.0) (sym one) lists.1),
+        writes_both z first second change (c.in_ok-change.ensures.apart a.apart c.in_ok-second.ensures.change.apart) c.in_ok-change.ensures.pages o list lists.0 writes lists.2
+            (λ k none. lists.3 k none ∙ ap (λ (s : List Entry). slots_page z s k) (sym one)),
+      );
+    }

@@ -10,16 +10,16 @@ use Rattle.directories.specs.Directories.{SlotOf}
 use Rattle.directories.proofs.Held.{asked_on}
 use Rattle.directories.proofs.seeking.search_held.Goals as goal
 
-pub returns-in_default-clause-told : goal.returns-in_default-clause-told
-returns-in_default-clause-told g c = λ sound z size i less held.
+pub returns-in_default-clause-reported : goal.returns-in_default-clause-reported
+returns-in_default-clause-reported g c = λ sound z size i less held.
     let next = rw c.in_default.is at c.next_slot.ensures in
     elim (cases_lt i c.loop-from.from) [
       | inl before ↦ c.loop-from.invariant.none sound z size i before held
       | inr later ↦ absurd (next i later (subst (λ h. Holds c.args.names.now c.args.directory h i) (sym c.name_hash-hash.ensures) held))
     ]
 
-pub returns-then-place-length-clause-told : goal.returns-then-place-length-clause-told
-returns-then-place-length-clause-told g c = λ sound z size i less held.
+pub returns-then-place-length-clause-reported : goal.returns-then-place-length-clause-reported
+returns-then-place-length-clause-reported g c = λ sound z size i less held.
     let next = rw c.in-Some.is at c.next_slot.ensures in
     let over : c.args.length ≤ c.in-Some.place = c.if-place-length.true in
     elim (cases_lt i c.loop-from.from) [
@@ -29,13 +29,13 @@ returns-then-place-length-clause-told g c = λ sound z size i less held.
           absurd (omega (arith, over, least, less))
     ]
 
-pub returns-in_err-object-clause-asked : goal.returns-in_err-object-clause-asked
-returns-in_err-object-clause-asked g c =
+pub returns-in_err-object-clause-issued : goal.returns-in_err-object-clause-issued
+returns-in_err-object-clause-issued g c =
     let old : PagesState = g.P.Pages.state c.args.pages.now in
     let now : PagesState = g.P.Pages.state c.loop-from.pages in
     let next = rw c.in-Some.is at c.next_slot.ensures in
-    let a = asked_on c.args.names.now c.args.directory c.args.name.now old.asked now.asked _ c.loop-from.from c.in-Some.place c.loop-from.invariant.asked next.1
-    (subst (λ h. Holds c.args.names.now c.args.directory h c.in-Some.place) c.name_hash-hash.ensures next.0) c.find_in_slot.ensures.asked in
+    let a = asked_on c.args.names.now c.args.directory c.args.name.now old.issued now.issued _ c.loop-from.from c.in-Some.place c.loop-from.invariant.issued next.1
+    (subst (λ h. Holds c.args.names.now c.args.directory h c.in-Some.place) c.name_hash-hash.ensures next.0) c.find_in_slot.ensures.issued in
     (a.0, a.1, a.3)
 
 pub returns-in_err-object-clause-fault : goal.returns-in_err-object-clause-fault
@@ -53,19 +53,19 @@ returns-in_err-object-clause-why g c =
     let r = err_from_is_err_and c.from_residual.result c.from_residual.ensures.1 in
     rw (r.1, r.2) (says_on (g.P.Pages.state c.args.pages.now) (g.P.Pages.state c.loop-from.pages) (g.P.Pages.state c.find_in_slot.new.pages) _ c.loop-from.invariant.finds.refused c.in_err-object.ensures.why)
 
-pub returns-in-Some-2-clause-asked : goal.returns-in-Some-2-clause-asked
-returns-in-Some-2-clause-asked g c =
+pub returns-in-Some-2-clause-issued : goal.returns-in-Some-2-clause-issued
+returns-in-Some-2-clause-issued g c =
     let old : PagesState = g.P.Pages.state c.args.pages.now in
     let now : PagesState = g.P.Pages.state c.loop-from.pages in
     let next = rw c.in-Some.is at c.next_slot.ensures in
-    let a = asked_on c.args.names.now c.args.directory c.args.name.now old.asked now.asked _ c.loop-from.from c.in-Some.place c.loop-from.invariant.asked next.1
-    (subst (λ h. Holds c.args.names.now c.args.directory h c.in-Some.place) c.name_hash-hash.ensures next.0) c.find_in_slot.ensures.asked in
+    let a = asked_on c.args.names.now c.args.directory c.args.name.now old.issued now.issued _ c.loop-from.from c.in-Some.place c.loop-from.invariant.issued next.1
+    (subst (λ h. Holds c.args.names.now c.args.directory h c.in-Some.place) c.name_hash-hash.ensures next.0) c.find_in_slot.ensures.issued in
     (a.0, a.1, a.3)
 
-pub returns-in-Some-2-clause-told : goal.returns-in-Some-2-clause-told
-returns-in-Some-2-clause-told g c = λ sound z size.
+pub returns-in-Some-2-clause-reported : goal.returns-in-Some-2-clause-reported
+returns-in-Some-2-clause-reported g c = λ sound z size.
     let finds = c.loop-from.invariant.finds in
-    let t = rw c.in-Some-2.is at (c.in_ok-object.ensures.told (finds.sound ∙ sound) z (size ∙ sym finds.page_bytes)) in
+    let t = rw c.in-Some-2.is at (c.in_ok-object.ensures.reported (finds.sound ∙ sound) z (size ∙ sym finds.page_bytes)) in
     record {
       entry = t.0;
       there = subst (λ (m : PageMap). SlotOf z m c.args.directory c.in-Some.place t.0) finds.present t.1;
@@ -84,18 +84,18 @@ loop-from-preserved g c =
     record {
       finds = finds_on _ _ _ finds c.find_in_slot.ensures.finds;
       power = c.in_ok-object.ensures.power ∙ c.loop-from.invariant.power;
-      asked = asked_on c.args.names.now c.args.directory c.args.name.now old.asked now.asked _ c.loop-from.from c.in-Some.place c.loop-from.invariant.asked next.1
-          (subst (λ h. Holds c.args.names.now c.args.directory h c.in-Some.place) c.name_hash-hash.ensures next.0) c.find_in_slot.ensures.asked;
+      issued = asked_on c.args.names.now c.args.directory c.args.name.now old.issued now.issued _ c.loop-from.from c.in-Some.place c.loop-from.invariant.issued next.1
+          (subst (λ h. Holds c.args.names.now c.args.directory h c.in-Some.place) c.name_hash-hash.ensures next.0) c.find_in_slot.ensures.issued;
       hash = c.name_hash-hash.ensures;
       none = λ sound z size i less held. elim (cases_lt i c.loop-from.from) [
         | inl before ↦ c.loop-from.invariant.none sound z size i before held
         | inr later ↦
             let least : c.in-Some.place ≤ i = next.2 i later (subst (λ h. Holds c.args.names.now c.args.directory h i) (sym c.name_hash-hash.ensures) held) in
             let here : c.in-Some.place ≡ i = omega (arith, least, less) in
-            let t = rw c.in_default-2.is at (c.in_ok-object.ensures.told (finds.sound ∙ sound) z (size ∙ sym finds.page_bytes)) in
+            let t = rw c.in_default-2.is at (c.in_ok-object.ensures.reported (finds.sound ∙ sound) z (size ∙ sym finds.page_bytes)) in
             (t.0, subst (λ k. SlotOf z old.present c.args.directory k t.0) here (subst (λ (m : PageMap). SlotOf z m c.args.directory c.in-Some.place t.0) finds.present t.1), t.2)
       ];
     }
 
-pub returns-clause-told : goal.returns-clause-told
-returns-clause-told g c = λ sound z size i less held. c.loop-from.invariant.none sound z size i (omega (arith, less, c.loop-from-test.false)) held
+pub returns-clause-reported : goal.returns-clause-reported
+returns-clause-reported g c = λ sound z size i less held. c.loop-from.invariant.none sound z size i (omega (arith, less, c.loop-from-test.false)) held

@@ -12,8 +12,8 @@ abbrev pub invariant-loop-from : goal.invariant-loop-from
 invariant-loop-from g l = record {
   finds : OnlyFinds (g.P.Pages.state l.fn.pages) (g.P.Pages.state l.pages);
   power : KeepsPower (g.P.Pages.state l.fn.pages) (g.P.Pages.state l.pages);
-  asked : (slots : List ℕ) × AreHeld l.names l.directory l.name slots × ((i s : ℕ) → slice_get slots i ≡ Some s → s < l.from)
-      × ((g.P.Pages.state l.pages).asked ≤ (g.P.Pages.state l.fn.pages).asked + length slots);
+  issued : (slots : List ℕ) × AreHeld l.names l.directory l.name slots × ((i s : ℕ) → slice_get slots i ≡ Some s → s < l.from)
+      × ((g.P.Pages.state l.pages).issued ≤ (g.P.Pages.state l.fn.pages).issued + length slots);
   hash : l.hash ≡ fnv1a l.name;
   none : (g.P.Pages.state l.fn.pages).sound ≡ true → (z : Sizes) → z.page_bytes ≡ (g.P.Pages.state l.fn.pages).page_bytes
       → (i : ℕ) → i < l.from → Holds l.names l.directory (fnv1a l.name) i → (e : Entry) × SlotOf z (g.P.Pages.state l.fn.pages).present l.directory i e × (e.name ≢ l.name);

@@ -10,8 +10,8 @@ use Rattle.directories.specs.Slots.{AreSlots}
 use Rattle.directories.specs.Writes.{LosesSlot}
 use Rattle.directories.specs.declared.head.DirectoryHead.{DirectoryHead}
 use Rattle.directories.proofs.Reading.{count_after}
-use Rattle.directories.proofs.Sought.{dir, few_bytes, taken_name, name_removed, tells_some, tells_none}
-use Rattle.directories.proofs.Told.{page_size, count_is, are_on}
+use Rattle.directories.proofs.Sought.{dir, few_bytes, taken_name, name_removed, reports_some, reports_none}
+use Rattle.directories.proofs.Reported.{page_size, count_is, are_on}
 use Rattle.directories.proofs.taking.take_name.Goals as goal
 
 pub returns-in_err-sought-clause-fault : goal.returns-in_err-sought-clause-fault
@@ -22,17 +22,17 @@ returns-in_err-sought-clause-fault g c = λ z moment entries d.
 pub returns-in_default-clause-named : goal.returns-in_default-clause-named
 returns-in_default-clause-named g c = λ z moment entries d. rw c.in_default.is at (c.in_ok-sought.ensures.sought z moment entries d).found
 
-pub returns-in_default-clause-told : goal.returns-in_default-clause-told
-returns-in_default-clause-told g c = λ sound z size.
-    let t = c.in_ok-sought.ensures.told sound z size in
-    tells_none c.args.names.now z (g.P.Pages.state c.args.pages.now) c.args.directory c.in_ok-sought.sought.head t.0 c.args.name.now (rw c.in_default.is at t.1)
+pub returns-in_default-clause-reported : goal.returns-in_default-clause-reported
+returns-in_default-clause-reported g c = λ sound z size.
+    let t = c.in_ok-sought.ensures.reported sound z size in
+    reports_none c.args.names.now z (g.P.Pages.state c.args.pages.now) c.args.directory c.in_ok-sought.sought.head t.0 c.args.name.now (rw c.in_default.is at t.1)
 
 pub returns-in_err-change-clause-fault : goal.returns-in_err-change-clause-fault
 returns-in_err-change-clause-fault g c = λ z moment entries d.
     let old : PagesState = g.P.Pages.state c.args.pages.now in
     let mid : PagesState = g.P.Pages.state c.seek.new.pages in
     let finds = c.seek.ensures.finds in
-    let s = (c.in_ok-sought.ensures.told d.sound z d.size).0 in
+    let s = (c.in_ok-sought.ensures.reported d.sound z d.size).0 in
     let sized = g.met.P.Pages.sized c.args.pages.now in
     let n : ℕ = c.in_ok-sought.sought.head.length in
     let within : c.in-Some.found.place < n = rw c.in-Some.is at c.in_ok-sought.ensures.within in
@@ -75,7 +75,7 @@ returns-clause-besides g c = λ z moment entries d only.
     let mid : PagesState = g.P.Pages.state c.seek.new.pages in
     let finds = c.seek.ensures.finds in
     let here = dir c.args.names.now old z c.args.directory moment entries d in
-    let s = (c.in_ok-sought.ensures.told d.sound z d.size).0 in
+    let s = (c.in_ok-sought.ensures.reported d.sound z d.size).0 in
     let sized = g.met.P.Pages.sized c.args.pages.now in
     let n : ℕ = c.in_ok-sought.sought.head.length in
     let within : c.in-Some.found.place < n = rw c.in-Some.is at c.in_ok-sought.ensures.within in
@@ -92,9 +92,9 @@ returns-clause-besides g c = λ z moment entries d only.
     let count = count_after z (page_size old mid finds z c.args.directory moment entries here sized c.in_ok-sought.sought.head s) (changed change m) c.args.directory c.args.moment (map.remove entries c.args.name.now) r.0 head loses.header in
     subst (HasOnly z (changed change m) c.args.directory) (sym count) (turns before)
 
-pub returns-clause-told : goal.returns-clause-told
-returns-clause-told g c = λ sound z size.
-    let t = c.in_ok-sought.ensures.told sound z size in (
+pub returns-clause-reported : goal.returns-clause-reported
+returns-clause-reported g c = λ sound z size.
+    let t = c.in_ok-sought.ensures.reported sound z size in (
       c.in-Some.found.object,
-      tells_some c.args.names.now z (g.P.Pages.state c.args.pages.now) c.args.directory c.in_ok-sought.sought.head t.0 c.args.name.now c.in-Some.found (rw c.in-Some.is at t.1),
+      reports_some c.args.names.now z (g.P.Pages.state c.args.pages.now) c.args.directory c.in_ok-sought.sought.head t.0 c.args.name.now c.in-Some.found (rw c.in-Some.is at t.1),
     )

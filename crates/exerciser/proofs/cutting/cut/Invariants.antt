@@ -7,7 +7,7 @@ use Rattle.exerciser.specs.Draws.{words_after}
 use Rattle.exerciser.proofs.Sessions.{SoFar}
 use Rattle.exerciser.proofs.cutting.cut.Given as goal
 
--- each session so far kept a tree and took its words, and the next one has the same commands, no failure and an unmount
+-- each session so far held a tree and took its words, and the next one has the same commands, no failure and an unmount
 abbrev pub invariant-loop-before : goal.invariant-loop-before
 invariant-loop-before g l = record {
   commands : l.session.commands ≡ l.fn.script;
@@ -15,6 +15,6 @@ invariant-loop-before g l = record {
   unmounts : l.session.unmount ≡ true;
   words : answers l.generator ≡ words_after l.fn.seed (device l.fn.nand).geometry.pages l.before;
   on : IsTreeOn (device l.standing.device) l.standing.tree;
-  told : SoFar (record { first = device l.fn.nand; seed = l.fn.seed; commands = l.fn.script.items; sessions = l.fn.sessions }) l.before (device l.standing.device) l.standing.tree
+  reported : SoFar (record { first = device l.fn.nand; seed = l.fn.seed; commands = l.fn.script.items; sessions = l.fn.sessions }) l.before (device l.standing.device) l.standing.tree
       (g.W.Write.contents l.initial.writer) (g.W.Write.contents l.writer);
 }

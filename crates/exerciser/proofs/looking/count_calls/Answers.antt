@@ -8,8 +8,8 @@ use Rattle.exerciser.proofs.Causes.{uncounted}
 use Rattle.exerciser.proofs.Seeds.{counts}
 use Rattle.exerciser.proofs.looking.count_calls.Goals as goal
 
-pub returns-clause-counted : goal.returns-clause-counted
-returns-clause-counted c =
+pub returns-clause-totaled : goal.returns-clause-totaled
+returns-clause-totaled c =
     let first = device c.args.nand.now in
     let last = device c.in_ok-last.last in
     let same = c.in_ok-copy.ensures.device in

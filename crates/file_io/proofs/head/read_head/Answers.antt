@@ -34,8 +34,8 @@ returns-clause-valid g c =
     subst (λ (xs : List ℕ). IsHeader old.page_bytes (file_fields f.length f.moment xs)) (sym bits)
     (in_format_2 old.page_bytes f (subst (λ n. IsHeader n f) size found.valid) c.in_ok-header.ensures.kind)
 
-pub returns-clause-told : goal.returns-clause-told
-returns-clause-told g c = λ sound.
+pub returns-clause-reported : goal.returns-clause-reported
+returns-clause-reported g c = λ sound.
     let old : PagesState = g.P.Pages.state c.args.pages.now in
     let f : Fields = fields_of c.in_ok-header.header in
     let page : List ℕ = c.page.result.now in

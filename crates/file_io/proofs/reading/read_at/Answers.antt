@@ -39,11 +39,11 @@ loop-index-preserved g c =
     record {
       finds = finds_on _ _ _ c.loop-index.invariant.finds c.read_part.ensures.finds;
       power = c.in_ok-read_part.ensures.power ∙ c.loop-index.invariant.power;
-      asked = omega (arith, low, c.loop-index.invariant.asked, c.read_part.ensures.asked);
+      issued = omega (arith, low, c.loop-index.invariant.issued, c.read_part.ensures.issued);
       holes = λ sound.
-          let kept : now.present ≡ old.present = c.loop-index.invariant.finds.present in
-          count_next old.present c.args.object (c.args.offset / d) c.loop-index.index old.asked now.asked (g.P.Pages.state c.read_part.new.pages).asked low (c.loop-index.invariant.holes sound)
-          (subst (λ (m : PageMap). (g.P.Pages.state c.read_part.new.pages).asked ≤ now.asked + one_page (m c.args.object (1 + c.loop-index.index))) kept (c.read_part.ensures.holes (c.loop-index.invariant.finds.sound ∙ sound)));
+          let committed : now.present ≡ old.present = c.loop-index.invariant.finds.present in
+          count_next old.present c.args.object (c.args.offset / d) c.loop-index.index old.issued now.issued (g.P.Pages.state c.read_part.new.pages).issued low (c.loop-index.invariant.holes sound)
+          (subst (λ (m : PageMap). (g.P.Pages.state c.read_part.new.pages).issued ≤ now.issued + one_page (m c.args.object (1 + c.loop-index.index))) committed (c.read_part.ensures.holes (c.loop-index.invariant.finds.sound ∙ sound)));
       size = c.read_part.ensures.size ∙ c.loop-index.invariant.size;
       rest = c.read_part.ensures.rest ∙ c.loop-index.invariant.rest;
       read = λ z moment all f only same.
@@ -89,8 +89,8 @@ returns-in_err-read_part-clause-fault g c =
     rw (p.1, p.2) (lacks_on (g.P.Pages.state c.args.pages.now) (g.P.Pages.state c.loop-index.pages) (g.P.Pages.state c.read_part.new.pages) c.in_err-read_part.field-0.0
     c.loop-index.invariant.finds.refused c.in_err-read_part.ensures.fault)
 
-pub returns-in_err-read_part-clause-asked : goal.returns-in_err-read_part-clause-asked
-returns-in_err-read_part-clause-asked g c =
+pub returns-in_err-read_part-clause-issued : goal.returns-in_err-read_part-clause-issued
+returns-in_err-read_part-clause-issued g c =
     let d : ℕ = c.from-page_bytes.result in
     let old : PagesState = g.P.Pages.state c.args.pages.now in
     let size : d ≡ old.page_bytes = c.from-page_bytes.ensures ∙ c.page_bytes.ensures.bytes in
@@ -98,11 +98,11 @@ returns-in_err-read_part-clause-asked g c =
     range_end c.args.offset (length c.args.buffer.now) c.args.len c.min-end.result (c.min-end.ensures ∙ ap (min c.args.len) c.saturating_add.ensures) c.ranges.len.fits in
     let low : c.args.offset / d ≤ c.loop-index.index = c.loop-index.auto.index in
     let up : c.loop-index.index < (c.min-end.result - 1) / d + 1 = c.loop-index-test.true in
-    asked_for d old.page_bytes c.args.offset (length c.args.buffer.now) c.args.len c.min-end.result old.asked (c.loop-index.index + 1 - c.args.offset / d) (g.P.Pages.state c.read_part.new.pages).asked size end c.if-end-offset.false
-    (omega (arith, low, c.loop-index.invariant.asked, c.read_part.ensures.asked)) (omega (arith, up))
+    asked_for d old.page_bytes c.args.offset (length c.args.buffer.now) c.args.len c.min-end.result old.issued (c.loop-index.index + 1 - c.args.offset / d) (g.P.Pages.state c.read_part.new.pages).issued size end c.if-end-offset.false
+    (omega (arith, low, c.loop-index.invariant.issued, c.read_part.ensures.issued)) (omega (arith, up))
 
-pub returns-clause-asked : goal.returns-clause-asked
-returns-clause-asked g c =
+pub returns-clause-issued : goal.returns-clause-issued
+returns-clause-issued g c =
     let d : ℕ = c.from-page_bytes.result in
     let old : PagesState = g.P.Pages.state c.args.pages.now in
     let size : d ≡ old.page_bytes = c.from-page_bytes.ensures ∙ c.page_bytes.ensures.bytes in
@@ -110,26 +110,26 @@ returns-clause-asked g c =
     range_end c.args.offset (length c.args.buffer.now) c.args.len c.min-end.result (c.min-end.ensures ∙ ap (min c.args.len) c.saturating_add.ensures) c.ranges.len.fits in
     let order : c.args.offset / d ≤ (c.min-end.result - 1) / d + 1 = chunks_order d c.args.offset c.min-end.result c.if-end-offset.false in
     let up : c.loop-index.index ≤ (c.min-end.result - 1) / d + 1 = c.loop-index.auto.index-end order in
-    asked_for d old.page_bytes c.args.offset (length c.args.buffer.now) c.args.len c.min-end.result old.asked (c.loop-index.index - c.args.offset / d) (g.P.Pages.state c.loop-index.pages).asked size end c.if-end-offset.false
-    c.loop-index.invariant.asked (omega (arith, up))
+    asked_for d old.page_bytes c.args.offset (length c.args.buffer.now) c.args.len c.min-end.result old.issued (c.loop-index.index - c.args.offset / d) (g.P.Pages.state c.loop-index.pages).issued size end c.if-end-offset.false
+    c.loop-index.invariant.issued (omega (arith, up))
 
 pub returns-in_err-read_part-clause-holes : goal.returns-in_err-read_part-clause-holes
 returns-in_err-read_part-clause-holes g c = λ sound.
     let d : ℕ = c.from-page_bytes.result in
     let old : PagesState = g.P.Pages.state c.args.pages.now in
     let now : PagesState = g.P.Pages.state c.loop-index.pages in
-    let new : ℕ = (g.P.Pages.state c.read_part.new.pages).asked in
+    let new : ℕ = (g.P.Pages.state c.read_part.new.pages).issued in
     let size : d ≡ old.page_bytes = c.from-page_bytes.ensures ∙ c.page_bytes.ensures.bytes in
     let end : c.min-end.result ≡ min c.args.len (c.args.offset + (length c.args.buffer.now)) =
     range_end c.args.offset (length c.args.buffer.now) c.args.len c.min-end.result (c.min-end.ensures ∙ ap (min c.args.len) c.saturating_add.ensures) c.ranges.len.fits in
     let low : c.args.offset / d ≤ c.loop-index.index = c.loop-index.auto.index in
     let up : c.loop-index.index < (c.min-end.result - 1) / d + 1 = c.loop-index-test.true in
     let n : ℕ = c.loop-index.index + 1 - c.args.offset / d in
-    let kept : now.present ≡ old.present = c.loop-index.invariant.finds.present in
-    let one : new ≤ now.asked + one_page (old.present c.args.object (1 + c.loop-index.index)) =
-    subst (λ (m : PageMap). new ≤ now.asked + one_page (m c.args.object (1 + c.loop-index.index))) kept (c.read_part.ensures.holes (c.loop-index.invariant.finds.sound ∙ sound)) in
-    counted_for d old.page_bytes c.args.offset (length c.args.buffer.now) c.args.len c.min-end.result n old.present c.args.object old.asked new size end c.if-end-offset.false
-    (count_next old.present c.args.object (c.args.offset / d) c.loop-index.index old.asked now.asked new low (c.loop-index.invariant.holes sound) one) (omega (arith, up))
+    let committed : now.present ≡ old.present = c.loop-index.invariant.finds.present in
+    let one : new ≤ now.issued + one_page (old.present c.args.object (1 + c.loop-index.index)) =
+    subst (λ (m : PageMap). new ≤ now.issued + one_page (m c.args.object (1 + c.loop-index.index))) committed (c.read_part.ensures.holes (c.loop-index.invariant.finds.sound ∙ sound)) in
+    counted_for d old.page_bytes c.args.offset (length c.args.buffer.now) c.args.len c.min-end.result n old.present c.args.object old.issued new size end c.if-end-offset.false
+    (count_next old.present c.args.object (c.args.offset / d) c.loop-index.index old.issued now.issued new low (c.loop-index.invariant.holes sound) one) (omega (arith, up))
 
 pub returns-clause-holes : goal.returns-clause-holes
 returns-clause-holes g c = λ sound.
@@ -140,5 +140,5 @@ returns-clause-holes g c = λ sound.
     range_end c.args.offset (length c.args.buffer.now) c.args.len c.min-end.result (c.min-end.ensures ∙ ap (min c.args.len) c.saturating_add.ensures) c.ranges.len.fits in
     let order : c.args.offset / d ≤ (c.min-end.result - 1) / d + 1 = chunks_order d c.args.offset c.min-end.result c.if-end-offset.false in
     let up : c.loop-index.index ≤ (c.min-end.result - 1) / d + 1 = c.loop-index.auto.index-end order in
-    counted_for d old.page_bytes c.args.offset (length c.args.buffer.now) c.args.len c.min-end.result (c.loop-index.index - c.args.offset / d) old.present c.args.object old.asked (g.P.Pages.state c.loop-index.pages).asked size end c.if-end-offset.false
+    counted_for d old.page_bytes c.args.offset (length c.args.buffer.now) c.args.len c.min-end.result (c.loop-index.index - c.args.offset / d) old.present c.args.object old.issued (g.P.Pages.state c.loop-index.pages).issued size end c.if-end-offset.false
     (c.loop-index.invariant.holes sound) (omega (arith, up))

@@ -10,8 +10,8 @@ abbrev pub invariant-loop-index : goal.invariant-loop-index
 invariant-loop-index g l = record {
   finds : OnlyFinds (g.P.Pages.state l.fn.pages) (g.P.Pages.state l.pages);
   power : KeepsPower (g.P.Pages.state l.fn.pages) (g.P.Pages.state l.pages);
-  asked : (g.P.Pages.state l.pages).asked ≤ (g.P.Pages.state l.fn.pages).asked + (l.index - l.offset / l.page_bytes);
-  holes : (g.P.Pages.state l.fn.pages).sound ≡ true → (g.P.Pages.state l.pages).asked ≤ (g.P.Pages.state l.fn.pages).asked + count_pages (g.P.Pages.state l.fn.pages).present l.object (1 + l.offset / l.page_bytes) (l.index - l.offset / l.page_bytes);
+  issued : (g.P.Pages.state l.pages).issued ≤ (g.P.Pages.state l.fn.pages).issued + (l.index - l.offset / l.page_bytes);
+  holes : (g.P.Pages.state l.fn.pages).sound ≡ true → (g.P.Pages.state l.pages).issued ≤ (g.P.Pages.state l.fn.pages).issued + count_pages (g.P.Pages.state l.fn.pages).present l.object (1 + l.offset / l.page_bytes) (l.index - l.offset / l.page_bytes);
   size : length l.buffer ≡ length l.fn.buffer;
   rest : drop (l.end - l.offset) l.buffer ≡ drop (l.end - l.offset) l.fn.buffer;
   read : (z : Sizes) (moment : ℕ) (all : List ℕ) (f : FileIn (g.P.Pages.state l.fn.pages) z l.object moment all) → HasOnly (g.P.Pages.state l.fn.pages).present l.object f.reads.fields → l.len ≡ length all

@@ -13,14 +13,14 @@ use Rattle.flash_tree.specs.declared.place.FreshPage.{FreshPage}
 use Rattle.file_io.specs.Heads.{bits_in}
 use Rattle.file_io.specs.Chunks.{AreOf, HoldChunks, IsTail}
 use Rattle.file_io.proofs.FilePages.{later}
-use Rattle.file_io.proofs.KeptPages.{last_at_entry, grows_past}
+use Rattle.file_io.proofs.CommittedPages.{last_at_entry, grows_past}
 use Rattle.file_io.proofs.PageLists.{each_push}
 use Rattle.file_io.proofs.WholeWrites.{only_of, OrHeader, header_push}
 use Rattle.file_io.proofs.Resized.{resize_same, resize_new, resize_valid}
 use Rattle.file_io.proofs.resizing.set_length.Goals as goal
 use Rattle.file_io.proofs.resizing.set_length.Goals.{else-head-len-via-then-head-len+else-head-moment, else-head-len-via-else-head-len}
 
--- the pages asked for
+-- the pages looked up
 asked_up : (len long n limit size old now got : ℕ) → len ≡ long → now ≤ old + 1 → got ≤ now + 1 → (n ≤ len → limit ≡ 0) → (limit ≤ len / size → got ≡ now) → got ≤ old + 1 + min 1 (n - long)
 asked_up len long n limit size old now got same one most stays none = elim (cases_lt len n) [
   | inl more ↦ omega (arith, same, one, most, more)
@@ -42,11 +42,11 @@ returns-then-head-moment-clause-sets g c = λ z before all f.
     resize_same old z c.args.object before all f d size some c.in_ok-head.head.length (head.length_is ∙ f.reads.size) (bits_in c.in_ok-head.head) head.bits c.args.len c.args.moment
     (sym c.if-head-len.true) (sym head.moment ∙ c.if-head-moment.true) c.none-change.result c.none-change.ensures.pages c.none-change.ensures.cuts
 
-pub returns-in_err-change-clause-asked : goal.returns-in_err-change-clause-asked
-returns-in_err-change-clause-asked g c = λ z before all f.
+pub returns-in_err-change-clause-issued : goal.returns-in_err-change-clause-issued
+returns-in_err-change-clause-issued g c = λ z before all f.
     let head = c.in_ok-head.ensures.head z before all f in
-    asked_up c.in_ok-head.head.length (length all) c.args.len c.tail_limit-limit.result (g.P.Pages.state c.read_head.new.pages).page_bytes (g.P.Pages.state c.args.pages.now).asked (g.P.Pages.state c.read_head.new.pages).asked (g.P.Pages.state c.tail_pages.new.pages).asked
-    (head.length_is ∙ f.reads.size) c.read_head.ensures.asked c.tail_pages.ensures.asked c.tail_limit-limit.ensures.cuts c.tail_pages.ensures.unasked
+    asked_up c.in_ok-head.head.length (length all) c.args.len c.tail_limit-limit.result (g.P.Pages.state c.read_head.new.pages).page_bytes (g.P.Pages.state c.args.pages.now).issued (g.P.Pages.state c.read_head.new.pages).issued (g.P.Pages.state c.tail_pages.new.pages).issued
+    (head.length_is ∙ f.reads.size) c.read_head.ensures.issued c.tail_pages.ensures.issued c.tail_limit-limit.ensures.cuts c.tail_pages.ensures.unasked
 
 pub returns-in_err-change-clause-fault : goal.returns-in_err-change-clause-fault
 returns-in_err-change-clause-fault g c = λ z before all f.
@@ -55,11 +55,11 @@ returns-in_err-change-clause-fault g c = λ z before all f.
     let p = err_from_is_err_and c.from_residual-in_err-change.result c.from_residual-in_err-change.ensures.1 in
     rw (p.1, p.2) (c.in_err-change.ensures.fault z before all (later old now z c.args.object before all c.read_head.ensures.finds f) (c.in_ok-head.ensures.head z before all f))
 
-pub returns-in_err-change-2-clause-asked : goal.returns-in_err-change-2-clause-asked
-returns-in_err-change-2-clause-asked g c = λ z before all f.
+pub returns-in_err-change-2-clause-issued : goal.returns-in_err-change-2-clause-issued
+returns-in_err-change-2-clause-issued g c = λ z before all f.
     let head = c.in_ok-head.ensures.head z before all f in
-    asked_up c.in_ok-head.head.length (length all) c.args.len c.tail_limit-limit.result (g.P.Pages.state c.read_head.new.pages).page_bytes (g.P.Pages.state c.args.pages.now).asked (g.P.Pages.state c.read_head.new.pages).asked (g.P.Pages.state c.tail_pages.new.pages).asked
-    (head.length_is ∙ f.reads.size) c.read_head.ensures.asked c.tail_pages.ensures.asked c.tail_limit-limit.ensures.cuts c.tail_pages.ensures.unasked
+    asked_up c.in_ok-head.head.length (length all) c.args.len c.tail_limit-limit.result (g.P.Pages.state c.read_head.new.pages).page_bytes (g.P.Pages.state c.args.pages.now).issued (g.P.Pages.state c.read_head.new.pages).issued (g.P.Pages.state c.tail_pages.new.pages).issued
+    (head.length_is ∙ f.reads.size) c.read_head.ensures.issued c.tail_pages.ensures.issued c.tail_limit-limit.ensures.cuts c.tail_pages.ensures.unasked
 
 pub head_page-requires-clause-valid : goal.head_page-requires-clause-valid
 head_page-requires-clause-valid g c = λ bytes.
@@ -73,26 +73,26 @@ head_page-requires-clause-valid g c = λ bytes.
     let items : page ≡ c.cut_chunks.new.page = with_items_is c.in_ok-head.head.page c.cut_chunks.new.page (search (rules, places)) in
     let was : c.deref_mut.result.now ≡ c.in_ok-head.head.page.items = c.deref_mut.ensures.value in
     let same : length c.cut_chunks.new.page ≡ length c.deref_mut.result.now = search rules in
-    let kept : length page ≡ length c.in_ok-head.head.page.items = ap length items ∙ same ∙ ap length was in
-    let long : length page ≡ d = kept ∙ c.in_ok-head.ensures.size ∙ sym size_old in
-    let room : length (drop 32 page) ≡ length bits = length-drop 32 page ∙ ap (λ n. n - 32) kept ∙ sym (length-drop 32 c.in_ok-head.head.page.items) in
+    let committed : length page ≡ length c.in_ok-head.head.page.items = ap length items ∙ same ∙ ap length was in
+    let long : length page ≡ d = committed ∙ c.in_ok-head.ensures.size ∙ sym size_old in
+    let room : length (drop 32 page) ≡ length bits = length-drop 32 page ∙ ap (λ n. n - 32) committed ∙ sym (length-drop 32 c.in_ok-head.head.page.items) in
     let fits : c.args.len ≤ 8 * (d - 32) * d = subst (λ x. c.args.len ≤ 8 * (x - 32) * x) (sym size_old) c.requires in
     subst (λ x. IsHeader x (file_fields c.args.len c.args.moment (drop 32 page))) (sym long)
     (resize_valid d len c.in_ok-head.head.moment bits valid c.args.len c.args.moment (drop 32 page) fits c.ranges.moment.fits room (IsBytes-drop 32 page bytes)
     (λ k low high. ap (λ (xs : List ℕ). is_present (drop 32 xs) (1 + k)) items ∙ c.in_ok-change-2.ensures.cleared k low high)
     (λ k outside. ap (λ (xs : List ℕ). is_present (drop 32 xs) (1 + k)) items ∙ c.cut_chunks.ensures.others k outside ∙ ap (λ (xs : List ℕ). is_present (drop 32 xs) (1 + k)) was))
 
-pub returns-in_err-push-clause-asked : goal.returns-in_err-push-clause-asked
-returns-in_err-push-clause-asked g c = λ z before all f.
+pub returns-in_err-push-clause-issued : goal.returns-in_err-push-clause-issued
+returns-in_err-push-clause-issued g c = λ z before all f.
     let head = c.in_ok-head.ensures.head z before all f in
-    asked_up c.in_ok-head.head.length (length all) c.args.len c.tail_limit-limit.result (g.P.Pages.state c.read_head.new.pages).page_bytes (g.P.Pages.state c.args.pages.now).asked (g.P.Pages.state c.read_head.new.pages).asked (g.P.Pages.state c.tail_pages.new.pages).asked
-    (head.length_is ∙ f.reads.size) c.read_head.ensures.asked c.tail_pages.ensures.asked c.tail_limit-limit.ensures.cuts c.tail_pages.ensures.unasked
+    asked_up c.in_ok-head.head.length (length all) c.args.len c.tail_limit-limit.result (g.P.Pages.state c.read_head.new.pages).page_bytes (g.P.Pages.state c.args.pages.now).issued (g.P.Pages.state c.read_head.new.pages).issued (g.P.Pages.state c.tail_pages.new.pages).issued
+    (head.length_is ∙ f.reads.size) c.read_head.ensures.issued c.tail_pages.ensures.issued c.tail_limit-limit.ensures.cuts c.tail_pages.ensures.unasked
 
-pub returns-clause-asked : goal.returns-clause-asked
-returns-clause-asked g c = λ z before all f.
+pub returns-clause-issued : goal.returns-clause-issued
+returns-clause-issued g c = λ z before all f.
     let head = c.in_ok-head.ensures.head z before all f in
-    asked_up c.in_ok-head.head.length (length all) c.args.len c.tail_limit-limit.result (g.P.Pages.state c.read_head.new.pages).page_bytes (g.P.Pages.state c.args.pages.now).asked (g.P.Pages.state c.read_head.new.pages).asked (g.P.Pages.state c.tail_pages.new.pages).asked
-    (head.length_is ∙ f.reads.size) c.read_head.ensures.asked c.tail_pages.ensures.asked c.tail_limit-limit.ensures.cuts c.tail_pages.ensures.unasked
+    asked_up c.in_ok-head.head.length (length all) c.args.len c.tail_limit-limit.result (g.P.Pages.state c.read_head.new.pages).page_bytes (g.P.Pages.state c.args.pages.now).issued (g.P.Pages.state c.read_head.new.pages).issued (g.P.Pages.state c.tail_pages.new.pages).issued
+    (head.length_is ∙ f.reads.size) c.read_head.ensures.issued c.tail_pages.ensures.issued c.tail_limit-limit.ensures.cuts c.tail_pages.ensures.unasked
 
 pub returns-clause-sets : goal.returns-clause-sets
 returns-clause-sets g c = λ z before all f.
@@ -156,8 +156,8 @@ returns-clause-change g c =
     let same : now.page_bytes ≡ old.page_bytes = c.read_head.ensures.finds.page_bytes in
     let page : List ℕ = (with_items c.in_ok-head.head.page c.cut_chunks.new.page).items in
     let page_is : page ≡ c.cut_chunks.new.page = with_items_is c.in_ok-head.head.page c.cut_chunks.new.page (search (rules, places)) in
-    let kept : length c.cut_chunks.new.page ≡ length c.deref_mut.result.now = search rules in
-    let size : length q.bytes.items ≡ old.page_bytes = c.head_page.ensures.size ∙ ap length page_is ∙ kept ∙ ap length c.deref_mut.ensures.value ∙ c.in_ok-head.ensures.size in
+    let committed : length c.cut_chunks.new.page ≡ length c.deref_mut.result.now = search rules in
+    let size : length q.bytes.items ≡ old.page_bytes = c.head_page.ensures.size ∙ ap length page_is ∙ committed ∙ ap length c.deref_mut.ensures.value ∙ c.in_ok-head.ensures.size in
     let long : length c.push.new.self.items ≡ length pages + 1 = ap length items ∙ length-append pages (q ∷ []) in
     record {
       apart = (subst (λ (xs : List FreshPage). AreOf c.args.object (OrHeader IsOne) xs) (sym items) of).apart;
@@ -166,25 +166,31 @@ returns-clause-change g c =
       few = omega (arith, long, c.in_ok-change.ensures.few);
     }
 
-pub returns-then-head-moment-clause-told : goal.returns-then-head-moment-clause-told
-returns-then-head-moment-clause-told g c = λ sound.
-    let s = c.in_ok-head.ensures.told sound in
+pub returns-then-head-moment-clause-reported : goal.returns-then-head-moment-clause-reported
+returns-then-head-moment-clause-reported g c = λ sound.
+    let s = c.in_ok-head.ensures.reported sound in
     (s.0, λ more. absurd (omega (arith, more, s.1.length_is, c.if-head-len.true)))
 
-pub returns-clause-told : goal.returns-clause-told
-returns-clause-told g c = λ sound.
+pub returns-clause-reported : goal.returns-clause-reported
+returns-clause-reported g c = λ sound.
     let old : PagesState = g.P.Pages.state c.args.pages.now in
     let now : PagesState = g.P.Pages.state c.read_head.new.pages in
     let d : ℕ = c.from-size.result in
     let finds = c.read_head.ensures.finds in
     let size_now : d ≡ now.page_bytes = c.from-size.ensures ∙ c.page_bytes.ensures.bytes in
     let some : 1 ≤ d = omega (arith, c.from-size.ensures, c.page_bytes.ensures.least) in
-    let s = c.in_ok-head.ensures.told sound in (
+    let s = c.in_ok-head.ensures.reported sound in (
       s.0,
       λ more.
           let grows : c.in_ok-head.head.length < c.args.len = omega (arith, more, s.1.length_is) in
           let limit : c.tail_limit-limit.result ≡ (c.args.len + d - 1) / d = c.tail_limit-limit.ensures.grows grows in
           let before : c.in_ok-head.head.length / now.page_bytes < c.tail_limit-limit.result =
           subst (λ x. c.in_ok-head.head.length / x < c.tail_limit-limit.result) size_now (subst (λ n. c.in_ok-head.head.length / d < n) (sym limit) (grows_past d c.in_ok-head.head.length c.args.len some grows)) in
-          last_at_entry old now finds c.args.object c.in_ok-head.head s (c.in_ok-change.ensures.told (finds.sound ∙ sound) before),
+          last_at_entry old now finds c.args.object c.in_ok-head.head s (c.in_ok-change.ensures.reported (finds.sound ∙ sound) before),
     )
+
+pub returns-in_err-push-clause-looks : goal.returns-in_err-push-clause-looks
+returns-in_err-push-clause-looks g c = record { finds = search rules; power = search rules; why = search rules }
+
+pub returns-clause-looks : goal.returns-clause-looks
+returns-clause-looks g c = record { finds = search rules; power = search rules; why = search rules }

@@ -16,17 +16,17 @@ use Rattle.file_io.specs.Files.{Becomes}
 use Rattle.file_io.specs.Chunks.{AreOf, HoldChunks, IsAmong, IsWritten}
 use Rattle.file_io.proofs.FilePages.{later}
 use Rattle.file_io.proofs.Filling.{among_chunks}
-use Rattle.file_io.proofs.KeptPages.{kept_at_entry, kept_none}
+use Rattle.file_io.proofs.CommittedPages.{committed_at_entry, committed_none}
 use Rattle.file_io.proofs.PageLists.{each_push}
 use Rattle.file_io.proofs.WholeWrites.{write_valid, chunks_few, only_of, no_cuts, OrHeader, header_push, write_same, write_new}
 use Rattle.file_io.proofs.writing.write_at.Goals as goal
 use Rattle.file_io.proofs.writing.write_at.Goals.{else-head-moment-via-then-head-moment+then-to-head+else-has_all, else-head-moment-via-then-head-moment+else-to-head, else-head-moment-via-else-head-moment}
 
--- the pages asked for, with the header
+-- the pages looked up, with the header
 asked_up : (size of_file len long off n old now got : ℕ) → size ≡ of_file → len ≡ long → now ≤ old + 1 → got ≤ now + min 1 (off - len) + min 1 (off % size) + min 1 ((off + n) % size)
     → got ≤ old + 1 + min 1 (off - long) + min 1 (off % of_file) + min 1 ((off + n) % of_file)
-asked_up size of_file len long off n old now got same is one asked =
-    subst (λ x. got ≤ old + 1 + min 1 (off - long) + min 1 (off % x) + min 1 ((off + n) % x)) same (omega (arith, is, one, asked))
+asked_up size of_file len long off n old now got same is one issued =
+    subst (λ x. got ≤ old + 1 + min 1 (off - long) + min 1 (off % x) + min 1 ((off + n) % x)) same (omega (arith, is, one, issued))
 
 -- the pages of a write
 few_pages : (d size off n count chunks : ℕ) → d ≡ size → 1 ≤ size → 1 ≤ n → n ≤ chunks * size → count + off / d ≤ (off + n - 1) / d + 2 → count ≤ chunks + 2
@@ -39,11 +39,11 @@ returns-in_err-head-clause-fault g c = λ z before all f.
     let p = err_from_is_err_and c.from_residual.result c.from_residual.ensures.1 in
     rw (p.1, p.2) (c.in_err-head.ensures.fault z before all f)
 
-pub returns-in_err-change-clause-asked : goal.returns-in_err-change-clause-asked
-returns-in_err-change-clause-asked g c = λ z before all f.
+pub returns-in_err-change-clause-issued : goal.returns-in_err-change-clause-issued
+returns-in_err-change-clause-issued g c = λ z before all f.
     let head = c.in_ok-head.ensures.head z before all f in
-    asked_up (g.P.Pages.state c.read_head.new.pages).page_bytes z.page_bytes c.in_ok-head.head.length (length all) c.args.offset (length c.args.bytes.now) (g.P.Pages.state c.args.pages.now).asked (g.P.Pages.state c.read_head.new.pages).asked (g.P.Pages.state c.written_pages.new.pages).asked
-    (c.read_head.ensures.finds.page_bytes ∙ sym f.size) (head.length_is ∙ f.reads.size) c.read_head.ensures.asked c.written_pages.ensures.asked
+    asked_up (g.P.Pages.state c.read_head.new.pages).page_bytes z.page_bytes c.in_ok-head.head.length (length all) c.args.offset (length c.args.bytes.now) (g.P.Pages.state c.args.pages.now).issued (g.P.Pages.state c.read_head.new.pages).issued (g.P.Pages.state c.written_pages.new.pages).issued
+    (c.read_head.ensures.finds.page_bytes ∙ sym f.size) (head.length_is ∙ f.reads.size) c.read_head.ensures.issued c.written_pages.ensures.issued
 
 pub returns-in_err-change-clause-fault : goal.returns-in_err-change-clause-fault
 returns-in_err-change-clause-fault g c = λ z before all f.
@@ -117,9 +117,9 @@ head_page-requires-clause-valid g c = λ bytes.
     let items : page ≡ c.mark_in.new.page = with_items_is c.in_ok-head.head.page c.mark_in.new.page (search (rules, places)) in
     let was : c.deref_mut.result.now ≡ c.in_ok-head.head.page.items = c.deref_mut.ensures.value in
     let same : length c.mark_in.new.page ≡ length c.deref_mut.result.now = search rules in
-    let kept : length page ≡ length c.in_ok-head.head.page.items = ap length items ∙ same ∙ ap length was in
-    let long : length page ≡ d = kept ∙ c.in_ok-head.ensures.size ∙ sym size_old in
-    let room : length (drop 32 page) ≡ length bits = length-drop 32 page ∙ ap (λ n. n - 32) kept ∙ sym (length-drop 32 c.in_ok-head.head.page.items) in
+    let committed : length page ≡ length c.in_ok-head.head.page.items = ap length items ∙ same ∙ ap length was in
+    let long : length page ≡ d = committed ∙ c.in_ok-head.ensures.size ∙ sym size_old in
+    let room : length (drop 32 page) ≡ length bits = length-drop 32 page ∙ ap (λ n. n - 32) committed ∙ sym (length-drop 32 c.in_ok-head.head.page.items) in
     let fits : c.args.offset + length c.args.bytes.now ≤ 8 * (d - 32) * d = subst (λ x. c.args.offset + length c.args.bytes.now ≤ 8 * (x - 32) * x) (sym size_old) c.requires in
     let any : 1 ≤ length c.args.bytes.now = search rules in
     subst (λ x. IsHeader x (file_fields c.max-length.result c.args.moment (drop 32 page))) (sym long)
@@ -127,17 +127,17 @@ head_page-requires-clause-valid g c = λ bytes.
     any fits c.ranges.moment.fits c.max-length.ensures room (IsBytes-drop 32 page bytes)
     (λ k outside. ap (λ (xs : List ℕ). is_present (drop 32 xs) (1 + k)) items ∙ c.mark_in.ensures.others k outside ∙ ap (λ (xs : List ℕ). is_present (drop 32 xs) (1 + k)) was))
 
-pub returns-in_err-push-clause-asked : goal.returns-in_err-push-clause-asked
-returns-in_err-push-clause-asked g c = λ z before all f.
+pub returns-in_err-push-clause-issued : goal.returns-in_err-push-clause-issued
+returns-in_err-push-clause-issued g c = λ z before all f.
     let head = c.in_ok-head.ensures.head z before all f in
-    asked_up (g.P.Pages.state c.read_head.new.pages).page_bytes z.page_bytes c.in_ok-head.head.length (length all) c.args.offset (length c.args.bytes.now) (g.P.Pages.state c.args.pages.now).asked (g.P.Pages.state c.read_head.new.pages).asked (g.P.Pages.state c.written_pages.new.pages).asked
-    (c.read_head.ensures.finds.page_bytes ∙ sym f.size) (head.length_is ∙ f.reads.size) c.read_head.ensures.asked c.written_pages.ensures.asked
+    asked_up (g.P.Pages.state c.read_head.new.pages).page_bytes z.page_bytes c.in_ok-head.head.length (length all) c.args.offset (length c.args.bytes.now) (g.P.Pages.state c.args.pages.now).issued (g.P.Pages.state c.read_head.new.pages).issued (g.P.Pages.state c.written_pages.new.pages).issued
+    (c.read_head.ensures.finds.page_bytes ∙ sym f.size) (head.length_is ∙ f.reads.size) c.read_head.ensures.issued c.written_pages.ensures.issued
 
-pub returns-clause-asked : goal.returns-clause-asked
-returns-clause-asked g c = λ z before all f.
+pub returns-clause-issued : goal.returns-clause-issued
+returns-clause-issued g c = λ z before all f.
     let head = c.in_ok-head.ensures.head z before all f in
-    asked_up (g.P.Pages.state c.read_head.new.pages).page_bytes z.page_bytes c.in_ok-head.head.length (length all) c.args.offset (length c.args.bytes.now) (g.P.Pages.state c.args.pages.now).asked (g.P.Pages.state c.read_head.new.pages).asked (g.P.Pages.state c.written_pages.new.pages).asked
-    (c.read_head.ensures.finds.page_bytes ∙ sym f.size) (head.length_is ∙ f.reads.size) c.read_head.ensures.asked c.written_pages.ensures.asked
+    asked_up (g.P.Pages.state c.read_head.new.pages).page_bytes z.page_bytes c.in_ok-head.head.length (length all) c.args.offset (length c.args.bytes.now) (g.P.Pages.state c.args.pages.now).issued (g.P.Pages.state c.read_head.new.pages).issued (g.P.Pages.state c.written_pages.new.pages).issued
+    (c.read_head.ensures.finds.page_bytes ∙ sym f.size) (head.length_is ∙ f.reads.size) c.read_head.ensures.issued c.written_pages.ensures.issued
 
 pub returns-clause-writes : goal.returns-clause-writes
 returns-clause-writes g c = λ z before all f any.
@@ -209,8 +209,8 @@ returns-clause-change g c = λ chunks few.
     let count = few_pages d old.page_bytes off n (length pages) chunks same some any few c.in_ok-change.ensures.few in
     let page : List ℕ = (with_items c.in_ok-head.head.page c.mark_in.new.page).items in
     let page_is : page ≡ c.mark_in.new.page = with_items_is c.in_ok-head.head.page c.mark_in.new.page (search (rules, places)) in
-    let kept : length c.mark_in.new.page ≡ length c.deref_mut.result.now = search rules in
-    let size : length q.bytes.items ≡ old.page_bytes = c.head_page.ensures.size ∙ ap length page_is ∙ kept ∙ ap length c.deref_mut.ensures.value ∙ c.in_ok-head.ensures.size in
+    let committed : length c.mark_in.new.page ≡ length c.deref_mut.result.now = search rules in
+    let size : length q.bytes.items ≡ old.page_bytes = c.head_page.ensures.size ∙ ap length page_is ∙ committed ∙ ap length c.deref_mut.ensures.value ∙ c.in_ok-head.ensures.size in
     let long : length c.push.new.self.items ≡ length pages + 1 = ap length items ∙ length-append pages (q ∷ []) in
     record {
       apart = (subst (λ (xs : List FreshPage). AreOf c.args.object (OrHeader IsOne) xs) (sym items) of).apart;
@@ -236,21 +236,27 @@ returns-clause-quiet g c = λ z before all f when fits set i is.
       | else-head-moment-via-else-head-moment w ↦ absurd (w.if-head-moment.false (head.moment ∙ f.reads.when ∙ sym when))
     ]
 
-pub returns-then-has_all-clause-told : goal.returns-then-has_all-clause-told
-returns-then-has_all-clause-told g c = λ sound.
+pub returns-then-has_all-clause-reported : goal.returns-then-has_all-clause-reported
+returns-then-has_all-clause-reported g c = λ sound.
     let finds = c.read_head.ensures.finds in
-    kept_at_entry (g.P.Pages.state c.args.pages.now) (g.P.Pages.state c.read_head.new.pages) finds c.args.object c.in_ok-head.head (c.in_ok-head.ensures.told sound) c.args.offset (length c.args.bytes.now)
-    (c.in_ok-change.ensures.told (finds.sound ∙ sound))
+    committed_at_entry (g.P.Pages.state c.args.pages.now) (g.P.Pages.state c.read_head.new.pages) finds c.args.object c.in_ok-head.head (c.in_ok-head.ensures.reported sound) c.args.offset (length c.args.bytes.now)
+    (c.in_ok-change.ensures.reported (finds.sound ∙ sound))
 
-pub returns-clause-told : goal.returns-clause-told
-returns-clause-told g c = λ sound.
+pub returns-clause-reported : goal.returns-clause-reported
+returns-clause-reported g c = λ sound.
     let finds = c.read_head.ensures.finds in
-    kept_at_entry (g.P.Pages.state c.args.pages.now) (g.P.Pages.state c.read_head.new.pages) finds c.args.object c.in_ok-head.head (c.in_ok-head.ensures.told sound) c.args.offset (length c.args.bytes.now)
-    (c.in_ok-change.ensures.told (finds.sound ∙ sound))
+    committed_at_entry (g.P.Pages.state c.args.pages.now) (g.P.Pages.state c.read_head.new.pages) finds c.args.object c.in_ok-head.head (c.in_ok-head.ensures.reported sound) c.args.offset (length c.args.bytes.now)
+    (c.in_ok-change.ensures.reported (finds.sound ∙ sound))
 
-pub returns-then-is_empty-clause-told : goal.returns-then-is_empty-clause-told
-returns-then-is_empty-clause-told g c = λ sound.
+pub returns-then-is_empty-clause-reported : goal.returns-then-is_empty-clause-reported
+returns-then-is_empty-clause-reported g c = λ sound.
     let old : PagesState = g.P.Pages.state c.args.pages.now in
-    let s = c.in_ok-head.ensures.told sound in
+    let s = c.in_ok-head.ensures.reported sound in
     let none : length c.args.bytes.now ≡ 0 = search rules in
-    (s.0, kept_none old.present c.args.object s.0.fields.bits old.page_bytes s.0.fields.length c.args.offset (length c.args.bytes.now) none)
+    (s.0, committed_none old.present c.args.object s.0.fields.bits old.page_bytes s.0.fields.length c.args.offset (length c.args.bytes.now) none)
+
+pub returns-in_err-push-clause-looks : goal.returns-in_err-push-clause-looks
+returns-in_err-push-clause-looks g c = record { finds = search rules; power = search rules; why = search rules }
+
+pub returns-clause-looks : goal.returns-clause-looks
+returns-clause-looks g c = record { finds = search rules; power = search rules; why = search rules }

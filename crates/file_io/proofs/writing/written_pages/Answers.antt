@@ -7,22 +7,22 @@ use Rattle.pages.specs.State.{PagesState}
 use Rattle.pages.specs.laws.State.{finds_on}
 use Rattle.flash_tree.specs.declared.place.FreshPage.{FreshPage}
 use Rattle.file_io.specs.Heads.{bits_in}
-use Rattle.file_io.specs.Chunks.{AreOf, HoldsChunk, HoldChunks, IsPartKept, IsPartLast, IsTail, IsWritten}
+use Rattle.file_io.specs.Chunks.{AreOf, HoldsChunk, HoldChunks, IsPartCommitted, IsPartLast, IsTail, IsWritten}
 use Rattle.pages.specs.Maps.{PageMap}
 use Rattle.file_io.specs.Files.{HasPages}
 use Rattle.file_io.proofs.FilePages.{later}
 use Rattle.file_io.proofs.Filling.{tail_before, among_none, among_more, among_this, among_only, among_fresh, asked_tail, asked_more}
-use Rattle.file_io.proofs.KeptPages.{there_more, kept_pages}
+use Rattle.file_io.proofs.CommittedPages.{there_more, committed_pages}
 use Rattle.file_io.proofs.PageLists.{each_push, of_push, of_same, hold_push, of_chunk}
 use Rattle.file_io.proofs.Ranges.{chunks_order}
 use Rattle.file_io.proofs.writing.written_pages.Goals as goal
 
-pub returns-in_err-fresh-clause-asked : goal.returns-in_err-fresh-clause-asked
-returns-in_err-fresh-clause-asked g c =
+pub returns-in_err-fresh-clause-issued : goal.returns-in_err-fresh-clause-issued
+returns-in_err-fresh-clause-issued g c =
     let old : PagesState = g.P.Pages.state c.args.pages.now in
     let d : ℕ = c.from-page_bytes.result in
     let size_old : d ≡ old.page_bytes = c.from-page_bytes.ensures ∙ c.page_bytes.ensures.bytes in
-    let tail = asked_tail old.page_bytes c.args.offset c.args.head.now.length old.asked (g.P.Pages.state c.tail_pages.new.pages).asked c.tail_pages.ensures.asked
+    let tail = asked_tail old.page_bytes c.args.offset c.args.head.now.length old.issued (g.P.Pages.state c.tail_pages.new.pages).issued c.tail_pages.ensures.issued
     (λ le. c.tail_pages.ensures.unasked (subst (λ n. c.args.offset / n ≤ c.args.head.now.length / old.page_bytes) (sym size_old) le)) in
     omega (arith, tail)
 
@@ -41,13 +41,13 @@ loop-index-init g c =
     let fresh : List FreshPage = c.in_ok-fresh.fresh.items in
     let size_old : d ≡ old.page_bytes = c.from-page_bytes.ensures ∙ c.page_bytes.ensures.bytes in
     let of : AreOf c.args.object (IsTail d len bits first) fresh = subst (λ n. AreOf c.args.object (IsTail n len bits first) fresh) (sym size_old) c.in_ok-fresh.ensures.of in
-    let tail = asked_tail d c.args.offset len old.asked (g.P.Pages.state c.tail_pages.new.pages).asked c.tail_pages.ensures.asked
+    let tail = asked_tail d c.args.offset len old.issued (g.P.Pages.state c.tail_pages.new.pages).issued c.tail_pages.ensures.issued
     (λ le. c.tail_pages.ensures.unasked (subst (λ n. first ≤ len / n) size_old le)) in
     record {
       finds = c.tail_pages.ensures.finds;
       power = c.in_ok-fresh.ensures.power;
-      asked = omega (arith, tail);
-      told = λ sound k low less. absurd (omega (arith, low, less));
+      issued = omega (arith, tail);
+      reported = λ sound k low less. absurd (omega (arith, low, less));
       of = of_same c.args.object (IsTail d len bits first) (IsWritten d len bits first first) fresh (λ k is. inl is) (λ k. among_none d len bits first k) of;
       few = omega (arith, c.in_ok-fresh.ensures.few);
       sized = subst (AreSized fresh) (sym size_old) c.in_ok-fresh.ensures.sized;
@@ -58,24 +58,24 @@ loop-index-init g c =
 pub returns-in_err-page-clause-finds : goal.returns-in_err-page-clause-finds
 returns-in_err-page-clause-finds g c = finds_on _ _ _ c.loop-index.invariant.finds c.written_bytes.ensures.finds
 
--- how many pages were asked for up to this chunk
+-- how many pages were looked up up to this chunk
 within : (d size off n k start was got : ℕ) → d ≡ size → 1 ≤ d → 1 ≤ n → off / d ≤ k → k < (off + n - 1) / d + 1 → got ≤ was + 1 → (off ≤ k * d → k * d + d ≤ off + n → got ≡ was)
     → was ≤ start + min (min 1 (off % d)) (k - off / d) + min (min 1 ((off + n) % d)) (k - ((off + n - 1) / d + 1 - 1))
     → got ≤ start + min 1 (off % size) + min 1 ((off + n) % size)
 within d size off n k start was got is some any low high most none before =
     subst (λ x. got ≤ start + min 1 (off % x) + min 1 ((off + n) % x)) is (omega (arith, asked_more d off n k start was got some any low high most none before))
 
-pub returns-in_err-page-clause-asked : goal.returns-in_err-page-clause-asked
-returns-in_err-page-clause-asked g c =
+pub returns-in_err-page-clause-issued : goal.returns-in_err-page-clause-issued
+returns-in_err-page-clause-issued g c =
     let old : PagesState = g.P.Pages.state c.args.pages.now in
     let now : PagesState = g.P.Pages.state c.loop-index.pages in
     let d : ℕ = c.from-page_bytes.result in
     let k : ℕ = c.loop-index.index in
     let size_old : d ≡ old.page_bytes = c.from-page_bytes.ensures ∙ c.page_bytes.ensures.bytes in
     let size_now : d ≡ now.page_bytes = size_old ∙ sym c.loop-index.invariant.finds.page_bytes in
-    within d old.page_bytes c.args.offset (length c.args.bytes.now) k (old.asked + min 1 (c.args.offset - c.args.head.now.length)) now.asked (g.P.Pages.state c.written_bytes.new.pages).asked size_old
-    (omega (arith, c.from-page_bytes.ensures, c.page_bytes.ensures.least)) c.requires.some c.loop-index.auto.index c.loop-index-test.true c.written_bytes.ensures.asked
-    (λ a b. c.written_bytes.ensures.unasked (subst (λ x. c.args.offset ≤ k * x) size_now a) (subst (λ x. k * x + x ≤ c.args.offset + length c.args.bytes.now) size_now b)) c.loop-index.invariant.asked
+    within d old.page_bytes c.args.offset (length c.args.bytes.now) k (old.issued + min 1 (c.args.offset - c.args.head.now.length)) now.issued (g.P.Pages.state c.written_bytes.new.pages).issued size_old
+    (omega (arith, c.from-page_bytes.ensures, c.page_bytes.ensures.least)) c.requires.some c.loop-index.auto.index c.loop-index-test.true c.written_bytes.ensures.issued
+    (λ a b. c.written_bytes.ensures.unasked (subst (λ x. c.args.offset ≤ k * x) size_now a) (subst (λ x. k * x + x ≤ c.args.offset + length c.args.bytes.now) size_now b)) c.loop-index.invariant.issued
 
 pub returns-in_err-page-clause-fault : goal.returns-in_err-page-clause-fault
 returns-in_err-page-clause-fault g c = λ z moment all f head.
@@ -84,17 +84,17 @@ returns-in_err-page-clause-fault g c = λ z moment all f head.
     let p = err_from_is_err_and c.from_residual-in_err-page.result c.from_residual-in_err-page.ensures.1 in
     rw (p.1, p.2) (c.in_err-page.ensures.fault z moment all (later old now z c.args.object moment all c.loop-index.invariant.finds f) head)
 
-pub returns-in_err-push-clause-asked : goal.returns-in_err-push-clause-asked
-returns-in_err-push-clause-asked g c =
+pub returns-in_err-push-clause-issued : goal.returns-in_err-push-clause-issued
+returns-in_err-push-clause-issued g c =
     let old : PagesState = g.P.Pages.state c.args.pages.now in
     let now : PagesState = g.P.Pages.state c.loop-index.pages in
     let d : ℕ = c.from-page_bytes.result in
     let k : ℕ = c.loop-index.index in
     let size_old : d ≡ old.page_bytes = c.from-page_bytes.ensures ∙ c.page_bytes.ensures.bytes in
     let size_now : d ≡ now.page_bytes = size_old ∙ sym c.loop-index.invariant.finds.page_bytes in
-    within d old.page_bytes c.args.offset (length c.args.bytes.now) k (old.asked + min 1 (c.args.offset - c.args.head.now.length)) now.asked (g.P.Pages.state c.written_bytes.new.pages).asked size_old
-    (omega (arith, c.from-page_bytes.ensures, c.page_bytes.ensures.least)) c.requires.some c.loop-index.auto.index c.loop-index-test.true c.written_bytes.ensures.asked
-    (λ a b. c.written_bytes.ensures.unasked (subst (λ x. c.args.offset ≤ k * x) size_now a) (subst (λ x. k * x + x ≤ c.args.offset + length c.args.bytes.now) size_now b)) c.loop-index.invariant.asked
+    within d old.page_bytes c.args.offset (length c.args.bytes.now) k (old.issued + min 1 (c.args.offset - c.args.head.now.length)) now.issued (g.P.Pages.state c.written_bytes.new.pages).issued size_old
+    (omega (arith, c.from-page_bytes.ensures, c.page_bytes.ensures.least)) c.requires.some c.loop-index.auto.index c.loop-index-test.true c.written_bytes.ensures.issued
+    (λ a b. c.written_bytes.ensures.unasked (subst (λ x. c.args.offset ≤ k * x) size_now a) (subst (λ x. k * x + x ≤ c.args.offset + length c.args.bytes.now) size_now b)) c.loop-index.invariant.issued
 
 pub loop-index-preserved : goal.loop-index-preserved
 loop-index-preserved g c =
@@ -117,11 +117,11 @@ loop-index-preserved g c =
     record {
       finds = finds_on _ _ _ c.loop-index.invariant.finds c.written_bytes.ensures.finds;
       power = c.in_ok-page.ensures.power ∙ c.loop-index.invariant.power;
-      asked = asked_more d c.args.offset (length c.args.bytes.now) k (old.asked + min 1 (c.args.offset - len)) now.asked (g.P.Pages.state c.written_bytes.new.pages).asked
-          (omega (arith, c.from-page_bytes.ensures, c.page_bytes.ensures.least)) c.requires.some low c.loop-index-test.true c.written_bytes.ensures.asked
-          (λ a b. c.written_bytes.ensures.unasked (subst (λ x. c.args.offset ≤ k * x) size_now a) (subst (λ x. k * x + x ≤ c.args.offset + length c.args.bytes.now) size_now b)) c.loop-index.invariant.asked;
-      told = λ sound. there_more old.present o bits (λ i. (i * d < c.args.offset) ⊎ (c.args.offset + length c.args.bytes.now < i * d + d)) first k (c.loop-index.invariant.told sound) (λ part set.
-          let p = c.in_ok-page.ensures.told (c.loop-index.invariant.finds.sound ∙ sound)
+      issued = asked_more d c.args.offset (length c.args.bytes.now) k (old.issued + min 1 (c.args.offset - len)) now.issued (g.P.Pages.state c.written_bytes.new.pages).issued
+          (omega (arith, c.from-page_bytes.ensures, c.page_bytes.ensures.least)) c.requires.some low c.loop-index-test.true c.written_bytes.ensures.issued
+          (λ a b. c.written_bytes.ensures.unasked (subst (λ x. c.args.offset ≤ k * x) size_now a) (subst (λ x. k * x + x ≤ c.args.offset + length c.args.bytes.now) size_now b)) c.loop-index.invariant.issued;
+      reported = λ sound. there_more old.present o bits (λ i. (i * d < c.args.offset) ⊎ (c.args.offset + length c.args.bytes.now < i * d + d)) first k (c.loop-index.invariant.reported sound) (λ part set.
+          let p = c.in_ok-page.ensures.reported (c.loop-index.invariant.finds.sound ∙ sound)
           (subst (λ x. (k * x < c.args.offset) ⊎ (c.args.offset + length c.args.bytes.now < k * x + x)) size_now part) set in
           (p.0, subst (λ (m : PageMap). m o (1 + k) ≡ Some p.0) c.loop-index.invariant.finds.present p.1));
       of = subst (λ (xs : List FreshPage). AreOf o (IsWritten d len bits first (k + 1)) xs) (sym items)
@@ -157,8 +157,8 @@ returns-clause-hold g c = λ z moment all f head.
     let size_old : c.from-page_bytes.result ≡ old.page_bytes = c.from-page_bytes.ensures ∙ c.page_bytes.ensures.bytes in
     subst (λ x. HoldChunks x (written all c.args.offset c.args.bytes.now) c.loop-index.fresh.items) size_old (c.loop-index.invariant.hold z moment all f head)
 
-pub returns-clause-told : goal.returns-clause-told
-returns-clause-told g c = λ sound.
+pub returns-clause-reported : goal.returns-clause-reported
+returns-clause-reported g c = λ sound.
     let old : PagesState = g.P.Pages.state c.args.pages.now in
     let d : ℕ = c.from-page_bytes.result in
     let o : ℕ = c.args.object in
@@ -168,10 +168,10 @@ returns-clause-told g c = λ sound.
     let n : ℕ = length c.args.bytes.now in
     let size_old : d ≡ old.page_bytes = c.from-page_bytes.ensures ∙ c.page_bytes.ensures.bytes in
     let past : (off + n - 1) / d + 1 ≤ c.loop-index.index = c.loop-index-test.false in
-    subst (λ x. HasPages old.present o bits (IsPartKept x len off n)) size_old
-    (kept_pages old.present o bits d len off n (omega (arith, c.from-page_bytes.ensures, c.page_bytes.ensures.least))
-    (λ k low less part. c.loop-index.invariant.told sound k low (omega (arith, less, past)) part)
-    (λ before. subst (λ x. HasPages old.present o bits (IsPartLast x len)) (sym size_old) (c.in_ok-fresh.ensures.told sound (subst (λ x. len / x < off / d) size_old before))))
+    subst (λ x. HasPages old.present o bits (IsPartCommitted x len off n)) size_old
+    (committed_pages old.present o bits d len off n (omega (arith, c.from-page_bytes.ensures, c.page_bytes.ensures.least))
+    (λ k low less part. c.loop-index.invariant.reported sound k low (omega (arith, less, past)) part)
+    (λ before. subst (λ x. HasPages old.present o bits (IsPartLast x len)) (sym size_old) (c.in_ok-fresh.ensures.reported sound (subst (λ x. len / x < off / d) size_old before))))
 
 pub returns-in_err-push-clause-finds : goal.returns-in_err-push-clause-finds
 returns-in_err-push-clause-finds g c = finds_on _ _ _ c.loop-index.invariant.finds c.written_bytes.ensures.finds

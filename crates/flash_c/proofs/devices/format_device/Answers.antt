@@ -13,8 +13,8 @@ returns-in-Ok g c = let ensured = c.in-Ok.ensures in record {
       room = enough _ (c.args.spare + 4) ensured.spare.1;
       power = ensured.has_power;
       few_bad = ensured.few_bad;
-      sound = ensured.formatted;
-      true_flash = λ honest. starts_consistent (g.N.Nand.state c.in-Ok.device) _ _ (ensured.true_flash honest) (ensured.formatted honest);
+      sound = λ honest. (ensured.formatted honest).sound;
+      true_flash = λ honest. starts_consistent (g.N.Nand.state c.in-Ok.device) _ _ (ensured.formatted honest).starts (ensured.formatted honest).sound;
     },
   );
 }

@@ -1,6 +1,6 @@
 use Rattle.std.proofs.Common.{◌≡◌, ◌<◌, ◌++◌, ◌+◌, ◌∙◌, ℕ, List, ap, sym, get_or, length, take, drop, map, arith}
 use Rattle.std.proofs.lemmas.List.{get_or-map, length-map}
-use Rattle.salvage.specs.declared.told.SalvagedName.{SalvagedName}
+use Rattle.salvage.specs.declared.reported.SalvagedName.{SalvagedName}
 use Rattle.flash_c.specs.Filling.{names_bytes}
 use Rattle.flash_c.specs.Salvaged.{entry_bytes}
 use Rattle.flash_c.proofs.EntryBytes.{at_least, length-entry, next_length}

@@ -3,9 +3,9 @@ use Rattle.flash_c.specs.Filling.{names_bytes}
 use Rattle.flash_c.specs.Salvaged.{entry_bytes}
 use Rattle.flash_c.proofs.listing.listing_length.Given as goal
 
--- the names so far are counted, and there is room for them
+-- the names so far are in the count, and there is room for them
 abbrev pub invariant-loop-entry : goal.invariant-loop-entry
 invariant-loop-entry l = record {
-  counted : l.length ≡ length (names_bytes (take l.entry-index (map entry_bytes l.names)));
+  totaled : l.length ≡ length (names_bytes (take l.entry-index (map entry_bytes l.names)));
   within : l.length ≤ l.room;
 }

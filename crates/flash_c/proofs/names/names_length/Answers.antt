@@ -9,7 +9,7 @@ returns-then-bytes-room c =
       arith,
       ap length name,
       at_least c.args.names.now c.loop-name.name-index c.name-item.result c.loop-name-test.true,
-      c.loop-name.invariant.counted,
+      c.loop-name.invariant.totaled,
       c.loop-name.invariant.within,
       c.if-bytes-room.true,
     )

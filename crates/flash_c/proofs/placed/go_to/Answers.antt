@@ -6,8 +6,8 @@ use Rattle.flash_c.proofs.placed.go_to.Goals as goal
 pub returns-then-was-lt0 : goal.returns-then-was-lt0
 returns-then-was-lt0 g c =
     let is = to_z-of_z w64 c.seek-was.result (search (c.seek-was.type_inv)) in
-    let asked = c.seek-was.ensures in
-    not_asked (asked.0, asked.1, is ∙ asked.2) (search (arith, c.if-was-lt0.true))
+    let issued = c.seek-was.ensures in
+    not_asked (issued.0, issued.1, is ∙ issued.2) (search (arith, c.if-was-lt0.true))
 
 pub returns-then-now-lt0 : goal.returns-then-now-lt0
 returns-then-now-lt0 g c =
@@ -21,6 +21,6 @@ pub returns : goal.returns
 returns g c =
     let was = to_z-of_z w64 c.seek-was.result (search (c.seek-was.type_inv)) in
     let now = to_z-of_z w64 c.seek-now.result (search (c.seek-now.type_inv)) in
-    let asked = c.seek-was.ensures in
+    let issued = c.seek-was.ensures in
     let some : pos 0 ≤ℤ c.seek-now.result = search (arith, rw now at c.if-now-lt0.false) in
-    there (asked.0, asked.1, was ∙ asked.2) (search (arith, c.if-was-lt0.false)) (rw (to_z-of_z w64 c.args.offset c.ranges.offset) at c.seek-now.ensures) some
+    there (issued.0, issued.1, was ∙ issued.2) (search (arith, c.if-was-lt0.false)) (rw (to_z-of_z w64 c.args.offset c.ranges.offset) at c.seek-now.ensures) some

@@ -20,8 +20,8 @@ returns-in-Ok-open_left-clause-opens c empty =
 
 pub returns-in-Err-open_left-clause-fills : goal.returns-in-Err-open_left-clause-fills
 returns-in-Err-open_left-clause-fills c =
-    let told = c.in-Err-open_left.ensures.fault in
-    let below : to_z w32 (of_z w32 c.in-Err-open_left.number) <ℤ pos 0 = fault_sign c.in-Err-open_left.number told.fault told.number_is in
+    let reported = c.in-Err-open_left.ensures.fault in
+    let below : to_z w32 (of_z w32 c.in-Err-open_left.number) <ℤ pos 0 = fault_sign c.in-Err-open_left.number reported.fault reported.number_is in
     record {
       opened = λ zero. absurd (not_zero below zero);
       left = λ no. c.is_full.ensures.same;
@@ -31,11 +31,11 @@ returns-in-Err-open_left-clause-fills c =
 
 pub returns-in-Err-open_left-clause-opens : goal.returns-in-Err-open_left-clause-opens
 returns-in-Err-open_left-clause-opens c empty =
-    let told = c.in-Err-open_left.ensures.fault in (
+    let reported = c.in-Err-open_left.ensures.fault in (
       Ok c.in-Ok.device,
       (
         c.in-Ok.ensures.power,
-        inr (c.in-Err-open_left._device, record { fault = told.fault; number_is = fault_same c.in-Err-open_left.number told.fault told.number_is; reads = told.reads; why = told.why }),
+        inr (c.in-Err-open_left._device, record { fault = reported.fault; number_is = fault_same c.in-Err-open_left.number reported.fault reported.number_is; reads = reported.reads; why = reported.why }),
       ),
     )
 

@@ -21,8 +21,8 @@ returns-in-Ok-mount_device-clause-mounts c empty =
 
 pub returns-in-Err-mount_device-clause-fills : goal.returns-in-Err-mount_device-clause-fills
 returns-in-Err-mount_device-clause-fills c =
-    let told = c.in-Err-mount_device.ensures.fault in
-    let below : to_z w32 (of_z w32 c.in-Err-mount_device.number) <ℤ pos 0 = mount_sign c.in-Err-mount_device.number told.fault told.number_is in
+    let reported = c.in-Err-mount_device.ensures.fault in
+    let below : to_z w32 (of_z w32 c.in-Err-mount_device.number) <ℤ pos 0 = mount_sign c.in-Err-mount_device.number reported.fault reported.number_is in
     record {
       mounted = λ zero. absurd (not_zero below zero);
       left = λ no. c.is_full.ensures.same;
@@ -32,11 +32,11 @@ returns-in-Err-mount_device-clause-fills c =
 
 pub returns-in-Err-mount_device-clause-mounts : goal.returns-in-Err-mount_device-clause-mounts
 returns-in-Err-mount_device-clause-mounts c empty =
-    let told = c.in-Err-mount_device.ensures.fault in (
+    let reported = c.in-Err-mount_device.ensures.fault in (
       Ok c.in-Ok.device,
       (
         c.in-Ok.ensures.power,
-        inr (c.in-Err-mount_device._device, record { fault = told.fault; number_is = mount_same c.in-Err-mount_device.number told.fault told.number_is; reads = told.reads; why = told.why }),
+        inr (c.in-Err-mount_device._device, record { fault = reported.fault; number_is = mount_same c.in-Err-mount_device.number reported.fault reported.number_is; reads = reported.reads; why = reported.why }),
       ),
     )
 

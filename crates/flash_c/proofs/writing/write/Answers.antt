@@ -7,9 +7,9 @@ pub writes-init : goal.writes-init
 writes-init g c = record { written = none; within = omega arith }
 
 pub writes-preserved : goal.writes-preserved
-writes-preserved g c = let asked : Writing = record { moment = c.args.moment; fd = c.args.fd; bytes = c.args.bytes.now } in record {
-  written = one_more g.S.Serve.serves asked c.args.session.now c.writes.session c.serve-reply.new.self c.writes.done c.in-Some.count c.serve-reply.result
-      c.writes.invariant.written (handed_in g.S.Serve.serves asked c.writes.done c.writes.session c.serve-reply.result c.serve-reply.new.self c.serve-reply.ensures)
+writes-preserved g c = let issued : Writing = record { moment = c.args.moment; fd = c.args.fd; bytes = c.args.bytes.now } in record {
+  written = one_more g.S.Serve.serves issued c.args.session.now c.writes.session c.serve-reply.new.self c.writes.done c.in-Some.count c.serve-reply.result
+      c.writes.invariant.written (handed_in g.S.Serve.serves issued c.writes.done c.writes.session c.serve-reply.result c.serve-reply.new.self c.serve-reply.ensures)
       c.in-Some.ensures.some.0;
   within = omega (arith, c.in-Some.ensures.some.2, c.writes.invariant.within);
 }

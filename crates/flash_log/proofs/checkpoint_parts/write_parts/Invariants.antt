@@ -1,6 +1,6 @@
-use Rattle.chunk_index.specs.Maps.{kept_pages}
+use Rattle.chunk_index.specs.Maps.{committed_pages}
 use Rattle.flash_log.proofs.CheckpointRows.{WritesParts}
 use Rattle.flash_log.proofs.checkpoint_parts.write_parts.Given as goal
 
 abbrev pub invariant-loop-k : goal.invariant-loop-k
-invariant-loop-k l = WritesParts (kept_pages l.index) l.count l.first l.k l.last l.fn.page l.page
+invariant-loop-k l = WritesParts (committed_pages l.index) l.count l.first l.k l.last l.fn.page l.page

@@ -6,12 +6,12 @@ use Rattle.block_state.specs.Table.{Table}
 use Rattle.block_state.specs.TableOf.{table}
 use Rattle.transactions.specs.Checking.{WritesCheckpoint}
 use Rattle.flash_log.specs.CheckpointSource.{CanList, index_entries}
-use Rattle.flash_log.specs.CheckpointListing.{kept_keys}
-use Rattle.chunk_index.specs.Maps.{kept_pages}
+use Rattle.flash_log.specs.CheckpointListing.{committed_keys}
+use Rattle.chunk_index.specs.Maps.{committed_pages}
 use Rattle.flash_log.specs.CheckpointWriting.{MayTake}
 use Rattle.flash_log.specs.contracts.checkpoint_source.ChecksPageSource.TheImpl.{ghosts}
 use Rattle.flash_log.specs.declared.checkpoint_source.Checks.{Checks}
-use Rattle.flash_log.proofs.CheckpointWritten.{same_size, block_after, good_now, kept_now, bad_same, bad_noted, leaves_noted, leaves_group, marks_noted, marks_group, whole}
+use Rattle.flash_log.proofs.CheckpointWritten.{same_size, block_after, good_now, committed_now, bad_same, bad_noted, leaves_noted, leaves_group, marks_noted, marks_group, whole}
 use Rattle.flash_log.proofs.checkpoint_writing.write_checks.Goals as goal
 
 -- the pages are those of a checkpoint
@@ -49,14 +49,14 @@ note-requires-clause-good g c =
     let w = c.write_checkpoint.ensures in
     good_now ghosts c.args.checks.now d e t u c.write_checkpoint.result c.args.block c.requires.take.open_block c.requires.ready w.lasts w.group (written c.args.checks.now c.args.block d t c.requires.list c.requires.take) w.ready
 
-pub note-requires-clause-unkept : goal.note-requires-clause-unkept
-note-requires-clause-unkept g c =
+pub note-requires-clause-uncommitted : goal.note-requires-clause-uncommitted
+note-requires-clause-uncommitted g c =
     let d : Device = g.N.Nand.state c.args.device.now in
     let e : Device = g.N.Nand.state c.write_checkpoint.new.device in
     let t : Table = table c.args.blocks.now in
     let u : Table = table c.write_checkpoint.new.blocks in
     let w = c.write_checkpoint.ensures in
-    kept_now ghosts c.args.checks.now d e t u c.write_checkpoint.result c.args.block c.requires.take.open_block c.requires.ready w.lasts w.group (written c.args.checks.now c.args.block d t c.requires.list c.requires.take) c.requires.take.unkept
+    committed_now ghosts c.args.checks.now d e t u c.write_checkpoint.result c.args.block c.requires.take.open_block c.requires.ready w.lasts w.group (written c.args.checks.now c.args.block d t c.requires.list c.requires.take) c.requires.take.uncommitted
 
 pub note-requires-in-Err-Gone-clause-block : goal.note-requires-in-Err-Gone-clause-block
 note-requires-in-Err-Gone-clause-block g c =
@@ -76,14 +76,14 @@ note-requires-in-Err-Gone-clause-good g c =
     let w = c.write_checkpoint.ensures in
     good_now ghosts c.args.checks.now d e t u c.write_checkpoint.result c.args.block c.requires.take.open_block c.requires.ready w.lasts w.group (written c.args.checks.now c.args.block d t c.requires.list c.requires.take) w.ready
 
-pub note-requires-in-Err-Gone-clause-unkept : goal.note-requires-in-Err-Gone-clause-unkept
-note-requires-in-Err-Gone-clause-unkept g c =
+pub note-requires-in-Err-Gone-clause-uncommitted : goal.note-requires-in-Err-Gone-clause-uncommitted
+note-requires-in-Err-Gone-clause-uncommitted g c =
     let d : Device = g.N.Nand.state c.args.device.now in
     let e : Device = g.N.Nand.state c.write_checkpoint.new.device in
     let t : Table = table c.args.blocks.now in
     let u : Table = table c.write_checkpoint.new.blocks in
     let w = c.write_checkpoint.ensures in
-    kept_now ghosts c.args.checks.now d e t u c.write_checkpoint.result c.args.block c.requires.take.open_block c.requires.ready w.lasts w.group (written c.args.checks.now c.args.block d t c.requires.list c.requires.take) c.requires.take.unkept
+    committed_now ghosts c.args.checks.now d e t u c.write_checkpoint.result c.args.block c.requires.take.open_block c.requires.ready w.lasts w.group (written c.args.checks.now c.args.block d t c.requires.list c.requires.take) c.requires.take.uncommitted
 
 pub returns-then-placed-clause-leaves : goal.returns-then-placed-clause-leaves
 returns-then-placed-clause-leaves g c =
@@ -103,7 +103,7 @@ returns-then-placed-clause-block g c =
     let t : Table = table c.args.blocks.now in
     let u : Table = table c.write_checkpoint.new.blocks in
     let w = c.write_checkpoint.ensures in
-    marks_noted ghosts c.args.checks.now d e t u c.write_checkpoint.result c.args.block c.requires.take.open_block c.requires.ready w.lasts w.group (written c.args.checks.now c.args.block d t c.requires.list c.requires.take) (table c.note.new.blocks) c.note.ensures w.ready c.requires.take.unkept
+    marks_noted ghosts c.args.checks.now d e t u c.write_checkpoint.result c.args.block c.requires.take.open_block c.requires.ready w.lasts w.group (written c.args.checks.now c.args.block d t c.requires.list c.requires.take) (table c.note.new.blocks) c.note.ensures w.ready c.requires.take.uncommitted
 
 pub returns-then-placed-clause-counts : goal.returns-then-placed-clause-counts
 returns-then-placed-clause-counts g c =
@@ -132,7 +132,7 @@ returns-else-placed-clause-block g c =
     let t : Table = table c.args.blocks.now in
     let u : Table = table c.write_checkpoint.new.blocks in
     let w = c.write_checkpoint.ensures in
-    marks_noted ghosts c.args.checks.now d e t u c.write_checkpoint.result c.args.block c.requires.take.open_block c.requires.ready w.lasts w.group (written c.args.checks.now c.args.block d t c.requires.list c.requires.take) (table c.note.new.blocks) c.note.ensures w.ready c.requires.take.unkept
+    marks_noted ghosts c.args.checks.now d e t u c.write_checkpoint.result c.args.block c.requires.take.open_block c.requires.ready w.lasts w.group (written c.args.checks.now c.args.block d t c.requires.list c.requires.take) (table c.note.new.blocks) c.note.ensures w.ready c.requires.take.uncommitted
 
 pub returns-else-placed-clause-counts : goal.returns-else-placed-clause-counts
 returns-else-placed-clause-counts g c =
@@ -161,7 +161,7 @@ returns-in-Err-Gone-clause-block g c =
     let t : Table = table c.args.blocks.now in
     let u : Table = table c.write_checkpoint.new.blocks in
     let w = c.write_checkpoint.ensures in
-    marks_noted ghosts c.args.checks.now d e t u c.write_checkpoint.result c.args.block c.requires.take.open_block c.requires.ready w.lasts w.group (written c.args.checks.now c.args.block d t c.requires.list c.requires.take) (table c.note-in-Err-Gone.new.blocks) c.note-in-Err-Gone.ensures w.ready c.requires.take.unkept
+    marks_noted ghosts c.args.checks.now d e t u c.write_checkpoint.result c.args.block c.requires.take.open_block c.requires.ready w.lasts w.group (written c.args.checks.now c.args.block d t c.requires.list c.requires.take) (table c.note-in-Err-Gone.new.blocks) c.note-in-Err-Gone.ensures w.ready c.requires.take.uncommitted
 
 pub returns-in-Err-Gone-clause-counts : goal.returns-in-Err-Gone-clause-counts
 returns-in-Err-Gone-clause-counts g c =
@@ -193,7 +193,7 @@ returns-in-Err-Failed-clause-block g c =
     let u : Table = table c.write_checkpoint.new.blocks in
     let w = c.write_checkpoint.ensures in
     let ends = rw c.in-Err-Failed.field-0-is at c.in-Err-Failed.ensures.group.table in
-    marks_group ghosts c.args.checks.now d e t u c.write_checkpoint.result c.args.block c.requires.take.open_block c.requires.ready w.lasts w.group (written c.args.checks.now c.args.block d t c.requires.list c.requires.take) w.ready c.requires.take.unkept (ap (λ (x : Table). x.open_block) ends) (ap (λ (x : Table). x.checkpoint) ends)
+    marks_group ghosts c.args.checks.now d e t u c.write_checkpoint.result c.args.block c.requires.take.open_block c.requires.ready w.lasts w.group (written c.args.checks.now c.args.block d t c.requires.list c.requires.take) w.ready c.requires.take.uncommitted (ap (λ (x : Table). x.open_block) ends) (ap (λ (x : Table). x.checkpoint) ends)
 
 pub returns-in-Err-Failed-clause-counts : goal.returns-in-Err-Failed-clause-counts
 returns-in-Err-Failed-clause-counts g c =
@@ -225,7 +225,7 @@ returns-in-Err-Lost-clause-block g c =
     let u : Table = table c.write_checkpoint.new.blocks in
     let w = c.write_checkpoint.ensures in
     let ends = rw c.in-Err-Lost.field-0-is at c.in-Err-Lost.ensures.group.table in
-    marks_group ghosts c.args.checks.now d e t u c.write_checkpoint.result c.args.block c.requires.take.open_block c.requires.ready w.lasts w.group (written c.args.checks.now c.args.block d t c.requires.list c.requires.take) w.ready c.requires.take.unkept (ap (λ (x : Table). x.open_block) ends) (ap (λ (x : Table). x.checkpoint) ends)
+    marks_group ghosts c.args.checks.now d e t u c.write_checkpoint.result c.args.block c.requires.take.open_block c.requires.ready w.lasts w.group (written c.args.checks.now c.args.block d t c.requires.list c.requires.take) w.ready c.requires.take.uncommitted (ap (λ (x : Table). x.open_block) ends) (ap (λ (x : Table). x.checkpoint) ends)
 
 pub returns-in-Err-Lost-clause-counts : goal.returns-in-Err-Lost-clause-counts
 returns-in-Err-Lost-clause-counts g c =
@@ -246,7 +246,7 @@ returns-else-placed-clause-ends g c =
     let w = c.write_checkpoint.ensures in (
       record {
         checkpoint = record { block = c.args.block; size = c.args.checks.now.pages; number = t.next_group; seq = (t.entry c.args.block).seq; entries = index_entries c.args.checks.now.index.now };
-        keys = kept_keys (kept_pages c.args.checks.now.index.now);
+        keys = committed_keys (committed_pages c.args.checks.now.index.now);
         lists = c.requires.list.lists;
         entries = refl;
         noted = ap (λ (x : Table). x.checkpoint) c.note.ensures;

@@ -3,7 +3,7 @@ use Rattle.std.proofs.lemmas.Result.{err_from_is_err_and}
 use Rattle.nand_model.specs.Calls.{Device, Lasts}
 use Rattle.nand_model.specs.declared.geometry.Geometry.{Geometry}
 use Rattle.nand_model.specs.laws.Calls.{lasts_here}
-use Rattle.block_state.specs.Kept.{bad_count}
+use Rattle.block_state.specs.Committed.{bad_count}
 use Rattle.block_state.specs.Table.{Table}
 use Rattle.block_state.specs.TableOf.{table}
 use Rattle.transactions.specs.Checking.{LogState, log_of}
@@ -15,8 +15,8 @@ use Rattle.flash_log.specs.declared.fault.MoveFault.{MoveFault}
 use Rattle.flash_log.specs.laws.Bills.{pays_on}
 use Rattle.flash_log.specs.laws.Found.{found_here, found_on, places_at}
 use Rattle.flash_log.specs.laws.Keeping.{keeps_closed, keeps_on}
-use Rattle.flash_log.proofs.Keeping.{kept_on, data_on, may_later, pages_on}
-use Rattle.flash_log.specs.laws.KeptPages.{kept_here, data_here}
+use Rattle.flash_log.proofs.Keeping.{committed_on, data_on, may_later, pages_on}
+use Rattle.flash_log.specs.laws.CommittedPages.{committed_here, data_here}
 use Rattle.flash_log.proofs.copying.copy_listed.Goals as goal
 
 -- blocks that were marked, and then one more
@@ -38,13 +38,13 @@ loop-target-init g c =
       keeps = keeps;
       pays = record { costs = omega arith; marks = omega (arith, bad); answers = omega (arith, bad); reads = omega arith };
       stored = λ honest. data_here t d.flash;
-      newest = λ honest. kept_here t d.flash;
+      newest = λ honest. committed_here t d.flash;
       found = λ honest. found_here t d;
       closed = ap (λ (x : Table). x.open_block) c.close.ensures;
       few = omega (arith, bad, c.requires.some.bad);
-      apart = λ k is. keeps.kept k ∙ c.requires.some.apart k (keeps.numbers.truth.noted k is);
+      apart = λ k is. keeps.committed k ∙ c.requires.some.apart k (keeps.numbers.truth.noted k is);
       size = c.requires.size;
-      copies = may_later d d t u c.args.copies.now (lasts_here d) (omega (arith, group)) keeps.kept (λ honest power. kept_here t d.flash) c.requires.copies;
+      copies = may_later d d t u c.args.copies.now (lasts_here d) (omega (arith, group)) keeps.committed (λ honest power. committed_here t d.flash) c.requires.copies;
     }
 
 pub loop-target-preserved : goal.loop-target-preserved
@@ -61,15 +61,15 @@ loop-target-preserved g c =
     record {
       keeps = keeps_on d0 d1 d2 t u v so_far.keeps keeps;
       pays = pays_more (length c.args.copies.now) (log_of d0 t) (log_of d1 u) (log_of d2 v) (Ok ends.Marked) so_far.keeps.lasts so_far.pays tried.pays;
-      stored = λ honest. data_on t u so_far.keeps.kept d0 d1 d2 keeps.lasts (λ _. so_far.newest honest) (so_far.stored honest) (tried.pages.stored (so_far.keeps.lasts.honest ∙ honest));
-      newest = λ honest. kept_on t u so_far.keeps.kept d0.flash d1.flash d2.flash
+      stored = λ honest. data_on t u so_far.keeps.committed d0 d1 d2 keeps.lasts (λ _. so_far.newest honest) (so_far.stored honest) (tried.pages.stored (so_far.keeps.lasts.honest ∙ honest));
+      newest = λ honest. committed_on t u so_far.keeps.committed d0.flash d1.flash d2.flash
           (so_far.newest honest) (tried.pages.newest (so_far.keeps.lasts.honest ∙ honest) tried.ends.2);
-      found = λ honest. found_on d0 d1 d2 t u so_far.keeps.kept (places_at t d0.flash d1.flash (so_far.newest honest)) (so_far.found honest) (tried.pages.found (so_far.keeps.lasts.honest ∙ honest));
+      found = λ honest. found_on d0 d1 d2 t u so_far.keeps.committed (places_at t d0.flash d1.flash (so_far.newest honest)) (so_far.found honest) (tried.pages.found (so_far.keeps.lasts.honest ∙ honest));
       closed = tried.ends.0;
       few = search rules;
-      apart = λ k is. keeps.kept k ∙ so_far.apart k (keeps.numbers.truth.noted k is);
+      apart = λ k is. keeps.committed k ∙ so_far.apart k (keeps.numbers.truth.noted k is);
       size = search rules;
-      copies = may_later d1 d2 u v c.args.copies.now keeps.lasts keeps.numbers.numbers.groups_rise keeps.kept (λ honest power. tried.pages.newest honest power) so_far.copies;
+      copies = may_later d1 d2 u v c.args.copies.now keeps.lasts keeps.numbers.numbers.groups_rise keeps.committed (λ honest power. tried.pages.newest honest power) so_far.copies;
     }
 
 pub returns-in_err-target-clause-pages : goal.returns-in_err-target-clause-pages

@@ -1,9 +1,9 @@
 use Rattle.std.proofs.Common.{◌≡◌, ◌≤◌, ◌+◌, ◌-◌, true, None, Ok, length}
-use Rattle.block_state.specs.Kept.{bad_count}
+use Rattle.block_state.specs.Committed.{bad_count}
 use Rattle.block_state.specs.TableOf.{table}
 use Rattle.transactions.specs.Checking.{log_of}
 use Rattle.flash_log.specs.Bills.{Pays, bill_of}
-use Rattle.flash_log.specs.Copying.{MayBeCopied, KeepsCounts, KeepsDataAt, KeepsKeptAt}
+use Rattle.flash_log.specs.Copying.{MayBeCopied, KeepsCounts, KeepsDataAt, KeepsCommittedAt}
 use Rattle.flash_log.specs.Passing.{KeepsFound}
 use Rattle.flash_log.specs.Taking.{LiesApart}
 use Rattle.flash_log.specs.declared.copying.Copied.TheVariants as ends
@@ -16,7 +16,7 @@ invariant-loop-target g l = record {
   pays : Pays {E = MoveFault} (bill_of (log_of (g.N.Nand.state l.fn.device) (table l.fn.blocks)) 0 0 0) (log_of (g.N.Nand.state l.fn.device) (table l.fn.blocks))
       (log_of (g.N.Nand.state l.device) (table l.blocks)) (Ok ends.Marked);
   stored : (g.N.Nand.state l.fn.device).honest ≡ true → KeepsDataAt (table l.fn.blocks) (g.N.Nand.state l.fn.device).flash (g.N.Nand.state l.device).flash;
-  newest : (g.N.Nand.state l.fn.device).honest ≡ true → KeepsKeptAt (table l.fn.blocks) (g.N.Nand.state l.fn.device).flash (g.N.Nand.state l.device).flash;
+  newest : (g.N.Nand.state l.fn.device).honest ≡ true → KeepsCommittedAt (table l.fn.blocks) (g.N.Nand.state l.fn.device).flash (g.N.Nand.state l.device).flash;
   found : (g.N.Nand.state l.fn.device).honest ≡ true → KeepsFound (table l.fn.blocks) (g.N.Nand.state l.fn.device) (g.N.Nand.state l.device);
   closed : (table l.blocks).open_block ≡ None;
   few : bad_count (table l.blocks) ≤ l.spare;

@@ -5,15 +5,15 @@ use Rattle.nand_model.specs.declared.geometry.Geometry.{Geometry}
 use Rattle.block_state.specs.Table.{Table}
 use Rattle.block_state.specs.TableOf.{table}
 use Rattle.flash_log.specs.laws.FreeBlocks.{free_copied}
-use Rattle.flash_log.specs.laws.Moves.{are_held, stands_kept}
-use Rattle.flash_log.specs.laws.Steps.{step_kept}
+use Rattle.flash_log.specs.laws.Moves.{are_held, stands_committed}
+use Rattle.flash_log.specs.laws.Steps.{step_committed}
 use Rattle.flash_log.proofs.IndexStays.{holds_counts}
 use Rattle.flash_log.proofs.Moves.{none_noted, may_be_copied, same_bads, step_moved, moves_out, pays_opened, is_left, lies_behind, lies_in}
 use Rattle.flash_log.proofs.moving.move_open.Goals as goal
 
--- the block of the copies had no kept page
-unlike : (v w : ℕ) (t : Table) → 1 ≤ (t.entry v).kept → (t.entry w).kept ≡ 0 → v ≢ w
-unlike v w t some none e = let same : (t.entry v).kept ≡ (t.entry w).kept = ap (λ b. (t.entry b).kept) e in omega (arith, same, some, none)
+-- the block of the copies had no committed page
+unlike : (v w : ℕ) (t : Table) → 1 ≤ (t.entry v).committed → (t.entry w).committed ≡ 0 → v ≢ w
+unlike v w t some none e = let same : (t.entry v).committed ≡ (t.entry w).committed = ap (λ b. (t.entry b).committed) e in omega (arith, same, some, none)
 
 pub write_copies-requires-clause-copies : goal.write_copies-requires-clause-copies
 write_copies-requires-clause-copies g c =
@@ -29,17 +29,17 @@ returns-in_err-target-clause-step g c =
     let can = c.requires.can in
     let held = are_held t0 x (c.the_counts_are_of_the_keys.ensures.none x) can.stands.tables.counts in
     let copied = c.in_err-target.ensures in
-    let stand = stands_kept c.args.spare d0 d1 t0 t1 x held copied.pages.keeps can.stands (copied.ends c.args.spare).0 copied.pages.newest in
+    let stand = stands_committed c.args.spare d0 d1 t0 t1 x held copied.pages.keeps can.stands (copied.ends c.args.spare).0 copied.pages.newest in
     let free = free_copied c.args.spare d0 d1 t0 t1 x held copied.pages.keeps can.stands stand.tables c.requires.listed.0 c.args.copies.now c.requires.listed.1 copied.pages.apart in
-    step_kept c.args.spare d0 d1 t0 t1 x held copied.pages.keeps can.stands stand copied.pages.stored copied.pages.found free
+    step_committed c.args.spare d0 d1 t0 t1 x held copied.pages.keeps can.stands stand copied.pages.stored copied.pages.found free
 
 pub returns-in_err-target-clause-ends : goal.returns-in_err-target-clause-ends
 returns-in_err-target-clause-ends g c =
     let p = err_from_is_err_and c.from_residual.result c.from_residual.ensures.1 in
     λ v count listed clear. rw (p.1, p.2) ((c.in_err-target.ensures.ends c.args.spare).1)
 
-pub tell_copies-requires-clause-within : goal.tell_copies-requires-clause-within
-tell_copies-requires-clause-within g c =
+pub report_copies-requires-clause-within : goal.report_copies-requires-clause-within
+report_copies-requires-clause-within g c =
     let d0 : Device = g.N.Nand.state c.args.device.now in
     let d1 : Device = g.N.Nand.state c.write_copies.new.device in
     let t0 : Table = table c.args.blocks.now in
@@ -54,8 +54,8 @@ tell_copies-requires-clause-within g c =
     let ended = copied.ends c.args.spare in
     subst (λ (x : Geometry). target.block < x.blocks) (sym copied.pages.keeps.geometry) ended.0.within
 
-pub tell_copies-requires-clause-agree : goal.tell_copies-requires-clause-agree
-tell_copies-requires-clause-agree g c =
+pub report_copies-requires-clause-agree : goal.report_copies-requires-clause-agree
+report_copies-requires-clause-agree g c =
     let d0 : Device = g.N.Nand.state c.args.device.now in
     let d1 : Device = g.N.Nand.state c.write_copies.new.device in
     let t0 : Table = table c.args.blocks.now in
@@ -69,10 +69,10 @@ tell_copies-requires-clause-agree g c =
     let listed = c.requires.listed.1 in
     let ended = copied.ends c.args.spare in
     let agree = can.stands.tables.counts in
-    record { counts = λ b. copied.pages.keeps.kept b ∙ agree.counts b; within = λ b le. agree.within b (subst (λ (x : Geometry). x.blocks ≤ b) copied.pages.keeps.geometry le) }
+    record { counts = λ b. copied.pages.keeps.committed b ∙ agree.counts b; within = λ b le. agree.within b (subst (λ (x : Geometry). x.blocks ≤ b) copied.pages.keeps.geometry le) }
 
-pub tell_copies-requires-clause-few : goal.tell_copies-requires-clause-few
-tell_copies-requires-clause-few g c =
+pub report_copies-requires-clause-few : goal.report_copies-requires-clause-few
+report_copies-requires-clause-few g c =
     let d0 : Device = g.N.Nand.state c.args.device.now in
     let d1 : Device = g.N.Nand.state c.write_copies.new.device in
     let t0 : Table = table c.args.blocks.now in
@@ -87,8 +87,8 @@ tell_copies-requires-clause-few g c =
     let ended = copied.ends c.args.spare in
     subst (λ (x : Geometry). target.first + length c.args.copies.now ≤ x.pages) (sym copied.pages.keeps.geometry) ended.0.fits
 
-pub tell_copies-requires-clause-listed : goal.tell_copies-requires-clause-listed
-tell_copies-requires-clause-listed g c =
+pub report_copies-requires-clause-listed : goal.report_copies-requires-clause-listed
+report_copies-requires-clause-listed g c =
     let d0 : Device = g.N.Nand.state c.args.device.now in
     let d1 : Device = g.N.Nand.state c.write_copies.new.device in
     let t0 : Table = table c.args.blocks.now in
@@ -101,7 +101,7 @@ tell_copies-requires-clause-listed g c =
     let v : ℕ = c.requires.listed.0 in
     let listed = c.requires.listed.1 in
     let ended = copied.ends c.args.spare in
-    (v, listed.lists, unlike v target.block t0 listed.some ended.0.unkept)
+    (v, listed.lists, unlike v target.block t0 listed.some ended.0.uncommitted)
 
 pub returns-then-target-clause-step : goal.returns-then-target-clause-step
 returns-then-target-clause-step g c =
@@ -117,11 +117,11 @@ returns-then-target-clause-step g c =
     let v : ℕ = c.requires.listed.0 in
     let listed = c.requires.listed.1 in
     let ended = copied.ends c.args.spare in
-    let t2 : Table = table c.tell_copies.new.blocks in
-    let y = c.tell_copies.new.index in
-    let told = c.tell_copies.ensures.tells v listed.lists (unlike v target.block t0 listed.some ended.0.unkept) in
-    let agree = c.tell_copies.ensures.agree in
-    step_moved c.args.spare v target d0 d1 t0 t1 t2 x y c.args.copies.now listed held copied.pages.keeps can.stands ended.0 told agree copied.pages.newest (are_held t2 y (c.the_counts_are_of_the_keys.ensures.none y) agree) ended.1 copied.pages.stored copied.pages.found
+    let t2 : Table = table c.report_copies.new.blocks in
+    let y = c.report_copies.new.index in
+    let reported = c.report_copies.ensures.reports v listed.lists (unlike v target.block t0 listed.some ended.0.uncommitted) in
+    let agree = c.report_copies.ensures.agree in
+    step_moved c.args.spare v target d0 d1 t0 t1 t2 x y c.args.copies.now listed held copied.pages.keeps can.stands ended.0 reported agree copied.pages.newest (are_held t2 y (c.the_counts_are_of_the_keys.ensures.none y) agree) ended.1 copied.pages.stored copied.pages.found
 
 pub returns-then-target-clause-out : goal.returns-then-target-clause-out
 returns-then-target-clause-out g c =
@@ -137,12 +137,12 @@ returns-then-target-clause-out g c =
     let v : ℕ = c.requires.listed.0 in
     let listed = c.requires.listed.1 in
     let ended = copied.ends c.args.spare in
-    let t2 : Table = table c.tell_copies.new.blocks in
-    let y = c.tell_copies.new.index in
-    let agree = c.tell_copies.ensures.agree in
+    let t2 : Table = table c.report_copies.new.blocks in
+    let y = c.report_copies.new.index in
+    let agree = c.report_copies.ensures.agree in
     λ v listed.
-    let told = c.tell_copies.ensures.tells v listed.lists (unlike v target.block t0 listed.some ended.0.unkept) in
-    moves_out c.args.spare v target d0 d1 t0 t1 t2 x y c.args.copies.now listed held copied.pages.keeps can.stands ended.0 told agree copied.pages.newest
+    let reported = c.report_copies.ensures.reports v listed.lists (unlike v target.block t0 listed.some ended.0.uncommitted) in
+    moves_out c.args.spare v target d0 d1 t0 t1 t2 x y c.args.copies.now listed held copied.pages.keeps can.stands ended.0 reported agree copied.pages.newest
 
 pub returns-then-target-clause-pays : goal.returns-then-target-clause-pays
 returns-then-target-clause-pays g c =
@@ -158,11 +158,11 @@ returns-then-target-clause-pays g c =
     let v : ℕ = c.requires.listed.0 in
     let listed = c.requires.listed.1 in
     let ended = copied.ends c.args.spare in
-    let t2 : Table = table c.tell_copies.new.blocks in
-    let y = c.tell_copies.new.index in
-    let told = c.tell_copies.ensures.tells v listed.lists (unlike v target.block t0 listed.some ended.0.unkept) in
-    let agree = c.tell_copies.ensures.agree in
-    pays_opened c.args.spare v target d0 d1 t0 t1 t2 x y c.args.copies.now listed held copied.pages.keeps can.stands ended.0 told agree copied.pages.newest 1 _ (ap (λ (s : Bool). if s then 1 else 0) c.if-target.true) copied.pays
+    let t2 : Table = table c.report_copies.new.blocks in
+    let y = c.report_copies.new.index in
+    let reported = c.report_copies.ensures.reports v listed.lists (unlike v target.block t0 listed.some ended.0.uncommitted) in
+    let agree = c.report_copies.ensures.agree in
+    pays_opened c.args.spare v target d0 d1 t0 t1 t2 x y c.args.copies.now listed held copied.pages.keeps can.stands ended.0 reported agree copied.pages.newest 1 _ (ap (λ (s : Bool). if s then 1 else 0) c.if-target.true) copied.pays
 
 pub returns-then-target-clause-few : goal.returns-then-target-clause-few
 returns-then-target-clause-few g c =
@@ -178,11 +178,11 @@ returns-then-target-clause-few g c =
     let v : ℕ = c.requires.listed.0 in
     let listed = c.requires.listed.1 in
     let ended = copied.ends c.args.spare in
-    let t2 : Table = table c.tell_copies.new.blocks in
-    let y = c.tell_copies.new.index in
-    let told = c.tell_copies.ensures.tells v listed.lists (unlike v target.block t0 listed.some ended.0.unkept) in
-    let agree = c.tell_copies.ensures.agree in
-    let same = same_bads c.args.spare v target d0 d1 t0 t1 t2 x y c.args.copies.now listed held copied.pages.keeps can.stands ended.0 told agree copied.pages.newest in
+    let t2 : Table = table c.report_copies.new.blocks in
+    let y = c.report_copies.new.index in
+    let reported = c.report_copies.ensures.reports v listed.lists (unlike v target.block t0 listed.some ended.0.uncommitted) in
+    let agree = c.report_copies.ensures.agree in
+    let same = same_bads c.args.spare v target d0 d1 t0 t1 t2 x y c.args.copies.now listed held copied.pages.keeps can.stands ended.0 reported agree copied.pages.newest in
     let few = copied.few c.args.spare can.few in
     omega (arith, same, few)
 
@@ -200,14 +200,14 @@ returns-then-target-clause-ends g c =
     let v : ℕ = c.requires.listed.0 in
     let listed = c.requires.listed.1 in
     let ended = copied.ends c.args.spare in
-    let t2 : Table = table c.tell_copies.new.blocks in
-    let y = c.tell_copies.new.index in
-    let agree = c.tell_copies.ensures.agree in
+    let t2 : Table = table c.report_copies.new.blocks in
+    let y = c.report_copies.new.index in
+    let agree = c.report_copies.ensures.agree in
     λ v count listed clear.
-    let told = c.tell_copies.ensures.tells v listed.lists (unlike v target.block t0 listed.some ended.0.unkept) in (
-      is_left c.args.spare v target d0 d1 t0 t1 t2 x y c.args.copies.now listed held copied.pages.keeps can.stands ended.0 told agree copied.pages.newest,
-      lies_in c.args.spare v target d0 d1 t0 t1 t2 x y c.args.copies.now listed held copied.pages.keeps can.stands ended.0 told agree copied.pages.newest,
-      none_noted c.args.spare v target d0 d1 t0 t1 t2 x y c.args.copies.now listed held copied.pages.keeps can.stands ended.0 told agree copied.pages.newest,
+    let reported = c.report_copies.ensures.reports v listed.lists (unlike v target.block t0 listed.some ended.0.uncommitted) in (
+      is_left c.args.spare v target d0 d1 t0 t1 t2 x y c.args.copies.now listed held copied.pages.keeps can.stands ended.0 reported agree copied.pages.newest,
+      lies_in c.args.spare v target d0 d1 t0 t1 t2 x y c.args.copies.now listed held copied.pages.keeps can.stands ended.0 reported agree copied.pages.newest,
+      none_noted c.args.spare v target d0 d1 t0 t1 t2 x y c.args.copies.now listed held copied.pages.keeps can.stands ended.0 reported agree copied.pages.newest,
       ended.1,
     )
 
@@ -225,11 +225,11 @@ returns-else-target-clause-step g c =
     let v : ℕ = c.requires.listed.0 in
     let listed = c.requires.listed.1 in
     let ended = copied.ends c.args.spare in
-    let t2 : Table = table c.tell_copies.new.blocks in
-    let y = c.tell_copies.new.index in
-    let told = c.tell_copies.ensures.tells v listed.lists (unlike v target.block t0 listed.some ended.0.unkept) in
-    let agree = c.tell_copies.ensures.agree in
-    step_moved c.args.spare v target d0 d1 t0 t1 t2 x y c.args.copies.now listed held copied.pages.keeps can.stands ended.0 told agree copied.pages.newest (are_held t2 y (c.the_counts_are_of_the_keys.ensures.none y) agree) ended.1 copied.pages.stored copied.pages.found
+    let t2 : Table = table c.report_copies.new.blocks in
+    let y = c.report_copies.new.index in
+    let reported = c.report_copies.ensures.reports v listed.lists (unlike v target.block t0 listed.some ended.0.uncommitted) in
+    let agree = c.report_copies.ensures.agree in
+    step_moved c.args.spare v target d0 d1 t0 t1 t2 x y c.args.copies.now listed held copied.pages.keeps can.stands ended.0 reported agree copied.pages.newest (are_held t2 y (c.the_counts_are_of_the_keys.ensures.none y) agree) ended.1 copied.pages.stored copied.pages.found
 
 pub returns-else-target-clause-out : goal.returns-else-target-clause-out
 returns-else-target-clause-out g c =
@@ -245,12 +245,12 @@ returns-else-target-clause-out g c =
     let v : ℕ = c.requires.listed.0 in
     let listed = c.requires.listed.1 in
     let ended = copied.ends c.args.spare in
-    let t2 : Table = table c.tell_copies.new.blocks in
-    let y = c.tell_copies.new.index in
-    let agree = c.tell_copies.ensures.agree in
+    let t2 : Table = table c.report_copies.new.blocks in
+    let y = c.report_copies.new.index in
+    let agree = c.report_copies.ensures.agree in
     λ v listed.
-    let told = c.tell_copies.ensures.tells v listed.lists (unlike v target.block t0 listed.some ended.0.unkept) in
-    moves_out c.args.spare v target d0 d1 t0 t1 t2 x y c.args.copies.now listed held copied.pages.keeps can.stands ended.0 told agree copied.pages.newest
+    let reported = c.report_copies.ensures.reports v listed.lists (unlike v target.block t0 listed.some ended.0.uncommitted) in
+    moves_out c.args.spare v target d0 d1 t0 t1 t2 x y c.args.copies.now listed held copied.pages.keeps can.stands ended.0 reported agree copied.pages.newest
 
 pub returns-else-target-clause-pays : goal.returns-else-target-clause-pays
 returns-else-target-clause-pays g c =
@@ -266,11 +266,11 @@ returns-else-target-clause-pays g c =
     let v : ℕ = c.requires.listed.0 in
     let listed = c.requires.listed.1 in
     let ended = copied.ends c.args.spare in
-    let t2 : Table = table c.tell_copies.new.blocks in
-    let y = c.tell_copies.new.index in
-    let told = c.tell_copies.ensures.tells v listed.lists (unlike v target.block t0 listed.some ended.0.unkept) in
-    let agree = c.tell_copies.ensures.agree in
-    pays_opened c.args.spare v target d0 d1 t0 t1 t2 x y c.args.copies.now listed held copied.pages.keeps can.stands ended.0 told agree copied.pages.newest 0 _ (ap (λ (s : Bool). if s then 1 else 0) c.if-target.false) copied.pays
+    let t2 : Table = table c.report_copies.new.blocks in
+    let y = c.report_copies.new.index in
+    let reported = c.report_copies.ensures.reports v listed.lists (unlike v target.block t0 listed.some ended.0.uncommitted) in
+    let agree = c.report_copies.ensures.agree in
+    pays_opened c.args.spare v target d0 d1 t0 t1 t2 x y c.args.copies.now listed held copied.pages.keeps can.stands ended.0 reported agree copied.pages.newest 0 _ (ap (λ (s : Bool). if s then 1 else 0) c.if-target.false) copied.pays
 
 pub returns-else-target-clause-few : goal.returns-else-target-clause-few
 returns-else-target-clause-few g c =
@@ -286,11 +286,11 @@ returns-else-target-clause-few g c =
     let v : ℕ = c.requires.listed.0 in
     let listed = c.requires.listed.1 in
     let ended = copied.ends c.args.spare in
-    let t2 : Table = table c.tell_copies.new.blocks in
-    let y = c.tell_copies.new.index in
-    let told = c.tell_copies.ensures.tells v listed.lists (unlike v target.block t0 listed.some ended.0.unkept) in
-    let agree = c.tell_copies.ensures.agree in
-    let same = same_bads c.args.spare v target d0 d1 t0 t1 t2 x y c.args.copies.now listed held copied.pages.keeps can.stands ended.0 told agree copied.pages.newest in
+    let t2 : Table = table c.report_copies.new.blocks in
+    let y = c.report_copies.new.index in
+    let reported = c.report_copies.ensures.reports v listed.lists (unlike v target.block t0 listed.some ended.0.uncommitted) in
+    let agree = c.report_copies.ensures.agree in
+    let same = same_bads c.args.spare v target d0 d1 t0 t1 t2 x y c.args.copies.now listed held copied.pages.keeps can.stands ended.0 reported agree copied.pages.newest in
     let few = copied.few c.args.spare can.few in
     omega (arith, same, few)
 
@@ -308,14 +308,14 @@ returns-else-target-clause-ends g c =
     let v : ℕ = c.requires.listed.0 in
     let listed = c.requires.listed.1 in
     let ended = copied.ends c.args.spare in
-    let t2 : Table = table c.tell_copies.new.blocks in
-    let y = c.tell_copies.new.index in
-    let agree = c.tell_copies.ensures.agree in
+    let t2 : Table = table c.report_copies.new.blocks in
+    let y = c.report_copies.new.index in
+    let agree = c.report_copies.ensures.agree in
     λ v count listed clear.
-    let told = c.tell_copies.ensures.tells v listed.lists (unlike v target.block t0 listed.some ended.0.unkept) in (
-      is_left c.args.spare v target d0 d1 t0 t1 t2 x y c.args.copies.now listed held copied.pages.keeps can.stands ended.0 told agree copied.pages.newest,
-      lies_behind c.args.spare v target d0 d1 t0 t1 t2 x y c.args.copies.now listed held copied.pages.keeps can.stands ended.0 told agree copied.pages.newest count c.in-Some.block (sym c.open_block.ensures ∙ c.in-Some.is) copied.first clear c.if-target.false,
-      none_noted c.args.spare v target d0 d1 t0 t1 t2 x y c.args.copies.now listed held copied.pages.keeps can.stands ended.0 told agree copied.pages.newest,
+    let reported = c.report_copies.ensures.reports v listed.lists (unlike v target.block t0 listed.some ended.0.uncommitted) in (
+      is_left c.args.spare v target d0 d1 t0 t1 t2 x y c.args.copies.now listed held copied.pages.keeps can.stands ended.0 reported agree copied.pages.newest,
+      lies_behind c.args.spare v target d0 d1 t0 t1 t2 x y c.args.copies.now listed held copied.pages.keeps can.stands ended.0 reported agree copied.pages.newest count c.in-Some.block (sym c.open_block.ensures ∙ c.in-Some.is) copied.first clear c.if-target.false,
+      none_noted c.args.spare v target d0 d1 t0 t1 t2 x y c.args.copies.now listed held copied.pages.keeps can.stands ended.0 reported agree copied.pages.newest,
       ended.1,
     )
 
@@ -329,9 +329,9 @@ returns-then-bad_count-spare-clause-step g c =
     let can = c.requires.can in
     let held = are_held t0 x (c.the_counts_are_of_the_keys.ensures.none x) can.stands.tables.counts in
     let copied = rw c.in-Marked.is at c.in_ok-target.ensures in
-    let stand = stands_kept c.args.spare d0 d1 t0 t1 x held copied.pages.keeps can.stands (copied.ends c.args.spare).0 copied.pages.newest in
+    let stand = stands_committed c.args.spare d0 d1 t0 t1 x held copied.pages.keeps can.stands (copied.ends c.args.spare).0 copied.pages.newest in
     let free = free_copied c.args.spare d0 d1 t0 t1 x held copied.pages.keeps can.stands stand.tables c.requires.listed.0 c.args.copies.now c.requires.listed.1 copied.pages.apart in
-    step_kept c.args.spare d0 d1 t0 t1 x held copied.pages.keeps can.stands stand copied.pages.stored copied.pages.found free
+    step_committed c.args.spare d0 d1 t0 t1 x held copied.pages.keeps can.stands stand copied.pages.stored copied.pages.found free
 
 pub returns-else-bad_count-spare-clause-step : goal.returns-else-bad_count-spare-clause-step
 returns-else-bad_count-spare-clause-step g c =
@@ -343,9 +343,9 @@ returns-else-bad_count-spare-clause-step g c =
     let can = c.requires.can in
     let held = are_held t0 x (c.the_counts_are_of_the_keys.ensures.none x) can.stands.tables.counts in
     let copied = rw c.in-Marked.is at c.in_ok-target.ensures in
-    let stand = stands_kept c.args.spare d0 d1 t0 t1 x held copied.pages.keeps can.stands (copied.ends c.args.spare).0 copied.pages.newest in
+    let stand = stands_committed c.args.spare d0 d1 t0 t1 x held copied.pages.keeps can.stands (copied.ends c.args.spare).0 copied.pages.newest in
     let free = free_copied c.args.spare d0 d1 t0 t1 x held copied.pages.keeps can.stands stand.tables c.requires.listed.0 c.args.copies.now c.requires.listed.1 copied.pages.apart in
-    step_kept c.args.spare d0 d1 t0 t1 x held copied.pages.keeps can.stands stand copied.pages.stored copied.pages.found free
+    step_committed c.args.spare d0 d1 t0 t1 x held copied.pages.keeps can.stands stand copied.pages.stored copied.pages.found free
 
 pub returns-then-bad_count-spare-clause-ends : goal.returns-then-bad_count-spare-clause-ends
 returns-then-bad_count-spare-clause-ends g c =
@@ -370,4 +370,4 @@ returns-else-bad_count-spare-clause-ends g c =
     let held = are_held t0 x (c.the_counts_are_of_the_keys.ensures.none x) can.stands.tables.counts in
     let copied = rw c.in-Marked.is at c.in_ok-target.ensures in
     let keeps = copied.pages.keeps in
-    λ v count listed clear. ((copied.ends c.args.spare).1, holds_counts t0 t1 keeps.kept keeps.marked keeps.unkept, (copied.ends c.args.spare).2)
+    λ v count listed clear. ((copied.ends c.args.spare).1, holds_counts t0 t1 keeps.committed keeps.marked keeps.uncommitted, (copied.ends c.args.spare).2)

@@ -1,5 +1,5 @@
 use Rattle.std.proofs.Common.{◌≡◌, ◌+◌, ◌∙◌, arith}
-use Rattle.block_state.specs.Kept.{bad_count}
+use Rattle.block_state.specs.Committed.{bad_count}
 use Rattle.block_state.specs.TableOf.{table}
 use Rattle.flash_log.specs.laws.Found.{found_marked}
 use Rattle.flash_log.proofs.CheckpointKeeping.{most_one}
@@ -13,7 +13,7 @@ returns-in-Ok-clause-keeps g c =
     mark_counts c.args.block _ _ (table c.args.blocks.now) _ _ c.requires.empty m.marks m.ready m.notes m.numbers
 
 pub returns-in-Ok-clause-found : goal.returns-in-Ok-clause-found
-returns-in-Ok-clause-found g c = found_marked c.args.block _ _ (table c.args.blocks.now) _ c.requires.empty.unkept c.mark_block.ensures.marks
+returns-in-Ok-clause-found g c = found_marked c.args.block _ _ (table c.args.blocks.now) _ c.requires.empty.uncommitted c.mark_block.ensures.marks
 
 pub returns-in-Ok-clause-ends : goal.returns-in-Ok-clause-ends
 returns-in-Ok-clause-ends g c =
@@ -27,10 +27,10 @@ returns-in-Err-clause-keeps g c =
     mark_counts c.args.block _ _ (table c.args.blocks.now) _ _ c.requires.empty m.marks m.ready m.notes m.numbers
 
 pub returns-in-Err-clause-found : goal.returns-in-Err-clause-found
-returns-in-Err-clause-found g c = found_marked c.args.block _ _ (table c.args.blocks.now) _ c.requires.empty.unkept c.mark_block.ensures.marks
+returns-in-Err-clause-found g c = found_marked c.args.block _ _ (table c.args.blocks.now) _ c.requires.empty.uncommitted c.mark_block.ensures.marks
 
 pub returns-in-Err-clause-ends : goal.returns-in-Err-clause-ends
 returns-in-Err-clause-ends g c =
     let m = c.in-Err.ensures in
-    let one = most_one c.args.block _ _ (table c.args.blocks.now) _ _ c.requires.empty.within c.requires.empty.good c.requires.empty.unkept m.marks m.notes in
+    let one = most_one c.args.block _ _ (table c.args.blocks.now) _ _ c.requires.empty.within c.requires.empty.good c.requires.empty.uncommitted m.marks m.notes in
     (m.marks.ends.is, omega (arith, one))

@@ -3,8 +3,8 @@ use Rattle.nand_model.specs.Calls.{Device}
 use Rattle.nand_model.specs.declared.geometry.Geometry.{Geometry}
 use Rattle.flash_tree.specs.Summaries.{IsWholeSummary}
 use Rattle.flash_tree.specs.laws.Truth.{none_after}
-use Rattle.block_state.specs.Kept.{bad_count}
-use Rattle.block_state.specs.laws.Kept.{same_bad_count}
+use Rattle.block_state.specs.Committed.{bad_count}
+use Rattle.block_state.specs.laws.Committed.{same_bad_count}
 use Rattle.block_state.specs.Table.{Table}
 use Rattle.block_state.specs.TableOf.{table}
 use Rattle.transactions.specs.Checking.{log_of}
@@ -56,7 +56,7 @@ returns-then-placed-clause-does g c =
     let f : Device = g.N.Nand.state c.mark_written.new.device in
     let v : Table = table c.mark_written.new.blocks in
     let m = c.mark_written.ensures in
-    mark_summarizes (summary_of s t c.args.block) c.args.block d e f t u v c.requires.fresh.unkept
+    mark_summarizes (summary_of s t c.args.block) c.args.block d e f t u v c.requires.fresh.uncommitted
     (listed_summarizes s c.args.block d e t u c.write_summary.result c.requires.ready c.requires.fresh (omega (arith, c.requires.number)) c.requires.source c.requires.lists w.lasts w.ready w.group w.numbers w.adds)
     m.keeps m.newest m.found m.closed
 
@@ -101,7 +101,7 @@ returns-in-Err-Failed-clause-does g c =
     let f : Device = g.N.Nand.state c.mark_written-in-Err-Failed.new.device in
     let v : Table = table c.mark_written-in-Err-Failed.new.blocks in
     let m = c.mark_written-in-Err-Failed.ensures in
-    mark_summarizes (summary_of s t c.args.block) c.args.block d e f t u v c.requires.fresh.unkept
+    mark_summarizes (summary_of s t c.args.block) c.args.block d e f t u v c.requires.fresh.uncommitted
     (listed_summarizes s c.args.block d e t u c.write_summary.result c.requires.ready c.requires.fresh (omega (arith, c.requires.number)) c.requires.source c.requires.lists w.lasts w.ready w.group w.numbers w.adds)
     m.keeps m.newest m.found m.closed
 

@@ -1,6 +1,6 @@
 use Rattle.std.proofs.Common.{◌≡◌, ◌≤◌, ◌∙◌, refl, sym, ap, subst, arith, rules}
 use Rattle.nand_model.specs.laws.Calls.{lasts_on}
-use Rattle.block_state.specs.Kept.{bad_count}
+use Rattle.block_state.specs.Committed.{bad_count}
 use Rattle.block_state.specs.Table.{Table}
 use Rattle.block_state.specs.TableOf.{table}
 use Rattle.transactions.specs.Ready.{IsReady}
@@ -28,7 +28,7 @@ loop-block-init g c = record {
   reads = refl;
   few = subst (λ (x : Table). bad_count x ≤ c.args.spare) (sym c.close.ensures) c.requires.some.bad;
   turns = same_turns_closed (table c.args.blocks.now) _ c.close.ensures;
-  apart = λ k is. ap (λ (x : Table). (x.entry k).kept) c.close.ensures ∙ c.requires.some.apart k (sym (ap (λ (x : Table). x.checkpoint) c.close.ensures) ∙ is);
+  apart = λ k is. ap (λ (x : Table). (x.entry k).committed) c.close.ensures ∙ c.requires.some.apart k (sym (ap (λ (x : Table). x.checkpoint) c.close.ensures) ∙ is);
 }
 
 pub loop-block-preserved : goal.loop-block-preserved
@@ -46,7 +46,7 @@ loop-block-preserved g c =
       reads = tried.reads ∙ so_far.reads;
       few = search rules;
       turns = same_turns_on (table c.args.blocks.now) _ _ tried.passes.marks_stay so_far.turns tried.turn;
-      apart = λ k is. tried.passes.kept k ∙ so_far.apart k (tried.turn.from k is);
+      apart = λ k is. tried.passes.committed k ∙ so_far.apart k (tried.turn.from k is);
     }
 
 pub returns-in-Ok-Taken-clause-passes : goal.returns-in-Ok-Taken-clause-passes
@@ -67,20 +67,16 @@ returns-in-Ok-Taken-clause-ends g c =
 pub returns-in-Ok-Taken-clause-costs : goal.returns-in-Ok-Taken-clause-costs
 returns-in-Ok-Taken-clause-costs g c =
     let took = rw c.in-Ok-Taken.field-0-is at c.in-Ok-Taken.ensures in
-    omega (arith, c.loop-block.invariant.costs, took.costs)
+    record { changes = omega (arith, c.loop-block.invariant.costs, took.costs); reads = took.reads ∙ c.loop-block.invariant.reads }
 
 pub returns-then-bad_count-spare-clause-costs : goal.returns-then-bad_count-spare-clause-costs
 returns-then-bad_count-spare-clause-costs g c =
     let tried = rw c.in-Ok-Marked.field-0-is at c.in-Ok-Marked.ensures in
-    omega (arith, c.loop-block.invariant.costs, tried.costs)
+    record { changes = omega (arith, c.loop-block.invariant.costs, tried.costs); reads = tried.reads ∙ c.loop-block.invariant.reads }
 
 pub returns-in-Err-clause-costs : goal.returns-in-Err-clause-costs
-returns-in-Err-clause-costs g c = omega (arith, c.loop-block.invariant.costs, c.in-Err.ensures.costs)
-
-pub returns-in-Ok-Taken-clause-few : goal.returns-in-Ok-Taken-clause-few
-returns-in-Ok-Taken-clause-few g c =
-    let took = rw c.in-Ok-Taken.field-0-is at c.in-Ok-Taken.ensures in
-    omega (arith, c.loop-block.invariant.few, took.few)
+returns-in-Err-clause-costs g c =
+    record { changes = omega (arith, c.loop-block.invariant.costs, c.in-Err.ensures.costs); reads = c.in-Err.ensures.reads ∙ c.loop-block.invariant.reads }
 
 pub returns-then-next_seq-ge-NUMBER_END-clause-numbers : goal.returns-then-next_seq-ge-NUMBER_END-clause-numbers
 returns-then-next_seq-ge-NUMBER_END-clause-numbers g c = hands_closed _ (table c.args.blocks.now) _ c.close.ensures
@@ -104,7 +100,7 @@ pub returns-in-Ok-Taken-clause-turn : goal.returns-in-Ok-Taken-clause-turn
 returns-in-Ok-Taken-clause-turn g c =
     let so_far = c.loop-block.invariant in
     let took = rw c.in-Ok-Taken.field-0-is at c.in-Ok-Taken.ensures in
-    turn_from _ _ _ _ _ _ _ so_far.passes took.passes so_far.turns took.turn
+    record { turn = turn_from _ _ _ _ _ _ _ so_far.passes took.passes so_far.turns took.turn; bad = omega (arith, so_far.few, took.few) }
 
 pub returns-in-Ok-Taken-clause-answers : goal.returns-in-Ok-Taken-clause-answers
 returns-in-Ok-Taken-clause-answers g c =
@@ -114,4 +110,4 @@ returns-in-Ok-Taken-clause-answers g c =
 pub try_block-requires-clause-some : goal.try_block-requires-clause-some
 try_block-requires-clause-some g c =
     let so_far = c.loop-block.invariant in
-    (c.args.spare, record { bad = so_far.few; unkept = omega (arith, so_far.passes.unkept, c.requires.some.unkept); apart = so_far.apart })
+    (c.args.spare, record { bad = so_far.few; uncommitted = omega (arith, so_far.passes.uncommitted, c.requires.some.uncommitted); apart = so_far.apart })

@@ -1,13 +1,13 @@
-use Rattle.std.proofs.Common.{ℕ, sym, ◌∙◌, ap, subst, arith}
+use Rattle.std.proofs.Common.{ℕ, sym, ◌∙◌, ap, subst, arith, rules}
 use Rattle.std.proofs.lemmas.Result.{err_from_is_err_and}
-use Rattle.block_state.specs.laws.Kept.{free_where_closed, none_free, same_bad_count}
+use Rattle.block_state.specs.laws.Committed.{free_where_closed, none_free, same_bad_count}
 use Rattle.block_state.specs.Table.{Table}
 use Rattle.block_state.specs.TableOf.{table}
 use Rattle.transactions.specs.Marking.{NotesMark}
 use Rattle.transactions.specs.Opening.{MayLose}
 use Rattle.transactions.specs.laws.Handing.{hands_on}
 use Rattle.flash_log.proofs.Passing.{gains_erased, passes_erased, passes_opened, passes_marked, same_opened}
-use Rattle.flash_log.proofs.Free.{was_unkept, one_more, erase_costs, erase_fails, mark_costs}
+use Rattle.flash_log.proofs.Free.{was_uncommitted, one_more, erase_costs, erase_fails, mark_costs}
 use Rattle.flash_log.specs.laws.Erased.{erased_cut, erased_failed, erased_opened}
 use Rattle.flash_log.specs.laws.Found.{found_erased}
 use Rattle.flash_log.proofs.Turning.{first_taken, goes_next, noted_next, opened_in_turn, turns_marked}
@@ -19,12 +19,12 @@ unreachable-requires g c =
     let free = free_where_closed t c.requires.closed in
     let none = none_free t (rw c.in_default.is at c.next_taken.ensures).none in
     let some = c.requires.some.1 in
-    omega (arith, free, none, some.bad, some.unkept)
+    omega (arith, free, none, some.bad, some.uncommitted)
 
 pub returns-in-Ok-clause-passes : goal.returns-in-Ok-clause-passes
 returns-in-Ok-clause-passes g c =
     let t : Table = table c.args.blocks.now in
-    let free = was_unkept t c.in-Some.block c.in-Some.ensures.found.free in
+    let free = was_uncommitted t c.in-Some.block c.in-Some.ensures.found.free in
     let does = c.erase_and_open.ensures in
     let opens = c.in-Ok.ensures.opens in
     passes_opened c.in-Some.block _ _ t _ _ c.requires.seq free.1 does.erases does.newest opens
@@ -33,12 +33,12 @@ returns-in-Ok-clause-passes g c =
 pub returns-in-Ok-clause-ends : goal.returns-in-Ok-clause-ends
 returns-in-Ok-clause-ends g c =
     let t : Table = table c.args.blocks.now in
-    let free = was_unkept t c.in-Some.block c.in-Some.ensures.found.free in
+    let free = was_uncommitted t c.in-Some.block c.in-Some.ensures.found.free in
     let does = c.in-Ok.ensures in (
       record {
         within = c.in-Some.ensures.found.within;
         good = free.0;
-        unkept = free.1;
+        uncommitted = free.1;
         open_block = does.opens.open_block;
         next = ap (λ e. e.next) does.opens.sets.here;
         seq = ap (λ e. e.seq) does.opens.sets.here;
@@ -55,7 +55,7 @@ pub returns-in_ok-mark_block-in-Err-Failed-clause-passes : goal.returns-in_ok-ma
 returns-in_ok-mark_block-in-Err-Failed-clause-passes g c =
     let t : Table = table c.args.blocks.now in
     let block : ℕ = c.in-Some.block in
-    let free = was_unkept t block c.in-Some.ensures.found.free in
+    let free = was_uncommitted t block c.in-Some.ensures.found.free in
     let erased = rw c.in-Err-Failed.field-0-is at c.in-Err-Failed.ensures in
     let marked = c.mark_block.ensures in
     let notes = subst (λ (x : Table). NotesMark block (g.N.Nand.state c.mark_block.new.device).flash x (table c.mark_block.new.blocks)) erased.unchanged marked.notes in
@@ -67,7 +67,7 @@ pub returns-in_err-mark_block-in-Err-Failed-clause-passes : goal.returns-in_err-
 returns-in_err-mark_block-in-Err-Failed-clause-passes g c =
     let t : Table = table c.args.blocks.now in
     let block : ℕ = c.in-Some.block in
-    let free = was_unkept t block c.in-Some.ensures.found.free in
+    let free = was_uncommitted t block c.in-Some.ensures.found.free in
     let erased = rw c.in-Err-Failed.field-0-is at c.in-Err-Failed.ensures in
     let marked = c.mark_block.ensures in
     let notes = subst (λ (x : Table). NotesMark block (g.N.Nand.state c.mark_block.new.device).flash x (table c.mark_block.new.blocks)) erased.unchanged marked.notes in
@@ -79,7 +79,7 @@ pub returns-in_ok-mark_block-in-Err-Failed-clause-ends : goal.returns-in_ok-mark
 returns-in_ok-mark_block-in-Err-Failed-clause-ends g c =
     let t : Table = table c.args.blocks.now in
     let block : ℕ = c.in-Some.block in
-    let free = was_unkept t block c.in-Some.ensures.found.free in
+    let free = was_uncommitted t block c.in-Some.ensures.found.free in
     let erased = rw c.in-Err-Failed.field-0-is at c.in-Err-Failed.ensures in
     let marked = c.mark_block.ensures in
     let notes = subst (λ (x : Table). NotesMark block (g.N.Nand.state c.mark_block.new.device).flash x (table c.mark_block.new.blocks)) erased.unchanged marked.notes in
@@ -92,7 +92,7 @@ returns-in_ok-mark_block-in-Err-Failed-clause-ends g c =
 pub returns-in-Err-Gone-clause-passes : goal.returns-in-Err-Gone-clause-passes
 returns-in-Err-Gone-clause-passes g c =
     let t : Table = table c.args.blocks.now in
-    let free = was_unkept t c.in-Some.block c.in-Some.ensures.found.free in
+    let free = was_uncommitted t c.in-Some.block c.in-Some.ensures.found.free in
     let erased = rw c.in-Err-Gone.field-0-is at c.in-Err-Gone.ensures in
     passes_erased c.in-Some.block _ _ t _ _ erased.unchanged free.1 erased.erases erased.newest
     (erased_cut c.in-Some.block _ _ t _ _ (λ honest. goes_next _ t c.in-Some.block c.requires.ready c.requires.some.1.apart c.requires.closed c.in-Some.ensures.found)
@@ -147,15 +147,22 @@ pub returns-in_ok-mark_block-in-Err-Failed-clause-answers : goal.returns-in_ok-m
 returns-in_ok-mark_block-in-Err-Failed-clause-answers g c =
     let t : Table = table c.args.blocks.now in
     let block : ℕ = c.in-Some.block in
-    let free = was_unkept t block c.in-Some.ensures.found.free in
+    let free = was_uncommitted t block c.in-Some.ensures.found.free in
     let erased = rw c.in-Err-Failed.field-0-is at c.in-Err-Failed.ensures in
     let notes = subst (λ (x : Table). NotesMark block (g.N.Nand.state c.mark_block.new.device).flash x (table c.mark_block.new.blocks)) erased.unchanged c.mark_block.ensures.notes in
     let done = c.in_ok-mark_block-in-Err-Failed.ensures in
     let more = one_more block _ t _ c.in-Some.ensures.found.within free.0 done.marks.bad notes in
     omega (arith, more, erased.erases.ends.failures, done.marks.ends.failures)
 
-pub erase_and_open-requires-clause-first : goal.erase_and_open-requires-clause-first
-erase_and_open-requires-clause-first g c = first_taken _ (table c.args.blocks.now) _ c.in-Some.block c.requires.ready c.requires.some.1.apart c.in-Some.ensures.found
+pub erase_and_open-requires-clause-block : goal.erase_and_open-requires-clause-block
+erase_and_open-requires-clause-block g c =
+    record {
+      within = search rules;
+      good = search rules;
+      closed = search rules;
+      first = first_taken _ (table c.args.blocks.now) _ c.in-Some.block c.requires.ready c.requires.some.1.apart c.in-Some.ensures.found;
+      seq = search rules;
+    }
 
 pub mark_block-requires-clause-first : goal.mark_block-requires-clause-first
 mark_block-requires-clause-first g c =

@@ -19,9 +19,9 @@ returns-in_err-script g c =
 
 pub returns-in-Ok : goal.returns-in-Ok
 returns-in-Ok g c =
-    script_done g.F.Read.remaining c.args.image c.args.seed c.args.sessions (memory.device c.in_ok-device.device) _ _ _ c.in_ok-device.ensures.opens _ c.in_ok-script.script (Ok tt) c.in_ok-script.ensures c.in-Ok.ensures.tells tt
+    script_done g.F.Read.remaining c.args.image c.args.seed c.args.sessions (memory.device c.in_ok-device.device) _ _ _ c.in_ok-device.ensures.opens _ c.in_ok-script.script (Ok tt) c.in_ok-script.ensures c.in-Ok.ensures.reports tt
 
 pub returns-in-Err : goal.returns-in-Err
 returns-in-Err g c =
     script_stopped g.F.Read.remaining c.args.image c.args.seed c.args.sessions (memory.device c.in_ok-device.device) _ _ _ c.in_ok-device.ensures.opens _ c.in_ok-script.script c.in-Err.fault c.fault_of.result
-    c.fault_of.ensures c.in_ok-script.ensures c.in-Err.ensures.tells c.in-Err.ensures.fault
+    c.fault_of.ensures c.in_ok-script.ensures c.in-Err.ensures.reports c.in-Err.ensures.fault

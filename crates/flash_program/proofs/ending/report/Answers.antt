@@ -9,8 +9,8 @@ use Rattle.flash_program.proofs.Reporting.{line_is, written_part}
 use Rattle.flash_program.proofs.ending.report.Goals.{then-ne, else-ne}
 use Rattle.flash_program.proofs.ending.report.Goals as goal
 
-pub returns-after-ne-clause-told : goal.returns-after-ne-clause-told
-returns-after-ne-clause-told g c =
+pub returns-after-ne-clause-reported : goal.returns-after-ne-clause-reported
+returns-after-ne-clause-reported g c =
     let old = g.E.Write.contents c.args.err.now in
     let new = g.E.Write.contents c.if-ne.err in
     elim c.if-ne.branch [

@@ -10,5 +10,5 @@ returns g c = inr (record {
   mounted = c.in-Ok.ensures.mounted;
   answered = c.shell-ended.ensures;
   unmounted = c.unmount-device.ensures.ends;
-  result_is = c.told.ensures;
+  result_is = c.reported.ensures;
 })

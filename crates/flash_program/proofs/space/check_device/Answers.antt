@@ -2,7 +2,7 @@ use Rattle.std.proofs.Common.{true, inr, refl, sym, subst, ◌∙◌}
 use Rattle.nand_model.specs.Changes.{OnlyReads}
 use Rattle.nand_model.specs.MemoryState.{device}
 use Rattle.posix_calls.specs.laws.Trusting.{same_seen}
-use Rattle.flash_program.proofs.Telling.{told_alike}
+use Rattle.flash_program.proofs.Stating.{reported_alike}
 use Rattle.flash_program.proofs.space.check_device.Goals as goal
 
 pub returns : goal.returns
@@ -15,7 +15,7 @@ returns g c =
       last = c.ask_space-reply.new.volume;
       reply = c.ask_space-reply.result;
       mounted = mounted;
-      asked = c.ask_space-reply.ensures;
-      told = told_alike _ _ c.ask_space-reply.result _ _ c.tell_space-told.result c.read_only.ensures c.tell_space-told.ensures;
+      issued = c.ask_space-reply.ensures;
+      reported = reported_alike _ _ c.ask_space-reply.result _ _ c.report_space-reported.result c.read_only.ensures c.report_space-reported.ensures;
       reads = subst (λ d. OnlyReads (device c.args.device) d) (sym (same_seen true lies.0 mounted.now (device c.abandon.result) same (sym mounted.since.reads.lasts.honest))) mounted.since.reads;
     })

@@ -1,6 +1,6 @@
 use Rattle.std.proofs.Common.{[], ◌∷◌, ◌++◌, codes, if◌then◌else◌}
 use Rattle.line_shell.specs.Replies.{newline, reply_text}
-use Rattle.flash_program.proofs.Telling.{with_read_only}
+use Rattle.flash_program.proofs.Stating.{with_read_only}
 use Rattle.line_shell.specs.laws.Writing.{stops_first}
 use Rattle.flash_program.proofs.space.write_space.Goals as goal
 

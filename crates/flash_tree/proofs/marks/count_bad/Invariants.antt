@@ -4,6 +4,6 @@ use Rattle.flash_tree.proofs.marks.count_bad.Given as goal
 
 abbrev pub invariant-loop-block : goal.invariant-loop-block
 invariant-loop-block g l = record {
-  counted : l.bad ≡ count_by (g.N.Nand.state l.fn.device).flash.bad (range_with_len 0 l.block);
+  totaled : l.bad ≡ count_by (g.N.Nand.state l.fn.device).flash.bad (range_with_len 0 l.block);
   few : l.bad ≤ l.block;
 }

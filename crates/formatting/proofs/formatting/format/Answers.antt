@@ -14,27 +14,15 @@ use Rattle.formatting.proofs.formatting.format.Goals as goal
 pub returns-in-Ok-lay_out-clause-formatted : goal.returns-in-Ok-lay_out-clause-formatted
 returns-in-Ok-lay_out-clause-formatted g c = λ honest.
     let old : Device = g.N.Nand.state c.args.device in
+    let new : Device = g.N.Nand.state c.lay_out.new.device in
     let same : c.geometry-geometry.result ≡ old.geometry = c.geometry-geometry.ensures in
     let room : c.args.spare + 4 ≤ old.geometry.blocks = omega (arith, ap (λ (x : Geometry). x.blocks) same, c.blocks-2.ensures, c.geometry-geometry.result.least_blocks) in
     let size : c.bytes.result ≡ old.geometry.bytes = c.bytes.ensures ∙ ap (λ (x : Geometry). x.bytes) same in
     let head = subst (λ d. IsHeadPage c.in-Ok.page d root_number (empty_root c.args.spare)) size c.in-Ok.ensures in
-    volume_of old (g.N.Nand.state c.lay_out.new.device) c.args.spare c.in-Ok.page honest room c.lay_out.ensures.keeps c.in-Ok-lay_out.ensures.few_bad head c.in-Ok-lay_out.ensures.stands
-
-pub returns-in-Ok-lay_out-clause-holds : goal.returns-in-Ok-lay_out-clause-holds
-returns-in-Ok-lay_out-clause-holds g c = λ honest.
-    let old : Device = g.N.Nand.state c.args.device in
-    let same : c.geometry-geometry.result ≡ old.geometry = c.geometry-geometry.ensures in
-    let size : c.bytes.result ≡ old.geometry.bytes = c.bytes.ensures ∙ ap (λ (x : Geometry). x.bytes) same in
-    let head = subst (λ d. IsHeadPage c.in-Ok.page d root_number (empty_root c.args.spare)) size c.in-Ok.ensures in
-    root_alone old (g.N.Nand.state c.lay_out.new.device) c.args.spare c.in-Ok.page honest c.lay_out.ensures.keeps head c.in-Ok-lay_out.ensures.stands
-
-pub returns-in-Ok-lay_out-clause-true_flash : goal.returns-in-Ok-lay_out-clause-true_flash
-returns-in-Ok-lay_out-clause-true_flash g c = λ honest.
-    let old : Device = g.N.Nand.state c.args.device in
-    let same : c.geometry-geometry.result ≡ old.geometry = c.geometry-geometry.ensures in
-    let size : c.bytes.result ≡ old.geometry.bytes = c.bytes.ensures ∙ ap (λ (x : Geometry). x.bytes) same in
-    let head = subst (λ d. IsHeadPage c.in-Ok.page d root_number (empty_root c.args.spare)) size c.in-Ok.ensures in
-    let new : Device = g.N.Nand.state c.lay_out.new.device in
     let only = root_alone old new c.args.spare c.in-Ok.page honest c.lay_out.ensures.keeps head c.in-Ok-lay_out.ensures.stands in
     let there = subst (λ (x : Geometry). IsHeader x.bytes (fields_in x.bytes (empty_root c.args.spare))) (sym c.lay_out.ensures.keeps.lasts.geometry) head.head_is.valid in
-    record { checkpoints = root_true c.args.spare new only; mountable = root_mountable c.args.spare new only there }
+    record {
+      sound = volume_of old new c.args.spare c.in-Ok.page honest room c.lay_out.ensures.keeps c.in-Ok-lay_out.ensures.few_bad head c.in-Ok-lay_out.ensures.stands;
+      alone = only;
+      starts = record { checkpoints = root_true c.args.spare new only; mountable = root_mountable c.args.spare new only there };
+    }

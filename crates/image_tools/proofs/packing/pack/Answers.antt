@@ -9,4 +9,4 @@ returns-then-same_entries g c =
     let same : entries_of c.in_ok-made.made ≡ entries_of c.args.folder.now =
     ap (λ k. list_map entry_of k) (sym c.deref-2.ensures.value) ∙ c.if-same_entries.ensures.0 refl ∙ ap (λ k. list_map entry_of k) c.deref-3.ensures.value in
     leaves g.V.Answers.shows c.args.volume.now c.make.new.volume c.unpack.new.volume (λ objects. IsFolder objects (entries_of c.args.folder.now)) c.in_ok-make.ensures
-    (λ z read_only s shown. let told = c.in_ok-made.ensures z read_only s shown in (subst (λ entries. IsFolder s.objects entries) same told.0, told.1))
+    (λ z read_only s shown. let reported = c.in_ok-made.ensures z read_only s shown in (subst (λ entries. IsFolder s.objects entries) same reported.0, reported.1))

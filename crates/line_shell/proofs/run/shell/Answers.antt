@@ -1,7 +1,7 @@
 use Rattle.std.proofs.Common.{◌≡◌, subst, arith, Ok, Err}
 use Rattle.std.proofs.lemmas.Result.{err_from_is_err_and}
 use Rattle.line_shell.specs.Lines.{most_lines}
-use Rattle.line_shell.specs.Reading.{ReadsLine, TellsMore}
+use Rattle.line_shell.specs.Reading.{ReadsLine, ReportsMore}
 use Rattle.line_shell.specs.Runs.{AnswersLine}
 use Rattle.line_shell.proofs.Running.{starts, goes_further, comes_to_end, stops_reading, stops_answering, stops_after, too_many}
 use Rattle.line_shell.proofs.run.shell.Goals as goal
@@ -41,15 +41,15 @@ pub returns-in_err-has_more : goal.returns-in_err-has_more
 returns-in_err-has_more g c =
     let p = err_from_is_err_and c.from_residual-in_err-has_more.result c.from_residual-in_err-has_more.ensures.1 in
     let all : c.loop-count._count ≡ most_lines = omega arith in
-    rw (p.1, p.2) (stops_after g.V.Serve.serves _ _ _ _ _ _ _ c.loop-count.invariant (g.R.Read.remaining c.has_more.new.reader) c.in_err-has_more.field-0.0 all c.in_err-has_more.ensures.tells)
+    rw (p.1, p.2) (stops_after g.V.Serve.serves _ _ _ _ _ _ _ c.loop-count.invariant (g.R.Read.remaining c.has_more.new.reader) c.in_err-has_more.field-0.0 all c.in_err-has_more.ensures.reports)
 
 pub returns-then-branch : goal.returns-then-branch
 returns-then-branch g c =
     let all : c.loop-count._count ≡ most_lines = omega arith in
-    let more = subst (λ b. TellsMore (g.R.Read.remaining c.loop-count.reader) (g.R.Read.remaining c.has_more.new.reader) (Ok b)) c.if-branch.true c.in_ok-has_more.ensures.tells in
+    let more = subst (λ b. ReportsMore (g.R.Read.remaining c.loop-count.reader) (g.R.Read.remaining c.has_more.new.reader) (Ok b)) c.if-branch.true c.in_ok-has_more.ensures.reports in
     too_many g.V.Serve.serves _ _ _ _ _ _ _ c.loop-count.invariant (g.R.Read.remaining c.has_more.new.reader) all more
 
 pub returns : goal.returns
 returns g c =
-    let more = subst (λ b. TellsMore (g.R.Read.remaining c.loop-count.reader) (g.R.Read.remaining c.has_more.new.reader) (Ok b)) c.if-branch.false c.in_ok-has_more.ensures.tells in
+    let more = subst (λ b. ReportsMore (g.R.Read.remaining c.loop-count.reader) (g.R.Read.remaining c.has_more.new.reader) (Ok b)) c.if-branch.false c.in_ok-has_more.ensures.reports in
     comes_to_end g.V.Serve.serves _ _ _ _ _ _ _ c.loop-count.invariant (g.R.Read.remaining c.has_more.new.reader) (omega arith) more

@@ -6,4 +6,4 @@ pub returns : goal.returns
 returns c =
     let tags = c.args.tags.now in
     let all : c.loop-page.page ≡ length tags = omega (arith, c.loop-page-test.false, c.loop-page.auto.page-end) in
-    subst (λ n. AddsCounted c.args.block tags n c.args.counted.now.items c.loop-page.counted.items) all c.loop-page.invariant.added
+    subst (λ n. AddsCounted c.args.block tags n c.args.valid_pages.now.items c.loop-page.valid_pages.items) all c.loop-page.invariant.added

@@ -2,7 +2,7 @@ use Rattle.std.proofs.Common.{◌<◌, sym, ◌∙◌, ap, subst, arith, IfSome,
 use Rattle.std.proofs.lemmas.Option.{slice_get-get_or}
 use Rattle.nand_model.specs.Calls.{Device}
 use Rattle.nand_model.specs.declared.geometry.Geometry.{Geometry}
-use Rattle.block_summaries.specs.FoundSummary.{summary_of, HasForm, IsOf, IsWholeOn, HasNoSummary}
+use Rattle.mount_scan.specs.FoundSummary.{summary_of, HasForm, IsOf, IsWholeOn, HasNoSummary}
 use Rattle.mount_scan.proofs.NamedPages.{may_back, good_first}
 use Rattle.mount_scan.specs.declared.first_page.FirstPage.TheVariants as firsts
 use Rattle.mount_scan.proofs.OneSummary.{done_none, done_long, done_found, done_unfound, few_read}

@@ -3,7 +3,7 @@ use Rattle.std.proofs.lemmas.Bool.{false≢true}
 use Rattle.nand_model.specs.declared.geometry.Geometry.{Geometry}
 use Rattle.mount_scan.specs.FirstPages.{IsOlderThan}
 use Rattle.mount_scan.specs.SummaryScan.{IsLeft}
-use Rattle.mount_scan.proofs.FewPages.{block_costs, block_leaves, older_costs}
+use Rattle.mount_scan.proofs.FewPages.{block_costs, block_leaves}
 use Rattle.mount_scan.proofs.SummaryRest.{each_at_most, rest_older, rest_read, rest_skip}
 use Rattle.mount_scan.proofs.summary_scan.find_left.Goals as goal
 

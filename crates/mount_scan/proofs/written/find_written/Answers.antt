@@ -11,7 +11,7 @@ pub returns-clause-adds : goal.returns-clause-adds
 returns-clause-adds g c =
     adds_written (g.N.Nand.state c.args.device.now) c.args.block _ _ _ (listed c.args.found.now) (listed c.add_all.new.self) (g.met.N.Nand.within c.args.device.now) c.in_ok-read_written_tags.ensures.len
     c.in_ok-read_written_tags.ensures.tags c.clear.ensures.items
-    (subst (λ xs. AddsCounted c.args.block xs (length xs) c.clear.new.self.items c.add_counted.new.counted.items) c.deref-2.ensures.value c.in_ok-add_counted.ensures)
+    (subst (λ xs. AddsCounted c.args.block xs (length xs) c.clear.new.self.items c.add_counted.new.valid_pages.items) c.deref-2.ensures.value c.in_ok-add_counted.ensures)
     (subst (λ xs. ThinsFound xs (listed c.args.found.now) (listed c.add_all.new.self)) c.deref-3.ensures.value c.in_ok-add_all.ensures)
 
 pub returns-clause-raised : goal.returns-clause-raised

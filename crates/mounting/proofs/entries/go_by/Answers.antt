@@ -18,22 +18,22 @@ returns-clause-named g c =
     let walked = c.in_ok-device.walked in
     let e = c.in_ok-device.ensures in
     let noted = Some c.args.found.now.block in
-    let still = c.prune.ensures.opened noted (trusted_as g.told a) (trusted_as g.told b) n (reads_trusted g.told a b e.reads) c.requires.1 in
+    let still = c.prune.ensures.opened noted (trusted_as g.reported a) (trusted_as g.reported b) n (reads_trusted g.reported a b e.reads) c.requires.1 in
     let within = g.met.N.Nand.within c.in_ok-device.device in
     record {
       tree = subst (λ (d : Device). IsTreeRead d (table c.prune.new.blocks) c.prune.new.index n walked.spare walked.tree) (sym c.new.ensures.state)
-          (tree_read g.told noted a b (table c.args.opened.blocks) (table c.prune.new.blocks) c.args.opened.index c.prune.new.index n walked.spare walked.tree walked.names e.reads c.requires.1 still
-          c.prune.ensures.only e.tree e.names within c.the_headers_tell_the_keys.ensures);
+          (tree_read g.reported noted a b (table c.args.opened.blocks) (table c.prune.new.blocks) c.args.opened.index c.prune.new.index n walked.spare walked.tree walked.names e.reads c.requires.1 still
+          c.prune.ensures.only e.tree e.names within c.the_headers_report_the_keys.ensures);
       names = subst (λ (d : Device). d.honest ≡ true → CoversNewest walked.names d walked.spare walked.tree) (sym c.new.ensures.state)
-          (names_read g.told noted a b (table c.args.opened.blocks) (table c.prune.new.blocks) c.args.opened.index c.prune.new.index n walked.spare walked.tree walked.names e.reads c.requires.1 still
-          c.prune.ensures.only e.tree e.names within c.the_headers_tell_the_keys.ensures);
+          (names_read g.reported noted a b (table c.args.opened.blocks) (table c.prune.new.blocks) c.args.opened.index c.prune.new.index n walked.spare walked.tree walked.names e.reads c.requires.1 still
+          c.prune.ensures.only e.tree e.names within c.the_headers_report_the_keys.ensures);
     }
 
 pub returns-clause-noted : goal.returns-clause-noted
 returns-clause-noted g c =
     let a = g.N.Nand.state c.args.bounded.device in
     let b = g.N.Nand.state c.in_ok-device.device in
-    (c.prune.ensures.opened (Some c.args.found.now.block) (trusted_as g.told a) (trusted_as g.told b) (numbers_of c.args.opened.numbers) (reads_trusted g.told a b c.in_ok-device.ensures.reads) c.requires.1).noted
+    (c.prune.ensures.opened (Some c.args.found.now.block) (trusted_as g.reported a) (trusted_as g.reported b) (numbers_of c.args.opened.numbers) (reads_trusted g.reported a b c.in_ok-device.ensures.reads) c.requires.1).noted
 
 pub returns-clause-firsts : goal.returns-clause-firsts
 returns-clause-firsts g c known =
@@ -41,4 +41,4 @@ returns-clause-firsts g c known =
     let b = g.N.Nand.state c.in_ok-device.device in
     let n = numbers_of c.args.opened.numbers in
     subst (λ (d : Device). KnowsFirstsOf d (table c.prune.new.blocks) n) (sym c.new.ensures.state)
-    (known_after (trusted_as g.told a) (trusted_as g.told b) _ _ (table c.args.opened.blocks) (table c.prune.new.blocks) n (reads_trusted g.told a b c.in_ok-device.ensures.reads) c.prune.ensures.counts known)
+    (known_after (trusted_as g.reported a) (trusted_as g.reported b) _ _ (table c.args.opened.blocks) (table c.prune.new.blocks) n (reads_trusted g.reported a b c.in_ok-device.ensures.reads) c.prune.ensures.counts known)

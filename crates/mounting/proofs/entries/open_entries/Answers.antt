@@ -26,7 +26,7 @@ pub returns-in-Ok-Some-clause-read : goal.returns-in-Ok-Some-clause-read
 returns-in-Ok-Some-clause-read g c =
     let d = g.N.Nand.state c.args.device in
     let k = checkpoint_of c.args.found.now in
-    since_read c.go_by.result _ d (λ named. g.N.Nand.state (inner_of named.on.device)) (λ named. trusted_as named.on.device.trust.told (g.N.Nand.state named.on.device.inner))
+    since_read c.go_by.result _ d (λ named. g.N.Nand.state (inner_of named.on.device)) (λ named. trusted_as named.on.device.trust.reported (g.N.Nand.state named.on.device.inner))
     (λ (honest, true_flash). (trust d k _).2 (right_said d.geometry d.flash k (true_flash.truth k (c.requires.whole honest)))) c.go_by.ensures.read
 
 pub returns-in-Ok-Some-clause-checked : goal.returns-in-Ok-Some-clause-checked
@@ -58,5 +58,5 @@ returns-in-Ok-Some-clause-blocks g c =
     let d = g.N.Nand.state c.args.device in
     let k = checkpoint_of c.args.found.now in
     let known = subst (λ m. IfSome m (KnowsFirstsBy d k)) c.in-Ok-Some.field-0-is c.in-Ok-Some.ensures.firsts in
-    blocks_known c.go_by.result _ d k (λ named. g.N.Nand.state (inner_of named.on.device)) (λ named. trusted_as named.on.device.trust.told (g.N.Nand.state named.on.device.inner))
+    blocks_known c.go_by.result _ d k (λ named. g.N.Nand.state (inner_of named.on.device)) (λ named. trusted_as named.on.device.trust.reported (g.N.Nand.state named.on.device.inner))
     (λ named. table named.on.blocks) (λ named. numbers_of named.on.numbers) c.requires.whole c.go_by.ensures.read c.go_by.ensures.noted (c.go_by.ensures.firsts (known_trusted _ d k c.in-Ok-Some.opened (trust d k _).1 known))

@@ -74,9 +74,9 @@ returns-clause-checked g c =
     let u = table c.note_free.new.blocks in
     right_before a b u.checkpoint e.reads
     (λ honest is.
-    let told = e.going.tree honest in
-    scan_checked c.the_headers_tell_the_keys.ensures c.the_tree_looks_up_its_footprint.ensures.test b (table on.blocks) u on.index (numbers_of on.numbers) on.spare on.tree told.0 c.args.noted
-    (c.the_counts_are_of_the_keys.ensures.zero on.index) honest is (may_after a b c.args.noted e.reads c.requires.noted) c.note_free.ensures e.going.named.tree told.2)
+    let reported = e.going.tree honest in
+    scan_checked c.the_headers_report_the_keys.ensures c.the_tree_looks_up_its_footprint.ensures.test b (table on.blocks) u on.index (numbers_of on.numbers) on.spare on.tree reported.0 c.args.noted
+    (c.the_counts_are_of_the_keys.ensures.zero on.index) honest is (may_after a b c.args.noted e.reads c.requires.noted) c.note_free.ensures e.going.named.tree reported.2)
 
 pub returns-clause-scans : goal.returns-clause-scans
 returns-clause-scans g c = λ honest.

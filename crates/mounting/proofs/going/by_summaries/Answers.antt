@@ -5,8 +5,8 @@ use Rattle.mounting.proofs.going.by_summaries.Goals as goal
 
 pub returns-in-Some-clause-going : goal.returns-in-Some-clause-going
 returns-in-Some-clause-going g c =
-    let told = c.in-Some.ensures in
-    record { named = c.in_ok-named.ensures.named; sizes = told.sizes; fitting = told.fitting; room = told.room; blocks = c.in_ok-named.ensures.blocks; tree = told.tree }
+    let reported = c.in-Some.ensures in
+    record { named = c.in_ok-named.ensures.named; sizes = reported.sizes; fitting = reported.fitting; room = reported.room; blocks = c.in_ok-named.ensures.blocks; tree = reported.tree }
 
 pub returns-in-Some-clause-checked : goal.returns-in-Some-clause-checked
 returns-in-Some-clause-checked g c = λ is.

@@ -16,7 +16,7 @@ pub returns-then-not-are_fitting-clause-none : goal.returns-then-not-are_fitting
 returns-then-not-are_fitting-clause-none g c = λ honest.
     let on = c.args.on.now in
     let law = c.the_list_of_a_block_is_whole.ensures in
-    let lists : ListsAreWhole = record { kept = law.kept; here = law.here; count = law.count; once = law.once } in
+    let lists : ListsAreWhole = record { committed = law.committed; here = law.here; count = law.count; once = law.once } in
     let fit = fitting lists (keeps_key on.tree) (g.N.Nand.state on.device) (table on.blocks) on.index (numbers_of on.numbers) c.requires.read.tables honest in
     let two : IsTrue false = subst (λ b. IsTrue b) c.if-not-are_fitting.true (c.are_fitting.ensures.1 (λ b lt. fit b)) in
     absurd cc
@@ -32,20 +32,20 @@ returns-then-not-fits-clause-none g c = λ honest.
       scarce = c.a_shown_tree_has_room_or_not.ensures.scarce;
       room = c.a_shown_tree_has_room_or_not.ensures.room;
       test = c.the_tree_looks_up_its_footprint.ensures.test;
-      part = c.what_the_tree_looks_up_is_kept.ensures.part;
-      kept = c.what_the_tree_looks_up_is_kept.ensures.kept;
-      keys = c.the_headers_tell_the_keys.ensures;
-      bad = c.blocks_without_kept_pages_are_free.ensures.bad;
+      part = c.what_the_tree_looks_up_is_committed.ensures.part;
+      committed = c.what_the_tree_looks_up_is_committed.ensures.committed;
+      keys = c.the_headers_report_the_keys.ensures;
+      bad = c.blocks_without_committed_pages_are_free.ensures.bad;
     } in
     let tree_on = c.requires.read.tree_on honest in
     let within = g.met.N.Nand.within on.device in
     let sized = g.met.N.Nand.sized on.device honest in
     let shown = shows laws d (table on.blocks) on.index (numbers_of on.numbers) on.spare on.tree within sized c.requires.read.tables honest tree_on in
     let z : volume.sizes_of c.in-Some.sizes ≡ sizes_of d.geometry on.spare = subst (λ k. volume.sizes_of c.in-Some.sizes ≡ sizes_of k on.spare) c.geometry.ensures c.in-Some.ensures.sizes in
-    let told = c.fits.ensures tree_on.pages shown.0 (subst (λ (k : Sizes). IsTreeThrough k (has tree_on.pages) on.tree) (sym z) tree_on.through.tree_is) (subst (λ (k : Sizes). Shows k (has tree_on.pages) shown.0) (sym z) shown.1) in
+    let reported = c.fits.ensures tree_on.pages shown.0 (subst (λ (k : Sizes). IsTreeThrough k (has tree_on.pages) on.tree) (sym z) tree_on.through.tree_is) (subst (λ (k : Sizes). Shows k (has tree_on.pages) shown.0) (sym z) shown.1) in
     answers_full laws d (table on.blocks) on.index (numbers_of on.numbers) on.spare on.tree within sized c.requires.read.tables honest tree_on shown.0 shown.1
     (λ le.
-    let two : IsTrue false = subst (λ b. IsTrue b) c.if-not-fits.true (told.1 (subst (λ (k : Sizes). costs.charge k shown.0 ≤ capacity k) (sym z) le)) in
+    let two : IsTrue false = subst (λ b. IsTrue b) c.if-not-fits.true (reported.1 (subst (λ (k : Sizes). costs.charge k shown.0 ≤ capacity k) (sym z) le)) in
     absurd cc)
 
 pub returns-then-not-has_room-clause-none : goal.returns-then-not-has_room-clause-none
@@ -59,10 +59,10 @@ returns-then-not-has_room-clause-none g c = λ honest.
       scarce = c.a_shown_tree_has_room_or_not.ensures.scarce;
       room = c.a_shown_tree_has_room_or_not.ensures.room;
       test = c.the_tree_looks_up_its_footprint.ensures.test;
-      part = c.what_the_tree_looks_up_is_kept.ensures.part;
-      kept = c.what_the_tree_looks_up_is_kept.ensures.kept;
-      keys = c.the_headers_tell_the_keys.ensures;
-      bad = c.blocks_without_kept_pages_are_free.ensures.bad;
+      part = c.what_the_tree_looks_up_is_committed.ensures.part;
+      committed = c.what_the_tree_looks_up_is_committed.ensures.committed;
+      keys = c.the_headers_report_the_keys.ensures;
+      bad = c.blocks_without_committed_pages_are_free.ensures.bad;
     } in
     let tree_on = c.requires.read.tree_on honest in
     let within = g.met.N.Nand.within on.device in
@@ -84,18 +84,18 @@ returns-clause-tree g c = λ honest.
       scarce = c.a_shown_tree_has_room_or_not.ensures.scarce;
       room = c.a_shown_tree_has_room_or_not.ensures.room;
       test = c.the_tree_looks_up_its_footprint.ensures.test;
-      part = c.what_the_tree_looks_up_is_kept.ensures.part;
-      kept = c.what_the_tree_looks_up_is_kept.ensures.kept;
-      keys = c.the_headers_tell_the_keys.ensures;
-      bad = c.blocks_without_kept_pages_are_free.ensures.bad;
+      part = c.what_the_tree_looks_up_is_committed.ensures.part;
+      committed = c.what_the_tree_looks_up_is_committed.ensures.committed;
+      keys = c.the_headers_report_the_keys.ensures;
+      bad = c.blocks_without_committed_pages_are_free.ensures.bad;
     } in
     let tree_on = c.requires.read.tree_on honest in
     let within = g.met.N.Nand.within on.device in
     let sized = g.met.N.Nand.sized on.device honest in
     let shown = shows laws d (table on.blocks) on.index (numbers_of on.numbers) on.spare on.tree within sized c.requires.read.tables honest tree_on in
     let z : volume.sizes_of c.in-Some.sizes ≡ sizes_of d.geometry on.spare = subst (λ k. volume.sizes_of c.in-Some.sizes ≡ sizes_of k on.spare) c.geometry.ensures c.in-Some.ensures.sizes in
-    let told = c.fits.ensures tree_on.pages shown.0 (subst (λ (k : Sizes). IsTreeThrough k (has tree_on.pages) on.tree) (sym z) tree_on.through.tree_is) (subst (λ (k : Sizes). Shows k (has tree_on.pages) shown.0) (sym z) shown.1) in
-    let le = told.0 c.if-not-fits.false in (
+    let reported = c.fits.ensures tree_on.pages shown.0 (subst (λ (k : Sizes). IsTreeThrough k (has tree_on.pages) on.tree) (sym z) tree_on.through.tree_is) (subst (λ (k : Sizes). Shows k (has tree_on.pages) shown.0) (sym z) shown.1) in
+    let le = reported.0 c.if-not-fits.false in (
       shown.0,
       answers_room laws d (table on.blocks) on.index (numbers_of on.numbers) on.spare on.tree within sized c.requires.read.tables honest tree_on shown.0 shown.1
           (subst (λ (k : Sizes). costs.charge k shown.0 ≤ capacity k) z le) (c.has_room.ensures.0 c.if-not-has_room.false),

@@ -8,10 +8,10 @@ returns-clause-full c = too_full
 pub returns-clause-scarce : goal.returns-clause-scarce
 returns-clause-scarce c = λ g flash m spare objects x t is volume shown at agree marks keeps.
     scarce g flash m spare objects x t is volume shown at agree marks keeps (c.the_counts_are_of_the_keys.ensures.zero x)
-    (c.blocks_without_kept_pages_are_free.ensures.bad t flash marks)
+    (c.blocks_without_committed_pages_are_free.ensures.bad t flash marks)
 
 pub returns-clause-room : goal.returns-clause-room
 returns-clause-room c = λ g flash m spare objects x t is volume shown at agree marks keeps.
     with_room g flash m spare objects x t is volume shown at agree marks keeps
-    (λ count tree. c.blocks_without_kept_pages_are_free.ensures.free x t flash (sizes_of t.geometry spare) objects count agree marks tree)
-    (c.blocks_without_kept_pages_are_free.ensures.bad t flash marks)
+    (λ count tree. c.blocks_without_committed_pages_are_free.ensures.free x t flash (sizes_of t.geometry spare) objects count agree marks tree)
+    (c.blocks_without_committed_pages_are_free.ensures.bad t flash marks)

@@ -10,11 +10,11 @@ returns-clause-tables g c =
     let on = c.args.on in
     let flash = (g.N.Nand.state on.device).flash in
     let blocks = table c.in_ok-store.store.log.blocks in
-    let told = c.in_ok-store.ensures.tables in
+    let reported = c.in_ok-store.ensures.tables in
     let opened = c.requires.read.tables.tables in
     let ready = opened.ready (c.requires.can c.if-worn.false).can.0 in
     record {
-      index = told.0;
-      marks = λ t is. of_table (HasMarks flash) t blocks (table on.blocks) told.1 is (λ b lt. ready.marks b);
-      counts = λ t is. of_table (λ (u : Table). CountsAgree u on.index) t blocks (table on.blocks) told.1 is opened.counts;
+      index = reported.0;
+      marks = λ t is. of_table (HasMarks flash) t blocks (table on.blocks) reported.1 is (λ b lt. ready.marks b);
+      counts = λ t is. of_table (λ (u : Table). CountsAgree u on.index) t blocks (table on.blocks) reported.1 is opened.counts;
     }

@@ -1,12 +1,12 @@
 use Rattle.std.proofs.Common.{◌≡◌, ◌≤◌, ◌/◌, ◌∙◌, ap, subst, rules}
 use Rattle.nand_model.specs.Calls.{Device}
 use Rattle.flash_tree.specs.Places.{numbers_of}
-use Rattle.block_state.specs.Kept.{bad_count}
+use Rattle.block_state.specs.Committed.{bad_count}
 use Rattle.block_state.specs.TableOf.{table}
 use Rattle.flash_log.specs.Standing.{Stands, HasFreeBlocks}
 use Rattle.page_store.specs.BufferOf.{buffered}
 use Rattle.page_store.specs.Shown.{present_data}
-use Rattle.page_store.specs.StoreOf.{kept_map}
+use Rattle.page_store.specs.StoreOf.{committed_data_map}
 use Rattle.page_store.specs.StateOf.{lent_by, state_of}
 use Rattle.tree_walk.specs.Trees.{keeps_key}
 use Rattle.mounting.proofs.Mountable.{mountable_since, store_finds, store_remembers}
@@ -44,8 +44,8 @@ new-requires-2-clause-free g c =
     let same : on.spare ≡ c.from.result = search rules in
     rw (c.in-Ok.ensures.tables.0, c.in-Ok.ensures.spare) (subst (λ s. HasFreeBlocks (table on.blocks) s) same (free (keeps_key on.tree) d (table on.blocks) on.index (numbers_of on.numbers) on.spare c.requires.read.tables c.requires.fitting c.requires.room c.requires.can.can))
 
-pub new-requires-2-clause-kept : goal.new-requires-2-clause-kept
-new-requires-2-clause-kept g c = rw (c.in-Ok.ensures.device, c.in-Ok.ensures.tables.1) c.requires.read.tables.tables.newest
+pub new-requires-2-clause-committed : goal.new-requires-2-clause-committed
+new-requires-2-clause-committed g c = rw (c.in-Ok.ensures.device, c.in-Ok.ensures.tables.1) c.requires.read.tables.tables.newest
 
 pub returns-in-Ok-new-clause-made : goal.returns-in-Ok-new-clause-made
 returns-in-Ok-new-clause-made g c =
@@ -65,6 +65,6 @@ returns-in-Ok-new-clause-made g c =
     store_pages (keeps_key on.tree) d (table on.blocks) on.index (numbers_of on.numbers) on.spare c.requires.read.tables c.requires.fitting c.requires.room c.requires.can.can (c.the_counts_are_of_the_keys.ensures.none on.index)
     (state_of s) (lent_by s) device_is (table_is, ap (λ l. l.spare) stored.log ∙ logged.spare ∙ same) stored.whole
     (stored.most ∙ ap (λ (e : Device). e.geometry.pages / 4) device)
-    (λ o k. ap (λ l. kept_map (g.N.Nand.state l.device) l.index o k) stored.log ∙ ap (λ (e : Device). kept_map e log.index o k) device ∙ ap (λ x. kept_map d x o k) logged.tables.1)
+    (λ o k. ap (λ l. committed_data_map (g.N.Nand.state l.device) l.index o k) stored.log ∙ ap (λ (e : Device). committed_data_map e log.index o k) device ∙ ap (λ x. committed_data_map d x o k) logged.tables.1)
     (λ o k. ap (λ l. present_data l.index (buffered s.buffer) d.flash o k) stored.log ∙ ap (λ x. present_data x (buffered s.buffer) d.flash o k) logged.tables.1 ∙ (rw (device, logged.tables.1) at stored.pages o k))
     (store_finds d (table on.blocks) on.index within mountable (state_of s) (lent_by s) device_is table_is first) (store_remembers d (table on.blocks) on.index within mountable (state_of s) (lent_by s) device_is table_is first)

@@ -34,14 +34,14 @@ returns-in-Ok-make_pages-clause-made g c =
       next = λ honest. are_next d on.index n on.spare _ e.made (c.requires.named.tree.tables.tables.numbers (before ∙ honest));
       tree = λ is.
           let honest = before ∙ is in
-          let told = c.requires.tree honest in (
-            told.0,
-            mounted_with d on.index n on.spare _ e.made laws on.tree told.0 honest told.1 told.2 c.in-Ok.table (volume.sizes_of c.args.going.sizes)
-                c.requires.sizes c.in-Ok.ensures.tells told.3 c.args.going.named.names (c.requires.named.names honest) (c.requires.named.tree.tables.tables.newest honest) c.requires.named.tree.tables.tables.low,
+          let reported = c.requires.tree honest in (
+            reported.0,
+            mounted_with d on.index n on.spare _ e.made laws on.tree reported.0 honest reported.1 reported.2 c.in-Ok.table (volume.sizes_of c.args.going.sizes)
+                c.requires.sizes c.in-Ok.ensures.reports reported.3 c.args.going.named.names (c.requires.named.names honest) (c.requires.named.tree.tables.tables.newest honest) c.requires.named.tree.tables.tables.low,
           );
       placed = λ is.
-          let told = c.requires.tree (before ∙ is) in
-          are_placed d _ on.index on.spare _ c.in-Ok-make_pages.pages told.0 e.made.device_is e.made.spare_is e.tables told.1 told.2.places;
+          let reported = c.requires.tree (before ∙ is) in
+          are_placed d _ on.index on.spare _ c.in-Ok-make_pages.pages reported.0 e.made.device_is e.made.spare_is e.tables reported.1 reported.2.places;
     }
 
 pub returns-in-Ok-make_pages-clause-remembers : goal.returns-in-Ok-make_pages-clause-remembers
@@ -51,10 +51,10 @@ pub make_pages-requires-clause-ordinary : goal.make_pages-requires-clause-ordina
 make_pages-requires-clause-ordinary g c = λ honest.
     let on = c.args.going.named.on in
     let d = g.N.Nand.state on.device in
-    let told = c.requires.tree honest in
-    let shown = told.2 in
-    ordinary_shown (sizes_of d.geometry on.spare) (sizes_of d.geometry on.spare) d.flash on.index told.0
-    (c.the_footprint_holds_the_tree.ensures.forest _ shown.on.pages told.0 shown.shows) shown.holds (c.requires.named.tree.tables.tables.newest honest)
+    let reported = c.requires.tree honest in
+    let shown = reported.2 in
+    ordinary_shown (sizes_of d.geometry on.spare) (sizes_of d.geometry on.spare) d.flash on.index reported.0
+    (c.the_footprint_holds_the_tree.ensures.forest _ shown.on.pages reported.0 shown.shows) shown.holds (c.requires.named.tree.tables.tables.newest honest)
 
 pub make_pages-requires-clause-can : goal.make_pages-requires-clause-can
 make_pages-requires-clause-can g c = λ written.

@@ -1,4 +1,4 @@
 use Rattle.mounting.proofs.reading.go_through.Given as goal
 
 abbrev pub ghost-new : goal.ghost-new
-ghost-new g a = g.told
+ghost-new g a = g.reported

@@ -45,7 +45,7 @@ returns-clause-few g c = λ honest.
     let b = g.N.Nand.state c.in_ok-device.device in
     let found = c.in_ok-device-2.found in
     let scanned = c.in_ok-device.ensures in
-    reads_scanned a b (g.N.Nand.state c.in_ok-device-2.device) found.spare found.tree scanned.reads scanned.asked (c.in_ok-device-2.ensures.few (scanned.reads.lasts.honest ∙ honest))
+    reads_scanned a b (g.N.Nand.state c.in_ok-device-2.device) found.spare found.tree scanned.reads scanned.issued (c.in_ok-device-2.ensures.few (scanned.reads.lasts.honest ∙ honest))
 
 pub returns-clause-firsts : goal.returns-clause-firsts
 returns-clause-firsts g c =

@@ -4,7 +4,7 @@ use Rattle.nand_model.specs.Trusting.{trusted_as}
 use Rattle.flash_tree.specs.Places.{numbers_of}
 use Rattle.block_state.specs.TableOf.{table}
 use Rattle.mounting.proofs.Deciding.{ListsKeys, decide}
-use Rattle.mounting.proofs.Found.{found_tree, found_names, found_blocks, since_by, sure_kept}
+use Rattle.mounting.proofs.Found.{found_tree, found_names, found_blocks, since_by, sure_committed}
 use Rattle.mounting.proofs.Lent.{reads_trusted}
 use Rattle.mounting.proofs.SureFound.{ends_found}
 use Rattle.mounting.proofs.summarized.go_by_summaries.Goals as goal
@@ -28,8 +28,8 @@ on_trusted-requires g c = λ κs within.
     let u = table c.prune.new.blocks in
     let inside = g.met.N.Nand.within c.in_ok-device.device in
     let still = c.prune.ensures.opened None (trusted_as false a) (trusted_as false b) n (reads_trusted false a b e.reads) c.requires.opened in
-    let lists : ListsKeys = record { kept = c.the_list_of_a_block_is_whole.ensures.kept; all = c.the_list_of_a_block_is_whole.ensures.all } in
-    let keys = c.the_headers_tell_the_keys.ensures in (
+    let lists : ListsKeys = record { committed = c.the_list_of_a_block_is_whole.ensures.committed; all = c.the_list_of_a_block_is_whole.ensures.all } in
+    let keys = c.the_headers_report_the_keys.ensures in (
       within,
       (
         found_tree _ a b opened u y found.spare found.tree found.names e.reads still c.prune.ensures.only e.tree e.names c.requires.knows inside keys lists (decide b y n _).1,
@@ -48,7 +48,7 @@ returns-clause-read g c =
     let found = c.in_ok-device.found in
     let e = c.in_ok-device.ensures in
     let inside = g.met.N.Nand.within c.in_ok-device.device in
-    let lists : ListsKeys = record { kept = c.the_list_of_a_block_is_whole.ensures.kept; all = c.the_list_of_a_block_is_whole.ensures.all } in
+    let lists : ListsKeys = record { committed = c.the_list_of_a_block_is_whole.ensures.committed; all = c.the_list_of_a_block_is_whole.ensures.all } in
     since_by _ a b _ _ c.on_trusted.ensures.inner c.on_trusted.ensures.seen e.reads e.power
-    (λ is. (decide b c.prune.new.index (numbers_of opened.numbers) _).2 (sure_kept lists c.the_headers_tell_the_keys.ensures c.the_tree_looks_up_its_footprint.ensures.keys a b opened c.prune.new.index found.spare found.tree e.reads is (c.requires.tree is) inside
+    (λ is. (decide b c.prune.new.index (numbers_of opened.numbers) _).2 (sure_committed lists c.the_headers_report_the_keys.ensures c.the_tree_looks_up_its_footprint.ensures.keys a b opened c.prune.new.index found.spare found.tree e.reads is (c.requires.tree is) inside
     c.prune.ensures.only (e.tree is.0)))

@@ -9,8 +9,8 @@ pub returns-clause-named : goal.returns-clause-named
 returns-clause-named g c =
     let pruned = c.args.pruned in
     let found = c.args.found in
-    let told = c.requires.1 in
+    let reported = c.requires.1 in
     record {
-      tree = subst (λ (d : Device). IsTreeRead d (table pruned.blocks) pruned.index (numbers_of pruned.numbers) found.spare found.tree) (sym c.new.ensures.state) told.0;
-      names = subst (λ (d : Device). d.honest ≡ true → CoversNewest found.names d found.spare found.tree) (sym c.new.ensures.state) told.1.0;
+      tree = subst (λ (d : Device). IsTreeRead d (table pruned.blocks) pruned.index (numbers_of pruned.numbers) found.spare found.tree) (sym c.new.ensures.state) reported.0;
+      names = subst (λ (d : Device). d.honest ≡ true → CoversNewest found.names d found.spare found.tree) (sym c.new.ensures.state) reported.1.0;
     }

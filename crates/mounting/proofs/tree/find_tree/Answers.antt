@@ -5,8 +5,8 @@ use Rattle.mounting.specs.TreeAnswers.{WhyNoTree, of_walk}
 use Rattle.mounting.specs.laws.TreeAnswers.{walk_fails, wrong_below}
 use Rattle.mounting.proofs.tree.find_tree.Goals as goal
 
-pub returns-in-Some-clause-asked : goal.returns-in-Some-clause-asked
-returns-in-Some-clause-asked g c = λ sound size. c.in-Ok.ensures.asked (sizes_of c.args.geometry c.in-Some.spare) (record { sound = sound; size = size })
+pub returns-in-Some-clause-issued : goal.returns-in-Some-clause-issued
+returns-in-Some-clause-issued g c = λ sound size. c.in-Ok.ensures.issued (sizes_of c.args.geometry c.in-Some.spare) (record { sound = sound; size = size })
 
 pub returns-in-Some-clause-tree : goal.returns-in-Some-clause-tree
 returns-in-Some-clause-tree g c = λ sound size.

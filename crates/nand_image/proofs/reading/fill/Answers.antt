@@ -1,6 +1,6 @@
 use Rattle.std.proofs.Common.{◌≡◌, ◌-◌, length, ◌∙◌, le_refl, arith}
 use borrow.Rule.Slice.PartMut.{mid_len}
-use Rattle.nand_image.proofs.Front.{length_put, front_more, front_kept}
+use Rattle.nand_image.proofs.Front.{length_put, front_more, front_committed}
 use Rattle.nand_image.proofs.reading.fill.Goals as goal
 use Rattle.nand_image.proofs.reading.fill.Goals.{in-Ok, in-Err+else-ne}
 
@@ -22,6 +22,6 @@ loop-turn-preserved g c =
       }
       | in-Err+else-ne w ↦ record {
         within = rw (w.at-is, size) so_far.within;
-        read = rw w.at-is (front_kept old mid new at buffer part so_far.within so_far.read w.in-Err.ensures.bytes);
+        read = rw w.at-is (front_committed old mid new at buffer part so_far.within so_far.read w.in-Err.ensures.bytes);
       }
     ]

@@ -21,6 +21,6 @@ pub returns-clause-opens : goal.returns-clause-opens
 returns-clause-opens g c =
     let old = g.F.Read.remaining c.args.file in
     let now = g.F.Read.remaining c.read_head.new.file in
-    let told = c.in_ok-memory.ensures in
+    let reported = c.in_ok-memory.ensures in
     opens_image (device c.in_ok-memory.memory) c.in_ok-geometry.geometry old now c.in_ok-head.head c.in_ok-head.ensures.head c.in_ok-geometry.ensures.sizes.0
-    told.geometry told.nexts told.body
+    reported.geometry reported.nexts reported.body

@@ -18,10 +18,10 @@ returns g c z s holds same leads empty =
     let dir = namer_directory s.objects entry.directory c.args.number entry.name.now here in
     plan_changed z s replies.Done _ _ _ c.change.ensures refl
     (record {
-      sensible = (c.args.number, here, c.unkept.ensures.only);
-      empty = dropped_empty s.objects c.unkept.result c.args.number c.unkept.ensures.only empty;
-      fits = without_fits z c.unkept.result (without_name s.objects c.args.moment entry.directory entry.name.now) (removed_fits z s.objects c.args.moment entry.directory entry.name.now dir holds.sound.fit);
+      sensible = (c.args.number, here, c.uncommitted.ensures.only);
+      empty = dropped_empty s.objects c.uncommitted.result c.args.number c.uncommitted.ensures.only empty;
+      fits = without_fits z c.uncommitted.result (without_name s.objects c.args.moment entry.directory entry.name.now) (removed_fits z s.objects c.args.moment entry.directory entry.name.now dir holds.sound.fit);
     })
     (ap (λ (o : Objects). answer (record { objects = o; handles = s.handles }) replies.Done)
-    (c.unkept.ensures.left z s holds same _ entry.directory entry.name.now (removed_unnames s.objects c.args.moment entry.directory c.args.number entry.name.now here))
+    (c.uncommitted.ensures.left z s holds same _ entry.directory entry.name.now (removed_unnames s.objects c.args.moment entry.directory c.args.number entry.name.now here))
     ∙ entry_is (λ d n. answer (prune (record s { objects = without_name s.objects c.args.moment d n })) replies.Done) entry _ _ c.entry_at.ensures.directory c.entry_at.ensures.name)

@@ -4,7 +4,7 @@ use Rattle.std.proofs.lemmas.Result.{err_from_is_err_and}
 use Rattle.posix_profile.specs.HandleSteps.{open_at}
 use Rattle.posix_profile.specs.Paths.{Place}
 use Rattle.posix_profile.specs.declared.reply.Errno.{Errno}
-use Rattle.command_plans.specs.Classes.{Changing, is_there, tells_if}
+use Rattle.command_plans.specs.Classes.{Changing, is_there, reports_if}
 use Rattle.command_plans.specs.laws.Plan.{holds_on, plans_of, power_of, plans_is, plans_nowhere, refused, passed, passed_all, tries_kind}
 use Rattle.object_commands.proofs.opening.open.Goals as goal
 
@@ -29,4 +29,4 @@ returns-clause-plans g c z s holds same =
     plans_of m z _ s _ _ c.args.store.now c.find_place.new.store
     (at.act (λ place. open_at z c.args.read_only c.args.moment s c.args.flags place place.object) ∙ passed_all s _ ∙ passed s _ _ _ _ (sym c.cuts_what_is_only_read.ensures ∙ c.if-cuts_what_is_only_read.false))
     c.open_at.result c.hand_on.result c.hand_on.ensures
-    (tries_kind z _ _ s _ (ap (λ (r : Result Place Errno). tells_if (is_there r && not c.args.flags.trunc) Changing) (sym at.leads)) c.open_at.result (c.open_at.ensures z s here same at.place))
+    (tries_kind z _ _ s _ (ap (λ (r : Result Place Errno). reports_if (is_there r && not c.args.flags.trunc) Changing) (sym at.leads)) c.open_at.result (c.open_at.ensures z s here same at.place))

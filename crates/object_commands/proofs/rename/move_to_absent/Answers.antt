@@ -19,9 +19,9 @@ returns-then-not-has_move_room g c z s holds from number to none =
     let b = last_name (last_of c.args.to.last) in
     let name = absent_name s.objects c.args.to.directory (last_of c.args.to.last) _ none to.ends in
     let leads = name_leads s.objects (place_of c.args.from) c.args.number from number in
-    let kept = moved_keeps z s holds.sound.well_formed c.args.moment c.args.from.directory c.args.to.directory c.args.number a b leads to.directory (λ k. no_name s.objects c.args.to.directory k b name.1) in
+    let committed = moved_keeps z s holds.sound.well_formed c.args.moment c.args.from.directory c.args.to.directory c.args.number a b leads to.directory (λ k. no_name s.objects c.args.to.directory k b name.1) in
     let full = sym (c.has_move_room.ensures z s.objects holds.has to.directory c.args.moment c.args.number a b leads name.1) ∙ c.if-not-has_move_room.true in
-    change_full z s _ replies.Done (ap (fits z) (sym kept) ∙ full)
+    change_full z s _ replies.Done (ap (fits z) (sym committed) ∙ full)
 
 pub returns : goal.returns
 returns g c z s holds from number to none =
@@ -32,7 +32,7 @@ returns g c z s holds from number to none =
     let t = c.entry_at-2.result in
     let name = absent_name s.objects c.args.to.directory (last_of c.args.to.last) _ none to.ends in
     let leads = name_leads s.objects (place_of c.args.from) x from number in
-    let kept = moved_keeps z s holds.sound.well_formed c.args.moment c.args.from.directory c.args.to.directory x a b leads to.directory (λ k. no_name s.objects c.args.to.directory k b name.1) in
+    let committed = moved_keeps z s holds.sound.well_formed c.args.moment c.args.from.directory c.args.to.directory x a b leads to.directory (λ k. no_name s.objects c.args.to.directory k b name.1) in
     let room = sym (c.has_move_room.ensures z s.objects holds.has to.directory c.args.moment x a b leads name.1) ∙ c.if-not-has_move_room.false in
     let same : with_name (without_name s.objects c.args.moment f.directory f.name.now) c.args.moment t.directory t.name.now x ≡ with_name (without_name s.objects c.args.moment c.args.from.directory a) c.args.moment c.args.to.directory b x =
     entry_is (λ d n. with_name (without_name s.objects c.args.moment d n) c.args.moment t.directory t.name.now x) f _ _ c.entry_at.ensures.directory c.entry_at.ensures.name
@@ -47,4 +47,4 @@ returns g c z s holds from number to none =
       fits = ap (fits z) same ∙ room;
     })
     (change_fits z s (record { objects = with_name (without_name s.objects c.args.moment f.directory f.name.now) c.args.moment t.directory t.name.now x; handles = s.handles }) replies.Done (ap (fits z) same ∙ room)
-    ∙ ap (λ (o : Objects). change_to z s (record { objects = o; handles = s.handles }) replies.Done) (same ∙ kept))
+    ∙ ap (λ (o : Objects). change_to z s (record { objects = o; handles = s.handles }) replies.Done) (same ∙ committed))

@@ -5,7 +5,7 @@ use Rattle.posix_profile.specs.Outcomes.{Outcome, at_place}
 use Rattle.posix_profile.specs.Paths.{Place, resolve}
 use Rattle.posix_profile.specs.declared.reply.Errno.{Errno}
 use Rattle.command_plans.specs.Paths.{place_of}
-use Rattle.command_plans.specs.Classes.{Changing, lead_to_one, tells_if}
+use Rattle.command_plans.specs.Classes.{Changing, lead_to_one, reports_if}
 use Rattle.object_commands.specs.Names.{rename_places}
 use Rattle.command_plans.specs.laws.Plan.{holds_on, plans_same, plans_of, power_of, plans_nowhere, tries_kind}
 use Rattle.object_commands.proofs.rename.rename.Goals as goal
@@ -35,4 +35,4 @@ returns-clause-plans g c z s holds same =
     let act : Place → Outcome = λ from. at_place s (resolve s.objects c.args.new.now) (rename_places z c.args.read_only c.args.moment s from) in
     plans_of m z _ s _ _ c.args.store.now c.find_place-2.new.store (to.act (rename_places z c.args.read_only c.args.moment s (place_of c.in_ok-from.from)) ∙ from.act act)
     c.rename_places.result c.hand_on.result c.hand_on.ensures
-    (tries_kind z _ _ s _ (ap₂ (λ (a b : Result Place Errno). tells_if (lead_to_one a b) Changing) (sym from.leads) (sym to.leads)) c.rename_places.result (c.rename_places.ensures z s here same from.place to.place))
+    (tries_kind z _ _ s _ (ap₂ (λ (a b : Result Place Errno). reports_if (lead_to_one a b) Changing) (sym from.leads) (sym to.leads)) c.rename_places.result (c.rename_places.ensures z s here same from.place to.place))

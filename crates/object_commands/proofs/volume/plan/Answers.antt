@@ -12,14 +12,14 @@ pub returns-in-Open-clause-plans : goal.returns-in-Open-clause-plans
 unfolding step_at
 returns-in-Open-clause-plans g c z s holds same =
     let m = g.S.ObjectStore.meaning in
-    let stamped = stamped_of c.args.asked.now in
+    let stamped = stamped_of c.args.issued.now in
     plans_step m z c.args.read_only s stamped _ _ c.args.store.now c.open.new.store (ap command_of c.in-Open.is) refl c.open.result (c.open.ensures.plans z s holds same)
 
 pub returns-in-Close-clause-plans : goal.returns-in-Close-clause-plans
 unfolding step_at
 returns-in-Close-clause-plans g c z s holds same =
     let m = g.S.ObjectStore.meaning in
-    let stamped = stamped_of c.args.asked.now in
+    let stamped = stamped_of c.args.issued.now in
     plans_step m z c.args.read_only s stamped _ _ c.args.store.now c.args.store.now (ap command_of c.in-Close.is) refl
     c.hand_on.result (plans_of m z _ s _ _ c.args.store.now c.args.store.now (refl) c.close.result c.hand_on.result c.hand_on.ensures (c.close.ensures.plans z s holds same))
 
@@ -27,7 +27,7 @@ pub returns-in-Read-clause-plans : goal.returns-in-Read-clause-plans
 unfolding step_at
 returns-in-Read-clause-plans g c z s holds same =
     let m = g.S.ObjectStore.meaning in
-    let stamped = stamped_of c.args.asked.now in
+    let stamped = stamped_of c.args.issued.now in
     plans_step m z c.args.read_only s stamped _ _ c.args.store.now c.read.new.store (ap command_of c.in-Read.is) (refl)
     c.read.result (c.read.ensures.plans z s holds same)
 
@@ -35,7 +35,7 @@ pub returns-in-Write-clause-plans : goal.returns-in-Write-clause-plans
 unfolding step_at
 returns-in-Write-clause-plans g c z s holds same =
     let m = g.S.ObjectStore.meaning in
-    let stamped = stamped_of c.args.asked.now in
+    let stamped = stamped_of c.args.issued.now in
     plans_step m z c.args.read_only s stamped _ _ c.args.store.now c.args.store.now (ap command_of c.in-Write.is) refl
     c.hand_on-in-Write.result (plans_of m z _ s _ _ c.args.store.now c.args.store.now refl c.write.result c.hand_on-in-Write.result c.hand_on-in-Write.ensures (c.write.ensures z s holds same))
 
@@ -43,7 +43,7 @@ pub returns-in-Seek-clause-plans : goal.returns-in-Seek-clause-plans
 unfolding step_at
 returns-in-Seek-clause-plans g c z s holds same =
     let m = g.S.ObjectStore.meaning in
-    let stamped = stamped_of c.args.asked.now in
+    let stamped = stamped_of c.args.issued.now in
     plans_step m z c.args.read_only s stamped _ _ c.args.store.now c.args.store.now (ap command_of c.in-Seek.is) refl
     c.hand_on-in-Seek.result (plans_of m z _ s _ _ c.args.store.now c.args.store.now (ap (λ n. seek_step s c.in-Seek.fd n c.in-Seek.whence) c.signed.ensures.value) c.seek.result c.hand_on-in-Seek.result c.hand_on-in-Seek.ensures (rw (to_z-of_z w64 c.signed.result c.signed.ensures.range) at (c.seek.ensures.plans z s holds same)))
 
@@ -51,7 +51,7 @@ pub returns-in-Truncate-clause-plans : goal.returns-in-Truncate-clause-plans
 unfolding step_at
 returns-in-Truncate-clause-plans g c z s holds same =
     let m = g.S.ObjectStore.meaning in
-    let stamped = stamped_of c.args.asked.now in
+    let stamped = stamped_of c.args.issued.now in
     plans_step m z c.args.read_only s stamped _ _ c.args.store.now c.args.store.now (ap command_of c.in-Truncate.is) refl
     c.hand_on-in-Truncate.result (plans_of m z _ s _ _ c.args.store.now c.args.store.now (ap (truncate_step z stamped.moment s c.in-Truncate.fd) c.signed-in-Truncate.ensures.value) c.truncate.result c.hand_on-in-Truncate.result c.hand_on-in-Truncate.ensures (rw (to_z-of_z w64 c.signed-in-Truncate.result c.signed-in-Truncate.ensures.range) at (c.truncate.ensures z s holds same)))
 
@@ -59,7 +59,7 @@ pub returns-in-Fsync-clause-plans : goal.returns-in-Fsync-clause-plans
 unfolding step_at
 returns-in-Fsync-clause-plans g c z s holds same =
     let m = g.S.ObjectStore.meaning in
-    let stamped = stamped_of c.args.asked.now in
+    let stamped = stamped_of c.args.issued.now in
     plans_step m z c.args.read_only s stamped _ _ c.args.store.now c.args.store.now (ap command_of c.in-Fsync.is) refl
     c.hand_on-in-Fsync.result (plans_of m z _ s _ _ c.args.store.now c.args.store.now (refl) c.fsync.result c.hand_on-in-Fsync.result c.hand_on-in-Fsync.ensures (c.fsync.ensures.plans z s same))
 
@@ -67,14 +67,14 @@ pub returns-in-Sync-clause-plans : goal.returns-in-Sync-clause-plans
 unfolding step_at
 returns-in-Sync-clause-plans g c z s holds same =
     let m = g.S.ObjectStore.meaning in
-    let stamped = stamped_of c.args.asked.now in
+    let stamped = stamped_of c.args.issued.now in
     plans_step m z c.args.read_only s stamped _ _ c.args.store.now c.args.store.now (ap command_of c.in-Sync.is) refl (Ok c.sync.result) (c.sync.ensures.plans z s)
 
 pub returns-in-Stat-clause-plans : goal.returns-in-Stat-clause-plans
 unfolding step_at
 returns-in-Stat-clause-plans g c z s holds same =
     let m = g.S.ObjectStore.meaning in
-    let stamped = stamped_of c.args.asked.now in
+    let stamped = stamped_of c.args.issued.now in
     plans_step m z c.args.read_only s stamped _ _ c.args.store.now c.stat.new.store (ap command_of c.in-Stat.is) refl
     c.stat.result (c.stat.ensures.plans z s holds)
 
@@ -82,7 +82,7 @@ pub returns-in-Mkdir-clause-plans : goal.returns-in-Mkdir-clause-plans
 unfolding step_at
 returns-in-Mkdir-clause-plans g c z s holds same =
     let m = g.S.ObjectStore.meaning in
-    let stamped = stamped_of c.args.asked.now in
+    let stamped = stamped_of c.args.issued.now in
     plans_step m z c.args.read_only s stamped _ _ c.args.store.now c.mkdir.new.store (ap command_of c.in-Mkdir.is) refl
     c.mkdir.result (c.mkdir.ensures.plans z s holds)
 
@@ -90,7 +90,7 @@ pub returns-in-Rmdir-clause-plans : goal.returns-in-Rmdir-clause-plans
 unfolding step_at
 returns-in-Rmdir-clause-plans g c z s holds same =
     let m = g.S.ObjectStore.meaning in
-    let stamped = stamped_of c.args.asked.now in
+    let stamped = stamped_of c.args.issued.now in
     plans_step m z c.args.read_only s stamped _ _ c.args.store.now c.rmdir.new.store (ap command_of c.in-Rmdir.is) refl
     c.rmdir.result (c.rmdir.ensures.plans z s holds same)
 
@@ -98,7 +98,7 @@ pub returns-in-Link-clause-plans : goal.returns-in-Link-clause-plans
 unfolding step_at
 returns-in-Link-clause-plans g c z s holds same =
     let m = g.S.ObjectStore.meaning in
-    let stamped = stamped_of c.args.asked.now in
+    let stamped = stamped_of c.args.issued.now in
     plans_step m z c.args.read_only s stamped _ _ c.args.store.now c.link.new.store (ap command_of c.in-Link.is) refl
     c.link.result (c.link.ensures.plans z s holds)
 
@@ -106,7 +106,7 @@ pub returns-in-Unlink-clause-plans : goal.returns-in-Unlink-clause-plans
 unfolding step_at
 returns-in-Unlink-clause-plans g c z s holds same =
     let m = g.S.ObjectStore.meaning in
-    let stamped = stamped_of c.args.asked.now in
+    let stamped = stamped_of c.args.issued.now in
     plans_step m z c.args.read_only s stamped _ _ c.args.store.now c.unlink.new.store (ap command_of c.in-Unlink.is) refl
     c.unlink.result (c.unlink.ensures.plans z s holds same)
 
@@ -114,7 +114,7 @@ pub returns-in-List-clause-plans : goal.returns-in-List-clause-plans
 unfolding step_at
 returns-in-List-clause-plans g c z s holds same =
     let m = g.S.ObjectStore.meaning in
-    let stamped = stamped_of c.args.asked.now in
+    let stamped = stamped_of c.args.issued.now in
     plans_step m z c.args.read_only s stamped _ _ c.args.store.now c.list.new.store (ap command_of c.in-List.is) refl
     c.list.result (c.list.ensures.plans z s holds)
 
@@ -122,14 +122,14 @@ pub returns-in-Space-clause-plans : goal.returns-in-Space-clause-plans
 unfolding step_at
 returns-in-Space-clause-plans g c z s holds same =
     let m = g.S.ObjectStore.meaning in
-    let stamped = stamped_of c.args.asked.now in
+    let stamped = stamped_of c.args.issued.now in
     plans_step m z c.args.read_only s stamped _ _ c.args.store.now c.args.store.now (ap command_of c.in-Space.is) refl (Ok c.space.result) (c.space.ensures.plans z s holds)
 
 pub returns-in-Rename-clause-plans : goal.returns-in-Rename-clause-plans
 unfolding step_at
 returns-in-Rename-clause-plans g c z s holds same =
     let m = g.S.ObjectStore.meaning in
-    let stamped = stamped_of c.args.asked.now in
+    let stamped = stamped_of c.args.issued.now in
     plans_step m z c.args.read_only s stamped _ _ c.args.store.now c.rename.new.store (ap command_of c.in-Rename.is) refl c.rename.result (c.rename.ensures.plans z s holds same)
 
 pub returns-in-Close-clause-power : goal.returns-in-Close-clause-power

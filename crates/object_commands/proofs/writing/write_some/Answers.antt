@@ -10,9 +10,9 @@ use Rattle.posix_profile.specs.Outcomes.{answer}
 use Rattle.posix_profile.specs.declared.reply.Errno.TheVariants as errors
 use Rattle.posix_profile.specs.declared.reply.Reply.TheVariants as replies
 use Rattle.command_plans.specs.Tables.{handle_of}
-use Rattle.command_plans.specs.Classes.{Changing, tells_if}
+use Rattle.command_plans.specs.Classes.{Changing, reports_if}
 use Rattle.object_store.specs.Facts.{bytes_of}
-use Rattle.command_plans.specs.laws.Plan.{nothing_suits, plan_told, tries_kind, tries_same}
+use Rattle.command_plans.specs.laws.Plan.{nothing_suits, plan_reported, tries_kind, tries_same}
 use Rattle.object_commands.proofs.writing.write_some.Goals as goal
 
 some_written : (z : Sizes) (moment : ℕ) (s : State) (fd : ℕ) (h : Handle) (new : List ℕ) → 0 < length new → IsFile s.objects h.object
@@ -27,12 +27,12 @@ none_written : (z : Sizes) (moment : ℕ) (s : State) (fd : ℕ) (h : Handle) (n
 none_written z moment s fd h [] none = refl
 none_written z moment s fd h (byte ∷ more) none = absurd (omega (arith, none))
 
-some_bytes : (new : List ℕ) → 0 < length new → tells_if (nat_eq (length new) 0) Changing ≡ Changing
-some_bytes new some = ap (λ (b : Bool). tells_if b Changing) (ne_eqb (length new) 0 (λ none. omega (arith, some, none)))
+some_bytes : (new : List ℕ) → 0 < length new → reports_if (nat_eq (length new) 0) Changing ≡ Changing
+some_bytes new some = ap (λ (b : Bool). reports_if b Changing) (ne_eqb (length new) 0 (λ none. omega (arith, some, none)))
 
 pub returns-then-is_empty : goal.returns-then-is_empty
 returns-then-is_empty g c z s holds file small =
-    plan_told z _ s _ _ _ c.tell.ensures (nothing_suits (nat_eq (length c.args.new.now) 0) (replies.Wrote 0))
+    plan_reported z _ s _ _ _ c.tell.ensures (nothing_suits (nat_eq (length c.args.new.now) 0) (replies.Wrote 0))
     (none_written z c.args.moment s c.args.fd (handle_of c.args.description) c.args.new.now (grind (arith, nat_tests, c.is_empty.ensures, c.if-is_empty.true)))
 
 pub returns : goal.returns

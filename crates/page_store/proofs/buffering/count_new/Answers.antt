@@ -1,5 +1,5 @@
 use Rattle.std.proofs.Common.{arith}
-use Rattle.page_store.proofs.Counted.{new_more}
+use Rattle.page_store.proofs.Totaled.{new_more}
 use Rattle.page_store.proofs.buffering.count_new.Goals as goal
 
 pub loop-page-preserved : goal.loop-page-preserved

@@ -4,7 +4,7 @@ use Rattle.std.proofs.lemmas.Option.{slice_get_within, slice_get_read}
 use Rattle.flash_tree.specs.declared.place.FreshPage.{FreshPage}
 use Rattle.chunk_index.specs.Maps.{IsReadyKey}
 use Rattle.page_store.proofs.Keys.{object_is, chunk_is}
-use Rattle.page_store.proofs.Preparing.{kept_on}
+use Rattle.page_store.proofs.Preparing.{committed_on}
 use Rattle.page_store.proofs.buffering.prepare.Goals as goal
 
 pub prepare-requires : goal.prepare-requires
@@ -13,15 +13,15 @@ prepare-requires c =
     let at : slice_get c.args.pages.now c.loop-page.page-index ≡ Some p = slice_get_read c.args.pages.now (length c.args.pages.now) c.loop-page.page-index p refl c.loop-page-test.true c.page-item.is in
     (c.requires c.loop-page.page-index p at).low
 
-pub returns-in_err-prepare-clause-kept : goal.returns-in_err-prepare-clause-kept
-returns-in_err-prepare-clause-kept c = kept_on _ _ _ c.loop-page.invariant.kept c.prepare.ensures.kept
+pub returns-in_err-prepare-clause-committed : goal.returns-in_err-prepare-clause-committed
+returns-in_err-prepare-clause-committed c = committed_on _ _ _ c.loop-page.invariant.committed c.prepare.ensures.committed
 
 pub loop-page-preserved : goal.loop-page-preserved
 loop-page-preserved c =
     let p : FreshPage = c.page-item.result in
     let at : slice_get c.args.pages.now c.loop-page.page-index ≡ Some p = slice_get_read c.args.pages.now (length c.args.pages.now) c.loop-page.page-index p refl c.loop-page-test.true c.page-item.is in
     record {
-      kept = kept_on _ _ _ c.loop-page.invariant.kept c.prepare.ensures.kept;
+      committed = committed_on _ _ _ c.loop-page.invariant.committed c.prepare.ensures.committed;
       present = λ o k. c.prepare.ensures.present o k ∙ c.loop-page.invariant.present o k;
       ready = λ o k i lt of. elim (cases_eq i c.loop-page.page-index) [
         | inr ne ↦ c.prepare.ensures.stays o k (c.loop-page.invariant.ready o k i (omega (arith, lt, ne)) of)

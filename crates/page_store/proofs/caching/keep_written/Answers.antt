@@ -7,7 +7,7 @@ use Rattle.page_store.specs.BufferOf.{last_written}
 use Rattle.page_store.specs.Cached.{held, cached}
 use Rattle.page_store.specs.Caching.{AreIn}
 use Rattle.page_store.specs.Slots.{page_in}
-use Rattle.page_store.proofs.CachedPages.{kept_same}
+use Rattle.page_store.proofs.CachedPages.{committed_same}
 use Rattle.page_store.proofs.Shown.{sizes_on, sizes_exchanged, shows_exchanged, held_exchanged, cached_exchanged, cached_here, get_before, get_last, one_longer, all_first, all_last}
 use Rattle.page_store.proofs.caching.keep_written.Goals as goal
 
@@ -58,14 +58,14 @@ loop-page-preserved c =
     }
 
 pub returns-clause-sizes : goal.returns-clause-sizes
-returns-clause-sizes c = sizes_on _ _ _ c.loop-page.invariant.sizes (kept_same _ _ c.keep_spares.ensures).sizes
+returns-clause-sizes c = sizes_on _ _ _ c.loop-page.invariant.sizes (committed_same _ _ c.keep_spares.ensures).sizes
 
 pub returns-clause-shows : goal.returns-clause-shows
 returns-clause-shows c = λ m shows are o k xs is.
-    (c.loop-page.invariant.shows m shows are).0 o k xs (ap (option_and_then page_in) (sym ((kept_same _ _ c.keep_spares.ensures).each o k)) ∙ is)
+    (c.loop-page.invariant.shows m shows are).0 o k xs (ap (option_and_then page_in) (sym ((committed_same _ _ c.keep_spares.ensures).each o k)) ∙ is)
 
 pub returns-clause-places : goal.returns-clause-places
-returns-clause-places c = λ o k there. subst IsSome (sym ((kept_same _ _ c.keep_spares.ensures).each o k)) (c.loop-page.invariant.places o k there)
+returns-clause-places c = λ o k there. subst IsSome (sym ((committed_same _ _ c.keep_spares.ensures).each o k)) (c.loop-page.invariant.places o k there)
 
 pub returns-clause-takes : goal.returns-clause-takes
 returns-clause-takes c = λ i p is there.
@@ -73,4 +73,4 @@ returns-clause-takes c = λ i p is there.
     let empty : last_written c.loop-page.buffer ≡ [] = last.written ∙ ap (λ (xs : List FreshPage). xs ++ []) (last.all refl) in
     let short : length (last_written c.loop-page.buffer) ≡ 0 = ap length empty in
     let had : IsSome (cached c.loop-page.cache p.key.object p.key.chunk) = c.loop-page.invariant.takes i p (omega (arith, short)) is there in
-    subst IsSome (ap (option_and_then page_in) (sym ((kept_same _ _ c.keep_spares.ensures).each p.key.object p.key.chunk))) had
+    subst IsSome (ap (option_and_then page_in) (sym ((committed_same _ _ c.keep_spares.ensures).each p.key.object p.key.chunk))) had

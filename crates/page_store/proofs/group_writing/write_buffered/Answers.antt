@@ -9,7 +9,7 @@ use Rattle.chunk_index.specs.declared.index.Index.{Index}
 use Rattle.page_store.specs.BufferOf.{buffered}
 use Rattle.transactions.specs.Checking.{log_of}
 use Rattle.transactions.specs.Committing.{fresh_name, fresh_bytes}
-use Rattle.transactions.specs.Groups.{AddsPages, GroupsAfter, OkTable, TellsGroup, next_group}
+use Rattle.transactions.specs.Groups.{AddsPages, GroupsAfter, OkTable, ReportsGroup, next_group}
 use Rattle.transactions.specs.declared.group.GroupFault.TheVariants as groups
 use Rattle.flash_log.specs.Passing.{KeepsFound}
 use Rattle.flash_log.specs.laws.Erased.{erased_written}
@@ -26,7 +26,7 @@ use Rattle.page_store.proofs.Findable.{mountable_short, mountable_whole}
 use Rattle.page_store.proofs.GroupCounts.{ListsAreWhole}
 use Rattle.page_store.proofs.Grouping.{newest_written}
 use Rattle.page_store.proofs.Settling.{ready_counted}
-use Rattle.page_store.proofs.Turning.{leaves_committed, leaves_kept}
+use Rattle.page_store.proofs.Turning.{leaves_committed, leaves_committed_pages}
 use Rattle.page_store.proofs.GroupWritten.{agree_still, bad_closed, bad_recounted, keeps_written, leaves_gone, was_open, whole_written}
 use Rattle.page_store.proofs.group_writing.write_buffered.Goals as goal
 
@@ -36,8 +36,8 @@ settle-requires-clause-fits g c =
     let u : Table = table c.write_group.new.blocks in
     let o : ℕ = c.in-Some.block in
     let opened : t.open_block ≡ Some o = sym c.in-Some.ensures in
-    let same = same_ends (length c.pages-pages.result.now) t u (Ok c.in-Ok.placed) c.in-Ok.ensures.table in
-    let first : c.in-Ok.placed.first ≡ (t.entry o).next = (c.in-Ok.ensures.placed o opened).first in
+    let same = same_ends (length c.pages-pages.result.now) t u (Ok c.in-Ok.placed) c.in-Ok.ensures.group.table in
+    let first : c.in-Ok.placed.first ≡ (t.entry o).next = (c.in-Ok.ensures.group.placed o opened).first in
     let lie = lie_in_open o (length (buffered c.args.buffer.now)) (g.N.Nand.state c.args.device.now) t c.requires.ready opened c.requires.fits in
     subst (λ (s : Geometry). c.in-Ok.placed.first + length (buffered c.args.buffer.now) ≤ s.pages) (sym same.geometry) (omega (arith, first, lie))
 
@@ -45,13 +45,13 @@ pub settle-requires-clause-agree : goal.settle-requires-clause-agree
 settle-requires-clause-agree g c =
     let t : Table = table c.args.blocks.now in
     let u : Table = table c.write_group.new.blocks in
-    agree_still t u c.args.index.now (same_ends (length c.pages-pages.result.now) t u (Ok c.in-Ok.placed) c.in-Ok.ensures.table) c.requires.stands.1.tables.counts
+    agree_still t u c.args.index.now (same_ends (length c.pages-pages.result.now) t u (Ok c.in-Ok.placed) c.in-Ok.ensures.group.table) c.requires.stands.1.tables.counts
 
 pub returns-then-placed-clause-bad : goal.returns-then-placed-clause-bad
 returns-then-placed-clause-bad g c =
     let t : Table = table c.args.blocks.now in
     let u : Table = table c.write_group.new.blocks in
-    bad_recounted t u (table c.settle.new.blocks) _ _ (same_ends (length c.pages-pages.result.now) t u (Ok c.in-Ok.placed) c.in-Ok.ensures.table) c.settle.ensures.counts
+    bad_recounted t u (table c.settle.new.blocks) _ _ (same_ends (length c.pages-pages.result.now) t u (Ok c.in-Ok.placed) c.in-Ok.ensures.group.table) c.settle.ensures.counts
 
 pub returns-then-placed-clause-ready : goal.returns-then-placed-clause-ready
 returns-then-placed-clause-ready g c =
@@ -66,11 +66,11 @@ returns-then-placed-clause-pays g c =
     let v : Table = table c.settle.new.blocks in
     let w = c.in-Ok.ensures in
     let many : length c.pages-pages.result.now ≡ length (buffered c.args.buffer.now) = ap length c.pages-pages.ensures in
-    let changes = w.ends.2 in
-    let quiet : e.reads + d.failures ≤ d.reads + e.failures = w.quiet tt in
+    let changes = w.group.ends.2 in
+    let quiet : e.reads + d.failures ≤ d.reads + e.failures = w.group.quiet tt in
     attempt_done (length (buffered c.args.buffer.now)) (log_of d t) (log_of e v) (attempts.Suspect c.in-Some.block)
-    (bad_recounted t u v _ _ (same_ends (length c.pages-pages.result.now) t u (Ok c.in-Ok.placed) w.table) c.settle.ensures.counts) (w.ends.0 ∙ ap (λ s. d.failures + (if s then 1 else 0)) c.if-placed.true)
-    (omega (arith, changes, many)) w.reads (omega (arith, quiet, changes, many))
+    (bad_recounted t u v _ _ (same_ends (length c.pages-pages.result.now) t u (Ok c.in-Ok.placed) w.group.table) c.settle.ensures.counts) (w.group.ends.0 ∙ ap (λ s. d.failures + (if s then 1 else 0)) c.if-placed.true)
+    (omega (arith, changes, many)) w.group.reads (omega (arith, quiet, changes, many))
 
 pub returns-then-placed-clause-attempts : goal.returns-then-placed-clause-attempts
 returns-then-placed-clause-attempts g c = λ spare stands free.
@@ -85,23 +85,23 @@ returns-then-placed-clause-attempts g c = λ spare stands free.
     let same : c.pages-pages.result.now ≡ pages = c.pages-pages.ensures in
     let o : ℕ = c.in-Some.block in
     let opened : t.open_block ≡ Some o = sym c.in-Some.ensures in
-    let lists : ListsAreWhole = let l = c.the_list_of_a_block_is_whole.ensures in record { kept = l.kept; here = l.here; count = l.count; all = l.all; once = l.once } in
+    let lists : ListsAreWhole = let l = c.the_list_of_a_block_is_whole.ensures in record { committed = l.committed; here = l.here; count = l.count; all = l.all; once = l.once } in
     let ranges : HaveRanges pages = subst HaveRanges c.pages.ensures c.have_ranges.ensures in
     let w = c.in-Ok.ensures in
-    let ok = subst (λ (xs : List FreshPage). OkTable c.in-Ok.placed.suspect (length xs) t u) same w.table in
-    let tells = subst (λ (xs : List FreshPage). TellsGroup (next_group t (length xs) o) c.in-Ok.placed) same (w.placed o opened) in
-    let adds = subst (λ (xs : List FreshPage). d.honest ≡ true → AddsPages (next_group t (length xs) o) (fresh_name xs t.next_group) (fresh_bytes xs) d.flash e.flash) same (λ honest. w.groups honest o opened) in
+    let ok = subst (λ (xs : List FreshPage). OkTable c.in-Ok.placed.suspect (length xs) t u) same w.group.table in
+    let reports = subst (λ (xs : List FreshPage). ReportsGroup (next_group t (length xs) o) c.in-Ok.placed) same (w.group.placed o opened) in
+    let adds = subst (λ (xs : List FreshPage). d.honest ≡ true → AddsPages (next_group t (length xs) o) (fresh_name xs t.next_group) (fresh_bytes xs) d.flash e.flash) same (λ honest. w.group.groups honest o opened) in
     let a : BufferedLog = in_parts g.N.Nand.state c.args.device.now c.args.blocks.now c.args.index.now c.args.buffer.now in
     let b : BufferedLog = in_parts g.N.Nand.state c.write_group.new.device c.settle.new.blocks c.settle.new.index c.settle.new.self in
-    let whole : IsWhole spare a b = whole_written spare lists d e t u v x y pages o c.in-Ok.placed c.requires.buffers opened c.requires.ready stands free c.requires.pages ranges c.requires.fits c.requires.number w.lasts w.ready w.numbers w.writes ok w.ends.1 tells adds
-    c.settle.ensures.settles c.settle.ensures.agree c.settle.ensures.counts a.last b.pages b.last c.settle.ensures.empty c.settle.ensures.written in
+    let whole : IsWhole spare a b = whole_written spare lists d e t u v x y pages o c.in-Ok.placed c.requires.buffers opened c.requires.ready stands free c.requires.pages ranges c.requires.fits c.requires.number w.lasts w.ready w.numbers w.group.writes ok w.group.ends.1 reports adds
+    c.settle.ensures.settles c.settle.ensures.agree c.settle.ensures.counts a.last b.pages b.last c.settle.ensures.moved.empty c.settle.ensures.moved.written in
     (leaves_committed spare a b whole.commits whole.empty, (whole, was_open o d e t v c.requires.ready opened w.lasts (c.settle.ensures.counts.bad o ∙ (same_ends (length pages) t u (Ok c.in-Ok.placed) ok).bad o)))
 
 pub returns-else-placed-clause-bad : goal.returns-else-placed-clause-bad
 returns-else-placed-clause-bad g c =
     let t : Table = table c.args.blocks.now in
     let u : Table = table c.write_group.new.blocks in
-    bad_recounted t u (table c.settle.new.blocks) _ _ (same_ends (length c.pages-pages.result.now) t u (Ok c.in-Ok.placed) c.in-Ok.ensures.table) c.settle.ensures.counts
+    bad_recounted t u (table c.settle.new.blocks) _ _ (same_ends (length c.pages-pages.result.now) t u (Ok c.in-Ok.placed) c.in-Ok.ensures.group.table) c.settle.ensures.counts
 
 pub returns-else-placed-clause-ready : goal.returns-else-placed-clause-ready
 returns-else-placed-clause-ready g c =
@@ -116,11 +116,11 @@ returns-else-placed-clause-pays g c =
     let v : Table = table c.settle.new.blocks in
     let w = c.in-Ok.ensures in
     let many : length c.pages-pages.result.now ≡ length (buffered c.args.buffer.now) = ap length c.pages-pages.ensures in
-    let changes = w.ends.2 in
-    let quiet : e.reads + d.failures ≤ d.reads + e.failures = w.quiet tt in
+    let changes = w.group.ends.2 in
+    let quiet : e.reads + d.failures ≤ d.reads + e.failures = w.group.quiet tt in
     attempt_done (length (buffered c.args.buffer.now)) (log_of d t) (log_of e v) attempts.Trusted
-    (bad_recounted t u v _ _ (same_ends (length c.pages-pages.result.now) t u (Ok c.in-Ok.placed) w.table) c.settle.ensures.counts) (w.ends.0 ∙ ap (λ s. d.failures + (if s then 1 else 0)) c.if-placed.false)
-    (omega (arith, changes, many)) w.reads (omega (arith, quiet, changes, many))
+    (bad_recounted t u v _ _ (same_ends (length c.pages-pages.result.now) t u (Ok c.in-Ok.placed) w.group.table) c.settle.ensures.counts) (w.group.ends.0 ∙ ap (λ s. d.failures + (if s then 1 else 0)) c.if-placed.false)
+    (omega (arith, changes, many)) w.group.reads (omega (arith, quiet, changes, many))
 
 pub returns-else-placed-clause-attempts : goal.returns-else-placed-clause-attempts
 returns-else-placed-clause-attempts g c = λ spare stands free.
@@ -135,21 +135,21 @@ returns-else-placed-clause-attempts g c = λ spare stands free.
     let same : c.pages-pages.result.now ≡ pages = c.pages-pages.ensures in
     let o : ℕ = c.in-Some.block in
     let opened : t.open_block ≡ Some o = sym c.in-Some.ensures in
-    let lists : ListsAreWhole = let l = c.the_list_of_a_block_is_whole.ensures in record { kept = l.kept; here = l.here; count = l.count; all = l.all; once = l.once } in
+    let lists : ListsAreWhole = let l = c.the_list_of_a_block_is_whole.ensures in record { committed = l.committed; here = l.here; count = l.count; all = l.all; once = l.once } in
     let ranges : HaveRanges pages = subst HaveRanges c.pages.ensures c.have_ranges.ensures in
     let w = c.in-Ok.ensures in
-    let ok = subst (λ (xs : List FreshPage). OkTable c.in-Ok.placed.suspect (length xs) t u) same w.table in
-    let tells = subst (λ (xs : List FreshPage). TellsGroup (next_group t (length xs) o) c.in-Ok.placed) same (w.placed o opened) in
-    let adds = subst (λ (xs : List FreshPage). d.honest ≡ true → AddsPages (next_group t (length xs) o) (fresh_name xs t.next_group) (fresh_bytes xs) d.flash e.flash) same (λ honest. w.groups honest o opened) in
+    let ok = subst (λ (xs : List FreshPage). OkTable c.in-Ok.placed.suspect (length xs) t u) same w.group.table in
+    let reports = subst (λ (xs : List FreshPage). ReportsGroup (next_group t (length xs) o) c.in-Ok.placed) same (w.group.placed o opened) in
+    let adds = subst (λ (xs : List FreshPage). d.honest ≡ true → AddsPages (next_group t (length xs) o) (fresh_name xs t.next_group) (fresh_bytes xs) d.flash e.flash) same (λ honest. w.group.groups honest o opened) in
     let a : BufferedLog = in_parts g.N.Nand.state c.args.device.now c.args.blocks.now c.args.index.now c.args.buffer.now in
     let b : BufferedLog = in_parts g.N.Nand.state c.write_group.new.device c.settle.new.blocks c.settle.new.index c.settle.new.self in
-    let whole : IsWhole spare a b = whole_written spare lists d e t u v x y pages o c.in-Ok.placed c.requires.buffers opened c.requires.ready stands free c.requires.pages ranges c.requires.fits c.requires.number w.lasts w.ready w.numbers w.writes ok w.ends.1 tells adds
-    c.settle.ensures.settles c.settle.ensures.agree c.settle.ensures.counts a.last b.pages b.last c.settle.ensures.empty c.settle.ensures.written in
-    let none : e.failures ≡ d.failures + 0 = w.ends.0 ∙ ap (λ s. d.failures + (if s then 1 else 0)) c.if-placed.false in
+    let whole : IsWhole spare a b = whole_written spare lists d e t u v x y pages o c.in-Ok.placed c.requires.buffers opened c.requires.ready stands free c.requires.pages ranges c.requires.fits c.requires.number w.lasts w.ready w.numbers w.group.writes ok w.group.ends.1 reports adds
+    c.settle.ensures.settles c.settle.ensures.agree c.settle.ensures.counts a.last b.pages b.last c.settle.ensures.moved.empty c.settle.ensures.moved.written in
+    let none : e.failures ≡ d.failures + 0 = w.group.ends.0 ∙ ap (λ s. d.failures + (if s then 1 else 0)) c.if-placed.false in
     (leaves_committed spare a b whole.commits whole.empty, (whole, omega (arith, none)))
 
 pub returns-in-Err-Failed-clause-bad : goal.returns-in-Err-Failed-clause-bad
-returns-in-Err-Failed-clause-bad g c = let w = rw c.in-Err-Failed.field-0-is at c.in-Err-Failed.ensures in bad_closed (table c.args.blocks.now) (table c.write_group.new.blocks) w.table
+returns-in-Err-Failed-clause-bad g c = let w = rw c.in-Err-Failed.field-0-is at c.in-Err-Failed.ensures in bad_closed (table c.args.blocks.now) (table c.write_group.new.blocks) w.group.table
 
 pub returns-in-Err-Failed-clause-pays : goal.returns-in-Err-Failed-clause-pays
 returns-in-Err-Failed-clause-pays g c =
@@ -159,9 +159,9 @@ returns-in-Err-Failed-clause-pays g c =
     let u : Table = table c.write_group.new.blocks in
     let w = rw c.in-Err-Failed.field-0-is at c.in-Err-Failed.ensures in
     let many : length c.pages-pages.result.now ≡ length (buffered c.args.buffer.now) = ap length c.pages-pages.ensures in
-    let rise = w.ends.0 in
-    let changes = w.ends.3 in
-    attempt_done (length (buffered c.args.buffer.now)) (log_of d t) (log_of e u) (attempts.Failed c.in-Some.block) (bad_closed t u w.table) rise (omega (arith, changes, many)) w.reads tt
+    let rise = w.group.ends.0 in
+    let changes = w.group.ends.3 in
+    attempt_done (length (buffered c.args.buffer.now)) (log_of d t) (log_of e u) (attempts.Failed c.in-Some.block) (bad_closed t u w.group.table) rise (omega (arith, changes, many)) w.group.reads tt
 
 pub returns-in-Err-Failed-clause-attempts : goal.returns-in-Err-Failed-clause-attempts
 returns-in-Err-Failed-clause-attempts g c = λ spare stands free.
@@ -173,18 +173,18 @@ returns-in-Err-Failed-clause-attempts g c = λ spare stands free.
     let o : ℕ = c.in-Some.block in
     let opened : t.open_block ≡ Some o = sym c.in-Some.ensures in
     let w = rw c.in-Err-Failed.field-0-is at c.in-Err-Failed.ensures in
-    let lists : ListsAreWhole = let l = c.the_list_of_a_block_is_whole.ensures in record { kept = l.kept; here = l.here; count = l.count; all = l.all; once = l.once } in
+    let lists : ListsAreWhole = let l = c.the_list_of_a_block_is_whole.ensures in record { committed = l.committed; here = l.here; count = l.count; all = l.all; once = l.once } in
     let a : BufferedLog = in_parts g.N.Nand.state c.args.device.now c.args.blocks.now c.args.index.now c.args.buffer.now in
     let b : BufferedLog = in_parts g.N.Nand.state c.write_group.new.device c.write_group.new.blocks c.args.index.now c.args.buffer.now in
     let xs : List FreshPage = c.pages-pages.result.now in
-    let newest : d.honest ≡ true → KeepsNewest d.flash e.flash = λ honest. newest_written d e t xs o c.requires.ready honest (w.writes honest).grows (Err groups.Failed) (w.groups honest o opened) in
-    let found : d.honest ≡ true → KeepsFound t d e = λ honest. found_same t d e o (length xs) (fresh_name xs t.next_group) (fresh_bytes xs) c.requires.ready opened honest w.lasts.geometry (w.writes honest) (w.numbers.truth.summaries honest) (w.groups honest o opened) in
-    let erased = erased_written d e t o (length xs) (fresh_name xs t.next_group) (fresh_bytes xs) c.requires.ready opened w.lasts w.writes u (Err groups.Failed) (λ honest. w.groups honest o opened) w.table in
-    let step = keeps_written spare d e t u x xs o lists stands c.requires.number w.table w.lasts w.ready w.numbers newest found erased in
-    (leaves_kept spare a b step refl c.requires.buffers, (record { step = step; pages = refl; power = w.ends.1 }, was_open o d e t u c.requires.ready opened w.lasts ((same_closed t u w.table).bad o)))
+    let newest : d.honest ≡ true → KeepsNewest d.flash e.flash = λ honest. newest_written d e t xs o c.requires.ready honest (w.group.writes honest).grows (Err groups.Failed) (w.group.groups honest o opened) in
+    let found : d.honest ≡ true → KeepsFound t d e = λ honest. found_same t d e o (length xs) (fresh_name xs t.next_group) (fresh_bytes xs) c.requires.ready opened honest w.lasts.geometry (w.group.writes honest) (w.numbers.truth.summaries honest) (w.group.groups honest o opened) in
+    let erased = erased_written d e t o (length xs) (fresh_name xs t.next_group) (fresh_bytes xs) c.requires.ready opened w.lasts w.group.writes u (Err groups.Failed) (λ honest. w.group.groups honest o opened) w.group.table in
+    let step = keeps_written spare d e t u x xs o lists stands c.requires.number w.group.table w.lasts w.ready w.numbers newest found erased in
+    (leaves_committed_pages spare a b step refl c.requires.buffers, (record { step = step; pages = refl; power = w.group.ends.1 }, was_open o d e t u c.requires.ready opened w.lasts ((same_closed t u w.group.table).bad o)))
 
 pub returns-in-Err-Lost-clause-bad : goal.returns-in-Err-Lost-clause-bad
-returns-in-Err-Lost-clause-bad g c = let w = rw c.in-Err-Lost.field-0-is at c.in-Err-Lost.ensures in bad_closed (table c.args.blocks.now) (table c.write_group.new.blocks) w.table
+returns-in-Err-Lost-clause-bad g c = let w = rw c.in-Err-Lost.field-0-is at c.in-Err-Lost.ensures in bad_closed (table c.args.blocks.now) (table c.write_group.new.blocks) w.group.table
 
 pub returns-in-Err-Lost-clause-pays : goal.returns-in-Err-Lost-clause-pays
 returns-in-Err-Lost-clause-pays g c =
@@ -194,8 +194,8 @@ returns-in-Err-Lost-clause-pays g c =
     let u : Table = table c.write_group.new.blocks in
     let w = rw c.in-Err-Lost.field-0-is at c.in-Err-Lost.ensures in
     let many : length c.pages-pages.result.now ≡ length (buffered c.args.buffer.now) = ap length c.pages-pages.ensures in
-    let changes = w.ends.1 in
-    attempt_short (length (buffered c.args.buffer.now)) (log_of d t) (log_of e u) rooms.Lost (bad_closed t u w.table) w.lasts.failures (omega (arith, changes, many)) w.reads
+    let changes = w.group.ends.1 in
+    attempt_short (length (buffered c.args.buffer.now)) (log_of d t) (log_of e u) rooms.Lost (bad_closed t u w.group.table) w.lasts.failures (omega (arith, changes, many)) w.group.reads
 
 pub returns-in-Err-Lost-clause-attempts : goal.returns-in-Err-Lost-clause-attempts
 returns-in-Err-Lost-clause-attempts g c = λ spare stands free.
@@ -207,18 +207,18 @@ returns-in-Err-Lost-clause-attempts g c = λ spare stands free.
     let o : ℕ = c.in-Some.block in
     let opened : t.open_block ≡ Some o = sym c.in-Some.ensures in
     let w = rw c.in-Err-Lost.field-0-is at c.in-Err-Lost.ensures in
-    let lists : ListsAreWhole = let l = c.the_list_of_a_block_is_whole.ensures in record { kept = l.kept; here = l.here; count = l.count; all = l.all; once = l.once } in
+    let lists : ListsAreWhole = let l = c.the_list_of_a_block_is_whole.ensures in record { committed = l.committed; here = l.here; count = l.count; all = l.all; once = l.once } in
     let a : BufferedLog = in_parts g.N.Nand.state c.args.device.now c.args.blocks.now c.args.index.now c.args.buffer.now in
     let b : BufferedLog = in_parts g.N.Nand.state c.write_group.new.device c.write_group.new.blocks c.args.index.now c.args.buffer.now in
     let xs : List FreshPage = c.pages-pages.result.now in
-    let newest : d.honest ≡ true → KeepsNewest d.flash e.flash = λ honest. newest_written d e t xs o c.requires.ready honest (w.writes honest).grows (Err groups.Lost) (w.groups honest o opened) in
-    let found : d.honest ≡ true → KeepsFound t d e = λ honest. found_same t d e o (length xs) (fresh_name xs t.next_group) (fresh_bytes xs) c.requires.ready opened honest w.lasts.geometry (w.writes honest) (w.numbers.truth.summaries honest) (w.groups honest o opened) in
-    let erased = erased_written d e t o (length xs) (fresh_name xs t.next_group) (fresh_bytes xs) c.requires.ready opened w.lasts w.writes u (Err groups.Lost) (λ honest. w.groups honest o opened) w.table in
-    let step = keeps_written spare d e t u x xs o lists stands c.requires.number w.table w.lasts w.ready w.numbers newest found erased in
-    (leaves_kept spare a b step refl c.requires.buffers, w.lasts.honest ∙ w.ends.0)
+    let newest : d.honest ≡ true → KeepsNewest d.flash e.flash = λ honest. newest_written d e t xs o c.requires.ready honest (w.group.writes honest).grows (Err groups.Lost) (w.group.groups honest o opened) in
+    let found : d.honest ≡ true → KeepsFound t d e = λ honest. found_same t d e o (length xs) (fresh_name xs t.next_group) (fresh_bytes xs) c.requires.ready opened honest w.lasts.geometry (w.group.writes honest) (w.numbers.truth.summaries honest) (w.group.groups honest o opened) in
+    let erased = erased_written d e t o (length xs) (fresh_name xs t.next_group) (fresh_bytes xs) c.requires.ready opened w.lasts w.group.writes u (Err groups.Lost) (λ honest. w.group.groups honest o opened) w.group.table in
+    let step = keeps_written spare d e t u x xs o lists stands c.requires.number w.group.table w.lasts w.ready w.numbers newest found erased in
+    (leaves_committed_pages spare a b step refl c.requires.buffers, w.lasts.honest ∙ w.group.ends.0)
 
 pub returns-in-Err-Gone-clause-bad : goal.returns-in-Err-Gone-clause-bad
-returns-in-Err-Gone-clause-bad g c = let w = rw c.in-Err-Gone.field-0-is at c.in-Err-Gone.ensures in bad_closed (table c.args.blocks.now) (table c.write_group.new.blocks) w.table
+returns-in-Err-Gone-clause-bad g c = let w = rw c.in-Err-Gone.field-0-is at c.in-Err-Gone.ensures in bad_closed (table c.args.blocks.now) (table c.write_group.new.blocks) w.group.table
 
 pub returns-in-Err-Gone-clause-pays : goal.returns-in-Err-Gone-clause-pays
 returns-in-Err-Gone-clause-pays g c =
@@ -228,8 +228,8 @@ returns-in-Err-Gone-clause-pays g c =
     let u : Table = table c.write_group.new.blocks in
     let w = rw c.in-Err-Gone.field-0-is at c.in-Err-Gone.ensures in
     let many : length c.pages-pages.result.now ≡ length (buffered c.args.buffer.now) = ap length c.pages-pages.ensures in
-    let changes = w.ends.1 in
-    attempt_short (length (buffered c.args.buffer.now)) (log_of d t) (log_of e u) rooms.Gone (bad_closed t u w.table) w.lasts.failures (omega (arith, changes, many)) w.reads
+    let changes = w.group.ends.1 in
+    attempt_short (length (buffered c.args.buffer.now)) (log_of d t) (log_of e u) rooms.Gone (bad_closed t u w.group.table) w.lasts.failures (omega (arith, changes, many)) w.group.reads
 
 pub returns-in-Err-Gone-clause-attempts : goal.returns-in-Err-Gone-clause-attempts
 returns-in-Err-Gone-clause-attempts g c = λ spare stands free.
@@ -241,14 +241,14 @@ returns-in-Err-Gone-clause-attempts g c = λ spare stands free.
     let o : ℕ = c.in-Some.block in
     let opened : t.open_block ≡ Some o = sym c.in-Some.ensures in
     let w = rw c.in-Err-Gone.field-0-is at c.in-Err-Gone.ensures in
-    let lists : ListsAreWhole = let l = c.the_list_of_a_block_is_whole.ensures in record { kept = l.kept; here = l.here; count = l.count; all = l.all; once = l.once } in
+    let lists : ListsAreWhole = let l = c.the_list_of_a_block_is_whole.ensures in record { committed = l.committed; here = l.here; count = l.count; all = l.all; once = l.once } in
     let a : BufferedLog = in_parts g.N.Nand.state c.args.device.now c.args.blocks.now c.args.index.now c.args.buffer.now in
     let b : BufferedLog = in_parts g.N.Nand.state c.write_group.new.device c.write_group.new.blocks c.args.index.now c.args.buffer.now in
     let pages : List FreshPage = buffered c.args.buffer.now in (
-      leaves_gone spare d e t u x pages o lists stands free c.requires.number opened c.requires.buffers c.requires.pages c.requires.ready w.table w.lasts w.ready w.numbers w.ends.0 w.writes
-          (subst (λ (xs : List FreshPage). d.honest ≡ true → GroupsAfter (next_group t (length xs) o) (fresh_name xs t.next_group) (fresh_bytes xs) d.flash e.flash (Err groups.Gone)) c.pages-pages.ensures (λ honest. w.groups honest o opened))
+      leaves_gone spare d e t u x pages o lists stands free c.requires.number opened c.requires.buffers c.requires.pages c.requires.ready w.group.table w.lasts w.ready w.numbers w.group.ends.0 w.group.writes
+          (subst (λ (xs : List FreshPage). d.honest ≡ true → GroupsAfter (next_group t (length xs) o) (fresh_name xs t.next_group) (fresh_bytes xs) d.flash e.flash (Err groups.Gone)) c.pages-pages.ensures (λ honest. w.group.groups honest o opened))
           a.last,
-      w.ends.0,
+      w.group.ends.0,
     )
 
 pub returns-else-placed-clause-keeps_open : goal.returns-else-placed-clause-keeps_open
@@ -256,7 +256,7 @@ returns-else-placed-clause-keeps_open g c =
     let t : Table = table c.args.blocks.now in
     let u : Table = table c.write_group.new.blocks in
     let same : c.pages-pages.result.now ≡ buffered c.args.buffer.now = c.pages-pages.ensures in
-    let trusted : OkTable false (length c.pages-pages.result.now) t u = subst (λ s. OkTable s (length c.pages-pages.result.now) t u) c.if-placed.false c.in-Ok.ensures.table in
+    let trusted : OkTable false (length c.pages-pages.result.now) t u = subst (λ s. OkTable s (length c.pages-pages.result.now) t u) c.if-placed.false c.in-Ok.ensures.group.table in
     let takes : OkTable false (length (buffered c.args.buffer.now)) t u = subst (λ (xs : List FreshPage). OkTable false (length xs) t u) same trusted in
     stays_open (length (buffered c.args.buffer.now)) c.in-Some.block t u (table c.settle.new.blocks) _ _ (sym c.in-Some.ensures) c.requires.fits takes c.settle.ensures.counts
 
@@ -270,12 +270,12 @@ returns-then-placed-clause-mountable g c =
     let same : c.pages-pages.result.now ≡ pages = c.pages-pages.ensures in
     let o : ℕ = c.in-Some.block in
     let opened : t.open_block ≡ Some o = sym c.in-Some.ensures in
-    let lists : ListsAreWhole = let l = c.the_list_of_a_block_is_whole.ensures in record { kept = l.kept; here = l.here; count = l.count; all = l.all; once = l.once } in
+    let lists : ListsAreWhole = let l = c.the_list_of_a_block_is_whole.ensures in record { committed = l.committed; here = l.here; count = l.count; all = l.all; once = l.once } in
     let w = c.in-Ok.ensures in
-    let ok = subst (λ (xs : List FreshPage). OkTable c.in-Ok.placed.suspect (length xs) t u) same w.table in
-    let tells = subst (λ (xs : List FreshPage). TellsGroup (next_group t (length xs) o) c.in-Ok.placed) same (w.placed o opened) in
-    let adds = subst (λ (xs : List FreshPage). d.honest ≡ true → AddsPages (next_group t (length xs) o) (fresh_name xs t.next_group) (fresh_bytes xs) d.flash e.flash) same (λ honest. w.groups honest o opened) in
-    mountable_whole d e t u c.args.index.now pages o c.requires.ready opened c.requires.buffers c.requires.pages w.lasts w.numbers w.writes c.in-Ok.placed adds lists (table c.settle.new.blocks) c.settle.new.index _ tells.block
+    let ok = subst (λ (xs : List FreshPage). OkTable c.in-Ok.placed.suspect (length xs) t u) same w.group.table in
+    let reports = subst (λ (xs : List FreshPage). ReportsGroup (next_group t (length xs) o) c.in-Ok.placed) same (w.group.placed o opened) in
+    let adds = subst (λ (xs : List FreshPage). d.honest ≡ true → AddsPages (next_group t (length xs) o) (fresh_name xs t.next_group) (fresh_bytes xs) d.flash e.flash) same (λ honest. w.group.groups honest o opened) in
+    mountable_whole d e t u c.args.index.now pages o c.requires.ready opened c.requires.buffers c.requires.pages w.lasts w.numbers w.group.writes c.in-Ok.placed adds lists (table c.settle.new.blocks) c.settle.new.index _ reports.block
     c.settle.ensures.settles c.requires.stands.1.tables.counts c.settle.ensures.agree c.settle.ensures.counts ok
 
 pub returns-else-placed-clause-mountable : goal.returns-else-placed-clause-mountable
@@ -288,12 +288,12 @@ returns-else-placed-clause-mountable g c =
     let same : c.pages-pages.result.now ≡ pages = c.pages-pages.ensures in
     let o : ℕ = c.in-Some.block in
     let opened : t.open_block ≡ Some o = sym c.in-Some.ensures in
-    let lists : ListsAreWhole = let l = c.the_list_of_a_block_is_whole.ensures in record { kept = l.kept; here = l.here; count = l.count; all = l.all; once = l.once } in
+    let lists : ListsAreWhole = let l = c.the_list_of_a_block_is_whole.ensures in record { committed = l.committed; here = l.here; count = l.count; all = l.all; once = l.once } in
     let w = c.in-Ok.ensures in
-    let ok = subst (λ (xs : List FreshPage). OkTable c.in-Ok.placed.suspect (length xs) t u) same w.table in
-    let tells = subst (λ (xs : List FreshPage). TellsGroup (next_group t (length xs) o) c.in-Ok.placed) same (w.placed o opened) in
-    let adds = subst (λ (xs : List FreshPage). d.honest ≡ true → AddsPages (next_group t (length xs) o) (fresh_name xs t.next_group) (fresh_bytes xs) d.flash e.flash) same (λ honest. w.groups honest o opened) in
-    mountable_whole d e t u c.args.index.now pages o c.requires.ready opened c.requires.buffers c.requires.pages w.lasts w.numbers w.writes c.in-Ok.placed adds lists (table c.settle.new.blocks) c.settle.new.index _ tells.block
+    let ok = subst (λ (xs : List FreshPage). OkTable c.in-Ok.placed.suspect (length xs) t u) same w.group.table in
+    let reports = subst (λ (xs : List FreshPage). ReportsGroup (next_group t (length xs) o) c.in-Ok.placed) same (w.group.placed o opened) in
+    let adds = subst (λ (xs : List FreshPage). d.honest ≡ true → AddsPages (next_group t (length xs) o) (fresh_name xs t.next_group) (fresh_bytes xs) d.flash e.flash) same (λ honest. w.group.groups honest o opened) in
+    mountable_whole d e t u c.args.index.now pages o c.requires.ready opened c.requires.buffers c.requires.pages w.lasts w.numbers w.group.writes c.in-Ok.placed adds lists (table c.settle.new.blocks) c.settle.new.index _ reports.block
     c.settle.ensures.settles c.requires.stands.1.tables.counts c.settle.ensures.agree c.settle.ensures.counts ok
 
 pub returns-in-Err-Failed-clause-mountable : goal.returns-in-Err-Failed-clause-mountable
@@ -305,8 +305,8 @@ returns-in-Err-Failed-clause-mountable g c =
     let o : ℕ = c.in-Some.block in
     let opened : t.open_block ≡ Some o = sym c.in-Some.ensures in
     let w = rw c.in-Err-Failed.field-0-is at c.in-Err-Failed.ensures in
-    let after = subst (λ (xs : List FreshPage). d.honest ≡ true → GroupsAfter (next_group t (length xs) o) (fresh_name xs t.next_group) (fresh_bytes xs) d.flash e.flash (Err groups.Failed)) c.pages-pages.ensures (λ honest. w.groups honest o opened) in
-    mountable_short d e t u c.args.index.now (buffered c.args.buffer.now) o c.requires.ready opened c.requires.buffers c.requires.pages w.lasts w.numbers w.writes groups.Failed after w.table
+    let after = subst (λ (xs : List FreshPage). d.honest ≡ true → GroupsAfter (next_group t (length xs) o) (fresh_name xs t.next_group) (fresh_bytes xs) d.flash e.flash (Err groups.Failed)) c.pages-pages.ensures (λ honest. w.group.groups honest o opened) in
+    mountable_short d e t u c.args.index.now (buffered c.args.buffer.now) o c.requires.ready opened c.requires.buffers c.requires.pages w.lasts w.numbers w.group.writes groups.Failed after w.group.table
 
 pub returns-in-Err-Lost-clause-mountable : goal.returns-in-Err-Lost-clause-mountable
 returns-in-Err-Lost-clause-mountable g c =
@@ -317,8 +317,8 @@ returns-in-Err-Lost-clause-mountable g c =
     let o : ℕ = c.in-Some.block in
     let opened : t.open_block ≡ Some o = sym c.in-Some.ensures in
     let w = rw c.in-Err-Lost.field-0-is at c.in-Err-Lost.ensures in
-    let after = subst (λ (xs : List FreshPage). d.honest ≡ true → GroupsAfter (next_group t (length xs) o) (fresh_name xs t.next_group) (fresh_bytes xs) d.flash e.flash (Err groups.Lost)) c.pages-pages.ensures (λ honest. w.groups honest o opened) in
-    mountable_short d e t u c.args.index.now (buffered c.args.buffer.now) o c.requires.ready opened c.requires.buffers c.requires.pages w.lasts w.numbers w.writes groups.Lost after w.table
+    let after = subst (λ (xs : List FreshPage). d.honest ≡ true → GroupsAfter (next_group t (length xs) o) (fresh_name xs t.next_group) (fresh_bytes xs) d.flash e.flash (Err groups.Lost)) c.pages-pages.ensures (λ honest. w.group.groups honest o opened) in
+    mountable_short d e t u c.args.index.now (buffered c.args.buffer.now) o c.requires.ready opened c.requires.buffers c.requires.pages w.lasts w.numbers w.group.writes groups.Lost after w.group.table
 
 pub returns-in-Err-Gone-clause-mountable : goal.returns-in-Err-Gone-clause-mountable
 returns-in-Err-Gone-clause-mountable g c =
@@ -329,5 +329,5 @@ returns-in-Err-Gone-clause-mountable g c =
     let o : ℕ = c.in-Some.block in
     let opened : t.open_block ≡ Some o = sym c.in-Some.ensures in
     let w = rw c.in-Err-Gone.field-0-is at c.in-Err-Gone.ensures in
-    let after = subst (λ (xs : List FreshPage). d.honest ≡ true → GroupsAfter (next_group t (length xs) o) (fresh_name xs t.next_group) (fresh_bytes xs) d.flash e.flash (Err groups.Gone)) c.pages-pages.ensures (λ honest. w.groups honest o opened) in
-    mountable_short d e t u c.args.index.now (buffered c.args.buffer.now) o c.requires.ready opened c.requires.buffers c.requires.pages w.lasts w.numbers w.writes groups.Gone after w.table
+    let after = subst (λ (xs : List FreshPage). d.honest ≡ true → GroupsAfter (next_group t (length xs) o) (fresh_name xs t.next_group) (fresh_bytes xs) d.flash e.flash (Err groups.Gone)) c.pages-pages.ensures (λ honest. w.group.groups honest o opened) in
+    mountable_short d e t u c.args.index.now (buffered c.args.buffer.now) o c.requires.ready opened c.requires.buffers c.requires.pages w.lasts w.numbers w.group.writes groups.Gone after w.group.table

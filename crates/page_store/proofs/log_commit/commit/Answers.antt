@@ -1,9 +1,9 @@
-use Rattle.std.proofs.Common.{◌≡◌, ◌+◌, ◌*◌, [], length, sym, ap, subst, ◌∙◌, arith, inl, inr, refl}
+use Rattle.std.proofs.Common.{◌≡◌, ◌+◌, ◌*◌, [], length, sym, ap, subst, ◌∙◌, arith, inl, inr, refl, rules}
 use Rattle.std.proofs.lemmas.Bool.{eqb-true}
 use Rattle.std.proofs.lemmas.List.{nil_from_length}
 use Rattle.nand_model.specs.Calls.{Device}
 use Rattle.nand_model.specs.laws.Calls.{lasts_here}
-use Rattle.block_state.specs.Kept.{bad_count}
+use Rattle.block_state.specs.Committed.{bad_count}
 use Rattle.block_state.specs.Table.{Table}
 use Rattle.page_store.specs.BufferOf.{buffered}
 use Rattle.page_store.specs.laws.Buffering.{buffers_empty}
@@ -14,10 +14,10 @@ use Rattle.page_store.specs.Buffered.{BufferedLog, held, in_parts}
 use Rattle.page_store.specs.Committing.{StaysOpen}
 use Rattle.page_store.proofs.Costing.{costs_more, costs_none}
 use Rattle.page_store.proofs.Staying.{stays_recounted}
-use Rattle.page_store.proofs.Findable.{finds_kept, mountable_empty}
+use Rattle.page_store.proofs.Findable.{finds_committed, mountable_empty}
 use Rattle.page_store.proofs.GroupCounts.{ListsAreWhole}
-use Rattle.page_store.proofs.Settling.{bad_empty, carries_empty, free_empty, hands_counted, kept_before, kept_empty, ready_counted, stands_empty}
-use Rattle.page_store.proofs.Turning.{carries_either, keeps_or_shows, shown_kept, whole_committed}
+use Rattle.page_store.proofs.Settling.{bad_empty, carries_empty, free_empty, hands_counted, was_committed_before, committed_empty, ready_counted, stands_empty}
+use Rattle.page_store.proofs.Turning.{carries_either, keeps_or_shows, shown_committed, whole_committed}
 use Rattle.page_store.proofs.log_commit.commit.Goals as goal
 
 pub invariant_of-log : goal.invariant_of-log
@@ -26,7 +26,7 @@ invariant_of-log g c =
     let b : BufferedLog = in_parts g.N.Nand.state c.args.log.now.device c.settle_empty.new.blocks c.settle_empty.new.index c.settle_empty.new.buffer in
     let long : length c.pages.result.now ≡ 0 = eqb-true (length c.pages.result.now) 0 (sym c.if-is_empty.ensures) in
     let none : a.pages ≡ [] = nil_from_length a.pages (sym (ap length c.pages.ensures) ∙ long) in
-    let lists : ListsAreWhole = let l = c.the_list_of_a_block_is_whole.ensures in record { kept = l.kept; here = l.here; count = l.count; all = l.all; once = l.once } in
+    let lists : ListsAreWhole = let l = c.the_list_of_a_block_is_whole.ensures in record { committed = l.committed; here = l.here; count = l.count; all = l.all; once = l.once } in
     let settled = c.settle_empty.ensures in
     let w = settled.settles.0 in
     let settles = settled.settles.1 in
@@ -36,10 +36,10 @@ invariant_of-log g c =
     let v : Table = b.log.table in
     record {
       ready = ready_counted d t v _ _ settled.counts c.args.log.now.ready;
-      stands = stands_empty c.args.log.now.spare lists w d t v a.index b.index a.pages none r.buffers c.args.log.now.ready c.args.log.now.stands r.free settles settled.agree settled.counts;
+      stands = stands_empty c.args.log.now.spare lists w d t v a.index b.index a.pages none r.buffers.buffers c.args.log.now.ready c.args.log.now.stands r.reserve.1 settles settled.agree settled.counts;
       room_size = c.args.log.now.room_size;
       mountable = mountable_on c.args.log.now.origin.first (log_of d t) (log_of d v) a.index b.index (lasts_here d)
-          (mountable_empty lists w d t v a.index b.index a.pages none r.buffers settles c.args.log.now.stands.tables.counts settled.agree settled.counts) c.args.log.now.mountable;
+          (mountable_empty lists w d t v a.index b.index a.pages none r.buffers.buffers settles c.args.log.now.stands.tables.counts settled.agree settled.counts) c.args.log.now.mountable;
     }
 
 pub returns-then-is_empty-clause-log : goal.returns-then-is_empty-clause-log
@@ -48,7 +48,7 @@ returns-then-is_empty-clause-log g c =
     let b : BufferedLog = in_parts g.N.Nand.state c.args.log.now.device c.settle_empty.new.blocks c.settle_empty.new.index c.settle_empty.new.buffer in
     let long : length c.pages.result.now ≡ 0 = eqb-true (length c.pages.result.now) 0 (sym c.if-is_empty.ensures) in
     let none : a.pages ≡ [] = nil_from_length a.pages (sym (ap length c.pages.ensures) ∙ long) in
-    let lists : ListsAreWhole = let l = c.the_list_of_a_block_is_whole.ensures in record { kept = l.kept; here = l.here; count = l.count; all = l.all; once = l.once } in
+    let lists : ListsAreWhole = let l = c.the_list_of_a_block_is_whole.ensures in record { committed = l.committed; here = l.here; count = l.count; all = l.all; once = l.once } in
     let settled = c.settle_empty.ensures in
     let w = settled.settles.0 in
     let settles = settled.settles.1 in
@@ -59,16 +59,16 @@ returns-then-is_empty-clause-log g c =
     record {
       lasts = lasts_here d;
       ready = ready_counted d t v _ _ settled.counts c.args.log.now.ready;
-      stands = stands_empty c.args.log.now.spare lists w d t v a.index b.index a.pages none r.buffers c.args.log.now.ready c.args.log.now.stands r.free settles settled.agree settled.counts;
+      stands = stands_empty c.args.log.now.spare lists w d t v a.index b.index a.pages none r.buffers.buffers c.args.log.now.ready c.args.log.now.stands r.reserve.1 settles settled.agree settled.counts;
       numbers = hands_counted d d t t v _ _ settled.counts (hands_nothing d t);
-      mountable = mountable_empty lists w d t v a.index b.index a.pages none r.buffers settles c.args.log.now.stands.tables.counts settled.agree settled.counts;
+      mountable = mountable_empty lists w d t v a.index b.index a.pages none r.buffers.buffers settles c.args.log.now.stands.tables.counts settled.agree settled.counts;
     }
 
-pub returns-then-is_empty-clause-newest : goal.returns-then-is_empty-clause-newest
-returns-then-is_empty-clause-newest g c = λ honest carried.
+pub returns-then-is_empty-clause-carries : goal.returns-then-is_empty-clause-carries
+returns-then-is_empty-clause-carries g c = λ honest.
     let log = c.args.log.now in
     let d : Device = g.N.Nand.state log.device in
-    inl (record { carried = carried; found = λ was. finds_kept d log.index d.flash was.found })
+    record { newest = λ carried. inl (record { carried = carried; found = λ was. finds_committed d log.index d.flash was.found }); shows = search rules }
 
 pub returns-then-is_empty-clause-pays : goal.returns-then-is_empty-clause-pays
 returns-then-is_empty-clause-pays g c =
@@ -76,7 +76,7 @@ returns-then-is_empty-clause-pays g c =
     let b : BufferedLog = in_parts g.N.Nand.state c.args.log.now.device c.settle_empty.new.blocks c.settle_empty.new.index c.settle_empty.new.buffer in
     let long : length c.pages.result.now ≡ 0 = eqb-true (length c.pages.result.now) 0 (sym c.if-is_empty.ensures) in
     let none : a.pages ≡ [] = nil_from_length a.pages (sym (ap length c.pages.ensures) ∙ long) in
-    let lists : ListsAreWhole = let l = c.the_list_of_a_block_is_whole.ensures in record { kept = l.kept; here = l.here; count = l.count; all = l.all; once = l.once } in
+    let lists : ListsAreWhole = let l = c.the_list_of_a_block_is_whole.ensures in record { committed = l.committed; here = l.here; count = l.count; all = l.all; once = l.once } in
     let settled = c.settle_empty.ensures in
     let w = settled.settles.0 in
     let settles = settled.settles.1 in
@@ -84,7 +84,7 @@ returns-then-is_empty-clause-pays g c =
     let d : Device = a.log.device in
     let t : Table = a.log.table in
     let v : Table = b.log.table in
-    let same : bad_count v ≡ bad_count t = bad_empty c.args.log.now.spare lists w d t v a.index b.index a.pages none r.buffers c.args.log.now.ready c.args.log.now.stands r.free settles settled.agree settled.counts in
+    let same : bad_count v ≡ bad_count t = bad_empty c.args.log.now.spare lists w d t v a.index b.index a.pages none r.buffers.buffers c.args.log.now.ready c.args.log.now.stands r.reserve.1 settles settled.agree settled.counts in
     let zero_long : length a.pages ≡ 0 = ap length none in
     record {
       costs = costs_more 0 (length a.pages + d.geometry.pages + 1) (3 * d.geometry.pages + 3) d d (omega arith) (costs_none (3 * d.geometry.pages + 3) d);
@@ -111,12 +111,12 @@ returns-then-is_empty-clause-buffer g c =
     let a : BufferedLog = held c.args.log.now c.args.buffer.now in
     let b : BufferedLog = in_parts g.N.Nand.state c.args.log.now.device c.settle_empty.new.blocks c.settle_empty.new.index c.settle_empty.new.buffer in
     let settled = c.settle_empty.ensures in
-    record { buffers = buffers_empty b.index b.pages settled.unbuffered settled.empty; waits = inr (settled.empty, settled.settles.1.presents); keys = settled.settles.1.ready }
+    (settled.sizes, record { buffers = buffers_empty b.index b.pages settled.unbuffered settled.empty; waits = inr (settled.empty, settled.settles.1.presents); keys = settled.settles.1.ready })
 
 pub returns-then-is_empty-clause-nothing : goal.returns-then-is_empty-clause-nothing
 returns-then-is_empty-clause-nothing g c = λ none.
     let settles = c.settle_empty.ensures.settles in
-    record { done = refl; device = refl; kept = kept_before settles.0 c.args.log.now.index c.settle_empty.new.index (buffered c.args.buffer.now) none c.requires.buffers settles.1 }
+    record { done = refl; device = refl; committed = was_committed_before settles.0 c.args.log.now.index c.settle_empty.new.index (buffered c.args.buffer.now) none c.requires.buffers.buffers settles.1 }
 
 pub returns-then-is_empty-clause-ends : goal.returns-then-is_empty-clause-ends
 returns-then-is_empty-clause-ends g c =
@@ -124,7 +124,7 @@ returns-then-is_empty-clause-ends g c =
     let b : BufferedLog = in_parts g.N.Nand.state c.args.log.now.device c.settle_empty.new.blocks c.settle_empty.new.index c.settle_empty.new.buffer in
     let long : length c.pages.result.now ≡ 0 = eqb-true (length c.pages.result.now) 0 (sym c.if-is_empty.ensures) in
     let none : a.pages ≡ [] = nil_from_length a.pages (sym (ap length c.pages.ensures) ∙ long) in
-    let lists : ListsAreWhole = let l = c.the_list_of_a_block_is_whole.ensures in record { kept = l.kept; here = l.here; count = l.count; all = l.all; once = l.once } in
+    let lists : ListsAreWhole = let l = c.the_list_of_a_block_is_whole.ensures in record { committed = l.committed; here = l.here; count = l.count; all = l.all; once = l.once } in
     let settled = c.settle_empty.ensures in
     let w = settled.settles.0 in
     let settles = settled.settles.1 in
@@ -132,19 +132,19 @@ returns-then-is_empty-clause-ends g c =
     let d : Device = a.log.device in
     let t : Table = a.log.table in
     let v : Table = b.log.table in
-    let same : bad_count v ≡ bad_count t = bad_empty c.args.log.now.spare lists w d t v a.index b.index a.pages none r.buffers c.args.log.now.ready c.args.log.now.stands r.free settles settled.agree settled.counts in
-    let kept = kept_empty c.args.log.now.spare lists w d t v a.index b.index a.pages none r.buffers c.args.log.now.ready c.args.log.now.stands r.free settles settled.agree settled.counts in
+    let same : bad_count v ≡ bad_count t = bad_empty c.args.log.now.spare lists w d t v a.index b.index a.pages none r.buffers.buffers c.args.log.now.ready c.args.log.now.stands r.reserve.1 settles settled.agree settled.counts in
+    let committed = committed_empty c.args.log.now.spare lists w d t v a.index b.index a.pages none r.buffers.buffers c.args.log.now.ready c.args.log.now.stands r.reserve.1 settles settled.agree settled.counts in
     let zero_long : length a.pages ≡ 0 = ap length none in
-    let few = r.few in
+    let few = r.reserve.0 in
     record {
       unbuffered = settled.unbuffered;
       empty = settled.empty;
       last = settled.last;
-      kept = λ _. kept;
-      present = λ _ q k. shown_kept b.index d.flash b.pages settles.presents q k ∙ kept q k;
-      newest = λ _. carries_empty c.args.log.now.spare lists w d t v a.index b.index a.pages none r.buffers c.args.log.now.ready c.args.log.now.stands r.free settles settled.agree settled.counts;
+      committed = λ _. committed;
+      present = λ _ q k. shown_committed b.index d.flash b.pages settles.presents q k ∙ committed q k;
+      newest = λ _. carries_empty c.args.log.now.spare lists w d t v a.index b.index a.pages none r.buffers.buffers c.args.log.now.ready c.args.log.now.stands r.reserve.1 settles settled.agree settled.counts;
       few = omega (arith, same, few);
-      free = free_empty c.args.log.now.spare lists w d t v a.index b.index a.pages none r.buffers c.args.log.now.ready c.args.log.now.stands r.free settles settled.agree settled.counts;
+      free = free_empty c.args.log.now.spare lists w d t v a.index b.index a.pages none r.buffers.buffers c.args.log.now.ready c.args.log.now.stands r.reserve.1 settles settled.agree settled.counts;
       power = λ some. absurd (omega (arith, some, zero_long));
       answered = λ some. absurd (omega (arith, some, zero_long));
     }
@@ -155,23 +155,19 @@ returns-clause-log g c = c.write_whole.ensures.leaves.log
 pub returns-clause-buffer : goal.returns-clause-buffer
 returns-clause-buffer g c =
     let leaves = c.write_whole.ensures.leaves in
-    record { buffers = leaves.buffers; waits = leaves.waits; keys = leaves.keys }
+    (c.write_whole.ensures.sizes, record { buffers = leaves.buffers; waits = leaves.waits; keys = leaves.keys })
 
-pub returns-clause-newest : goal.returns-clause-newest
-returns-clause-newest g c =
+pub returns-clause-carries : goal.returns-clause-carries
+returns-clause-carries g c =
     let a : BufferedLog = held c.args.log.now c.args.buffer.now in
     let b : BufferedLog = held c.write_whole.new.log c.write_whole.new.buffer in
-    let leaves = c.write_whole.ensures.leaves in
-    λ honest. carries_either c.args.log.now.spare a b c.args.log.now.ready c.args.log.now.stands leaves.log honest (leaves.newest honest)
+    let leaves = c.write_whole.ensures.leaves in λ honest. record {
+      newest = carries_either c.args.log.now.spare a b c.args.log.now.ready c.args.log.now.stands leaves.log honest (leaves.newest honest);
+      shows = keeps_or_shows c.args.log.now.spare a b.log.device (leaves.newest honest);
+    }
 
 pub returns-clause-ends : goal.returns-clause-ends
 returns-clause-ends g c =
     let a : BufferedLog = held c.args.log.now c.args.buffer.now in
     let b : BufferedLog = held c.write_whole.new.log c.write_whole.new.buffer in
     whole_committed c.args.log.now.spare a b c.write_whole.result c.write_whole.ensures.ends
-
-pub returns-clause-data : goal.returns-clause-data
-returns-clause-data g c =
-    let a : BufferedLog = held c.args.log.now c.args.buffer.now in
-    let b : BufferedLog = held c.write_whole.new.log c.write_whole.new.buffer in
-    λ honest. keeps_or_shows c.args.log.now.spare a b.log.device (c.write_whole.ensures.leaves.newest honest)

@@ -1,7 +1,7 @@
 use Rattle.std.proofs.Common.{◌∙◌, inl, inr, IsTrue, subst, false}
 use Rattle.std.proofs.lemmas.Bool.{cases_Bool}
 use Rattle.block_state.specs.TableOf.{table}
-use Rattle.page_store.proofs.Tables.{have_names, tells_read, greatest_read, opened, counted_unwritten}
+use Rattle.page_store.proofs.Tables.{have_names, reports_read, greatest_read, opened, counted_unwritten}
 use Rattle.page_store.proofs.opening.open.Goals as goal
 
 pub returns-then-not-have_names-clause-fault : goal.returns-then-not-have_names-clause-fault
@@ -22,7 +22,7 @@ returns-clause-opened g c =
     let new = g.N.Nand.state c.scan_newest.new.device in
     let reads = c.scan_newest.ensures.reads.only in
     opened new _ c.in_ok-index.index _ _ _
-    (tells_read old new _ reads c.in_ok-newest.ensures.newest)
+    (reports_read old new _ reads c.in_ok-newest.ensures.newest)
     (greatest_read old new _ reads c.in_ok-newest.ensures.numbers)
     (c.have_names.ensures.0 c.if-not-have_names.false)
     c.in_ok-blocks.ensures.table

@@ -17,13 +17,13 @@ use Rattle.page_store.proofs.turn.write_in_room.Goals as goal
 pub invariant_of-log : goal.invariant_of-log
 invariant_of-log g c =
     let log = c.args.log.now in
-    let kept = (c.write_buffered.ensures.attempts log.spare log.stands c.requires.free).0.log in
-    let geometry = kept.lasts.geometry in
+    let committed = (c.write_buffered.ensures.attempts log.spare log.stands c.requires.free).0.log in
+    let geometry = committed.lasts.geometry in
     let pages = ap (λ (x : Geometry). x.pages) geometry in
     let bytes = ap (λ (x : Geometry). x.bytes) geometry in
     record {
-      ready = kept.ready;
-      stands = kept.stands;
+      ready = committed.ready;
+      stands = committed.stands;
       room_size = record {
         keys = omega (arith, log.room_size.keys, pages);
         copies = omega (arith, log.room_size.copies, pages);
@@ -81,12 +81,7 @@ retire-requires-clause-none g c =
 pub retire-requires-clause-block : goal.retire-requires-clause-block
 retire-requires-clause-block g c =
     let done = (rw c.in-Suspect.is at c.in_ok-write_buffered.ensures).attempts c.args.log.now.spare c.args.log.now.stands c.requires.free in
-    done.1.1.within
-
-pub retire-requires-clause-good : goal.retire-requires-clause-good
-retire-requires-clause-good g c =
-    let done = (rw c.in-Suspect.is at c.in_ok-write_buffered.ensures).attempts c.args.log.now.spare c.args.log.now.stands c.requires.free in
-    done.1.1.good
+    record { within = done.1.1.within; good = done.1.1.good }
 
 pub returns-in_err-retire-in-Suspect-clause-leaves : goal.returns-in_err-retire-in-Suspect-clause-leaves
 returns-in_err-retire-in-Suspect-clause-leaves g c =
@@ -132,12 +127,7 @@ retire-requires-in-Failed-clause-none g c =
 pub retire-requires-in-Failed-clause-block : goal.retire-requires-in-Failed-clause-block
 retire-requires-in-Failed-clause-block g c =
     let done = (rw c.in-Failed.is at c.in_ok-write_buffered.ensures).attempts c.args.log.now.spare c.args.log.now.stands c.requires.free in
-    done.1.1.within
-
-pub retire-requires-in-Failed-clause-good : goal.retire-requires-in-Failed-clause-good
-retire-requires-in-Failed-clause-good g c =
-    let done = (rw c.in-Failed.is at c.in_ok-write_buffered.ensures).attempts c.args.log.now.spare c.args.log.now.stands c.requires.free in
-    done.1.1.good
+    record { within = done.1.1.within; good = done.1.1.good }
 
 pub returns-in_err-retire-in-Failed-clause-leaves : goal.returns-in_err-retire-in-Failed-clause-leaves
 returns-in_err-retire-in-Failed-clause-leaves g c =

@@ -164,5 +164,5 @@ returns-in_err-take_turn-clause-ends g c =
     let so_far = c.loop.invariant in
     let p = err_from_is_err_and c.from_residual.result c.from_residual.ensures.1 in
     let fault = c.in_err-take_turn.field-0.0 in
-    rw (p.1, p.2) (why_before (length a.pages) c.args.log.now.spare d.log.device a.log.table b.log.table d.log.table fault so_far.step.geometry so_far.step.kept_count so_far.few
+    rw (p.1, p.2) (why_before (length a.pages) c.args.log.now.spare d.log.device a.log.table b.log.table d.log.table fault so_far.step.geometry so_far.step.committed_count so_far.few
     (subst (λ n. WhyNoRoom n c.args.log.now.spare d.log.device b.log.table d.log.table fault) (ap length so_far.same) (rw c.loop.invariant.terms.spare at c.in_err-take_turn.ensures).ends))

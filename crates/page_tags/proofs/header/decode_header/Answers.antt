@@ -4,7 +4,7 @@ use Rattle.std.proofs.lemmas.List.{take_rest}
 use Rattle.page_tags.specs.declared.header.Format.TheVariants as formats
 use Rattle.page_tags.specs.declared.header.ObjectKind.TheVariants as kinds
 use Rattle.page_tags.specs.declared.header.HeaderFault.TheVariants as faults
-use Rattle.page_tags.specs.Headers.{IsFirstFault, greatest_told, length_in}
+use Rattle.page_tags.specs.Headers.{IsFirstFault, greatest_recorded, length_in}
 use Rattle.page_tags.specs.HeaderParts.{HasFormat}
 use Rattle.page_tags.specs.laws.Header.{header_or_fault, kind_first, length_first, magic_first, newer_first, one_first_fault, one_header, pad_first, sound_from_no_pad_fault}
 use Rattle.page_tags.proofs.HeaderTests.{header_from_reads, magical, no_header, not_magical}
@@ -49,7 +49,7 @@ returns-then-length-greatest_length c =
       magic_first = magical page c.starts_with.result c.starts_with.ensures.value c.if-not-starts_with.false;
       format_next = c.in-Some.ensures;
     } in
-    let long : greatest_told (length page) c.in-Some-numbered.kind < length_in page = omega (arith, c.greatest_length.ensures, c.u64_at-length.ensures) in
+    let long : greatest_recorded (length page) c.in-Some-numbered.kind < length_in page = omega (arith, c.greatest_length.ensures, c.u64_at-length.ensures) in
     let first = length_first page c.in-Some.format c.in-Some-numbered.kind begins c.in-Some-numbered.ensures (c.in-Some-numbered.kind, c.in-Some-numbered.ensures, long) in
     record { found = tt; read = no_header page faults.Length c.requires.most first; fault = first; fault_only = λ f other. ap Err (one_first_fault page faults.Length f first other) }
 
@@ -60,7 +60,7 @@ returns-then-has_wrong_pad c =
       magic_first = magical page c.starts_with.result c.starts_with.ensures.value c.if-not-starts_with.false;
       format_next = c.in-Some.ensures;
     } in
-    let fits : length_in page ≤ greatest_told (length page) c.in-Some-numbered.kind = omega (arith, c.greatest_length.ensures, c.u64_at-length.ensures) in
+    let fits : length_in page ≤ greatest_recorded (length page) c.in-Some-numbered.kind = omega (arith, c.greatest_length.ensures, c.u64_at-length.ensures) in
     let first = pad_first page c.in-Some.format c.in-Some-numbered.kind begins c.in-Some-numbered.ensures fits (c.has_wrong_pad.ensures.0 c.if-has_wrong_pad.true) in
     record { found = tt; read = no_header page faults.Pad c.requires.most first; fault = first; fault_only = λ f other. ap Err (one_first_fault page faults.Pad f first other) }
 
@@ -71,7 +71,7 @@ returns c =
       magic_first = magical page c.starts_with.result c.starts_with.ensures.value c.if-not-starts_with.false;
       format_next = c.in-Some.ensures;
     } in
-    let fits : length_in page ≤ greatest_told (length page) c.in-Some-numbered.kind = omega (arith, c.greatest_length.ensures, c.u64_at-length.ensures) in
+    let fits : length_in page ≤ greatest_recorded (length page) c.in-Some-numbered.kind = omega (arith, c.greatest_length.ensures, c.u64_at-length.ensures) in
     let sound = sound_from_no_pad_fault page c.in-Some.format c.in-Some-numbered.kind begins c.in-Some-numbered.ensures fits (iff_false c.has_wrong_pad.ensures c.if-has_wrong_pad.false) in
     let header = header_from_reads page c.in-Some.format c.in-Some-numbered.kind c.requires.least (IsBytes-from_fits page c.type_inv.page) sound
     _ refl refl c.u16_at-spare.ensures c.u64_at-length.ensures c.u64_at-moment.ensures (take_rest page 32) in

@@ -11,8 +11,8 @@ returns-clause-makes g c = λ objects has make.
     let a : ObjectsState = state_with p c.args.table.now c.args.names.now in
     let b : ObjectsState = state_with (g.P.Pages.state c.cut.new.self) c.apply.new.self c.drop_directory.new.self in
     let sound = has.pages.stands.sound in
-    cut_done a b objects c.args.number has.pages c.cut.ensures.goes_on (c.in_ok-cut.ensures.sound sound) (c.in_ok-cut.ensures.present sound) (c.cut.ensures.kept sound)
-    (c.apply.ensures.tells objects has.tells has.pages.can make tt) has.named c.drop_directory.ensures
+    cut_done a b objects c.args.number has.pages c.cut.ensures.goes_on (c.in_ok-cut.ensures.sound sound) (c.in_ok-cut.ensures.present sound) (c.cut.ensures.committed sound)
+    (c.apply.ensures.reports objects has.reports has.pages.can make tt) has.named c.drop_directory.ensures
 
 pub returns-in_err-cut-clause-makes : goal.returns-in_err-cut-clause-makes
 returns-in_err-cut-clause-makes g c = λ objects has make.
@@ -21,4 +21,4 @@ returns-in_err-cut-clause-makes g c = λ objects has make.
     let b : ObjectsState = state_with (g.P.Pages.state c.cut.new.self) c.args.table.now c.args.names.now in
     let sound = has.pages.stands.sound in
     let e = err_from_is_err_and c.from_residual.result c.from_residual.ensures.1 in
-    rw (e.1, e.2) (cut_failed a b objects (map.remove objects c.args.number) c.in_err-cut.field-0.0 has.pages c.cut.ensures.goes_on (c.cut.ensures.kept sound) (c.in_err-cut.ensures.fault sound))
+    rw (e.1, e.2) (cut_failed a b objects (map.remove objects c.args.number) c.in_err-cut.field-0.0 has.pages c.cut.ensures.goes_on (c.cut.ensures.committed sound) (c.in_err-cut.ensures.fault sound))

@@ -4,13 +4,13 @@ use Rattle.volume_terms.specs.Sizes.{Sizes}
 use Rattle.volume_terms.specs.declared.fault.StoreFault.TheVariants as faults
 use Rattle.object_store.specs.Changes.{made}
 use Rattle.posix_profile.specs.Changes.{new_number}
-use Rattle.object_store.specs.Told.{table_sizes, Tells, LedBefore}
+use Rattle.object_store.specs.Reported.{table_sizes, Reports, LedBefore}
 use Rattle.pages.specs.State.{PagesState}
 use Rattle.paged_objects.specs.Ending.{EndsPages}
 use Rattle.paged_objects.specs.Known.{ObjectsState, state_with}
 use Rattle.paged_objects.specs.laws.Going.{finds_stay, stays_here, stays_goes, goes_here, goes_on}
 use Rattle.paged_objects.specs.laws.Showing.{turns_after}
-use Rattle.paged_objects.specs.laws.Lawful.{tells_on}
+use Rattle.paged_objects.specs.laws.Lawful.{reports_on}
 use Rattle.paged_objects.proofs.Ends.{named_after, ends_after, read_ends, not_made}
 use Rattle.paged_objects.proofs.Meant.{has_named, can_make, can_have}
 use Rattle.paged_objects.proofs.changing.make.Goals as goal
@@ -38,7 +38,7 @@ returns-in_err-replaced-clause-makes g c = λ objects has make.
     let new = made objects c.args.change.now in
     let e = err_from_is_err_and c.from_residual-in_err-replaced.result c.from_residual-in_err-replaced.ensures.1 in
     rw (e.1, e.2) (not_made a (state_with q c.prepare.new.table c.args.names.now) objects new c.in_err-replaced.field-0.0 c.prepare.ensures.same (λ d h s it. it)
-    (read_ends z p q objects new c.in_err-replaced.field-0.0 c.find_replaced.ensures.finds (c.in_err-replaced.ensures.fault z objects (has_named a objects has) (tells_on c.args.table.now c.prepare.new.table objects c.prepare.ensures.same has.tells) make)))
+    (read_ends z p q objects new c.in_err-replaced.field-0.0 c.find_replaced.ensures.finds (c.in_err-replaced.ensures.fault z objects (has_named a objects has) (reports_on c.args.table.now c.prepare.new.table objects c.prepare.ensures.same has.reports) make)))
 
 pub returns-in_err-left-clause-goes_on : goal.returns-in_err-left-clause-goes_on
 returns-in_err-left-clause-goes_on g c =
@@ -55,10 +55,10 @@ returns-in_err-left-clause-makes g c = λ objects has make.
     let a : ObjectsState = state_with p c.args.table.now c.args.names.now in
     let new = made objects c.args.change.now in
     let named = named_after c.args.names.now z p q objects c.find_replaced.ensures.finds (has_named a objects has) in
-    let next : c.new_number-new.result ≡ new_number objects = c.new_number-new.ensures objects (tells_on c.args.table.now c.prepare.new.table objects c.prepare.ensures.same has.tells) in
+    let next : c.new_number-new.result ≡ new_number objects = c.new_number-new.ensures objects (reports_on c.args.table.now c.prepare.new.table objects c.prepare.ensures.same has.reports) in
     let ends : EndsPages z q r objects new (Err c.in_err-left.field-0.0) = c.in_err-left.ensures.makes z objects named make next in
     let e = err_from_is_err_and c.from_residual-in_err-left.result c.from_residual-in_err-left.ensures.1 in
-    rw (e.1, e.2) (not_made a (state_with r c.prepare.new.table c.change_pages.new.names) objects new c.in_err-left.field-0.0 c.prepare.ensures.same c.change_pages.ensures.kept
+    rw (e.1, e.2) (not_made a (state_with r c.prepare.new.table c.change_pages.new.names) objects new c.in_err-left.field-0.0 c.prepare.ensures.same c.change_pages.ensures.committed
     (ends_after z p q r objects new (Err c.in_err-left.field-0.0) (finds_stay p q c.find_replaced.ensures.finds) ends))
 
 pub returns-clause-goes_on : goal.returns-clause-goes_on
@@ -78,14 +78,14 @@ returns-clause-makes g c = λ objects has make.
     let same = c.prepare.ensures.same in
     let mine = has_named a objects has in
     let named = named_after c.args.names.now z p q objects c.find_replaced.ensures.finds mine in
-    let tells = tells_on c.args.table.now c.prepare.new.table objects same has.tells in
-    let next : c.new_number-new.result ≡ new_number objects = c.new_number-new.ensures objects tells in
+    let reports = reports_on c.args.table.now c.prepare.new.table objects same has.reports in
+    let next : c.new_number-new.result ≡ new_number objects = c.new_number-new.ensures objects reports in
     let ends : EndsPages z q r objects new (Ok tt) = c.in_ok-left.ensures.makes z objects named make next in
-    let led : LedBefore objects c.args.change.now c.in_ok-replaced.replaced = c.in_ok-replaced.ensures.found z objects mine tells make in
-    let told : Tells c.apply.new.self new =
-    c.apply.ensures.tells objects tells (can_have z (table_sizes c.prepare.new.table) objects same.sizes has.pages.can) (can_make z (table_sizes c.prepare.new.table) objects c.args.change.now same.sizes make) led in (
+    let led : LedBefore objects c.args.change.now c.in_ok-replaced.replaced = c.in_ok-replaced.ensures.found z objects mine reports make in
+    let reported : Reports c.apply.new.self new =
+    c.apply.ensures.reports objects reports (can_have z (table_sizes c.prepare.new.table) objects same.sizes has.pages.can) (can_make z (table_sizes c.prepare.new.table) objects c.args.change.now same.sizes make) led in (
       ends.0,
-      told,
-      c.drop_names.ensures z r.present objects (c.in_ok-left.ensures.names z objects named make next) told (c.in_ok-left.ensures.left z objects named make next),
+      reported,
+      c.drop_names.ensures z r.present objects (c.in_ok-left.ensures.names z objects named make next) reported (c.in_ok-left.ensures.left z objects named make next),
       turns_after z p q r objects (finds_stay p q c.find_replaced.ensures.finds) ends.1,
     )

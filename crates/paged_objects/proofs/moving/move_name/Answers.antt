@@ -24,8 +24,8 @@ returns-in_err-change-clause-fault g c = λ z objects n can leads target name.
 pub returns-in_default-clause-fault : goal.returns-in_default-clause-fault
 returns-in_default-clause-fault g c = λ z objects n can leads target name.
     let source : IsDirectory objects c.args.from.directory = (leads.moment, leads.entries, leads.directory_is) in
-    let told : map.get (entries_of (map.get objects c.args.from.directory)) c.args.from.name.now ≡ None = rw c.in_default.is at (c.in_ok-change.ensures.named z objects n source) in
-    let two : None ≡ Some c.args.number = sym told ∙ ap (λ x. map.get (entries_of x) c.args.from.name.now) leads.directory_is ∙ leads.object_is in
+    let reported : map.get (entries_of (map.get objects c.args.from.directory)) c.args.from.name.now ≡ None = rw c.in_default.is at (c.in_ok-change.ensures.named z objects n source) in
+    let two : None ≡ Some c.args.number = sym reported ∙ ap (λ x. map.get (entries_of x) c.args.from.name.now) leads.directory_is ∙ leads.object_is in
     absurd cc
 
 pub returns-clause-change : goal.returns-clause-change

@@ -5,16 +5,15 @@ use Rattle.posix_profile.specs.Changes.{with_name, without_name}
 use Rattle.pages.specs.Maps.{changed}
 use Rattle.pages.specs.State.{PagesState}
 use Rattle.pages.specs.declared.change.Change.{Change}
-use Rattle.directories.specs.Directories.{HasOnly, ReadsDirectory, IsNamed}
+use Rattle.directories.specs.Directories.{IsNamed}
 use Rattle.paged_objects.specs.Holding.{HoldsObjects}
 use Rattle.paged_objects.specs.laws.Holding.{held_directory}
 use Rattle.paged_objects.proofs.NamedHere.{named_in}
-use Rattle.directories.specs.Hashing.{WritesPast}
 use Rattle.paged_objects.specs.Naming.{WritesNames}
 use Rattle.paged_objects.proofs.Growing.{renamed_names, moved_names}
 use Rattle.paged_objects.proofs.Entries.{few_entries, few_left}
 use Rattle.paged_objects.proofs.Holdings.{entries_are, now_directory, holds_renamed, holds_moved}
-use Rattle.paged_objects.proofs.Results.{on_made_one, on_made_three, on_made_five, each_within, each_between, on_err, lacks_memory_only}
+use Rattle.paged_objects.proofs.Results.{on_made_one, on_made_two, on_made_three, each_within, on_err, lacks_memory_only}
 use Rattle.paged_objects.proofs.moving.rename.Goals as goal
 
 pub returns-then-from-directory-clause-named : goal.returns-then-from-directory-clause-named
@@ -37,14 +36,12 @@ returns-then-from-directory-clause-moves g c = λ z objects n source dir.
     let here = named_in c.args.names.now p z objects n d dir in
     let entries : Entries = map.insert (map.remove dir.1 from) to o in
     subst (λ k. IfOk c.rename_within.result (λ made. IfSome made (λ change. HoldsObjects z (changed change p.present) (with_name (without_name objects c.args.moment k from) c.args.moment d to o)))) (sym c.if-from-directory.true)
-    (on_made_three (λ (change : Change). (q k : ℕ) → q ≢ d → changed change p.present q k ≡ p.present q k)
-    (λ change. ReadsDirectory z (changed change p.present) d c.args.moment entries here.reads.fields.spare)
-    (λ change. HasOnly z (changed change p.present) d (map.len entries))
+    (on_made_two (λ (change : Change). (q k : ℕ) → q ≢ d → changed change p.present q k ≡ p.present q k) _
     (λ change. HoldsObjects z (changed change p.present) (with_name (without_name objects c.args.moment d from) c.args.moment d to o)) c.rename_within.result
-    (λ change others reads besides. holds_renamed p z objects n.holds d dir change c.args.moment from to o others reads besides)
+    (λ change others moves. holds_renamed p z objects n.holds d dir change c.args.moment from to o others moves.makes.becomes
+    (moves.makes.ends (held_directory p z objects n.holds d dir).only))
     (each_within c.rename_within.result p.present d c.rename_within.ensures.others)
-    (c.rename_within.ensures.moves z dir.0 dir.1 here)
-    (c.rename_within.ensures.besides z dir.0 dir.1 here (held_directory p z objects n.holds d dir).only))
+    (c.rename_within.ensures.moves z dir.0 dir.1 here))
 
 pub returns-then-from-directory-clause-fault : goal.returns-then-from-directory-clause-fault
 returns-then-from-directory-clause-fault g c = λ z objects n can source dir.
@@ -74,20 +71,14 @@ returns-clause-moves g c = λ z objects n source target.
     let two = named_in c.args.names.now p z objects n t target in
     let left : Entries = map.remove source.1 from in
     let got : Entries = map.insert target.1 to o in
-    on_made_five (λ (change : Change). (q k : ℕ) → q ≢ d → q ≢ t → changed change p.present q k ≡ p.present q k)
-    (λ change. ReadsDirectory z (changed change p.present) d c.args.moment left one.reads.fields.spare)
-    (λ change. ReadsDirectory z (changed change p.present) t c.args.moment got two.reads.fields.spare)
-    (λ change. HasOnly z (changed change p.present) d (map.len left))
-    (λ change. HasOnly z (changed change p.present) t (map.len got))
+    on_made_three _ _ _
     (λ change. HoldsObjects z (changed change p.present) (with_name (without_name objects c.args.moment d from) c.args.moment t to o)) c.rename_between.result
-    (λ change others takes gives source_only target_only. holds_moved p z objects n.holds d source t target c.if-from-directory.false change c.args.moment from to o others
-    (now_directory p z objects n.holds d source (changed change p.present) c.args.moment left takes source_only)
-    (now_directory p z objects n.holds t target (changed change p.present) c.args.moment got gives target_only))
-    (each_between c.rename_between.result p.present d t c.rename_between.ensures.others)
+    (λ change both takes gives. holds_moved p z objects n.holds d source t target c.if-from-directory.false change c.args.moment from to o both.others
+    (now_directory p z objects n.holds d source (changed change p.present) c.args.moment left takes.makes.becomes (takes.makes.ends (held_directory p z objects n.holds d source).only))
+    (now_directory p z objects n.holds t target (changed change p.present) c.args.moment got gives.makes.becomes (gives.makes.ends (held_directory p z objects n.holds t target).only)))
+    c.rename_between.ensures.change
     (c.rename_between.ensures.takes z source.0 source.1 one)
     (c.rename_between.ensures.gives z target.0 target.1 two)
-    (c.rename_between.ensures.source_besides z source.0 source.1 one (held_directory p z objects n.holds d source).only)
-    (c.rename_between.ensures.target_besides z target.0 target.1 two (held_directory p z objects n.holds t target).only)
 
 pub returns-clause-fault : goal.returns-clause-fault
 returns-clause-fault g c = λ z objects n can source target.
@@ -106,10 +97,10 @@ returns-then-from-directory-clause-slots g c = λ z objects n source dir.
     let o : ℕ = c.args.slot.now.object in
     let here = named_in c.args.names.now p z objects n d dir in
     subst (λ k. IfOk c.rename_within.result (λ made. IfSome made (λ change. WritesNames z change objects (with_name (without_name objects c.args.moment k from) c.args.moment d to o)))) (sym c.if-from-directory.true)
-    (on_made_one (λ change. WritesPast z change d (map.len dir.1) (map.len (map.insert (map.remove dir.1 from) to o)))
+    (on_made_one _
     (λ change. WritesNames z change objects (with_name (without_name objects c.args.moment d from) c.args.moment d to o)) c.rename_within.result
-    (λ change slots. renamed_names z change objects c.args.moment d dir from to o slots)
-    (c.rename_within.ensures.slot z dir.0 dir.1 here))
+    (λ change moves. renamed_names z change objects c.args.moment d dir from to o moves.more)
+    (c.rename_within.ensures.moves z dir.0 dir.1 here))
 
 pub returns-clause-slots : goal.returns-clause-slots
 returns-clause-slots g c = λ z objects n source target.
@@ -119,7 +110,7 @@ returns-clause-slots g c = λ z objects n source target.
     let from : Name = c.args.from.name.now in
     let to : Name = c.args.slot.now.name.now in
     let o : ℕ = c.args.slot.now.object in
-    on_made_one (λ change. WritesPast z change t (map.len target.1) (map.len (map.insert target.1 to o)))
+    on_made_one _
     (λ change. WritesNames z change objects (with_name (without_name objects c.args.moment d from) c.args.moment t to o)) c.rename_between.result
-    (λ change slots. moved_names z change objects c.args.moment d t target (λ same. c.if-from-directory.false (sym same)) from to o slots)
-    (c.rename_between.ensures.slot z target.0 target.1 (named_in c.args.names.now p z objects n t target))
+    (λ change gives. moved_names z change objects c.args.moment d t target (λ same. c.if-from-directory.false (sym same)) from to o gives.more)
+    (c.rename_between.ensures.gives z target.0 target.1 (named_in c.args.names.now p z objects n t target))

@@ -53,9 +53,10 @@ returns-clause-creates g c = λ z objects h is absent.
     let free : map.get objects o ≡ None = ap (map.get objects) is ∙ new.free in
     let other : o ≢ root_number = λ root. omega (arith, is, new.low, root) in
     let made = c.in_ok-object.ensures.holds z m h.size other (held z m objects h.holds o None free) in
+    let adds = c.in_ok-named.ensures.adds z dir.0 dir.1 here none in
     let both : HoldsObjects z (changed second (changed first m)) (with_object objects c.args.moment d name x) =
     holds_new p z objects h d dir x o is first second c.args.moment put name got c.in_ok-slot.ensures.name c.in_ok-slot.ensures.object c.in_ok-object.ensures.only c.in_ok-named.ensures.only made
-    (c.in_ok-named.ensures.adds z dir.0 dir.1 here none) (c.in_ok-named.ensures.besides z dir.0 dir.1 here none (held_directory p z objects h d dir).only) in
+    adds.becomes (adds.ends (held_directory p z objects h d dir).only) in
     same_objects z (changed second (changed first m)) (changed c.in_ok-change.change m) (with_object objects c.args.moment d name x) both (λ q k. c.in_ok-change.ensures.pages m q k)
 
 pub returns-clause-change : goal.returns-clause-change
@@ -75,7 +76,7 @@ returns-clause-slots g c = λ z objects h absent.
     let d : ℕ = c.args.at.directory in
     let dir : IsDirectory objects d = absent.directory in
     let slot = c.in_ok-named.ensures.slot z dir.0 dir.1 (directory_in p z objects h d dir) in
-    let told : map.len dir.1 ≡ count objects d = ap map.len (entries_are p z objects h d dir) in
+    let reported : map.len dir.1 ≡ count objects d = ap map.len (entries_are p z objects h d dir) in
     let base : Objects = map.insert objects (new_number objects) (empty_object c.args.kind c.args.moment) in
     named_more z c.in_ok-change.change objects base c.args.moment d c.args.at.name.now (new_number objects) (less_new objects (new_number objects) c.args.moment c.args.kind)
-    (λ s low high. key_both c.in_ok-object.object c.in_ok-named.named c.in_ok-change.change c.in_ok-change.ensures.pages d (1 + s / page_slots z) (slot s (omega (arith, told, low)) (omega (arith, told, high))))
+    (λ s low high. key_both c.in_ok-object.object c.in_ok-named.named c.in_ok-change.change c.in_ok-change.ensures.pages d (1 + s / page_slots z) (slot s (omega (arith, reported, low)) (omega (arith, reported, high))))

@@ -38,9 +38,8 @@ returns-clause-removes g c = λ z objects o n leads.
     let change : Change = c.in-Some.change in
     let entries : Entries = map.remove leads.entries c.args.at.name.now in
     let only = rw c.in-Some.is at c.in_ok-made.ensures.only in
-    let reads = rw c.in-Some.is at (c.in_ok-made.ensures.removes z dir.0 dir.1 here) in
-    let besides = rw c.in-Some.is at (c.in_ok-made.ensures.besides z dir.0 dir.1 here (held_directory p z objects n.holds d dir).only) in
-    let one : HoldsObjects z (changed change p.present) (map.insert objects d (Dir c.args.moment entries)) = holds_directory p z objects n.holds d dir change c.args.moment entries only reads besides in
-    let told : HoldsObjects z (changed change p.present) (without_name objects c.args.moment d c.args.at.name.now) =
+    let takes = rw c.in-Some.is at (c.in_ok-made.ensures.removes z dir.0 dir.1 here) in
+    let one : HoldsObjects z (changed change p.present) (map.insert objects d (Dir c.args.moment entries)) = holds_directory p z objects n.holds d dir change c.args.moment entries only takes.makes.becomes (takes.makes.ends (held_directory p z objects n.holds d dir).only) in
+    let reported : HoldsObjects z (changed change p.present) (without_name objects c.args.moment d c.args.at.name.now) =
     subst (λ (es : Entries). HoldsObjects z (changed change p.present) (map.insert objects d (Dir c.args.moment (map.remove es c.args.at.name.now)))) (entries_are p z objects n.holds d dir) one in
-    c.in_ok-and_forget.ensures.forgets z p.present (without_name objects c.args.moment d c.args.at.name.now) told
+    c.in_ok-and_forget.ensures.forgets z p.present (without_name objects c.args.moment d c.args.at.name.now) reported

@@ -1,4 +1,4 @@
-use Rattle.plain_volume.proofs.Asked.{reads_bytes}
+use Rattle.plain_volume.proofs.StampedRequest.{reads_bytes}
 use Rattle.plain_volume.proofs.reading.bytes_at.Goals as goal
 
 pub returns : goal.returns

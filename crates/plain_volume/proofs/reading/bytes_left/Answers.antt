@@ -1,5 +1,5 @@
 use Rattle.std.proofs.Common.{◌≡◌, ◌++◌, length, rules, arith, subst, sym, ◌∙◌, ap}
-use Rattle.plain_volume.proofs.Asked.{IsDrainedBy, drains_none, drains_more, drains_all}
+use Rattle.plain_volume.proofs.StampedRequest.{IsDrainedBy, drains_none, drains_more, drains_all}
 use Rattle.plain_volume.proofs.reading.bytes_left.Goals as goal
 
 pub loop-round-init : goal.loop-round-init

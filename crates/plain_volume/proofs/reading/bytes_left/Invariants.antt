@@ -1,4 +1,4 @@
-use Rattle.plain_volume.proofs.Asked.{IsDrainedBy}
+use Rattle.plain_volume.proofs.StampedRequest.{IsDrainedBy}
 use Rattle.plain_volume.proofs.reading.bytes_left.Given as goal
 
 -- what is read so far are the first bytes

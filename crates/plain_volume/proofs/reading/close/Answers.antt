@@ -1,4 +1,4 @@
-use Rattle.plain_volume.proofs.Asked.{done_then, closes}
+use Rattle.plain_volume.proofs.StampedRequest.{done_then, closes}
 use Rattle.plain_volume.proofs.reading.close.Goals as goal
 
 pub returns : goal.returns

@@ -1,4 +1,4 @@
-use Rattle.plain_volume.proofs.Asked.{ok_then, informs}
+use Rattle.plain_volume.proofs.StampedRequest.{ok_then, informs}
 use Rattle.plain_volume.proofs.reading.info_at.Goals as goal
 
 pub returns : goal.returns

@@ -1,4 +1,4 @@
-use Rattle.plain_volume.proofs.Asked.{ok_then, lists}
+use Rattle.plain_volume.proofs.StampedRequest.{ok_then, lists}
 use Rattle.plain_volume.proofs.reading.names_at.Goals as goal
 
 pub returns : goal.returns

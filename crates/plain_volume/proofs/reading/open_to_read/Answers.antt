@@ -1,4 +1,4 @@
-use Rattle.plain_volume.proofs.Asked.{ok_then, opens}
+use Rattle.plain_volume.proofs.StampedRequest.{ok_then, opens}
 use Rattle.plain_volume.proofs.reading.open_to_read.Goals as goal
 
 pub returns : goal.returns

@@ -1,7 +1,7 @@
 use Rattle.std.proofs.Common.{sym, ap, subst}
 use Rattle.volume_terms.specs.Sizes.{Sizes, IsSizes}
 use Rattle.paged_objects.specs.Naming.{HasNames}
-use Rattle.object_store.specs.Told.{table_sizes}
+use Rattle.object_store.specs.Reported.{table_sizes}
 use Rattle.posix_calls.specs.PageVolumes.{IsStored}
 use Rattle.paged_objects.specs.Standing.{StandsFor, Shown}
 use Rattle.posix_calls.proofs.Mounting.{sound_at, stands_for}
@@ -18,7 +18,7 @@ returns-clause-tree g c tree are =
     let stored : IsStored state objects tree = record {
       numbers = subst IsSizes z mounted.can.numbers;
       stands = subst (λ (k : Sizes). StandsFor k p tree) z mounted.stands;
-      tells = mounted.tells;
+      reports = mounted.reports;
       hashes = subst (λ (k : Sizes). HasNames objects.names k p.present tree) z (λ d dir. mounted.covers d dir.0 dir.1 dir.2);
       sound = sound_at p objects.table objects.names tree same mounted;
     } in

@@ -11,7 +11,7 @@ use Rattle.posix_calls.proofs.law.a_device_given_back_is_as_honest.Goals as goal
 
 -- a device is as honest by itself as it is seen
 as_seen : (p : PagesState) (device : Device) → LiesOn p device → device.honest_itself ≡ p.device.honest_itself
-as_seen p device (told, is) = sym (ap (λ (d : Device). d.honest_itself) is)
+as_seen p device (reported, is) = sym (ap (λ (d : Device). d.honest_itself) is)
 
 -- and as the pages of its volume are since the mount
 since_mount : {P : Type 0} (state : P → PagesState) (device : Device) (v w : PageVolume P) → IsMounted state device v → VolumeGoesOn state v w

@@ -25,19 +25,19 @@ loop-stamped-preserved g c =
     let m = g.V.Commanded.meaning in
     let commands = c.args.commands.now in
     let was = c.loop-stamped.invariant in
-    let told = c.loop-stamped.replies.items in
+    let reported = c.loop-stamped.replies.items in
     let stamped = c.stamped-item.result in
     let reply = c.answer-reply.result in
     let lt : c.loop-stamped.stamped-index < length commands = omega (arith, c.loop-stamped-test.true) in
-    let at : slice_get commands (length told) ≡ Some stamped = ap (slice_get commands) was.count ∙ at_index commands c.loop-stamped.stamped-index stamped lt c.stamped-item.is in
-    let pushed : c.push.new.self.items ≡ told ++ reply ∷ [] = c.in_ok-push.ensures.items ∙ ap (λ (rs : List Reply). rs ++ reply ∷ []) c.reserve.ensures.items in
+    let at : slice_get commands (length reported) ≡ Some stamped = ap (slice_get commands) was.count ∙ at_index commands c.loop-stamped.stamped-index stamped lt c.stamped-item.is in
+    let pushed : c.push.new.self.items ≡ reported ++ reply ∷ [] = c.in_ok-push.ensures.items ∙ ap (λ (rs : List Reply). rs ++ reply ∷ []) c.reserve.ensures.items in
     record {
-      count = let more : length c.push.new.self.items ≡ length told + 1 = ap (λ (rs : List Reply). length rs) pushed ∙ length_push told reply in more ∙ ap (λ n. n + 1) was.count;
+      count = let more : length c.push.new.self.items ≡ length reported + 1 = ap (λ (rs : List Reply). length rs) pushed ∙ length_push reported reply in more ∙ ap (λ n. n + 1) was.count;
       goes_on = goes_on (m.pages c.args.volume.now) (m.pages c.loop-stamped.volume) (m.pages c.answer-reply.new.self) was.goes_on c.answer-reply.ensures.goes_on;
       read_only = c.answer-reply.ensures.read_only ∙ was.read_only;
       still = λ _. sym c.is_stopped.ensures ∙ c.if-is_stopped.false;
       does = subst (λ (rs : List Reply). GoesSoFar m commands rs c.args.volume.now c.answer-reply.new.self) (sym pushed)
-          (well_more m commands told stamped reply c.args.volume.now c.loop-stamped.volume c.answer-reply.new.self at was.read_only was.does c.answer-reply.ensures.one c.answer-reply.ensures.stops
+          (well_more m commands reported stamped reply c.args.volume.now c.loop-stamped.volume c.answer-reply.new.self at was.read_only was.does c.answer-reply.ensures.one c.answer-reply.ensures.stops
           (sym c.is_stopped.ensures ∙ c.if-is_stopped.false));
     }
 
@@ -46,14 +46,14 @@ returns-then-is_stopped g c =
     let m = g.V.Commanded.meaning in
     let commands = c.args.commands.now in
     let was = c.loop-stamped.invariant in
-    let told = c.loop-stamped.replies.items in
+    let reported = c.loop-stamped.replies.items in
     let stamped = c.stamped-item.result in
     let reply = c.answer-reply.result in
     let lt : c.loop-stamped.stamped-index < length commands = omega (arith, c.loop-stamped-test.true) in
-    let at : slice_get commands (length told) ≡ Some stamped = ap (slice_get commands) was.count ∙ at_index commands c.loop-stamped.stamped-index stamped lt c.stamped-item.is in
-    let pushed : c.push.new.self.items ≡ told ++ reply ∷ [] = c.in_ok-push.ensures.items ∙ ap (λ (rs : List Reply). rs ++ reply ∷ []) c.reserve.ensures.items in
+    let at : slice_get commands (length reported) ≡ Some stamped = ap (slice_get commands) was.count ∙ at_index commands c.loop-stamped.stamped-index stamped lt c.stamped-item.is in
+    let pushed : c.push.new.self.items ≡ reported ++ reply ∷ [] = c.in_ok-push.ensures.items ∙ ap (λ (rs : List Reply). rs ++ reply ∷ []) c.reserve.ensures.items in
     subst (λ (rs : List Reply). Does m commands rs c.args.volume.now c.answer-reply.new.self) (sym pushed)
-    (does_stopped m commands told stamped reply c.args.volume.now c.loop-stamped.volume c.answer-reply.new.self at was.read_only was.does c.answer-reply.ensures.one c.answer-reply.ensures.stops
+    (does_stopped m commands reported stamped reply c.args.volume.now c.loop-stamped.volume c.answer-reply.new.self at was.read_only was.does c.answer-reply.ensures.one c.answer-reply.ensures.stops
     (sym c.is_stopped.ensures ∙ c.if-is_stopped.true)
     (goes_on (m.pages c.args.volume.now) (m.pages c.loop-stamped.volume) (m.pages c.answer-reply.new.self) was.goes_on c.answer-reply.ensures.goes_on) (c.answer-reply.ensures.read_only ∙ was.read_only) was.still)
 

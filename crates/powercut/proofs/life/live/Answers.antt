@@ -54,7 +54,7 @@ returns-clause-reserve c = λ spare tree sound reserve numbers.
     let a = device c.args.nand in
     let b = device c.loop-session.last in
     let was = c.loop-session.invariant in
-    let failed = failures_listed c.args.sessions.now c.loop-session.ends.items a b was.ended reserve.counted in
+    let failed = failures_listed c.args.sessions.now c.loop-session.ends.items a b was.ended reserve.totaled in
     (was.lived.truly sound.truth).life spare tree sound.sound (record {
       few_bad = few_from a b spare (length (failing_in c.args.sessions.now)) was.lived.answered failed reserve.few;
       numbers = numbers;

@@ -60,12 +60,12 @@ returns-clause-ended c =
       gone = λ is. c.gone-cut.ensures ∙ sym gone ∙ served.why faults.Gone is;
       why = λ fault is. why_counts d (state_of c.in_ok-planned.planned).cuts fault (subst (λ (x : Device). WhyNotMounted x fault) c.into_nand-nand.ensures.device (served.why fault is));
       served = λ truth mounted.
-          let told = c.in_ok-planned.served in
+          let reported = c.in_ok-planned.served in
           let w = state_of c.in_ok-planned.planned in
-          subst (λ (xs : List Stamped). IsServedFrom a d xs told.replies.items told.unmounted) commands
+          subst (λ (xs : List Stamped). IsServedFrom a d xs reported.replies.items reported.unmounted) commands
           (served_counts _ a b d c.in_ok-nand.ensures.starts _ _ c.deref.result.now _ _ refl
-          (subst (λ (x : Device). HasTrueFlash x → IsServedFrom x (record d { cuts = w.cuts }) c.deref.result.now told.replies.items told.unmounted) c.new-planned.ensures
-          (subst (λ (x : Device). HasTrueFlash (state_of c.new-planned.result) → IsServedFrom (state_of c.new-planned.result) x c.deref.result.now told.replies.items told.unmounted) c.into_nand-nand.ensures.device
+          (subst (λ (x : Device). HasTrueFlash x → IsServedFrom x (record d { cuts = w.cuts }) c.deref.result.now reported.replies.items reported.unmounted) c.new-planned.ensures
+          (subst (λ (x : Device). HasTrueFlash (state_of c.new-planned.result) → IsServedFrom (state_of c.new-planned.result) x c.deref.result.now reported.replies.items reported.unmounted) c.into_nand-nand.ensures.device
           (λ true'. c.in_ok-planned.ensures.right true' mounted))) truth);
     }
 

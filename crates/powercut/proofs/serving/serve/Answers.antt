@@ -24,11 +24,11 @@ returns-in-Err-clause-lived g c = λ power honest.
 pub returns-in_ok-device-in-Ok-clause-served : goal.returns-in_ok-device-in-Ok-clause-served
 returns-in_ok-device-in-Ok-clause-served g c =
     let used = c.in_ok-device-in-Ok.ensures.used in
-    let asked = c.in_ok-device-in-Ok.ensures.unmounts in
+    let issued = c.in_ok-device-in-Ok.ensures.unmounts in
     record {
       begun = λ _. used.begun c.in-Ok.ensures.mounted.goes_on;
       none = λ fault is. absurd cc;
-      unmounts = (λ some. (sym asked ∙ some, refl), λ both. asked ∙ both.0);
+      unmounts = (λ some. (sym issued ∙ some, refl), λ both. issued ∙ both.0);
       why = λ fault is. absurd cc;
     }
 

@@ -3,7 +3,7 @@ use Rattle.volume_terms.specs.Sizes.{page_slots}
 use Rattle.volume_terms.specs.laws.Rounding.{slots_fit}
 use Rattle.pages.specs.State.{PagesState}
 use Rattle.salvage.specs.SeenBy.{seen_by}
-use Rattle.salvage.specs.Told.{pairs_of}
+use Rattle.salvage.specs.Reported.{pairs_of}
 use Rattle.salvage.proofs.Slots.{all_lost}
 use Rattle.salvage.proofs.listing.read_chunk.Goals as goal
 

@@ -2,7 +2,7 @@ use Rattle.std.proofs.Common.{None, Some, subst}
 use Rattle.pages.specs.Maps.{PageMap, has}
 use Rattle.pages.specs.State.{PagesState}
 use Rattle.salvage.specs.SeenBy.{seen_by}
-use Rattle.salvage.specs.Told.{ListsSlots, SaysInfo}
+use Rattle.salvage.specs.Reported.{ListsSlots, SaysInfo}
 use Rattle.salvage.proofs.Named.{directory_of, no_directory}
 use Rattle.salvage.proofs.Seeing.{page_size, single, still_seen}
 use Rattle.salvage.proofs.listing.read_names.Goals as goal

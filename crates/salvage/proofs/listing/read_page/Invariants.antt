@@ -1,7 +1,7 @@
 use Rattle.std.proofs.Common.{◌≡◌, ◌≤◌, ◌+◌, ◌*◌, ℕ, Some, length}
 use Rattle.volume_terms.specs.Sizes.{Sizes, page_slots}
 use Rattle.pages.specs.Maps.{PageMap, has}
-use Rattle.salvage.specs.Told.{ListsSlots}
+use Rattle.salvage.specs.Reported.{ListsSlots}
 use Rattle.salvage.proofs.listing.read_page.Given as goal
 
 abbrev pub invariant-loop-place : goal.invariant-loop-place

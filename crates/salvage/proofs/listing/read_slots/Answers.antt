@@ -5,7 +5,7 @@ use Rattle.pages.specs.Maps.{PageMap, has}
 use Rattle.pages.specs.State.{PagesState}
 use Rattle.pages.specs.laws.State.{finds_none, finds_on}
 use Rattle.salvage.specs.SeenBy.{seen_by}
-use Rattle.salvage.specs.Told.{ListsSlots, pairs_in}
+use Rattle.salvage.specs.Reported.{ListsSlots, pairs_in}
 use Rattle.salvage.proofs.Chunking.{IsChunk, is_chunk, all_chunks}
 use Rattle.salvage.proofs.Seeing.{still_seen}
 use Rattle.salvage.proofs.Slots.{none_yet}
@@ -45,9 +45,9 @@ loop-chunk-preserved g c = record {
       let is = subst (λ k. IsChunk c.args.length k c.loop-chunk.chunk c.min-count.result) slots (is_chunk c.args.length n c.loop-chunk.chunk c.min-count.result some less few) in
       let first = subst (λ (m : PageMap). ListsSlots z (has m) c.args.directory (c.loop-chunk.chunk * page_slots z) c.loop-chunk.listing) (sym finds.present)
       (subst (λ k. ListsSlots z (has old.present) c.args.directory k c.loop-chunk.listing) is.start (c.loop-chunk.invariant.slots z seen)) in
-      let told = c.in_ok-read_chunk.ensures.lists z (still_seen z old now finds seen) first in
+      let reported = c.in_ok-read_chunk.ensures.lists z (still_seen z old now finds seen) first in
       subst (λ k. ListsSlots z (has old.present) c.args.directory k c.read_chunk.new.listing) is.end
-      (subst (λ (m : PageMap). ListsSlots z (has m) c.args.directory (c.loop-chunk.chunk * page_slots z + c.min-count.result) c.read_chunk.new.listing) finds.present told);
+      (subst (λ (m : PageMap). ListsSlots z (has m) c.args.directory (c.loop-chunk.chunk * page_slots z + c.min-count.result) c.read_chunk.new.listing) finds.present reported);
 }
 
 pub returns-clause-lists : goal.returns-clause-lists

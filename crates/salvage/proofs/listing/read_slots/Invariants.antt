@@ -4,7 +4,7 @@ use Rattle.pages.specs.Maps.{has}
 use Rattle.pages.specs.State.{OnlyFinds}
 use Rattle.tree_walk.specs.Visits.{IsSeen}
 use Rattle.salvage.specs.SeenBy.{seen_by}
-use Rattle.salvage.specs.Told.{ListsSlots}
+use Rattle.salvage.specs.Reported.{ListsSlots}
 use Rattle.salvage.proofs.listing.read_slots.Given as goal
 
 abbrev pub invariant-loop-chunk : goal.invariant-loop-chunk

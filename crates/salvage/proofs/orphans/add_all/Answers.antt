@@ -3,7 +3,7 @@ use Rattle.std.proofs.lemmas.List.{length-map}
 use Rattle.std.proofs.lemmas.Option.{slice_get-get_or}
 use Rattle.volume_terms.specs.laws.List.{mapped_at}
 use Rattle.salvage.specs.Reaching.{objects_in}
-use Rattle.salvage.specs.declared.told.SalvagedName.{SalvagedName}
+use Rattle.salvage.specs.declared.reported.SalvagedName.{SalvagedName}
 use Rattle.salvage.proofs.Sets.{among_none, among_more, among_all}
 use Rattle.salvage.proofs.orphans.add_all.Goals as goal
 

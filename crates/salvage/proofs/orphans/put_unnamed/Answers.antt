@@ -4,7 +4,7 @@ use Rattle.std.specs.Ordering.{nat_cmp}
 use Rattle.pages.specs.Maps.{has}
 use Rattle.pages.specs.State.{PagesState}
 use Rattle.salvage.specs.SeenBy.{seen_by}
-use Rattle.salvage.specs.Told.{SaysInfo}
+use Rattle.salvage.specs.Reported.{SaysInfo}
 use Rattle.salvage.proofs.orphans.put_unnamed.Goals as goal
 
 pub returns-in_ok-push-in-Some-clause-puts : goal.returns-in_ok-push-in-Some-clause-puts

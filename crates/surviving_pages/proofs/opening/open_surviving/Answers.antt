@@ -12,4 +12,4 @@ returns-clause-survivors g c = λ honest.
     has_survivors _ c.in_ok-index.index c.in_ok-index.ensures.indexes old.flash old.geometry c.in_ok-found.ensures.listed (c.in_ok-found.ensures.newest honest)
 
 pub from_newest-requires-clause-none : goal.from_newest-requires-clause-none
-from_newest-requires-clause-none g c = λ b. ap (λ (t : Table). (t.entry b).kept) c.in_ok-blocks.ensures
+from_newest-requires-clause-none g c = λ b. ap (λ (t : Table). (t.entry b).committed) c.in_ok-blocks.ensures

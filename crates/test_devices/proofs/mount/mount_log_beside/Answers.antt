@@ -1,6 +1,6 @@
 use Rattle.std.proofs.Common.{◌≤◌, Option, sym, refl, subst, rules}
 use Rattle.nand_model.specs.MemoryState.{device}
-use Rattle.block_state.specs.Kept.{bad_count}
+use Rattle.block_state.specs.Committed.{bad_count}
 use Rattle.block_state.specs.Table.{Table}
 use Rattle.block_state.specs.TableOf.{table}
 use Rattle.transactions.specs.Checking.{log_of}

@@ -5,7 +5,7 @@ use Rattle.volume_terms.specs.Sizes.{page_slots}
 use Rattle.pages.specs.Maps.{PageMap}
 use Rattle.pages.specs.State.{PagesState}
 use Rattle.pages.specs.laws.State.{finds_none, finds_on}
-use Rattle.tree_walk.proofs.Telling.{tells_as}
+use Rattle.tree_walk.proofs.Reporting.{reports_as}
 use Rattle.tree_walk.specs.Hashes.{HoldsEach}
 use Rattle.tree_walk.specs.Broken.{IsBrokenIn}
 use Rattle.tree_walk.specs.SlotLists.{BreaksUpTo, HasSlots}
@@ -18,7 +18,7 @@ pub loop-chunk-init : goal.loop-chunk-init
 loop-chunk-init g c = record {
   finds = finds_none (g.P.Pages.state c.args.pages.now);
   power = refl;
-  asked = omega arith;
+  issued = omega arith;
   slots = λ sound z size.
       let old : PagesState = g.P.Pages.state c.args.pages.now in
       subst (λ k. HasSlots z old.present c.args.directory k c.no_slots-seen.result) (let zero_is : 0 ≡ min c.args.length (0 * page_slots z) = grind arith in zero_is)
@@ -29,7 +29,7 @@ pub loop-chunk-preserved : goal.loop-chunk-preserved
 loop-chunk-preserved g c = record {
   finds = finds_on _ _ _ c.loop-chunk.invariant.finds c.take_chunk.ensures.finds;
   power = c.in_ok-take_chunk.ensures.power ∙ c.loop-chunk.invariant.power;
-  asked = omega (arith, c.loop-chunk.invariant.asked, c.take_chunk.ensures.asked);
+  issued = omega (arith, c.loop-chunk.invariant.issued, c.take_chunk.ensures.issued);
   slots = λ sound z size.
       let old : PagesState = g.P.Pages.state c.args.pages.now in
       let finds = c.loop-chunk.invariant.finds in
@@ -41,17 +41,17 @@ loop-chunk-preserved g c = record {
       let is = subst (λ k. IsChunk c.args.length k c.loop-chunk.chunk c.min-count.result) slots (is_chunk c.args.length n c.loop-chunk.chunk c.min-count.result some less few) in
       let first = subst (λ (m : PageMap). HasSlots z m c.args.directory (c.loop-chunk.chunk * page_slots z) c.loop-chunk.seen) (sym finds.present)
       (subst (λ k. HasSlots z old.present c.args.directory k c.loop-chunk.seen) is.start (c.loop-chunk.invariant.slots sound z size)) in
-      let told = c.in_ok-take_chunk.ensures.told (finds.sound ∙ sound) z (size ∙ sym finds.page_bytes) first in
+      let reported = c.in_ok-take_chunk.ensures.reported (finds.sound ∙ sound) z (size ∙ sym finds.page_bytes) first in
       subst (λ k. HasSlots z old.present c.args.directory k c.take_chunk.new.seen) is.end
-      (subst (λ (m : PageMap). HasSlots z m c.args.directory (c.loop-chunk.chunk * page_slots z + c.min-count.result) c.take_chunk.new.seen) finds.present told);
+      (subst (λ (m : PageMap). HasSlots z m c.args.directory (c.loop-chunk.chunk * page_slots z + c.min-count.result) c.take_chunk.new.seen) finds.present reported);
 }
 
-pub returns-in_err-take_chunk-clause-asked : goal.returns-in_err-take_chunk-clause-asked
-returns-in_err-take_chunk-clause-asked g c = λ z size.
+pub returns-in_err-take_chunk-clause-issued : goal.returns-in_err-take_chunk-clause-issued
+returns-in_err-take_chunk-clause-issued g c = λ z size.
     let n : ℕ = c.from-slots.result in
     let slots : n ≡ page_slots z = c.from-slots.ensures ∙ ap (λ k. k / 272) (c.page_bytes.ensures.bytes ∙ sym size) in
     let most : c.div_ceil-chunk-end.result ≡ div_ceil c.args.length (page_slots z) = c.div_ceil-chunk-end.ensures ∙ ap (λ k. div_ceil c.args.length k) slots in
-    more_asked _ _ _ _ _ _ c.loop-chunk.invariant.asked c.take_chunk.ensures.asked c.loop-chunk-test.true most
+    more_asked _ _ _ _ _ _ c.loop-chunk.invariant.issued c.take_chunk.ensures.issued c.loop-chunk-test.true most
   where
     more_asked : (old now new chunk said most : ℕ) → now ≤ old + chunk → new ≤ now + 1 → chunk < said → said ≡ most → new ≤ old + most
     more_asked old now new chunk said most a b less is = omega (arith, a, b, less, is)
@@ -69,22 +69,22 @@ returns-in_err-take_chunk-clause-fault g c = λ sound z size.
     let first = subst (λ (m : PageMap). HasSlots z m c.args.directory (c.loop-chunk.chunk * page_slots z) c.loop-chunk.seen) (sym finds.present)
     (subst (λ k. HasSlots z old.present c.args.directory k c.loop-chunk.seen) is.start (c.loop-chunk.invariant.slots sound z size)) in
     let p = err_from_is_err_and c.from_residual.result c.from_residual.ensures.1 in
-    rw (p.1, p.2) (tells_as (BreaksUpTo z (g.P.Pages.state c.loop-chunk.pages).present (record { directory = c.args.directory; number = c.loop-chunk.chunk }) c.min-count.result) (IsBrokenIn z old.present c.args.directory c.args.length)
+    rw (p.1, p.2) (reports_as (BreaksUpTo z (g.P.Pages.state c.loop-chunk.pages).present (record { directory = c.args.directory; number = c.loop-chunk.chunk }) c.min-count.result) (IsBrokenIn z old.present c.args.directory c.args.length)
     (λ broken lacks. subst (λ (m : PageMap). IsBrokenIn z m c.args.directory c.args.length broken) finds.present (lacks c.args.length is.most)) (g.P.Pages.state c.take_chunk.new.pages) _
     (c.in_err-take_chunk.ensures.fault (finds.sound ∙ sound) z (size ∙ sym finds.page_bytes) is.some first))
 
-pub returns-clause-asked : goal.returns-clause-asked
-returns-clause-asked g c = λ z size.
+pub returns-clause-issued : goal.returns-clause-issued
+returns-clause-issued g c = λ z size.
     let n : ℕ = c.from-slots.result in
     let slots : n ≡ page_slots z = c.from-slots.ensures ∙ ap (λ k. k / 272) (c.page_bytes.ensures.bytes ∙ sym size) in
     let most : c.div_ceil-chunk-end.result ≡ div_ceil c.args.length (page_slots z) = c.div_ceil-chunk-end.ensures ∙ ap (λ k. div_ceil c.args.length k) slots in
-    all_asked _ _ _ _ _ c.loop-chunk.invariant.asked (search rules) most
+    all_asked _ _ _ _ _ c.loop-chunk.invariant.issued (search rules) most
   where
     all_asked : (old now chunk said most : ℕ) → now ≤ old + chunk → chunk ≤ said → said ≡ most → now ≤ old + most
     all_asked old now chunk said most a less is = omega (arith, a, less, is)
 
-pub returns-clause-told : goal.returns-clause-told
-returns-clause-told g c = λ sound z size.
+pub returns-clause-reported : goal.returns-clause-reported
+returns-clause-reported g c = λ sound z size.
     let old : PagesState = g.P.Pages.state c.args.pages.now in
     let n : ℕ = c.from-slots.result in
     let slots : n ≡ page_slots z = c.from-slots.ensures ∙ ap (λ k. k / 272) (c.page_bytes.ensures.bytes ∙ sym size) in

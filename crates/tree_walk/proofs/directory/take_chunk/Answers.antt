@@ -4,7 +4,7 @@ use Rattle.volume_terms.specs.laws.Rounding.{slots_fit}
 use Rattle.pages.specs.State.{PagesState}
 use Rattle.flash_tree.specs.declared.place.Key.{Key}
 use Rattle.tree_walk.specs.SlotLists.{BreaksUpTo}
-use Rattle.tree_walk.specs.Faults.{TellsWrong}
+use Rattle.tree_walk.specs.Faults.{ReportsWrong}
 use Rattle.tree_walk.proofs.SlotSteps.{no_page}
 use Rattle.tree_walk.proofs.directory.take_chunk.Goals as goal
 
@@ -26,5 +26,5 @@ returns-in-Absent-clause-fault g c = λ sound z size some first.
     let at = c.args.at in
     let absent : old.present at.directory (1 + at.number) ≡ None = subst (λ (k : Key). old.present k.object k.chunk ≡ None) c.key.ensures.key (rw c.in-Absent.is at c.in_ok-find.ensures.page sound) in
     let fits : c.args.count ≤ page_slots z = slots_fit z.page_bytes old.page_bytes c.args.count size c.requires.room in
-    subst (TellsWrong (BreaksUpTo z old.present at c.args.count) (g.P.Pages.state c.find.new.self)) (sym c.breaks.ensures.broken)
+    subst (ReportsWrong (BreaksUpTo z old.present at c.args.count) (g.P.Pages.state c.find.new.self)) (sym c.breaks.ensures.broken)
     (λ total within. (refl, no_page z old.present at.directory at.number total (omega (arith, fits, some)) (omega (arith, within, some)) absent))

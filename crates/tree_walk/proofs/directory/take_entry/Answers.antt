@@ -2,7 +2,7 @@ use Rattle.std.proofs.Common.{◌≡◌, ◌∙◌, ℕ, Option, None, Some, is_
 use Rattle.std.specs.FinMap as map
 use Rattle.page_tags.specs.SlotEntry.{entry_of}
 use Rattle.page_tags.specs.Slots.{Entry}
-use Rattle.tree_walk.specs.Faults.{TellsWrong}
+use Rattle.tree_walk.specs.Faults.{ReportsWrong}
 use Rattle.tree_walk.specs.SlotLists.{TakesNone}
 use Rattle.tree_walk.proofs.directory.take_entry.Goals as goal
 
@@ -19,4 +19,4 @@ returns-then-is_some-clause-fault c = λ new.
     let led = c.in_ok-led.ensures.led ∙ ap (map.get c.args.seen.now.names) name ∙ none in
     let two : true ≡ false = sym c.if-is_some.true ∙ c.is_some.ensures ∙ ap is_some led in
     absurd cc) in
-    subst (TellsWrong (TakesNone c.args.bytes.now c.args.at c.args.place c.args.seen.now) new) (sym c.breaks-then-is_some.ensures.broken) (inr (refl, (e, found.0, found.1, there)))
+    subst (ReportsWrong (TakesNone c.args.bytes.now c.args.at c.args.place c.args.seen.now) new) (sym c.breaks-then-is_some.ensures.broken) (inr (refl, (e, found.0, found.1, there)))

@@ -7,17 +7,17 @@ use Rattle.tree_walk.proofs.HeadBits.{last_chunk, same_bits}
 use Rattle.tree_walk.proofs.head.decode_head.Goals as goal
 use Rattle.tree_walk.proofs.head.decode_head.Goals.{in-File, in-Directory}
 
-pub returns-clause-told : goal.returns-clause-told
-returns-clause-told c =
+pub returns-clause-reported : goal.returns-clause-reported
+returns-clause-reported c =
     let f : Fields = fields_of c.in-Ok.header in
     let page : List ℕ = c.args.page.now in
     let found = c.in-Ok.ensures.found in
-    let bits : c.in_ok-to_vec.field-0.items ≡ take c.min-kept.result f.bits = search rules in
+    let bits : c.in_ok-to_vec.field-0.items ≡ take c.min-committed.result f.bits = search rules in
     let last : c.match-header.chunks ≡ last_chunk (length page) f.kind f.length = elim c.match-header.branch [
       | in-File w ↦ let is : f.kind ≡ kinds.File = search rules in w.chunks-is ∙ w.div_ceil-chunks.ensures ∙ ap (λ k. last_chunk (length page) k f.length) (sym is)
       | in-Directory w ↦ let is : f.kind ≡ kinds.Directory = search rules in w.chunks-is ∙ ap (λ k. last_chunk (length page) k f.length) (sym is)
     ] in
-    let kept : c.min-kept.result ≡ min (length f.bits) (div_ceil c.match-header.chunks 8) = search rules in (
+    let committed : c.min-committed.result ≡ min (length f.bits) (div_ceil c.match-header.chunks 8) = search rules in (
       f,
       found,
       record {
@@ -25,6 +25,6 @@ returns-clause-told c =
         length_is = refl;
         moment = refl;
         spare = refl;
-        bits = λ n from. ap (λ (bs : List ℕ). is_present bs n) bits ∙ same_bits (length page) f (omega (arith, c.requires.least)) found.valid c.match-header.chunks last c.min-kept.result kept n from;
+        bits = λ n from. ap (λ (bs : List ℕ). is_present bs n) bits ∙ same_bits (length page) f (omega (arith, c.requires.least)) found.valid c.match-header.chunks last c.min-committed.result committed n from;
       },
     )

@@ -7,7 +7,7 @@ use Rattle.pages.specs.Maps.{PageMap, has}
 use Rattle.pages.specs.State.{PagesState}
 use Rattle.tree_walk.specs.Broken.{IsBrokenIn, StopsAt}
 use Rattle.tree_walk.specs.SlotLists.{NamesFrom}
-use Rattle.tree_walk.proofs.Telling.{tells_as}
+use Rattle.tree_walk.proofs.Reporting.{reports_as}
 use Rattle.tree_walk.proofs.Visiting.{file_there, file_lacks, directory_there, directory_lacks}
 use Rattle.tree_walk.proofs.object.visit.Goals as goal
 
@@ -21,7 +21,7 @@ returns-in-Some-clause-stops g c = λ z seen.
     let old : PagesState = g.P.Pages.state c.args.pages.now in
     let finds = c.read_head.ensures.finds in
     let lacks = c.in-Some.ensures.lacks (finds.sound ∙ seen.sound) in
-    file_lacks z old c.args.object c.in_ok-head.head (c.in_ok-head.ensures.told seen.sound z seen.size) c.in-File.is c.in-Some.chunk lacks.0
+    file_lacks z old c.args.object c.in_ok-head.head (c.in_ok-head.ensures.reported seen.sound z seen.size) c.in-File.is c.in-Some.chunk lacks.0
     (ap (λ (bs : List ℕ). is_present bs c.in-Some.chunk) (sym c.deref.ensures.value) ∙ lacks.1) (subst (λ (m : PageMap). IsNone (m c.args.object c.in-Some.chunk)) finds.present lacks.2)
 
 pub returns-in_err-named-in-Directory-clause-stops : goal.returns-in_err-named-in-Directory-clause-stops
@@ -29,9 +29,9 @@ returns-in_err-named-in-Directory-clause-stops g c = λ z seen.
     let old : PagesState = g.P.Pages.state c.args.pages.now in
     let mid : PagesState = g.P.Pages.state c.read_head.new.pages in
     let finds = c.read_head.ensures.finds in
-    let says = c.in_ok-head.ensures.told seen.sound z seen.size in
+    let says = c.in_ok-head.ensures.reported seen.sound z seen.size in
     let p = err_from_is_err_and c.from_residual-in_err-named-in-Directory.result c.from_residual-in_err-named-in-Directory.ensures.1 in
-    rw (p.1, p.2) (tells_as (IsBrokenIn z mid.present c.args.object c.in_ok-head.head.length) (StopsAt z (has old.present) c.args.object)
+    rw (p.1, p.2) (reports_as (IsBrokenIn z mid.present c.args.object c.in_ok-head.head.length) (StopsAt z (has old.present) c.args.object)
     (λ broken lacks. directory_lacks z old c.args.object c.in_ok-head.head says c.in-Directory.is broken
     (subst (λ (m : PageMap). IsBrokenIn z m c.args.object c.in_ok-head.head.length broken) finds.present lacks))
     (g.P.Pages.state c.read_slots.new.pages) _ (c.in_err-named-in-Directory.ensures.fault (finds.sound ∙ seen.sound) z (seen.size ∙ sym finds.page_bytes)))
@@ -40,7 +40,7 @@ pub returns-in_default-clause-leads : goal.returns-in_default-clause-leads
 returns-in_default-clause-leads g c = λ z seen.
     let old : PagesState = g.P.Pages.state c.args.pages.now in
     let finds = c.read_head.ensures.finds in
-    let says = c.in_ok-head.ensures.told seen.sound z seen.size in
+    let says = c.in_ok-head.ensures.reported seen.sound z seen.size in
     let leads = file_there z old c.args.object c.in_ok-head.head says c.in-File.is
     (λ n from present. subst (λ (m : PageMap). IsSome (m c.args.object n)) finds.present
     (c.in_default.ensures.all (finds.sound ∙ seen.sound) n from (ap (λ (bs : List ℕ). is_present bs n) c.deref.ensures.value ∙ present))) in
@@ -50,10 +50,10 @@ pub returns-in_ok-named-in-Directory-clause-leads : goal.returns-in_ok-named-in-
 returns-in_ok-named-in-Directory-clause-leads g c = λ z seen.
     let old : PagesState = g.P.Pages.state c.args.pages.now in
     let finds = c.read_head.ensures.finds in
-    let says = c.in_ok-head.ensures.told seen.sound z seen.size in
+    let says = c.in_ok-head.ensures.reported seen.sound z seen.size in
     let named : List ℕ = c.in_ok-named-in-Directory.named.items in
-    let told = c.in_ok-named-in-Directory.ensures.told (finds.sound ∙ seen.sound) z (seen.size ∙ sym finds.page_bytes) in
-    let from = subst (λ (m : PageMap). NamesFrom z m c.args.object c.in_ok-head.head.length named) finds.present told in
+    let reported = c.in_ok-named-in-Directory.ensures.reported (finds.sound ∙ seen.sound) z (seen.size ∙ sym finds.page_bytes) in
+    let from = subst (λ (m : PageMap). NamesFrom z m c.args.object c.in_ok-head.head.length named) finds.present reported in
     record { head = says; leads = directory_there z old c.args.object c.in_ok-head.head says c.in-Directory.is named from }
 
 pub returns-in_ok-named-in-Directory-clause-hashes : goal.returns-in_ok-named-in-Directory-clause-hashes

@@ -1,7 +1,7 @@
 use Rattle.std.proofs.Common.{subst}
 use Rattle.name_index.specs.Covering.{HasHashes}
 use Rattle.posix_profile.specs.State.{Dir}
-use Rattle.tree_walk.proofs.Told.{head_of, page_size}
+use Rattle.tree_walk.proofs.Reported.{head_of, page_size}
 use Rattle.tree_walk.proofs.table_law.the_names_of_a_tree_are_those_of_its_objects.Goals as goal
 
 pub returns : goal.returns

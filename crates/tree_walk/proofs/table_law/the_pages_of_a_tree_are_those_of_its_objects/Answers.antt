@@ -1,4 +1,4 @@
-use Rattle.tree_walk.proofs.Told.{looked_up, page_size, some_slots}
+use Rattle.tree_walk.proofs.Reported.{looked_up, page_size, some_slots}
 use Rattle.tree_walk.proofs.table_law.the_pages_of_a_tree_are_those_of_its_objects.Goals as goal
 
 pub returns : goal.returns

@@ -8,13 +8,13 @@ use Rattle.posix_profile.specs.State.{Dir}
 use Rattle.posix_profile.specs.Changes.{with_name}
 use Rattle.flash_tree.specs.Tree.{IsPageSize}
 use Rattle.object_store.specs.Built.{sizes_built, Builds}
-use Rattle.object_store.specs.Counted.{GetsName}
+use Rattle.object_store.specs.Totaled.{GetsName}
 use Rattle.tree_walk.specs.Trees.{head_at, objects_listed}
 use Rattle.tree_walk.specs.declared.tree.NamedObject.{NamedObject}
 use Rattle.tree_walk.specs.declared.tree.Tree.{Tree}
 use Rattle.tree_walk.proofs.Naming.{AreNamedOnce, begins_named, gets, named_more, all_came}
 use Rattle.tree_walk.proofs.Slots.{NamedSlot, name_of}
-use Rattle.tree_walk.proofs.Told.{listed, head_of, slots_of, page_size}
+use Rattle.tree_walk.proofs.Reported.{listed, head_of, slots_of, page_size}
 use Rattle.tree_walk.proofs.tree_names.insert_names.Goals as goal
 
 pub loop-place-init : goal.loop-place-init
@@ -50,12 +50,12 @@ loop-place-preserved c = record {
       gets z shown.sizes objects shown.shows.tree.forest shown.fit slots.0 once n so_far.0 so_far.1 slot s.1 moment names.entries dir in
       let may_too : GetsName (sizes_built c.loop-place.builder) so_far.0 moment slot.directory slot.entry.name slot.entry.object =
       subst (λ (y : Sizes). GetsName y so_far.0 moment slot.directory slot.entry.name slot.entry.object) (sym c.loop-place.invariant.size) may in
-      let told : Builds c.insert_name.new.builder (with_name so_far.0 moment name.directory slot.entry.name name.object) =
+      let reported : Builds c.insert_name.new.builder (with_name so_far.0 moment name.directory slot.entry.name name.object) =
       c.insert_name.ensures.names head.0 so_far.0 slot.entry.name (subst (λ (x : NamedObject). head_at tree x.directory ≡ Some head.0) s.2 head.1) so_far.2
       (subst (λ (x : NamedObject). GetsName (sizes_built c.loop-place.builder) so_far.0 moment x.directory slot.entry.name x.object) s.2 may_too) in (
         with_name so_far.0 moment slot.directory slot.entry.name slot.entry.object,
         named_more z shown.sizes objects shown.shows.tree.forest shown.fit slots.0 once n so_far.0 so_far.1 slot s.1 moment names.entries dir,
-        subst (λ (x : NamedObject). Builds c.insert_name.new.builder (with_name so_far.0 moment x.directory slot.entry.name x.object)) (sym s.2) told,
+        subst (λ (x : NamedObject). Builds c.insert_name.new.builder (with_name so_far.0 moment x.directory slot.entry.name x.object)) (sym s.2) reported,
       );
 }
 

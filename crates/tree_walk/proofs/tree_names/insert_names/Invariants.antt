@@ -4,7 +4,7 @@ use Rattle.posix_profile.specs.State.{Objects}
 use Rattle.object_store.specs.Built.{sizes_built, Builds}
 use Rattle.tree_walk.specs.Building.{IsShown, IsNameless}
 use Rattle.tree_walk.proofs.Naming.{HasNamed}
-use Rattle.tree_walk.proofs.Told.{slots_of, page_size}
+use Rattle.tree_walk.proofs.Reported.{slots_of, page_size}
 use Rattle.tree_walk.proofs.tree_names.insert_names.Given as goal
 
 abbrev pub invariant-loop-place : goal.invariant-loop-place

@@ -7,7 +7,7 @@ use Rattle.object_store.specs.Built.{sizes_built, CanCome}
 use Rattle.tree_walk.specs.Trees.{objects_listed}
 use Rattle.tree_walk.specs.declared.tree.Tree.{Tree}
 use Rattle.tree_walk.proofs.Bare.{bare, bare_said, begins_bare, can_come, bare_more, nameless}
-use Rattle.tree_walk.proofs.Told.{once, there, listed, head_of, page_size}
+use Rattle.tree_walk.proofs.Reported.{once, there, listed, head_of, page_size}
 use Rattle.tree_walk.proofs.tree_objects.insert_objects.Goals as goal
 
 pub loop-place-init : goal.loop-place-init

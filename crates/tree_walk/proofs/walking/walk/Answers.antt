@@ -9,11 +9,11 @@ use Rattle.pages.specs.laws.State.{finds_none, finds_on}
 use Rattle.tree_walk.specs.Trees.{AreNamesOf, IsWrongBy}
 use Rattle.tree_walk.specs.declared.broken.Broken.{Broken}
 use Rattle.tree_walk.specs.Hashes.{CoversHeads}
-use Rattle.tree_walk.specs.Visits.{told_pages}
+use Rattle.tree_walk.specs.Visits.{reported_pages}
 use Rattle.tree_walk.specs.Walks.{IsGoing, StopsOn}
 use Rattle.tree_walk.proofs.Going.{begins_going}
 use Rattle.tree_walk.proofs.Seeing.{page_size, single, still_seen}
-use Rattle.tree_walk.proofs.Telling.{tells_as, lacks_memory}
+use Rattle.tree_walk.proofs.Reporting.{reports_as, lacks_memory}
 use Rattle.tree_walk.proofs.Stopping.{wrong_by_stop}
 use Rattle.tree_walk.proofs.Twice.{gone_through, twice_names, names_twice}
 use Rattle.tree_walk.proofs.walking.walk.Goals as goal
@@ -55,7 +55,7 @@ loop-place-preserved g c = record {
       let now : PagesState = g.P.Pages.state c.loop-place.pages in
       let finds = c.loop-place.invariant.finds in
       let going = subst (λ (m : PageMap). IsGoing z (has m) c.loop-place.place c.loop-place.walk) (sym finds.present) (c.loop-place.invariant.going z seen) in
-      let more = c.in_ok-step.ensures.asked z (still_seen z old now finds seen) going in
+      let more = c.in_ok-step.ensures.issued z (still_seen z old now finds seen) going in
       let before = c.loop-place.invariant.few z seen in
       omega (arith, more, before);
 }
@@ -67,7 +67,7 @@ returns-in_err-step-clause-fault g c = λ z seen.
     let finds = c.loop-place.invariant.finds in
     let going = c.loop-place.invariant.going z seen in
     let p = err_from_is_err_and c.from_residual-in_err-step.result c.from_residual-in_err-step.ensures.1 in
-    rw (p.1, p.2) (tells_as (StopsOn z (has now.present) c.loop-place.walk c.loop-place.place) (IsWrongBy z (has old.present))
+    rw (p.1, p.2) (reports_as (StopsOn z (has now.present) c.loop-place.walk c.loop-place.place) (IsWrongBy z (has old.present))
     (λ b stop. wrong_by_stop z (has old.present) c.loop-place.place c.loop-place.walk going b (subst (λ (m : PageMap). StopsOn z (has m) c.loop-place.walk c.loop-place.place b) finds.present stop))
     (g.P.Pages.state c.step.new.pages) _ (c.in_err-step.ensures.stops z (still_seen z old now finds seen)))
 
@@ -113,10 +113,10 @@ returns-clause-tree g c = λ z seen.
       names = subst (λ n. AreNamesOf z (has old.present) walk.objects.items n walk.names.items) (sym all) going.names;
     }
 
-pub returns-clause-asked : goal.returns-clause-asked
-returns-clause-asked g c = λ z seen.
+pub returns-clause-issued : goal.returns-clause-issued
+returns-clause-issued g c = λ z seen.
     let walk = c.loop-place.walk in
     let few = c.loop-place.invariant.few z seen in
     let whole : take c.loop-place.place walk.objects.items ≡ walk.objects.items = take_all c.loop-place.place walk.objects.items (omega (arith, c.loop-place-test.false, c.len.ensures)) in
-    let same = ap (sum_by (told_pages z walk.heads)) whole in
+    let same = ap (sum_by (reported_pages z walk.heads)) whole in
     omega (arith, few, same)

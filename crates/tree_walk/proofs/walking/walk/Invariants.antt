@@ -14,7 +14,7 @@ invariant-loop-place g l = record {
   knows : Knows l.walk;
   going : (z : Sizes) → IsSeen z (g.P.Pages.state l.fn.pages) → IsGoing z (has (g.P.Pages.state l.fn.pages).present) l.place l.walk;
   hashes : (z : Sizes) → IsSeen z (g.P.Pages.state l.fn.pages) → CoversHeads l.names z (g.P.Pages.state l.fn.pages).present l.walk.heads;
-  few : (z : Sizes) → IsSeen z (g.P.Pages.state l.fn.pages) → (g.P.Pages.state l.pages).asked ≤ (g.P.Pages.state l.fn.pages).asked + pages_before z l.walk l.place;
+  few : (z : Sizes) → IsSeen z (g.P.Pages.state l.fn.pages) → (g.P.Pages.state l.pages).issued ≤ (g.P.Pages.state l.fn.pages).issued + pages_before z l.walk l.place;
 }
 
 abbrev pub decreases-loop-place : goal.decreases-loop-place

@@ -4,7 +4,7 @@ use Rattle.pages.specs.Maps.{PageMap, has}
 use Rattle.pages.specs.State.{PagesState}
 use Rattle.tree_walk.specs.Trees.{IsTreeThrough, IsWrongBy}
 use Rattle.volume_check.specs.Found.{HasVolume}
-use Rattle.volume_check.proofs.Firsts.{below_tells, no_rule, page_size, single}
+use Rattle.volume_check.proofs.Firsts.{below_reports, no_rule, page_size, single}
 use Rattle.volume_check.proofs.search.find_broken.Goals as goal
 
 pub returns-in-Ok-clause-verdict : goal.returns-in-Ok-clause-verdict
@@ -28,7 +28,7 @@ returns-in-Err-Broken-clause-verdict g c = λ seen.
     let wrong = rw c.in-Err-Broken.field-0-is at c.in-Err-Broken.ensures.fault (sizes_of c.args.geometry volume.0) (record { sound = finds.sound ∙ seen.sound; size = seen.size ∙ sym finds.page_bytes }) in
     let is = subst (λ (m : PageMap). IsWrongBy (sizes_of c.args.geometry volume.0) (has m) c.in-Err-Broken.broken) finds.present wrong in
     let sized = g.met.P.Pages.sized c.args.pages.now in
-    below_tells c.args.geometry (page_size c.args.geometry old sized.0 sized.1 seen) (has old.present) (single old.present) volume.0 volume.1 c.in-Err-Broken.broken is.0 is.1.0
+    below_reports c.args.geometry (page_size c.args.geometry old sized.0 sized.1 seen) (has old.present) (single old.present) volume.0 volume.1 c.in-Err-Broken.broken is.0 is.1.0
 
 pub returns-in-Err-Broken-clause-first : goal.returns-in-Err-Broken-clause-first
 returns-in-Err-Broken-clause-first g c = λ seen.

@@ -1,5 +1,5 @@
 use Rattle.std.proofs.Common.{sym, ap, ◌∙◌}
-use Rattle.chunk_index.proofs.Telling.{settled_same_of}
+use Rattle.chunk_index.proofs.Reporting.{settled_same_of}
 use Rattle.chunk_index.specs.Entries.{same_of}
 use Rattle.chunk_index.proofs.index.Index.settle_group.Goals as goal
 

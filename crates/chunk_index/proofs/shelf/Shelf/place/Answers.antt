@@ -11,7 +11,7 @@ invariant_of-self c =
     let s = c.args.state in
     record {
       ordered = through.4;
-      counted = size_by c.args.key.object c.args.key.chunk old (c.get_mut.follows.lender y) c.in-Some.entries.now y (sym c.in-Some.ensures.value) through (with_state s) c.place.ensures.alters c.args.self.now.size c.args.self.now.counted;
+      totaled = size_by c.args.key.object c.args.key.chunk old (c.get_mut.follows.lender y) c.in-Some.entries.now y (sym c.in-Some.ensures.value) through (with_state s) c.place.ensures.alters c.args.self.now.size c.args.self.now.totaled;
       bounded = c.args.self.now.bounded;
     }
 

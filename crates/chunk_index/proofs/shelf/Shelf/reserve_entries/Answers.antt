@@ -6,7 +6,7 @@ pub invariant_of-self : goal.invariant_of-self
 invariant_of-self c =
     let new = c.reserve.new.self in
     let same = written_same c.args.object c.args.self.now.objects (c.get_mut.follows.lender new) c.in-Some.entries.now new (sym c.in-Some.ensures.value) (c.get_mut.follows.holds new) c.reserve.ensures in
-    record { ordered = (c.get_mut.follows.holds new).4; counted = same.weighs (λ e. 1) ∙ c.args.self.now.counted; bounded = c.args.self.now.bounded }
+    record { ordered = (c.get_mut.follows.holds new).4; totaled = same.weighs (λ e. 1) ∙ c.args.self.now.totaled; bounded = c.args.self.now.bounded }
 
 pub returns-in-Some : goal.returns-in-Some
 returns-in-Some c =

@@ -4,11 +4,11 @@ use Rattle.chunk_index.proofs.Staying.{object_counted, object_size, gone_size, g
 use Rattle.chunk_index.proofs.shelf.Shelf.retain_entries.Goals as goal
 
 pub retain-gone-requires : goal.retain-gone-requires
-retain-gone-requires g c = record { counted = object_counted (table c.args.blocks.now) c.args.self.now.objects c.args.object c.in-Some.entries.now (sym c.in-Some.ensures.value) c.requires.tallies }
+retain-gone-requires g c = record { totaled = object_counted (table c.args.blocks.now) c.args.self.now.objects c.args.object c.in-Some.entries.now (sym c.in-Some.ensures.value) c.requires.tallies }
 
 pub overflow_sub-self : goal.overflow_sub-self
 overflow_sub-self g c =
-    let most = object_size c.args.self.now.objects c.args.object c.in-Some.entries.now (sym c.in-Some.ensures.value) c.args.self.now.size c.args.self.now.counted in
+    let most = object_size c.args.self.now.objects c.args.object c.in-Some.entries.now (sym c.in-Some.ensures.value) c.args.self.now.size c.args.self.now.totaled in
     omega (arith, most, c.retain-gone.ensures.gone)
 
 pub invariant_of-self : goal.invariant_of-self
@@ -17,7 +17,7 @@ invariant_of-self g c =
     let new = c.get_mut.follows.lender c.retain-gone.new.self in
     record {
       ordered = (c.get_mut.follows.holds c.retain-gone.new.self).4;
-      counted = gone_size c.args.object old new c.in-Some.entries.now c.retain-gone.new.self (sym c.in-Some.ensures.value) (c.get_mut.follows.holds c.retain-gone.new.self) c.retain-gone.result c.args.self.now.size c.retain-gone.ensures.gone c.args.self.now.counted;
+      totaled = gone_size c.args.object old new c.in-Some.entries.now c.retain-gone.new.self (sym c.in-Some.ensures.value) (c.get_mut.follows.holds c.retain-gone.new.self) c.retain-gone.result c.args.self.now.size c.retain-gone.ensures.gone c.args.self.now.totaled;
       bounded = omega (arith, c.args.self.now.bounded);
     }
 

@@ -11,7 +11,7 @@ invariant_of-self c =
     let g = c.args.group in
     record {
       ordered = through.4;
-      counted = size_by c.args.key.object c.args.key.chunk old (c.get_mut.follows.lender y) c.in-Some.entries.now y (sym c.in-Some.ensures.value) through (left g) c.settle.ensures.alters c.args.self.now.size c.args.self.now.counted;
+      totaled = size_by c.args.key.object c.args.key.chunk old (c.get_mut.follows.lender y) c.in-Some.entries.now y (sym c.in-Some.ensures.value) through (left g) c.settle.ensures.alters c.args.self.now.size c.args.self.now.totaled;
       bounded = c.args.self.now.bounded;
     }
 

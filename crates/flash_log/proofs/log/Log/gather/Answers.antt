@@ -2,7 +2,7 @@ use Rattle.std.proofs.Common.{◌≡◌, ◌<◌, ◌≤◌, ℕ, ◌+◌, None,
 use Rattle.std.proofs.lemmas.Result.{err_from_is_err_and}
 use Rattle.nand_model.specs.declared.geometry.Geometry.{Geometry}
 use Rattle.block_state.specs.declared.blocks.BlockEntry.{BlockEntry}
-use Rattle.block_state.specs.Kept.{bad_count}
+use Rattle.block_state.specs.Committed.{bad_count}
 use Rattle.block_state.specs.TableOf.{table}
 use Rattle.transactions.specs.Checking.{log_of}
 use Rattle.flash_log.specs.Gathering.{OpenEnds, PaysOpen}
@@ -35,13 +35,13 @@ returns-in_err-move_behind-clause-step g c =
     let opened = c.in_ok-open_next.ensures in
     let moved = c.move_behind.ensures in
     let v : ℕ = c.args.block in
-    let kept : c.entry-kept.result.kept ≡ (a.table.entry v).kept = ap (λ (x : BlockEntry). x.kept) c.entry-kept.ensures in
-    let same : (b.table.entry v).kept ≡ (a.table.entry v).kept = opened.holds.kept v in
+    let committed : c.entry-committed.result.committed ≡ (a.table.entry v).committed = ap (λ (x : BlockEntry). x.committed) c.entry-committed.ensures in
+    let same : (b.table.entry v).committed ≡ (a.table.entry v).committed = opened.holds.committed v in
     let rises : bad_count b.table ≤ bad_count e.table = bad_rises b.table e.table moved.step.geometry moved.step.marks in
     let step = step_on log.spare a b e log.index mid.index end.index opened.step (subst (λ n. Step n b e mid.index end.index) opened.terms.spare moved.step) in
-    let next = subst (λ n. PaysNext (n + c.args.count) a b (Ok (tt {0}))) kept opened.pays in
+    let next = subst (λ n. PaysNext (n + c.args.count) a b (Ok (tt {0}))) committed opened.pays in
     let wrote = subst (λ n. PaysOpen n b e c.move_behind.result) same moved.pays in
-    let clear = subst (λ n. HasClear (n + c.args.count) b.device b.table) (kept ∙ sym same) opened.ends.0 in
+    let clear = subst (λ n. HasClear (n + c.args.count) b.device b.table) (committed ∙ sym same) opened.ends.0 in
     let ended = moved.ends c.args.count clear in
     let few = c.requires.fits in
     step
@@ -57,17 +57,17 @@ returns-in_err-move_behind-clause-pays g c =
     let opened = c.in_ok-open_next.ensures in
     let moved = c.move_behind.ensures in
     let v : ℕ = c.args.block in
-    let kept : c.entry-kept.result.kept ≡ (a.table.entry v).kept = ap (λ (x : BlockEntry). x.kept) c.entry-kept.ensures in
-    let same : (b.table.entry v).kept ≡ (a.table.entry v).kept = opened.holds.kept v in
+    let committed : c.entry-committed.result.committed ≡ (a.table.entry v).committed = ap (λ (x : BlockEntry). x.committed) c.entry-committed.ensures in
+    let same : (b.table.entry v).committed ≡ (a.table.entry v).committed = opened.holds.committed v in
     let rises : bad_count b.table ≤ bad_count e.table = bad_rises b.table e.table moved.step.geometry moved.step.marks in
     let step = step_on log.spare a b e log.index mid.index end.index opened.step (subst (λ n. Step n b e mid.index end.index) opened.terms.spare moved.step) in
-    let next = subst (λ n. PaysNext (n + c.args.count) a b (Ok (tt {0}))) kept opened.pays in
+    let next = subst (λ n. PaysNext (n + c.args.count) a b (Ok (tt {0}))) committed opened.pays in
     let wrote = subst (λ n. PaysOpen n b e c.move_behind.result) same moved.pays in
-    let clear = subst (λ n. HasClear (n + c.args.count) b.device b.table) (kept ∙ sym same) opened.ends.0 in
+    let clear = subst (λ n. HasClear (n + c.args.count) b.device b.table) (committed ∙ sym same) opened.ends.0 in
     let ended = moved.ends c.args.count clear in
     let few = c.requires.fits in
     let p = err_from_is_err_and c.from_residual-in_err-move_behind.result c.from_residual-in_err-move_behind.ensures.1 in
-    rw p.1 (pays_short (a.table.entry v).kept c.args.count a b e _ p.0 opened.step.lasts rises next (subst (λ r. PaysOpen (a.table.entry v).kept b e r) c.in_err-move_behind.was wrote))
+    rw p.1 (pays_short (a.table.entry v).committed c.args.count a b e _ p.0 opened.step.lasts rises next (subst (λ r. PaysOpen (a.table.entry v).committed b e r) c.in_err-move_behind.was wrote))
 
 pub returns-in_err-move_behind-clause-ends : goal.returns-in_err-move_behind-clause-ends
 returns-in_err-move_behind-clause-ends g c =
@@ -80,13 +80,13 @@ returns-in_err-move_behind-clause-ends g c =
     let opened = c.in_ok-open_next.ensures in
     let moved = c.move_behind.ensures in
     let v : ℕ = c.args.block in
-    let kept : c.entry-kept.result.kept ≡ (a.table.entry v).kept = ap (λ (x : BlockEntry). x.kept) c.entry-kept.ensures in
-    let same : (b.table.entry v).kept ≡ (a.table.entry v).kept = opened.holds.kept v in
+    let committed : c.entry-committed.result.committed ≡ (a.table.entry v).committed = ap (λ (x : BlockEntry). x.committed) c.entry-committed.ensures in
+    let same : (b.table.entry v).committed ≡ (a.table.entry v).committed = opened.holds.committed v in
     let rises : bad_count b.table ≤ bad_count e.table = bad_rises b.table e.table moved.step.geometry moved.step.marks in
     let step = step_on log.spare a b e log.index mid.index end.index opened.step (subst (λ n. Step n b e mid.index end.index) opened.terms.spare moved.step) in
-    let next = subst (λ n. PaysNext (n + c.args.count) a b (Ok (tt {0}))) kept opened.pays in
+    let next = subst (λ n. PaysNext (n + c.args.count) a b (Ok (tt {0}))) committed opened.pays in
     let wrote = subst (λ n. PaysOpen n b e c.move_behind.result) same moved.pays in
-    let clear = subst (λ n. HasClear (n + c.args.count) b.device b.table) (kept ∙ sym same) opened.ends.0 in
+    let clear = subst (λ n. HasClear (n + c.args.count) b.device b.table) (committed ∙ sym same) opened.ends.0 in
     let ended = moved.ends c.args.count clear in
     let few = c.requires.fits in
     let p = err_from_is_err_and c.from_residual-in_err-move_behind.result c.from_residual-in_err-move_behind.ensures.1 in
@@ -104,13 +104,13 @@ retire-requires-clause-none g c =
     let opened = c.in_ok-open_next.ensures in
     let moved = c.move_behind.ensures in
     let v : ℕ = c.args.block in
-    let kept : c.entry-kept.result.kept ≡ (a.table.entry v).kept = ap (λ (x : BlockEntry). x.kept) c.entry-kept.ensures in
-    let same : (b.table.entry v).kept ≡ (a.table.entry v).kept = opened.holds.kept v in
+    let committed : c.entry-committed.result.committed ≡ (a.table.entry v).committed = ap (λ (x : BlockEntry). x.committed) c.entry-committed.ensures in
+    let same : (b.table.entry v).committed ≡ (a.table.entry v).committed = opened.holds.committed v in
     let rises : bad_count b.table ≤ bad_count e.table = bad_rises b.table e.table moved.step.geometry moved.step.marks in
     let step = step_on log.spare a b e log.index mid.index end.index opened.step (subst (λ n. Step n b e mid.index end.index) opened.terms.spare moved.step) in
-    let next = subst (λ n. PaysNext (n + c.args.count) a b (Ok (tt {0}))) kept opened.pays in
+    let next = subst (λ n. PaysNext (n + c.args.count) a b (Ok (tt {0}))) committed opened.pays in
     let wrote = subst (λ n. PaysOpen n b e c.move_behind.result) same moved.pays in
-    let clear = subst (λ n. HasClear (n + c.args.count) b.device b.table) (kept ∙ sym same) opened.ends.0 in
+    let clear = subst (λ n. HasClear (n + c.args.count) b.device b.table) (committed ∙ sym same) opened.ends.0 in
     let ended = moved.ends c.args.count clear in
     let few = c.requires.fits in
     let w : ℕ = c.in-Some-Suspect.copies in
@@ -129,44 +129,22 @@ retire-requires-clause-block g c =
     let opened = c.in_ok-open_next.ensures in
     let moved = c.move_behind.ensures in
     let v : ℕ = c.args.block in
-    let kept : c.entry-kept.result.kept ≡ (a.table.entry v).kept = ap (λ (x : BlockEntry). x.kept) c.entry-kept.ensures in
-    let same : (b.table.entry v).kept ≡ (a.table.entry v).kept = opened.holds.kept v in
+    let committed : c.entry-committed.result.committed ≡ (a.table.entry v).committed = ap (λ (x : BlockEntry). x.committed) c.entry-committed.ensures in
+    let same : (b.table.entry v).committed ≡ (a.table.entry v).committed = opened.holds.committed v in
     let rises : bad_count b.table ≤ bad_count e.table = bad_rises b.table e.table moved.step.geometry moved.step.marks in
     let step = step_on log.spare a b e log.index mid.index end.index opened.step (subst (λ n. Step n b e mid.index end.index) opened.terms.spare moved.step) in
-    let next = subst (λ n. PaysNext (n + c.args.count) a b (Ok (tt {0}))) kept opened.pays in
+    let next = subst (λ n. PaysNext (n + c.args.count) a b (Ok (tt {0}))) committed opened.pays in
     let wrote = subst (λ n. PaysOpen n b e c.move_behind.result) same moved.pays in
-    let clear = subst (λ n. HasClear (n + c.args.count) b.device b.table) (kept ∙ sym same) opened.ends.0 in
+    let clear = subst (λ n. HasClear (n + c.args.count) b.device b.table) (committed ∙ sym same) opened.ends.0 in
     let ended = moved.ends c.args.count clear in
     let few = c.requires.fits in
     let w : ℕ = c.in-Some-Suspect.copies in
     let is : c.move_behind.result ≡ Ok (Some (places.Suspect c.in-Some-Suspect.copies)) = c.in_ok-move_behind.was ∙ ap Ok (c.in-Some-Suspect.is ∙ ap Some c.in-Some-Suspect.field-0-is) in
     let ends_is = subst (OpenEnds v c.args.count mid.spare b e) is ended in
-    subst (λ (x : Geometry). w < x.blocks) (moved.step.geometry ∙ mid.ready.geometry ∙ sym moved.step.lasts.geometry) (subst (λ (x : Geometry). w < x.blocks) (sym moved.step.geometry) ends_is.1.within)
-
-pub retire-requires-clause-good : goal.retire-requires-clause-good
-retire-requires-clause-good g c =
-    let log = c.args.self.now in
-    let mid = c.open_next.new.self in
-    let end = c.move_behind.new.self in
-    let a = log_of (g.N.Nand.state log.device) (table log.blocks) in
-    let b = log_of (g.N.Nand.state mid.device) (table mid.blocks) in
-    let e = log_of (g.N.Nand.state end.device) (table end.blocks) in
-    let opened = c.in_ok-open_next.ensures in
-    let moved = c.move_behind.ensures in
-    let v : ℕ = c.args.block in
-    let kept : c.entry-kept.result.kept ≡ (a.table.entry v).kept = ap (λ (x : BlockEntry). x.kept) c.entry-kept.ensures in
-    let same : (b.table.entry v).kept ≡ (a.table.entry v).kept = opened.holds.kept v in
-    let rises : bad_count b.table ≤ bad_count e.table = bad_rises b.table e.table moved.step.geometry moved.step.marks in
-    let step = step_on log.spare a b e log.index mid.index end.index opened.step (subst (λ n. Step n b e mid.index end.index) opened.terms.spare moved.step) in
-    let next = subst (λ n. PaysNext (n + c.args.count) a b (Ok (tt {0}))) kept opened.pays in
-    let wrote = subst (λ n. PaysOpen n b e c.move_behind.result) same moved.pays in
-    let clear = subst (λ n. HasClear (n + c.args.count) b.device b.table) (kept ∙ sym same) opened.ends.0 in
-    let ended = moved.ends c.args.count clear in
-    let few = c.requires.fits in
-    let w : ℕ = c.in-Some-Suspect.copies in
-    let is : c.move_behind.result ≡ Ok (Some (places.Suspect c.in-Some-Suspect.copies)) = c.in_ok-move_behind.was ∙ ap Ok (c.in-Some-Suspect.is ∙ ap Some c.in-Some-Suspect.field-0-is) in
-    let ends_is = subst (OpenEnds v c.args.count mid.spare b e) is ended in
-    ends_is.1.good
+    record {
+      within = subst (λ (x : Geometry). w < x.blocks) (moved.step.geometry ∙ mid.ready.geometry ∙ sym moved.step.lasts.geometry) (subst (λ (x : Geometry). w < x.blocks) (sym moved.step.geometry) ends_is.1.within);
+      good = ends_is.1.good;
+    }
 
 pub collect-requires-clause-good : goal.collect-requires-clause-good
 collect-requires-clause-good g c =
@@ -179,13 +157,13 @@ collect-requires-clause-good g c =
     let opened = c.in_ok-open_next.ensures in
     let moved = c.move_behind.ensures in
     let v : ℕ = c.args.block in
-    let kept : c.entry-kept.result.kept ≡ (a.table.entry v).kept = ap (λ (x : BlockEntry). x.kept) c.entry-kept.ensures in
-    let same : (b.table.entry v).kept ≡ (a.table.entry v).kept = opened.holds.kept v in
+    let committed : c.entry-committed.result.committed ≡ (a.table.entry v).committed = ap (λ (x : BlockEntry). x.committed) c.entry-committed.ensures in
+    let same : (b.table.entry v).committed ≡ (a.table.entry v).committed = opened.holds.committed v in
     let rises : bad_count b.table ≤ bad_count e.table = bad_rises b.table e.table moved.step.geometry moved.step.marks in
     let step = step_on log.spare a b e log.index mid.index end.index opened.step (subst (λ n. Step n b e mid.index end.index) opened.terms.spare moved.step) in
-    let next = subst (λ n. PaysNext (n + c.args.count) a b (Ok (tt {0}))) kept opened.pays in
+    let next = subst (λ n. PaysNext (n + c.args.count) a b (Ok (tt {0}))) committed opened.pays in
     let wrote = subst (λ n. PaysOpen n b e c.move_behind.result) same moved.pays in
-    let clear = subst (λ n. HasClear (n + c.args.count) b.device b.table) (kept ∙ sym same) opened.ends.0 in
+    let clear = subst (λ n. HasClear (n + c.args.count) b.device b.table) (committed ∙ sym same) opened.ends.0 in
     let ended = moved.ends c.args.count clear in
     let few = c.requires.fits in
     let is : c.move_behind.result ≡ Ok None = c.in_ok-move_behind.was ∙ ap Ok c.in-None.is in
@@ -203,18 +181,18 @@ collect-requires-clause-some g c =
     let opened = c.in_ok-open_next.ensures in
     let moved = c.move_behind.ensures in
     let v : ℕ = c.args.block in
-    let kept : c.entry-kept.result.kept ≡ (a.table.entry v).kept = ap (λ (x : BlockEntry). x.kept) c.entry-kept.ensures in
-    let same : (b.table.entry v).kept ≡ (a.table.entry v).kept = opened.holds.kept v in
+    let committed : c.entry-committed.result.committed ≡ (a.table.entry v).committed = ap (λ (x : BlockEntry). x.committed) c.entry-committed.ensures in
+    let same : (b.table.entry v).committed ≡ (a.table.entry v).committed = opened.holds.committed v in
     let rises : bad_count b.table ≤ bad_count e.table = bad_rises b.table e.table moved.step.geometry moved.step.marks in
     let step = step_on log.spare a b e log.index mid.index end.index opened.step (subst (λ n. Step n b e mid.index end.index) opened.terms.spare moved.step) in
-    let next = subst (λ n. PaysNext (n + c.args.count) a b (Ok (tt {0}))) kept opened.pays in
+    let next = subst (λ n. PaysNext (n + c.args.count) a b (Ok (tt {0}))) committed opened.pays in
     let wrote = subst (λ n. PaysOpen n b e c.move_behind.result) same moved.pays in
-    let clear = subst (λ n. HasClear (n + c.args.count) b.device b.table) (kept ∙ sym same) opened.ends.0 in
+    let clear = subst (λ n. HasClear (n + c.args.count) b.device b.table) (committed ∙ sym same) opened.ends.0 in
     let ended = moved.ends c.args.count clear in
     let few = c.requires.fits in
     let is : c.move_behind.result ≡ Ok None = c.in_ok-move_behind.was ∙ ap Ok c.in-None.is in
     let ends_is = subst (OpenEnds v c.args.count mid.spare b e) is ended in
-    let still = ends_is.1.kept v in omega (arith, still, same, c.requires.some)
+    let still = ends_is.1.committed v in omega (arith, still, same, c.requires.some)
 
 pub returns-in-Some-Trusted-clause-step : goal.returns-in-Some-Trusted-clause-step
 returns-in-Some-Trusted-clause-step g c =
@@ -227,13 +205,13 @@ returns-in-Some-Trusted-clause-step g c =
     let opened = c.in_ok-open_next.ensures in
     let moved = c.move_behind.ensures in
     let v : ℕ = c.args.block in
-    let kept : c.entry-kept.result.kept ≡ (a.table.entry v).kept = ap (λ (x : BlockEntry). x.kept) c.entry-kept.ensures in
-    let same : (b.table.entry v).kept ≡ (a.table.entry v).kept = opened.holds.kept v in
+    let committed : c.entry-committed.result.committed ≡ (a.table.entry v).committed = ap (λ (x : BlockEntry). x.committed) c.entry-committed.ensures in
+    let same : (b.table.entry v).committed ≡ (a.table.entry v).committed = opened.holds.committed v in
     let rises : bad_count b.table ≤ bad_count e.table = bad_rises b.table e.table moved.step.geometry moved.step.marks in
     let step = step_on log.spare a b e log.index mid.index end.index opened.step (subst (λ n. Step n b e mid.index end.index) opened.terms.spare moved.step) in
-    let next = subst (λ n. PaysNext (n + c.args.count) a b (Ok (tt {0}))) kept opened.pays in
+    let next = subst (λ n. PaysNext (n + c.args.count) a b (Ok (tt {0}))) committed opened.pays in
     let wrote = subst (λ n. PaysOpen n b e c.move_behind.result) same moved.pays in
-    let clear = subst (λ n. HasClear (n + c.args.count) b.device b.table) (kept ∙ sym same) opened.ends.0 in
+    let clear = subst (λ n. HasClear (n + c.args.count) b.device b.table) (committed ∙ sym same) opened.ends.0 in
     let ended = moved.ends c.args.count clear in
     let few = c.requires.fits in
     step
@@ -249,17 +227,17 @@ returns-in-Some-Trusted-clause-pays g c =
     let opened = c.in_ok-open_next.ensures in
     let moved = c.move_behind.ensures in
     let v : ℕ = c.args.block in
-    let kept : c.entry-kept.result.kept ≡ (a.table.entry v).kept = ap (λ (x : BlockEntry). x.kept) c.entry-kept.ensures in
-    let same : (b.table.entry v).kept ≡ (a.table.entry v).kept = opened.holds.kept v in
+    let committed : c.entry-committed.result.committed ≡ (a.table.entry v).committed = ap (λ (x : BlockEntry). x.committed) c.entry-committed.ensures in
+    let same : (b.table.entry v).committed ≡ (a.table.entry v).committed = opened.holds.committed v in
     let rises : bad_count b.table ≤ bad_count e.table = bad_rises b.table e.table moved.step.geometry moved.step.marks in
     let step = step_on log.spare a b e log.index mid.index end.index opened.step (subst (λ n. Step n b e mid.index end.index) opened.terms.spare moved.step) in
-    let next = subst (λ n. PaysNext (n + c.args.count) a b (Ok (tt {0}))) kept opened.pays in
+    let next = subst (λ n. PaysNext (n + c.args.count) a b (Ok (tt {0}))) committed opened.pays in
     let wrote = subst (λ n. PaysOpen n b e c.move_behind.result) same moved.pays in
-    let clear = subst (λ n. HasClear (n + c.args.count) b.device b.table) (kept ∙ sym same) opened.ends.0 in
+    let clear = subst (λ n. HasClear (n + c.args.count) b.device b.table) (committed ∙ sym same) opened.ends.0 in
     let ended = moved.ends c.args.count clear in
     let few = c.requires.fits in
     let is : c.move_behind.result ≡ Ok (Some places.Trusted) = c.in_ok-move_behind.was ∙ ap Ok (c.in-Some-Trusted.is ∙ ap Some c.in-Some-Trusted.field-0-is) in
-    pays_trusted (a.table.entry v).kept c.args.count a b e opened.step.lasts rises next (subst (λ r. PaysOpen (a.table.entry v).kept b e r) is wrote)
+    pays_trusted (a.table.entry v).committed c.args.count a b e opened.step.lasts rises next (subst (λ r. PaysOpen (a.table.entry v).committed b e r) is wrote)
 
 pub returns-in-Some-Trusted-clause-ends : goal.returns-in-Some-Trusted-clause-ends
 returns-in-Some-Trusted-clause-ends g c =
@@ -272,13 +250,13 @@ returns-in-Some-Trusted-clause-ends g c =
     let opened = c.in_ok-open_next.ensures in
     let moved = c.move_behind.ensures in
     let v : ℕ = c.args.block in
-    let kept : c.entry-kept.result.kept ≡ (a.table.entry v).kept = ap (λ (x : BlockEntry). x.kept) c.entry-kept.ensures in
-    let same : (b.table.entry v).kept ≡ (a.table.entry v).kept = opened.holds.kept v in
+    let committed : c.entry-committed.result.committed ≡ (a.table.entry v).committed = ap (λ (x : BlockEntry). x.committed) c.entry-committed.ensures in
+    let same : (b.table.entry v).committed ≡ (a.table.entry v).committed = opened.holds.committed v in
     let rises : bad_count b.table ≤ bad_count e.table = bad_rises b.table e.table moved.step.geometry moved.step.marks in
     let step = step_on log.spare a b e log.index mid.index end.index opened.step (subst (λ n. Step n b e mid.index end.index) opened.terms.spare moved.step) in
-    let next = subst (λ n. PaysNext (n + c.args.count) a b (Ok (tt {0}))) kept opened.pays in
+    let next = subst (λ n. PaysNext (n + c.args.count) a b (Ok (tt {0}))) committed opened.pays in
     let wrote = subst (λ n. PaysOpen n b e c.move_behind.result) same moved.pays in
-    let clear = subst (λ n. HasClear (n + c.args.count) b.device b.table) (kept ∙ sym same) opened.ends.0 in
+    let clear = subst (λ n. HasClear (n + c.args.count) b.device b.table) (committed ∙ sym same) opened.ends.0 in
     let ended = moved.ends c.args.count clear in
     let few = c.requires.fits in
     let is : c.move_behind.result ≡ Ok (Some places.Trusted) = c.in_ok-move_behind.was ∙ ap Ok (c.in-Some-Trusted.is ∙ ap Some c.in-Some-Trusted.field-0-is) in
@@ -298,13 +276,13 @@ returns-in-Some-Suspect-clause-step g c =
     let opened = c.in_ok-open_next.ensures in
     let moved = c.move_behind.ensures in
     let v : ℕ = c.args.block in
-    let kept : c.entry-kept.result.kept ≡ (a.table.entry v).kept = ap (λ (x : BlockEntry). x.kept) c.entry-kept.ensures in
-    let same : (b.table.entry v).kept ≡ (a.table.entry v).kept = opened.holds.kept v in
+    let committed : c.entry-committed.result.committed ≡ (a.table.entry v).committed = ap (λ (x : BlockEntry). x.committed) c.entry-committed.ensures in
+    let same : (b.table.entry v).committed ≡ (a.table.entry v).committed = opened.holds.committed v in
     let rises : bad_count b.table ≤ bad_count e.table = bad_rises b.table e.table moved.step.geometry moved.step.marks in
     let step = step_on log.spare a b e log.index mid.index end.index opened.step (subst (λ n. Step n b e mid.index end.index) opened.terms.spare moved.step) in
-    let next = subst (λ n. PaysNext (n + c.args.count) a b (Ok (tt {0}))) kept opened.pays in
+    let next = subst (λ n. PaysNext (n + c.args.count) a b (Ok (tt {0}))) committed opened.pays in
     let wrote = subst (λ n. PaysOpen n b e c.move_behind.result) same moved.pays in
-    let clear = subst (λ n. HasClear (n + c.args.count) b.device b.table) (kept ∙ sym same) opened.ends.0 in
+    let clear = subst (λ n. HasClear (n + c.args.count) b.device b.table) (committed ∙ sym same) opened.ends.0 in
     let ended = moved.ends c.args.count clear in
     let few = c.requires.fits in
     let w : ℕ = c.in-Some-Suspect.copies in
@@ -326,13 +304,13 @@ returns-in-Some-Suspect-clause-out g c =
     let opened = c.in_ok-open_next.ensures in
     let moved = c.move_behind.ensures in
     let v : ℕ = c.args.block in
-    let kept : c.entry-kept.result.kept ≡ (a.table.entry v).kept = ap (λ (x : BlockEntry). x.kept) c.entry-kept.ensures in
-    let same : (b.table.entry v).kept ≡ (a.table.entry v).kept = opened.holds.kept v in
+    let committed : c.entry-committed.result.committed ≡ (a.table.entry v).committed = ap (λ (x : BlockEntry). x.committed) c.entry-committed.ensures in
+    let same : (b.table.entry v).committed ≡ (a.table.entry v).committed = opened.holds.committed v in
     let rises : bad_count b.table ≤ bad_count e.table = bad_rises b.table e.table moved.step.geometry moved.step.marks in
     let step = step_on log.spare a b e log.index mid.index end.index opened.step (subst (λ n. Step n b e mid.index end.index) opened.terms.spare moved.step) in
-    let next = subst (λ n. PaysNext (n + c.args.count) a b (Ok (tt {0}))) kept opened.pays in
+    let next = subst (λ n. PaysNext (n + c.args.count) a b (Ok (tt {0}))) committed opened.pays in
     let wrote = subst (λ n. PaysOpen n b e c.move_behind.result) same moved.pays in
-    let clear = subst (λ n. HasClear (n + c.args.count) b.device b.table) (kept ∙ sym same) opened.ends.0 in
+    let clear = subst (λ n. HasClear (n + c.args.count) b.device b.table) (committed ∙ sym same) opened.ends.0 in
     let ended = moved.ends c.args.count clear in
     let few = c.requires.fits in
     let w : ℕ = c.in-Some-Suspect.copies in
@@ -356,13 +334,13 @@ returns-in-Some-Suspect-clause-pays g c =
     let opened = c.in_ok-open_next.ensures in
     let moved = c.move_behind.ensures in
     let v : ℕ = c.args.block in
-    let kept : c.entry-kept.result.kept ≡ (a.table.entry v).kept = ap (λ (x : BlockEntry). x.kept) c.entry-kept.ensures in
-    let same : (b.table.entry v).kept ≡ (a.table.entry v).kept = opened.holds.kept v in
+    let committed : c.entry-committed.result.committed ≡ (a.table.entry v).committed = ap (λ (x : BlockEntry). x.committed) c.entry-committed.ensures in
+    let same : (b.table.entry v).committed ≡ (a.table.entry v).committed = opened.holds.committed v in
     let rises : bad_count b.table ≤ bad_count e.table = bad_rises b.table e.table moved.step.geometry moved.step.marks in
     let step = step_on log.spare a b e log.index mid.index end.index opened.step (subst (λ n. Step n b e mid.index end.index) opened.terms.spare moved.step) in
-    let next = subst (λ n. PaysNext (n + c.args.count) a b (Ok (tt {0}))) kept opened.pays in
+    let next = subst (λ n. PaysNext (n + c.args.count) a b (Ok (tt {0}))) committed opened.pays in
     let wrote = subst (λ n. PaysOpen n b e c.move_behind.result) same moved.pays in
-    let clear = subst (λ n. HasClear (n + c.args.count) b.device b.table) (kept ∙ sym same) opened.ends.0 in
+    let clear = subst (λ n. HasClear (n + c.args.count) b.device b.table) (committed ∙ sym same) opened.ends.0 in
     let ended = moved.ends c.args.count clear in
     let few = c.requires.fits in
     let w : ℕ = c.in-Some-Suspect.copies in
@@ -371,7 +349,7 @@ returns-in-Some-Suspect-clause-pays g c =
     let f = log_of (g.N.Nand.state last.device) (table last.blocks) in
     let then = c.retire.ensures in
     let spare = moved.terms.spare ∙ opened.terms.spare in
-    pays_suspect w (a.table.entry v).kept c.args.count a b e f c.retire.result opened.step.lasts moved.step.lasts rises next (subst (λ r. PaysOpen (a.table.entry v).kept b e r) is wrote) then.pays
+    pays_suspect w (a.table.entry v).committed c.args.count a b e f c.retire.result opened.step.lasts moved.step.lasts rises next (subst (λ r. PaysOpen (a.table.entry v).committed b e r) is wrote) then.pays
 
 pub returns-in-Some-Suspect-clause-ends : goal.returns-in-Some-Suspect-clause-ends
 returns-in-Some-Suspect-clause-ends g c =
@@ -384,13 +362,13 @@ returns-in-Some-Suspect-clause-ends g c =
     let opened = c.in_ok-open_next.ensures in
     let moved = c.move_behind.ensures in
     let v : ℕ = c.args.block in
-    let kept : c.entry-kept.result.kept ≡ (a.table.entry v).kept = ap (λ (x : BlockEntry). x.kept) c.entry-kept.ensures in
-    let same : (b.table.entry v).kept ≡ (a.table.entry v).kept = opened.holds.kept v in
+    let committed : c.entry-committed.result.committed ≡ (a.table.entry v).committed = ap (λ (x : BlockEntry). x.committed) c.entry-committed.ensures in
+    let same : (b.table.entry v).committed ≡ (a.table.entry v).committed = opened.holds.committed v in
     let rises : bad_count b.table ≤ bad_count e.table = bad_rises b.table e.table moved.step.geometry moved.step.marks in
     let step = step_on log.spare a b e log.index mid.index end.index opened.step (subst (λ n. Step n b e mid.index end.index) opened.terms.spare moved.step) in
-    let next = subst (λ n. PaysNext (n + c.args.count) a b (Ok (tt {0}))) kept opened.pays in
+    let next = subst (λ n. PaysNext (n + c.args.count) a b (Ok (tt {0}))) committed opened.pays in
     let wrote = subst (λ n. PaysOpen n b e c.move_behind.result) same moved.pays in
-    let clear = subst (λ n. HasClear (n + c.args.count) b.device b.table) (kept ∙ sym same) opened.ends.0 in
+    let clear = subst (λ n. HasClear (n + c.args.count) b.device b.table) (committed ∙ sym same) opened.ends.0 in
     let ended = moved.ends c.args.count clear in
     let few = c.requires.fits in
     let w : ℕ = c.in-Some-Suspect.copies in
@@ -401,7 +379,7 @@ returns-in-Some-Suspect-clause-ends g c =
     let then = c.retire.ensures in
     let spare = moved.terms.spare ∙ opened.terms.spare in
     let pages = ap (λ (x : Geometry). x.pages) (then.step.geometry ∙ moved.step.geometry ∙ opened.step.geometry) in
-    rw (sym spare) (gathered_retired v w (a.table.entry v).kept c.args.count end.spare b e f c.retire.result (sym same) c.requires.some ends_is.1 (omega (arith, pages, few)) then.ends)
+    rw (sym spare) (gathered_retired v w (a.table.entry v).committed c.args.count end.spare b e f c.retire.result (sym same) c.requires.some ends_is.1 (omega (arith, pages, few)) then.ends)
 
 pub returns-in-None-clause-step : goal.returns-in-None-clause-step
 returns-in-None-clause-step g c =
@@ -414,13 +392,13 @@ returns-in-None-clause-step g c =
     let opened = c.in_ok-open_next.ensures in
     let moved = c.move_behind.ensures in
     let v : ℕ = c.args.block in
-    let kept : c.entry-kept.result.kept ≡ (a.table.entry v).kept = ap (λ (x : BlockEntry). x.kept) c.entry-kept.ensures in
-    let same : (b.table.entry v).kept ≡ (a.table.entry v).kept = opened.holds.kept v in
+    let committed : c.entry-committed.result.committed ≡ (a.table.entry v).committed = ap (λ (x : BlockEntry). x.committed) c.entry-committed.ensures in
+    let same : (b.table.entry v).committed ≡ (a.table.entry v).committed = opened.holds.committed v in
     let rises : bad_count b.table ≤ bad_count e.table = bad_rises b.table e.table moved.step.geometry moved.step.marks in
     let step = step_on log.spare a b e log.index mid.index end.index opened.step (subst (λ n. Step n b e mid.index end.index) opened.terms.spare moved.step) in
-    let next = subst (λ n. PaysNext (n + c.args.count) a b (Ok (tt {0}))) kept opened.pays in
+    let next = subst (λ n. PaysNext (n + c.args.count) a b (Ok (tt {0}))) committed opened.pays in
     let wrote = subst (λ n. PaysOpen n b e c.move_behind.result) same moved.pays in
-    let clear = subst (λ n. HasClear (n + c.args.count) b.device b.table) (kept ∙ sym same) opened.ends.0 in
+    let clear = subst (λ n. HasClear (n + c.args.count) b.device b.table) (committed ∙ sym same) opened.ends.0 in
     let ended = moved.ends c.args.count clear in
     let few = c.requires.fits in
     let last = c.collect.new.self in
@@ -440,13 +418,13 @@ returns-in-None-clause-out g c =
     let opened = c.in_ok-open_next.ensures in
     let moved = c.move_behind.ensures in
     let v : ℕ = c.args.block in
-    let kept : c.entry-kept.result.kept ≡ (a.table.entry v).kept = ap (λ (x : BlockEntry). x.kept) c.entry-kept.ensures in
-    let same : (b.table.entry v).kept ≡ (a.table.entry v).kept = opened.holds.kept v in
+    let committed : c.entry-committed.result.committed ≡ (a.table.entry v).committed = ap (λ (x : BlockEntry). x.committed) c.entry-committed.ensures in
+    let same : (b.table.entry v).committed ≡ (a.table.entry v).committed = opened.holds.committed v in
     let rises : bad_count b.table ≤ bad_count e.table = bad_rises b.table e.table moved.step.geometry moved.step.marks in
     let step = step_on log.spare a b e log.index mid.index end.index opened.step (subst (λ n. Step n b e mid.index end.index) opened.terms.spare moved.step) in
-    let next = subst (λ n. PaysNext (n + c.args.count) a b (Ok (tt {0}))) kept opened.pays in
+    let next = subst (λ n. PaysNext (n + c.args.count) a b (Ok (tt {0}))) committed opened.pays in
     let wrote = subst (λ n. PaysOpen n b e c.move_behind.result) same moved.pays in
-    let clear = subst (λ n. HasClear (n + c.args.count) b.device b.table) (kept ∙ sym same) opened.ends.0 in
+    let clear = subst (λ n. HasClear (n + c.args.count) b.device b.table) (committed ∙ sym same) opened.ends.0 in
     let ended = moved.ends c.args.count clear in
     let few = c.requires.fits in
     let is : c.move_behind.result ≡ Ok None = c.in_ok-move_behind.was ∙ ap Ok c.in-None.is in
@@ -464,13 +442,13 @@ returns-in-None-clause-pays g c =
     let opened = c.in_ok-open_next.ensures in
     let moved = c.move_behind.ensures in
     let v : ℕ = c.args.block in
-    let kept : c.entry-kept.result.kept ≡ (a.table.entry v).kept = ap (λ (x : BlockEntry). x.kept) c.entry-kept.ensures in
-    let same : (b.table.entry v).kept ≡ (a.table.entry v).kept = opened.holds.kept v in
+    let committed : c.entry-committed.result.committed ≡ (a.table.entry v).committed = ap (λ (x : BlockEntry). x.committed) c.entry-committed.ensures in
+    let same : (b.table.entry v).committed ≡ (a.table.entry v).committed = opened.holds.committed v in
     let rises : bad_count b.table ≤ bad_count e.table = bad_rises b.table e.table moved.step.geometry moved.step.marks in
     let step = step_on log.spare a b e log.index mid.index end.index opened.step (subst (λ n. Step n b e mid.index end.index) opened.terms.spare moved.step) in
-    let next = subst (λ n. PaysNext (n + c.args.count) a b (Ok (tt {0}))) kept opened.pays in
+    let next = subst (λ n. PaysNext (n + c.args.count) a b (Ok (tt {0}))) committed opened.pays in
     let wrote = subst (λ n. PaysOpen n b e c.move_behind.result) same moved.pays in
-    let clear = subst (λ n. HasClear (n + c.args.count) b.device b.table) (kept ∙ sym same) opened.ends.0 in
+    let clear = subst (λ n. HasClear (n + c.args.count) b.device b.table) (committed ∙ sym same) opened.ends.0 in
     let ended = moved.ends c.args.count clear in
     let few = c.requires.fits in
     let is : c.move_behind.result ≡ Ok None = c.in_ok-move_behind.was ∙ ap Ok c.in-None.is in
@@ -479,9 +457,9 @@ returns-in-None-clause-pays g c =
     let f = log_of (g.N.Nand.state last.device) (table last.blocks) in
     let then = c.collect.ensures in
     let spare = moved.terms.spare ∙ opened.terms.spare in
-    let still : (e.table.entry v).kept ≡ (a.table.entry v).kept = ends_is.1.kept v ∙ same in
+    let still : (e.table.entry v).committed ≡ (a.table.entry v).committed = ends_is.1.committed v ∙ same in
     let pays = then.pays in
-    pays_again (a.table.entry v).kept c.args.count a b e f c.collect.result opened.step.lasts moved.step.lasts ends_is.0 next (subst (λ r. PaysOpen (a.table.entry v).kept b e r) is wrote)
+    pays_again (a.table.entry v).committed c.args.count a b e f c.collect.result opened.step.lasts moved.step.lasts ends_is.0 next (subst (λ r. PaysOpen (a.table.entry v).committed b e r) is wrote)
     (rw (sym still) pays)
 
 pub returns-in-None-clause-ends : goal.returns-in-None-clause-ends
@@ -495,13 +473,13 @@ returns-in-None-clause-ends g c =
     let opened = c.in_ok-open_next.ensures in
     let moved = c.move_behind.ensures in
     let v : ℕ = c.args.block in
-    let kept : c.entry-kept.result.kept ≡ (a.table.entry v).kept = ap (λ (x : BlockEntry). x.kept) c.entry-kept.ensures in
-    let same : (b.table.entry v).kept ≡ (a.table.entry v).kept = opened.holds.kept v in
+    let committed : c.entry-committed.result.committed ≡ (a.table.entry v).committed = ap (λ (x : BlockEntry). x.committed) c.entry-committed.ensures in
+    let same : (b.table.entry v).committed ≡ (a.table.entry v).committed = opened.holds.committed v in
     let rises : bad_count b.table ≤ bad_count e.table = bad_rises b.table e.table moved.step.geometry moved.step.marks in
     let step = step_on log.spare a b e log.index mid.index end.index opened.step (subst (λ n. Step n b e mid.index end.index) opened.terms.spare moved.step) in
-    let next = subst (λ n. PaysNext (n + c.args.count) a b (Ok (tt {0}))) kept opened.pays in
+    let next = subst (λ n. PaysNext (n + c.args.count) a b (Ok (tt {0}))) committed opened.pays in
     let wrote = subst (λ n. PaysOpen n b e c.move_behind.result) same moved.pays in
-    let clear = subst (λ n. HasClear (n + c.args.count) b.device b.table) (kept ∙ sym same) opened.ends.0 in
+    let clear = subst (λ n. HasClear (n + c.args.count) b.device b.table) (committed ∙ sym same) opened.ends.0 in
     let ended = moved.ends c.args.count clear in
     let few = c.requires.fits in
     let is : c.move_behind.result ≡ Ok None = c.in_ok-move_behind.was ∙ ap Ok c.in-None.is in
@@ -510,6 +488,6 @@ returns-in-None-clause-ends g c =
     let f = log_of (g.N.Nand.state last.device) (table last.blocks) in
     let then = c.collect.ensures in
     let spare = moved.terms.spare ∙ opened.terms.spare in
-    let still : (e.table.entry v).kept ≡ (a.table.entry v).kept = ends_is.1.kept v ∙ same in
+    let still : (e.table.entry v).committed ≡ (a.table.entry v).committed = ends_is.1.committed v ∙ same in
     let pages = ap (λ (x : Geometry). x.pages) (then.step.geometry ∙ moved.step.geometry ∙ opened.step.geometry) in
-    rw (sym spare) (gathered_again v (a.table.entry v).kept c.args.count end.spare e f c.collect.result still (omega (arith, pages, few)) then.ends)
+    rw (sym spare) (gathered_again v (a.table.entry v).committed c.args.count end.spare e f c.collect.result still (omega (arith, pages, few)) then.ends)

@@ -29,37 +29,37 @@ returns-in_err-open_next-clause-pays g c =
     let opened = c.in_err-open_next.ensures.pays in
     let p = err_from_is_err_and c.from_residual.result c.from_residual.ensures.1 in
     rw p.1 (pays_next c.args.self.now.spare c.args.count (log_of (g.N.Nand.state c.args.self.now.device) (table c.args.self.now.blocks)) (log_of (g.N.Nand.state c.open_next.new.self.device) (table c.open_next.new.self.blocks)) _ _
-    c.requires.few (c.if-has_unkept.ensures.0 refl) opened tt opened.pays.reads)
+    c.requires.few (c.if-has_uncommitted.ensures.0 refl) opened tt opened.pays.reads)
 
-pub returns-then-has_unkept-clause-pays : goal.returns-then-has_unkept-clause-pays
-returns-then-has_unkept-clause-pays g c =
+pub returns-then-has_uncommitted-clause-pays : goal.returns-then-has_uncommitted-clause-pays
+returns-then-has_uncommitted-clause-pays g c =
     let opened = c.in_ok-open_next.ensures.pays in
     pays_next c.args.self.now.spare c.args.count (log_of (g.N.Nand.state c.args.self.now.device) (table c.args.self.now.blocks)) (log_of (g.N.Nand.state c.open_next.new.self.device) (table c.open_next.new.self.blocks)) _ _
-    c.requires.few (c.if-has_unkept.ensures.0 refl) opened opened.pays.answers opened.pays.reads
+    c.requires.few (c.if-has_uncommitted.ensures.0 refl) opened opened.pays.answers opened.pays.reads
 
-pub returns-then-has_unkept-clause-ends : goal.returns-then-has_unkept-clause-ends
-returns-then-has_unkept-clause-ends g c =
+pub returns-then-has_uncommitted-clause-ends : goal.returns-then-has_uncommitted-clause-ends
+returns-then-has_uncommitted-clause-ends g c =
     let opened = c.in_ok-open_next.ensures in
     record {
       fits = fits_clear c.args.count _ (table c.open_next.new.self.blocks) opened.ends.0;
       number = λ _. opened.ends.1;
       few = let reserve = opened.few in let same = opened.terms.spare in omega (arith, reserve, same);
-      free = λ _. free_next c.args.self.now.spare c.args.count _ (table c.args.self.now.blocks) (table c.open_next.new.self.blocks) opened.holds opened.ends.0 (c.if-has_unkept.ensures.0 refl);
+      free = λ _. free_next c.args.self.now.spare c.args.count _ (table c.args.self.now.blocks) (table c.open_next.new.self.blocks) opened.holds opened.ends.0 (c.if-has_uncommitted.ensures.0 refl);
       power = λ _. opened.ends.0.clear.power;
     }
 
 pub returns-in_default-clause-ends : goal.returns-in_default-clause-ends
-returns-in_default-clause-ends g c = c.in_default.ensures.none c.args.self.now.spare (scarce_unless c.args.self.now.spare (table c.args.self.now.blocks) (λ more. let two : false ≡ true = c.if-has_unkept.ensures.1 more in cc))
+returns-in_default-clause-ends g c = c.in_default.ensures.none c.args.self.now.spare (scarce_unless c.args.self.now.spare (table c.args.self.now.blocks) (λ more. let two : false ≡ true = c.if-has_uncommitted.ensures.1 more in cc))
 
 pub returns-in_err-gather-clause-pays : goal.returns-in_err-gather-clause-pays
 returns-in_err-gather-clause-pays g c =
     let gathered = c.in_err-gather.ensures.pays in
     let p = err_from_is_err_and c.from_residual-in_err-gather.result c.from_residual-in_err-gather.ensures.1 in
     rw p.1 (pays_collected c.args.self.now.spare c.in-Some.block c.args.count (log_of (g.N.Nand.state c.args.self.now.device) (table c.args.self.now.blocks)) (log_of (g.N.Nand.state c.gather.new.self.device) (table c.gather.new.self.blocks)) _ _
-    c.in-Some.ensures.found.fewest (λ more. let two : false ≡ true = c.if-has_unkept.ensures.1 more in cc) gathered tt gathered.pays.reads)
+    c.in-Some.ensures.found.fewest (λ more. let two : false ≡ true = c.if-has_uncommitted.ensures.1 more in cc) gathered tt gathered.pays.reads)
 
 pub returns-clause-pays : goal.returns-clause-pays
 returns-clause-pays g c =
     let gathered = c.in_ok-gather.ensures.pays in
     pays_collected c.args.self.now.spare c.in-Some.block c.args.count (log_of (g.N.Nand.state c.args.self.now.device) (table c.args.self.now.blocks)) (log_of (g.N.Nand.state c.gather.new.self.device) (table c.gather.new.self.blocks)) _ _
-    c.in-Some.ensures.found.fewest (λ more. let two : false ≡ true = c.if-has_unkept.ensures.1 more in cc) gathered gathered.pays.answers gathered.pays.reads
+    c.in-Some.ensures.found.fewest (λ more. let two : false ≡ true = c.if-has_uncommitted.ensures.1 more in cc) gathered gathered.pays.answers gathered.pays.reads

@@ -53,15 +53,15 @@ list-requires-clause-copies g c =
 
 pub move_open-requires-clause-clear : goal.move_open-requires-clause-clear
 move_open-requires-clause-clear g c =
-    let listed : length c.list.new.self.copies.items ≡ ((table c.args.self.now.blocks).entry c.args.block).kept = c.list.ensures.count ∙ sym (c.args.self.now.stands.tables.counts.counts c.args.block) in
+    let listed : length c.list.new.self.copies.items ≡ ((table c.args.self.now.blocks).entry c.args.block).committed = c.list.ensures.count ∙ sym (c.args.self.now.stands.tables.counts.counts c.args.block) in
     let noted : length c.note_copies.new.self.copies.items ≡ length c.list.new.self.copies.items = ap (λ (v : Vec CopyOf Global). length v.items) c.note_copies.ensures.copies in
-    let count : length c.deref.result.now ≡ ((table c.args.self.now.blocks).entry c.args.block).kept = omega (arith, listed, noted) in
+    let count : length c.deref.result.now ≡ ((table c.args.self.now.blocks).entry c.args.block).committed = omega (arith, listed, noted) in
     subst (λ n. HasClear n (g.N.Nand.state c.args.self.now.device) (table c.args.self.now.blocks)) (sym count) c.requires.clear
 
 pub returns-clause-pays : goal.returns-clause-pays
 returns-clause-pays g c =
-    let listed : length c.list.new.self.copies.items ≡ ((table c.args.self.now.blocks).entry c.args.block).kept = c.list.ensures.count ∙ sym (c.args.self.now.stands.tables.counts.counts c.args.block) in
+    let listed : length c.list.new.self.copies.items ≡ ((table c.args.self.now.blocks).entry c.args.block).committed = c.list.ensures.count ∙ sym (c.args.self.now.stands.tables.counts.counts c.args.block) in
     let noted : length c.note_copies.new.self.copies.items ≡ length c.list.new.self.copies.items = ap (λ (v : Vec CopyOf Global). length v.items) c.note_copies.ensures.copies in
-    let count : length c.deref.result.now ≡ ((table c.args.self.now.blocks).entry c.args.block).kept = omega (arith, listed, noted) in
+    let count : length c.deref.result.now ≡ ((table c.args.self.now.blocks).entry c.args.block).committed = omega (arith, listed, noted) in
     subst (λ n. PaysOpen n (log_of (g.N.Nand.state c.args.self.now.device) (table c.args.self.now.blocks)) (log_of (g.N.Nand.state c.move_open.new.device) (table c.move_open.new.blocks)) c.move_open.result)
     count c.move_open.ensures.pays

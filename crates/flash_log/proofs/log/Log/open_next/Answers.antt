@@ -203,31 +203,31 @@ returns-in_default-clause-ends g c =
 pub returns-in_err-block-clause-holds : goal.returns-in_err-block-clause-holds
 returns-in_err-block-clause-holds g c =
     let passes = c.allocate_block.ensures.passes in
-    let first = holds_counts (table c.args.self.now.blocks) (table c.allocate_block.new.self.blocks) passes.kept passes.marked passes.unkept in
+    let first = holds_counts (table c.args.self.now.blocks) (table c.allocate_block.new.self.blocks) passes.committed passes.marked passes.uncommitted in
     first
 
 pub returns-in_default-clause-holds : goal.returns-in_default-clause-holds
 returns-in_default-clause-holds g c =
     let passes = c.allocate_block.ensures.passes in
-    let first = holds_counts (table c.args.self.now.blocks) (table c.allocate_block.new.self.blocks) passes.kept passes.marked passes.unkept in
+    let first = holds_counts (table c.args.self.now.blocks) (table c.allocate_block.new.self.blocks) passes.committed passes.marked passes.uncommitted in
     first
 
 pub returns-in_err-summarize-clause-holds : goal.returns-in_err-summarize-clause-holds
 returns-in_err-summarize-clause-holds g c =
     let passes = c.allocate_block.ensures.passes in
-    let first = holds_counts (table c.args.self.now.blocks) (table c.allocate_block.new.self.blocks) passes.kept passes.marked passes.unkept in
+    let first = holds_counts (table c.args.self.now.blocks) (table c.allocate_block.new.self.blocks) passes.committed passes.marked passes.uncommitted in
     holds_on (table c.args.self.now.blocks) (table c.allocate_block.new.self.blocks) (table c.summarize.new.self.blocks) first c.summarize.ensures.holds
 
 pub returns-in-Written-clause-holds : goal.returns-in-Written-clause-holds
 returns-in-Written-clause-holds g c =
     let passes = c.allocate_block.ensures.passes in
-    let first = holds_counts (table c.args.self.now.blocks) (table c.allocate_block.new.self.blocks) passes.kept passes.marked passes.unkept in
+    let first = holds_counts (table c.args.self.now.blocks) (table c.allocate_block.new.self.blocks) passes.committed passes.marked passes.uncommitted in
     holds_on (table c.args.self.now.blocks) (table c.allocate_block.new.self.blocks) (table c.summarize.new.self.blocks) first c.summarize.ensures.holds
 
 pub returns-in-Marked-clause-holds : goal.returns-in-Marked-clause-holds
 returns-in-Marked-clause-holds g c =
     let passes = c.allocate_block.ensures.passes in
-    let first = holds_counts (table c.args.self.now.blocks) (table c.allocate_block.new.self.blocks) passes.kept passes.marked passes.unkept in
+    let first = holds_counts (table c.args.self.now.blocks) (table c.allocate_block.new.self.blocks) passes.committed passes.marked passes.uncommitted in
     let t : Table = table c.args.self.now.blocks in
     let u : Table = table c.summarize.new.self.blocks in
     holds_on t u (table c.open_plain.new.self.blocks) (holds_on t (table c.allocate_block.new.self.blocks) u first c.summarize.ensures.holds) c.open_plain.ensures.holds

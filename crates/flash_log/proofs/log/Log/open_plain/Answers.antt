@@ -31,9 +31,9 @@ returns-then-bad_count-self-clause-holds g c = holds_here (table c.args.self.now
 pub returns-in_err-allocate_block-clause-holds : goal.returns-in_err-allocate_block-clause-holds
 returns-in_err-allocate_block-clause-holds g c =
     let passes = c.allocate_block.ensures.passes in
-    holds_counts (table c.args.self.now.blocks) (table c.allocate_block.new.self.blocks) passes.kept passes.marked passes.unkept
+    holds_counts (table c.args.self.now.blocks) (table c.allocate_block.new.self.blocks) passes.committed passes.marked passes.uncommitted
 
 pub returns-clause-holds : goal.returns-clause-holds
 returns-clause-holds g c =
     let passes = c.allocate_block.ensures.passes in
-    holds_counts (table c.args.self.now.blocks) (table c.allocate_block.new.self.blocks) passes.kept passes.marked passes.unkept
+    holds_counts (table c.args.self.now.blocks) (table c.allocate_block.new.self.blocks) passes.committed passes.marked passes.uncommitted

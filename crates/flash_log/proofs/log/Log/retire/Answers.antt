@@ -1,7 +1,7 @@
 use Rattle.std.proofs.Common.{◌≡◌, ◌≤◌, sym, ap, subst, ◌∙◌, arith}
 use Rattle.std.proofs.lemmas.Result.{on_ok_weaker}
 use Rattle.nand_model.specs.Calls.{Device}
-use Rattle.block_state.specs.Kept.{bad_count}
+use Rattle.block_state.specs.Committed.{bad_count}
 use Rattle.block_state.specs.Table.{Table}
 use Rattle.block_state.specs.TableOf.{table}
 use Rattle.transactions.specs.Checking.{log_of}
@@ -36,7 +36,7 @@ retire_all-requires-clause-good g c =
     let d : Device = g.N.Nand.state c.args.self.now.device in
     let t : Table = table c.args.self.now.blocks in
     let u : Table = table c.close.new.self in
-    ap (λ (s : Table). (s.entry c.args.block).bad) c.close.ensures ∙ c.requires.good
+    ap (λ (s : Table). (s.entry c.args.block).bad) c.close.ensures ∙ c.requires.block.good
 
 pub returns-clause-step : goal.returns-clause-step
 returns-clause-step g c =
@@ -74,10 +74,9 @@ returns-clause-ends g c =
     (subst (λ (s : Table). RetireEnds c.args.block c.args.self.now.spare (g.N.Nand.state c.retire_all.new.self.device) s (table c.retire_all.new.self.blocks) c.retire_all.result) c.close.ensures c.retire_all.ensures.ends)
 
 pub returns-clause-empty : goal.returns-clause-empty
-returns-clause-empty g c = λ none. c.retire_all.ensures.empty (ap (λ (s : Table). (s.entry c.args.block).kept) c.close.ensures ∙ none)
+returns-clause-empty g c = λ none.
+    let empty = ap (λ (s : Table). (s.entry c.args.block).committed) c.close.ensures ∙ none in
+    record { changes = c.retire_all.ensures.empty empty; why = c.retire_all.ensures.needs_none empty }
 
 pub retire_all-requires-clause-none : goal.retire_all-requires-clause-none
 retire_all-requires-clause-none g c = ap (λ (x : Table). x.checkpoint) c.close.ensures ∙ c.requires.none
-
-pub returns-clause-needs_none : goal.returns-clause-needs_none
-returns-clause-needs_none g c = λ none. c.retire_all.ensures.needs_none (ap (λ (s : Table). (s.entry c.args.block).kept) c.close.ensures ∙ none)

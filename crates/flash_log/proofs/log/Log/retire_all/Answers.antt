@@ -3,12 +3,12 @@ use Rattle.std.proofs.lemmas.Result.{err_from_is_err_and}
 use Rattle.nand_model.specs.Calls.{Device}
 use Rattle.block_state.specs.Table.{Table}
 use Rattle.block_state.specs.TableOf.{table}
-use Rattle.chunk_index.specs.Kept.{HoldsNone}
-use Rattle.chunk_index.specs.Maps.{kept_pages}
+use Rattle.chunk_index.specs.Committed.{HoldsNone}
+use Rattle.chunk_index.specs.Maps.{committed_pages}
 use Rattle.transactions.specs.Checking.{log_of}
 use Rattle.flash_tree.specs.laws.Truth.{none_after}
 use Rattle.flash_log.specs.laws.Moves.{are_held}
-use Rattle.flash_log.proofs.RetireTurns.{Retiring, next_unkept, step_next, moved_next, pays_next, retiring_next, retired_all, some_none}
+use Rattle.flash_log.proofs.RetireTurns.{Retiring, next_uncommitted, step_next, moved_next, pays_next, retiring_next, retired_all, some_none}
 use Rattle.flash_log.proofs.log.Log.retire_all.Goals as goal
 
 pub returns-in_err-suspect-clause-pays : goal.returns-in_err-suspect-clause-pays
@@ -54,7 +54,7 @@ returns-in_err-suspect-2-clause-out g c =
     let d' : Device = g.N.Nand.state c.retire_one-in-Some.new.self.device in
     let t' : Table = table c.retire_one-in-Some.new.self.blocks in
     let y = c.retire_one-in-Some.new.self.index in
-    let none : HoldsNone (kept_pages x0) w = c.the_counts_are_of_the_keys.ensures.none x0 w (sym (c.args.self.now.stands.tables.counts.counts w) ∙ next_unkept c.args.self.now.spare c.args.block w d0 d t0 t x0 x r) in
+    let none : HoldsNone (committed_pages x0) w = c.the_counts_are_of_the_keys.ensures.none x0 w (sym (c.args.self.now.stands.tables.counts.counts w) ∙ next_uncommitted c.args.self.now.spare c.args.block w d0 d t0 t x0 x r) in
     moved_next c.args.self.now.spare c.args.block w d0 d t0 t x0 x r y none (rw c.loop-suspect.invariant.terms.spare at c.in_err-suspect-2.ensures).out
 
 pub returns-in_err-suspect-2-clause-pays : goal.returns-in_err-suspect-2-clause-pays
@@ -87,13 +87,13 @@ loop-suspect-preserved g c =
     let d' : Device = g.N.Nand.state c.retire_one-in-Some.new.self.device in
     let t' : Table = table c.retire_one-in-Some.new.self.blocks in
     let y = c.retire_one-in-Some.new.self.index in
-    let none : HoldsNone (kept_pages x0) w = c.the_counts_are_of_the_keys.ensures.none x0 w (sym (c.args.self.now.stands.tables.counts.counts w) ∙ next_unkept c.args.self.now.spare c.args.block w d0 d t0 t x0 x r) in
+    let none : HoldsNone (committed_pages x0) w = c.the_counts_are_of_the_keys.ensures.none x0 w (sym (c.args.self.now.stands.tables.counts.counts w) ∙ next_uncommitted c.args.self.now.spare c.args.block w d0 d t0 t x0 x r) in
     let e = rw c.loop-suspect.invariant.terms.spare at c.in_ok-suspect-2.ensures in
     let terms = c.in_ok-suspect-2.ensures.terms in
     record {
       terms = record { spare = terms.spare ∙ c.loop-suspect.invariant.terms.spare; first = terms.first ∙ c.loop-suspect.invariant.terms.first };
       retiring = retiring_next c.args.self.now.spare c.args.block w d0 d t0 t x0 x r d' t' y c.in_ok-suspect-2.suspect none e.step e.ends.0 e.out e.pays (are_held t' y (c.the_counts_are_of_the_keys.ensures.none y) e.step.stands.tables.counts) e.anew e.ends.1;
-      empty = λ kept. absurd (some_none w (sym c.in-Some.is ∙ (c.loop-suspect.invariant.empty kept).1));
+      empty = λ committed. absurd (some_none w (sym c.in-Some.is ∙ (c.loop-suspect.invariant.empty committed).1));
     }
 
 pub returns-clause-pays : goal.returns-clause-pays
@@ -120,10 +120,10 @@ returns-clause-ends g c =
     (retired_all c.args.self.now.spare c.args.block d0 d t0 t x0 x r, r.power)
 
 pub returns-in_err-suspect-2-clause-empty : goal.returns-in_err-suspect-2-clause-empty
-returns-in_err-suspect-2-clause-empty g c = λ kept. absurd (some_none c.in-Some.next (sym c.in-Some.is ∙ (c.loop-suspect.invariant.empty kept).1))
+returns-in_err-suspect-2-clause-empty g c = λ committed. absurd (some_none c.in-Some.next (sym c.in-Some.is ∙ (c.loop-suspect.invariant.empty committed).1))
 
 pub returns-in_err-suspect-2-clause-needs_none : goal.returns-in_err-suspect-2-clause-needs_none
-returns-in_err-suspect-2-clause-needs_none g c = λ kept. absurd (some_none c.in-Some.next (sym c.in-Some.is ∙ (c.loop-suspect.invariant.empty kept).1))
+returns-in_err-suspect-2-clause-needs_none g c = λ committed. absurd (some_none c.in-Some.next (sym c.in-Some.is ∙ (c.loop-suspect.invariant.empty committed).1))
 
 pub retire_one-requires-in-Some-clause-none : goal.retire_one-requires-in-Some-clause-none
 retire_one-requires-in-Some-clause-none g c = none_after _ _ _ _ c.loop-suspect.invariant.retiring.step.numbers.truth c.requires.none

@@ -13,7 +13,7 @@ use Rattle.flash_log.specs.laws.Room.{same_page}
 use Rattle.flash_log.specs.laws.Moves.{are_held, lies_apart}
 use Rattle.flash_log.specs.CheckpointKeeping.{KeepsPages}
 use Rattle.flash_log.proofs.CheckpointKeeping.{keeps_on, keeps_taken, seals_from, seals_here}
-use Rattle.flash_log.proofs.CheckpointListed.{can_list, list_kept, may_take, shows_after}
+use Rattle.flash_log.proofs.CheckpointListed.{can_list, list_committed, may_take, shows_after}
 use Rattle.flash_log.proofs.log.Log.seal.Goals as goal
 
 pub invariant_of-self-2-clause-stands : goal.invariant_of-self-2-clause-stands
@@ -32,8 +32,8 @@ invariant_of-self-2-clause-stands g c =
     let taken : KeepsPages (log_of d t) (log_of e u) = keeps_taken d e t u k.step.lasts k.step.ready k.step.numbers k.passes in
     let keeps : KeepsPages (log_of d t) (log_of f v) = keeps_on (log_of d t) (log_of e u) (log_of f v) taken w.leaves.keeps in
     let seals = seals_from c.args.self.now.spare x d f t v held c.args.self.now.stands keeps w.leaves.open_block
-    (λ n is. keeps.kept n ∙ ap (λ b. (t.entry b).kept) (w.leaves.checkpoint n is) ∙ takes.unkept)
-    (λ exact honest checked. w.leaves.checked (list_kept c.args.self.now.spare d t x c.args.self.now.ready c.args.self.now.stands held exact e u taken c.in_ok-block.ensures.ends.1) (k.step.lasts.honest ∙ honest) (k.step.numbers.truth.checked honest checked))
+    (λ n is. keeps.committed n ∙ ap (λ b. (t.entry b).committed) (w.leaves.checkpoint n is) ∙ takes.uncommitted)
+    (λ exact honest checked. w.leaves.checked (list_committed c.args.self.now.spare d t x c.args.self.now.ready c.args.self.now.stands held exact e u taken c.in_ok-block.ensures.ends.1) (k.step.lasts.honest ∙ honest) (k.step.numbers.truth.checked honest checked))
     (shows_after c.args.self.now.spare d t x c.args.self.now.ready c.args.self.now.stands held f v keeps) in
     subst (λ n. Stands n f v c.allocate_block.new.self.index) (sym k.terms.spare) (subst (Stands c.args.self.now.spare f v) (sym k.index) seals.stands)
 
@@ -53,8 +53,8 @@ invariant_of-self-2-clause-mountable g c =
     let taken : KeepsPages (log_of d t) (log_of e u) = keeps_taken d e t u k.step.lasts k.step.ready k.step.numbers k.passes in
     let keeps : KeepsPages (log_of d t) (log_of f v) = keeps_on (log_of d t) (log_of e u) (log_of f v) taken w.leaves.keeps in
     let seals = seals_from c.args.self.now.spare x d f t v held c.args.self.now.stands keeps w.leaves.open_block
-    (λ n is. keeps.kept n ∙ ap (λ b. (t.entry b).kept) (w.leaves.checkpoint n is) ∙ takes.unkept)
-    (λ exact honest checked. w.leaves.checked (list_kept c.args.self.now.spare d t x c.args.self.now.ready c.args.self.now.stands held exact e u taken c.in_ok-block.ensures.ends.1) (k.step.lasts.honest ∙ honest) (k.step.numbers.truth.checked honest checked))
+    (λ n is. keeps.committed n ∙ ap (λ b. (t.entry b).committed) (w.leaves.checkpoint n is) ∙ takes.uncommitted)
+    (λ exact honest checked. w.leaves.checked (list_committed c.args.self.now.spare d t x c.args.self.now.ready c.args.self.now.stands held exact e u taken c.in_ok-block.ensures.ends.1) (k.step.lasts.honest ∙ honest) (k.step.numbers.truth.checked honest checked))
     (shows_after c.args.self.now.spare d t x c.args.self.now.ready c.args.self.now.stands held f v keeps) in
     let now = mountable_on c.args.self.now.origin.first (log_of d t) (log_of f v) x x seals.keeps.lasts (mountable_seals c.args.self.now.spare x (log_of d t) (log_of f v) seals) c.args.self.now.mountable in
     subst (λ (b : Option Snapshot). IsMountableSince b (log_of f v) c.allocate_block.new.self.index) (sym k.terms.first) (subst (IsMountableSince c.args.self.now.origin.first (log_of f v)) (sym k.index) now)
@@ -91,7 +91,7 @@ returns-in_err-block-clause-seals g c =
     let none = c.in_err-block.ensures.ends.0 in
     let keeps : KeepsPages (log_of d t) (log_of e u) = keeps_taken d e t u k.step.lasts k.step.ready k.step.numbers k.passes in
     seals_from c.args.self.now.spare x d e t u held c.args.self.now.stands keeps none.open_block
-    (lies_apart t u k.step.numbers.truth.noted k.passes.kept c.args.self.now.stands.tables.apart) (λ _. k.step.numbers.truth.checked)
+    (lies_apart t u k.step.numbers.truth.noted k.passes.committed c.args.self.now.stands.tables.apart) (λ _. k.step.numbers.truth.checked)
     (shows_after c.args.self.now.spare d t x c.args.self.now.ready c.args.self.now.stands held e u keeps)
 
 pub write_into-requires-clause-list : goal.write_into-requires-clause-list
@@ -104,8 +104,8 @@ write_into-requires-clause-list g c =
     let k = c.allocate_block.ensures in
     let held : AreHeld t x = are_held t x (c.the_counts_are_of_the_keys.ensures.none x) c.args.self.now.stands.tables.counts in
     let extent = c.in-Some.ensures.extent in
-    rw k.index (can_list c.args.self.now.spare d t x c.args.self.now.ready c.args.self.now.stands e u _ (c.the_counts_add_up_to_the_kept_keys.ensures.all t x c.args.self.now.stands.tables.counts)
-    (c.the_counts_add_up_to_the_kept_keys.ensures.one _) k.step.lasts k.step.ready c.in-Some.ensures.due refl (c.geometry.ensures ∙ k.step.ready.geometry) extent.entries extent.pages)
+    rw k.index (can_list c.args.self.now.spare d t x c.args.self.now.ready c.args.self.now.stands e u _ (c.the_counts_add_up_to_the_committed_keys.ensures.all t x c.args.self.now.stands.tables.counts)
+    (c.the_counts_add_up_to_the_committed_keys.ensures.one _) k.step.lasts k.step.ready c.in-Some.ensures.due refl (c.geometry.ensures ∙ k.step.ready.geometry) extent.entries extent.pages)
 
 pub write_into-requires-clause-take : goal.write_into-requires-clause-take
 write_into-requires-clause-take g c =
@@ -135,6 +135,6 @@ returns-clause-seals g c =
     let taken : KeepsPages (log_of d t) (log_of e u) = keeps_taken d e t u k.step.lasts k.step.ready k.step.numbers k.passes in
     let keeps : KeepsPages (log_of d t) (log_of f v) = keeps_on (log_of d t) (log_of e u) (log_of f v) taken w.leaves.keeps in
     seals_from c.args.self.now.spare x d f t v held c.args.self.now.stands keeps w.leaves.open_block
-    (λ n is. keeps.kept n ∙ ap (λ b. (t.entry b).kept) (w.leaves.checkpoint n is) ∙ takes.unkept)
-    (λ exact honest checked. w.leaves.checked (list_kept c.args.self.now.spare d t x c.args.self.now.ready c.args.self.now.stands held exact e u taken c.in_ok-block.ensures.ends.1) (k.step.lasts.honest ∙ honest) (k.step.numbers.truth.checked honest checked))
+    (λ n is. keeps.committed n ∙ ap (λ b. (t.entry b).committed) (w.leaves.checkpoint n is) ∙ takes.uncommitted)
+    (λ exact honest checked. w.leaves.checked (list_committed c.args.self.now.spare d t x c.args.self.now.ready c.args.self.now.stands held exact e u taken c.in_ok-block.ensures.ends.1) (k.step.lasts.honest ∙ honest) (k.step.numbers.truth.checked honest checked))
     (shows_after c.args.self.now.spare d t x c.args.self.now.ready c.args.self.now.stands held f v keeps)

@@ -6,7 +6,7 @@ use Rattle.nand_model.specs.declared.geometry.Geometry.{Geometry}
 use Rattle.page_tags.specs.declared.check.CheckEntry.{CheckEntry}
 use Rattle.block_state.specs.Table.{Table}
 use Rattle.block_state.specs.TableOf.{table}
-use Rattle.chunk_index.specs.Maps.{kept_pages}
+use Rattle.chunk_index.specs.Maps.{committed_pages}
 use Rattle.transactions.specs.Checking.{log_of}
 use Rattle.flash_log.specs.SummaryMaking.{ListsEntries, SummaryEnds, summary_of}
 use Rattle.flash_log.specs.SummarySource.{CanSummarize, summary_size}
@@ -79,7 +79,7 @@ write_listed-requires-clause-lists g c =
     let entries : c.in-Some.source.entries.now ≡ c.list_entries.new.self.entries.items = c.in-Some.ensures.entries ∙ c.deref.ensures.value in
     let few : length c.in-Some.source.entries.now ≤ (table log.blocks).geometry.pages = let same = ap (λ (l : List CheckEntry). length l) entries in omega (arith, fits, count, listed, same) in
     λ honest. is_list log.spare log.index (g.N.Nand.state log.device) (table log.blocks) c.args.block c.args.written c.in-Some.source log.ready log.stands c.requires.fresh c.requires.written
-    c.in-Some.ensures.head.0 c.in-Some.ensures.head.1 (subst (λ (l : List CheckEntry). ListsEntries c.args.written.block (kept_pages log.index) l) (sym entries) c.list_entries.ensures.lists) few can honest
+    c.in-Some.ensures.head.0 c.in-Some.ensures.head.1 (subst (λ (l : List CheckEntry). ListsEntries c.args.written.block (committed_pages log.index) l) (sym entries) c.list_entries.ensures.lists) few can honest
 
 pub returns-clause-step : goal.returns-clause-step
 returns-clause-step g c =
@@ -92,7 +92,7 @@ returns-clause-step g c =
     let listed = c.list_entries.ensures.count in
     let entries : c.in-Some.source.entries.now ≡ c.list_entries.new.self.entries.items = c.in-Some.ensures.entries ∙ c.deref.ensures.value in
     let few : length c.in-Some.source.entries.now ≤ t.geometry.pages = let same = ap (λ (l : List CheckEntry). length l) entries in omega (arith, fits, count, listed, same) in
-    let lists = subst (λ (l : List CheckEntry). ListsEntries c.args.written.block (kept_pages log.index) l) (sym entries) c.list_entries.ensures.lists in
+    let lists = subst (λ (l : List CheckEntry). ListsEntries c.args.written.block (committed_pages log.index) l) (sym entries) c.list_entries.ensures.lists in
     let held = are_held t log.index (c.the_counts_are_of_the_keys.ensures.none log.index) log.stands.tables.counts in
     let step = step_listed log.spare log.index d (g.N.Nand.state c.write_listed.new.device) t (table c.write_listed.new.blocks) c.args.block c.args.written c.in-Some.source log.ready log.stands held
     c.requires.fresh c.requires.written c.in-Some.ensures.head lists few can c.write_listed.ensures.does in
@@ -112,7 +112,7 @@ invariant_of-self-2-clause-stands g c =
     let listed = c.list_entries.ensures.count in
     let entries : c.in-Some.source.entries.now ≡ c.list_entries.new.self.entries.items = c.in-Some.ensures.entries ∙ c.deref.ensures.value in
     let few : length c.in-Some.source.entries.now ≤ t.geometry.pages = let same = ap (λ (l : List CheckEntry). length l) entries in omega (arith, fits, count, listed, same) in
-    let lists = subst (λ (l : List CheckEntry). ListsEntries c.args.written.block (kept_pages log.index) l) (sym entries) c.list_entries.ensures.lists in
+    let lists = subst (λ (l : List CheckEntry). ListsEntries c.args.written.block (committed_pages log.index) l) (sym entries) c.list_entries.ensures.lists in
     let held = are_held t log.index (c.the_counts_are_of_the_keys.ensures.none log.index) log.stands.tables.counts in
     let step = step_listed log.spare log.index d (g.N.Nand.state c.write_listed.new.device) t (table c.write_listed.new.blocks) c.args.block c.args.written c.in-Some.source log.ready log.stands held
     c.requires.fresh c.requires.written c.in-Some.ensures.head lists few can c.write_listed.ensures.does in
@@ -143,7 +143,7 @@ invariant_of-self-2-clause-mountable g c =
     let listed = c.list_entries.ensures.count in
     let entries : c.in-Some.source.entries.now ≡ c.list_entries.new.self.entries.items = c.in-Some.ensures.entries ∙ c.deref.ensures.value in
     let few : length c.in-Some.source.entries.now ≤ t.geometry.pages = let same = ap (λ (l : List CheckEntry). length l) entries in omega (arith, fits, count, listed, same) in
-    let lists = subst (λ (l : List CheckEntry). ListsEntries c.args.written.block (kept_pages log.index) l) (sym entries) c.list_entries.ensures.lists in
+    let lists = subst (λ (l : List CheckEntry). ListsEntries c.args.written.block (committed_pages log.index) l) (sym entries) c.list_entries.ensures.lists in
     let held = are_held t log.index (c.the_counts_are_of_the_keys.ensures.none log.index) log.stands.tables.counts in
     let step = step_listed log.spare log.index d (g.N.Nand.state c.write_listed.new.device) t (table c.write_listed.new.blocks) c.args.block c.args.written c.in-Some.source log.ready log.stands held
     c.requires.fresh c.requires.written c.in-Some.ensures.head lists few can c.write_listed.ensures.does in
@@ -161,10 +161,10 @@ returns-in_default-clause-writes g c = λ honest room is.
     let short = c.in_default.ensures.none in
     let listed = c.list_entries.ensures.count in
     let count = log.stands.tables.counts.counts c.args.written.block in
-    let same : length c.deref.result.now ≡ ((table log.blocks).entry c.args.written.block).kept = ap (λ (l : List CheckEntry). length l) c.deref.ensures.value ∙ listed ∙ sym count in
+    let same : length c.deref.result.now ≡ ((table log.blocks).entry c.args.written.block).committed = ap (λ (l : List CheckEntry). length l) c.deref.ensures.value ∙ listed ∙ sym count in
     let geometry = c.geometry-geometry.ensures in
-    let most : c.geometry-geometry.result.pages < ceiling (32 * (1 + ((table log.blocks).entry c.args.written.block).kept)) c.geometry-geometry.result.bytes = subst (λ n. c.geometry-geometry.result.pages < ceiling (32 * (1 + n)) c.geometry-geometry.result.bytes) same short in
-    let there = subst (λ (x : Geometry). x.pages < ceiling (32 * (1 + ((table log.blocks).entry c.args.written.block).kept)) x.bytes) geometry most in
+    let most : c.geometry-geometry.result.pages < ceiling (32 * (1 + ((table log.blocks).entry c.args.written.block).committed)) c.geometry-geometry.result.bytes = subst (λ n. c.geometry-geometry.result.pages < ceiling (32 * (1 + n)) c.geometry-geometry.result.bytes) same short in
+    let there = subst (λ (x : Geometry). x.pages < ceiling (32 * (1 + ((table log.blocks).entry c.args.written.block).committed)) x.bytes) geometry most in
     absurd (omega (arith, there, room.0))
 
 pub returns-then-source-pages-clause-writes : goal.returns-then-source-pages-clause-writes
@@ -175,8 +175,8 @@ returns-then-source-pages-clause-writes g c = λ honest room is.
     let can = subst (λ (x : Geometry). CanSummarize c.in-Some.source x t.next_group) geometry (c.in-Some.ensures.can t.next_group log.ready.numbers.0) in
     let listed = c.list_entries.ensures.count in
     let count = log.stands.tables.counts.counts c.args.written.block in
-    let same : length c.in-Some.source.entries.now ≡ (t.entry c.args.written.block).kept = ap (λ (l : List CheckEntry). length l) (c.in-Some.ensures.entries ∙ c.deref.ensures.value) ∙ listed ∙ sym count in
-    let pages : c.in-Some.source.pages ≡ ceiling (32 * (1 + (t.entry c.args.written.block).kept)) t.geometry.bytes = can.pages ∙ ap (λ n. ceiling (32 * (1 + n)) t.geometry.bytes) same in
+    let same : length c.in-Some.source.entries.now ≡ (t.entry c.args.written.block).committed = ap (λ (l : List CheckEntry). length l) (c.in-Some.ensures.entries ∙ c.deref.ensures.value) ∙ listed ∙ sym count in
+    let pages : c.in-Some.source.pages ≡ ceiling (32 * (1 + (t.entry c.args.written.block).committed)) t.geometry.bytes = can.pages ∙ ap (λ n. ceiling (32 * (1 + n)) t.geometry.bytes) same in
     let size : c.pages.result ≡ t.geometry.pages = c.pages.ensures ∙ ap (λ (x : Geometry). x.pages) geometry in
     let more = c.if-source-pages.true in
     absurd (omega (arith, more, pages, size, room.0, c.requires.count))
@@ -211,4 +211,4 @@ returns-then-source-pages-clause-holds g c = holds_here (table c.args.self.now.b
 pub returns-clause-holds : goal.returns-clause-holds
 returns-clause-holds g c =
     let keeps = c.write_listed.ensures.does.keeps in
-    holds_counts (table c.args.self.now.blocks) (table c.write_listed.new.blocks) keeps.kept keeps.marked keeps.unkept
+    holds_counts (table c.args.self.now.blocks) (table c.write_listed.new.blocks) keeps.committed keeps.marked keeps.uncommitted

@@ -6,7 +6,7 @@ invariant_of-self g c =
     let self = c.args.self.now in
     let few = below_same 8 self.index c.prepare.new.self c.prepare.ensures.present self.few in
     record {
-      agree = agree_same _ c.prepare.new.self c.place.new.self c.place.ensures.kept (agree_same _ self.index c.prepare.new.self c.prepare.ensures.kept self.agree);
+      agree = agree_same _ c.prepare.new.self c.place.new.self c.place.ensures.committed (agree_same _ self.index c.prepare.new.self c.prepare.ensures.committed self.agree);
       few = below_placed 8 c.args.page c.args.key.object c.args.key.chunk c.prepare.new.self c.place.new.self c.place.ensures.places c.requires.page few;
       eight = self.eight;
       pages = self.pages;

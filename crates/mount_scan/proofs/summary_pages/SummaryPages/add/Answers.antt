@@ -1,5 +1,5 @@
 use Rattle.std.proofs.Common.{refl, subst}
-use Rattle.block_summaries.specs.FoundSummary.{summary_of}
+use Rattle.mount_scan.specs.FoundSummary.{summary_of}
 use Rattle.mount_scan.specs.Copies.{pages_named}
 use Rattle.mount_scan.specs.Keys.{ThinsFound}
 use Rattle.mount_scan.specs.Listed.{listed}

@@ -1,7 +1,7 @@
 use Rattle.std.proofs.Common.{ℕ, ◌≡◌, Some, None, inl, inr, sym, ◌∙◌, ap, length}
 use Rattle.std.proofs.lemmas.Bool.{cases_eq}
 use Rattle.nand_model.specs.Memory.{flash_of, next_at, size_at, view_at}
-use Rattle.nand_model.proofs.Whole.{whole_kept, clean_kept, sized_kept}
+use Rattle.nand_model.proofs.Whole.{whole_committed_pages, clean_committed, sized_committed}
 use Rattle.nand_model.proofs.memory.MemNand.cut_change.Goals as goal
 
 pub invariant_of-self : goal.invariant_of-self
@@ -16,8 +16,8 @@ invariant_of-self c =
       | inr ne ↦ sym (e.nexts k ne) ∙ is
     ] in
     record {
-      whole = whole_kept old.geometry old.blocks.items blocks old.whole e.len (λ k. ap length (e.pages k)) (λ k l. ap (λ ps. size_at ps l) (e.pages k))
-          (clean_kept (flash_of old.blocks.items) (flash_of blocks) pages nexts old.whole.clean)
+      whole = whole_committed_pages old.geometry old.blocks.items blocks old.whole e.len (λ k. ap length (e.pages k)) (λ k l. ap (λ ps. size_at ps l) (e.pages k))
+          (clean_committed (flash_of old.blocks.items) (flash_of blocks) pages nexts old.whole.clean)
           (λ k p is. old.whole.next k p (nexts k p is))
-          (sized_kept old.geometry.bytes (flash_of old.blocks.items) (flash_of blocks) pages old.whole.sized);
+          (sized_committed old.geometry.bytes (flash_of old.blocks.items) (flash_of blocks) pages old.whole.sized);
     }

@@ -4,7 +4,7 @@ use Rattle.nand_model.specs.Flash.{Page, Erased, Written, Uncorrectable}
 use Rattle.nand_model.specs.Memory.{flash_of, next_at, page_of}
 use Rattle.nand_model.specs.declared.nand.PageKind.{PageKind}
 use Rattle.nand_model.specs.declared.nand.PageKind.TheVariants as kinds
-use Rattle.nand_model.proofs.Whole.{whole_kept, clean_erased, sized_programmed}
+use Rattle.nand_model.proofs.Whole.{whole_committed_pages, clean_erased, sized_programmed}
 use Rattle.nand_model.proofs.memory.MemNand.put_page.Goals as goal
 
 page_is : (kind : PageKind) (bytes tag : List ℕ) → (page_of kind bytes tag ≡ Erased) ⊎ (page_of kind bytes tag ≡ Written bytes tag) ⊎ (page_of kind bytes tag ≡ Uncorrectable)
@@ -26,7 +26,7 @@ invariant_of-self c =
     let page : (after.page b p ≡ Erased) ⊎ (after.page b p ≡ Written bytes tag) ⊎ (after.page b p ≡ Uncorrectable) =
     subst (λ (x : Page). (x ≡ Erased) ⊎ (x ≡ Written bytes tag) ⊎ (x ≡ Uncorrectable)) (sym e.here) (page_is c.args.kind bytes tag) in
     record {
-      whole = whole_kept old.geometry old.blocks.items new old.whole e.len e.lens e.sizes
+      whole = whole_committed_pages old.geometry old.blocks.items new old.whole e.len e.lens e.sizes
           (clean_erased before after b e.others old.whole.clean (inl e.next) e.nexts)
           (λ k q is. elim (cases_eq k b) [
             | inr ne ↦ old.whole.next k q (sym (e.nexts k ne) ∙ is)

@@ -6,7 +6,7 @@ use Rattle.nand_model.specs.Plans.{erase_result}
 use Rattle.nand_model.specs.Memory.{flash_of, next_at, view_at, pages_at}
 use Rattle.nand_model.specs.declared.plan.End.{End}
 use Rattle.nand_model.specs.declared.plan.End.TheVariants as ends
-use Rattle.nand_model.proofs.Whole.{whole_kept, clean_erased, sized_erased, leaves_any}
+use Rattle.nand_model.proofs.Whole.{whole_committed_pages, clean_erased, sized_erased, leaves_any}
 use Rattle.nand_model.proofs.memory.MemNandNand.erase.Goals as goal
 use Rattle.nand_model.proofs.memory.MemNandNand.erase.Goals.{then-eq, else-eq}
 
@@ -31,7 +31,7 @@ invariant_of-self-2 c =
     ] in
     let clean_next : (next_at new b ≡ None) ⊎ ((l : ℕ) → view_at (pages_at new b) l ≡ Erased) = elim next [ inl none ↦ inl none | inr some ↦ inr some.1 ] in
     record {
-      whole = whole_kept old.geometry old.blocks.items new old.whole e.len e.lens e.sizes
+      whole = whole_committed_pages old.geometry old.blocks.items new old.whole e.len e.lens e.sizes
           (clean_erased before after b e.others old.whole.clean clean_next e.nexts)
           (λ k q is. elim (cases_eq k b) [
             | inr ne ↦ old.whole.next k q (sym (e.nexts k ne) ∙ is)

@@ -2,7 +2,7 @@ use Rattle.std.proofs.Common.{◌≡◌, ◌∙◌, ap, sym, subst, inl, inr, So
 use Rattle.std.proofs.lemmas.Bool.{cases_eq}
 use Rattle.nand_model.specs.Flash.{Page, Erased, Written, Uncorrectable}
 use Rattle.nand_model.specs.Memory.{flash_of, next_at, view_at, pages_at}
-use Rattle.nand_model.proofs.Whole.{whole_kept, clean_programmed, sized_programmed, programmed_is}
+use Rattle.nand_model.proofs.Whole.{whole_committed_pages, clean_programmed, sized_programmed, programmed_is}
 use Rattle.nand_model.proofs.memory.MemNandNand.program.Goals as goal
 use Rattle.nand_model.proofs.memory.MemNandNand.program.Goals.{then-eq, else-eq}
 
@@ -22,7 +22,7 @@ invariant_of-self-2 c =
     let page : (after.page b p ≡ Erased) ⊎ (after.page b p ≡ Written bytes tag) ⊎ (after.page b p ≡ Uncorrectable) =
     subst (λ (x : Page). (x ≡ Erased) ⊎ (x ≡ Written bytes tag) ⊎ (x ≡ Uncorrectable)) (sym here) (programmed_is c.begin_change-end.result c.fates-fates.result.now bytes tag) in
     record {
-      whole = whole_kept old.geometry old.blocks.items new old.whole e.len e.lens e.sizes
+      whole = whole_committed_pages old.geometry old.blocks.items new old.whole e.len e.lens e.sizes
           (clean_programmed before after b p e.block e.others old.whole.clean c.requires.next next e.nexts)
           (λ k q is. elim (cases_eq k b) [
             | inr ne ↦ old.whole.next k q (sym (e.nexts k ne) ∙ is)

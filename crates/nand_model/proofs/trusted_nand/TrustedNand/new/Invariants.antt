@@ -1,4 +1,4 @@
 use Rattle.nand_model.proofs.trusted_nand.TrustedNand.new.Given as goal
 
-abbrev pub ghost-as_told : goal.ghost-as_told
-ghost-as_told g a = g.told
+abbrev pub ghost-as_reported : goal.ghost-as_reported
+ghost-as_reported g a = g.reported

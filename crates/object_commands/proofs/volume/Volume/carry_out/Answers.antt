@@ -20,7 +20,7 @@ returns-in-Err-NoMemory-clause-ends g c z s at class meant is sound own keeps st
     let a = c.args.self.now in
     let none = rw c.in-Err-NoMemory.field-0-is at c.in-Err-NoMemory.ensures.memory in
     let left : m.reads a.store c.work.new.store = rw c.in-Err-NoMemory.field-0-is at (c.in-Err-NoMemory.ensures.works z s.objects at.has is.can) in
-    let told = c.pass_over.ensures in
+    let reported = c.pass_over.ensures in
     let b = record c.pass_over.new.self { stopped = is_stop (replies.Error c.pass_over.result) } in
     refused_ends m law z class (frees c.args.plan.work) s meant a b (replies.Error c.pass_over.result) at (false_from_ne_true _ (λ yes'. none yes' refl))
-    (law.reads_on a.store c.work.new.store b.store left told.reads) (ap (λ v. v.table) told.same) (ap (λ v. v.read_only) told.same) told.tells refl
+    (law.reads_on a.store c.work.new.store b.store left reported.reads) (ap (λ v. v.table) reported.same) (ap (λ v. v.read_only) reported.same) reported.reports refl

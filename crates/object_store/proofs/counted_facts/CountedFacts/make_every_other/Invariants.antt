@@ -1,4 +1,4 @@
-use Rattle.object_store.specs.Counted.{CountsTheSame}
+use Rattle.object_store.specs.Totaled.{CountsTheSame}
 use Rattle.object_store.proofs.counted_facts.CountedFacts.make_every_other.Given as goal
 
 abbrev pub invariant-loop-step : goal.invariant-loop-step

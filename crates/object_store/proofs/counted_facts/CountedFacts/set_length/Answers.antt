@@ -1,5 +1,5 @@
 use Rattle.std.proofs.Common.{sym, subst}
-use Rattle.object_store.specs.Counted.{Puts}
+use Rattle.object_store.specs.Totaled.{Puts}
 use Rattle.object_store.specs.declared.table_facts.ObjectFacts.{ObjectFacts}
 use Rattle.object_store.proofs.Edits.{bytes_counts}
 use Rattle.object_store.proofs.counted_facts.CountedFacts.set_length.Goals as goal

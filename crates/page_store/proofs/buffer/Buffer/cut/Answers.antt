@@ -2,15 +2,15 @@ use Rattle.std.proofs.Common.{◌≡◌, ◌∙◌, arith}
 use Rattle.page_store.specs.BufferOf.{buffered}
 use Rattle.page_store.specs.Buffering.{with_new}
 use Rattle.page_store.proofs.Keys.{holding, buffers}
-use Rattle.page_store.proofs.Preparing.{kept_on}
+use Rattle.page_store.proofs.Preparing.{committed_on}
 use Rattle.page_store.proofs.BufferCutting.{cut_buffers, cut_gone, cut_others, cut_room}
 use Rattle.page_store.proofs.buffer.Buffer.cut.Goals as goal
 
 pub returns-clause-buffers : goal.returns-clause-buffers
 returns-clause-buffers c = buffers _ _ (cut_buffers c.args.cut c.drop_cut.new.index c.cut.new.self (buffered c.drop_cut.new.self) (holding _ _ c.drop_cut.ensures.buffers) c.drop_cut.ensures.drops.gone c.cut.ensures.cuts)
 
-pub returns-clause-kept : goal.returns-clause-kept
-returns-clause-kept c = kept_on _ _ _ c.drop_cut.ensures.kept c.cut.ensures.kept
+pub returns-clause-committed : goal.returns-clause-committed
+returns-clause-committed c = committed_on _ _ _ c.drop_cut.ensures.committed c.cut.ensures.committed
 
 pub returns-clause-cuts : goal.returns-clause-cuts
 returns-clause-cuts c = record {

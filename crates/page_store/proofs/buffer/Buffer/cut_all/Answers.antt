@@ -12,7 +12,7 @@ use Rattle.page_store.proofs.buffer.Buffer.cut_all.Goals as goal
 pub loop-cut-preserved : goal.loop-cut-preserved
 loop-cut-preserved c = record {
   cutting = cutting_more c.args.cuts.now c.loop-cut.cut-index _ c.args.index.now c.loop-cut.index c.cut.new.index (buffered c.args.self.now) (buffered c.loop-cut.self) (buffered c.cut.new.self)
-      (ap (λ n. take n c.args.cuts.now) (add-one c.loop-cut.cut-index) ∙ take-suc c.args.cuts.now c.loop-cut.cut-index _ c.loop-cut-test.true) c.loop-cut.invariant.cutting c.cut.ensures.buffers c.cut.ensures.kept c.cut.ensures.prepared c.cut.ensures.cuts c.cut.ensures.room;
+      (ap (λ n. take n c.args.cuts.now) (add-one c.loop-cut.cut-index) ∙ take-suc c.args.cuts.now c.loop-cut.cut-index _ c.loop-cut-test.true) c.loop-cut.invariant.cutting c.cut.ensures.buffers c.cut.ensures.committed c.cut.ensures.prepared c.cut.ensures.cuts c.cut.ensures.room;
   sizes = (c.cut.ensures.sizes.0 ∙ c.loop-cut.invariant.sizes.0, c.cut.ensures.sizes.1 ∙ c.loop-cut.invariant.sizes.1);
 }
 

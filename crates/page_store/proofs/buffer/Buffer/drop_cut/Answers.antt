@@ -16,7 +16,7 @@ loop-slot-preserved-then-takes c =
     let at : slice_get pages c.loop-slot.slot ≡ Some p = slice_get_read pages (length pages) c.loop-slot.slot p refl lt c.index.ensures in
     record {
       dropping = dropping_goes c.args.cut c.loop-slot.slot c.args.index.now c.loop-slot.index c.drop_slot.new.index (buffered c.args.self.now) pages (buffered c.drop_slot.new.self) p at
-          (sym c.takes.ensures ∙ c.if-takes.true) c.loop-slot.invariant.dropping c.drop_slot.ensures.buffers c.drop_slot.ensures.kept c.drop_slot.ensures.prepared c.drop_slot.ensures.drops;
+          (sym c.takes.ensures ∙ c.if-takes.true) c.loop-slot.invariant.dropping c.drop_slot.ensures.buffers c.drop_slot.ensures.committed c.drop_slot.ensures.prepared c.drop_slot.ensures.drops;
       sizes = (c.drop_slot.ensures.sizes.0 ∙ c.loop-slot.invariant.sizes.0, c.drop_slot.ensures.sizes.1 ∙ c.loop-slot.invariant.sizes.1);
     }
 

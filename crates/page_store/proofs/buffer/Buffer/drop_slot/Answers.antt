@@ -5,7 +5,7 @@ use Rattle.volume_terms.specs.laws.List.{push_last}
 use Rattle.flash_tree.specs.declared.place.FreshPage.{FreshPage}
 use Rattle.page_store.specs.BufferOf.{buffered}
 use Rattle.page_store.proofs.Keys.{holding, buffers, here, buffered_ready, ready_prepared}
-use Rattle.page_store.proofs.Preparing.{kept_on}
+use Rattle.page_store.proofs.Preparing.{committed_on}
 use Rattle.page_store.proofs.SlotDropped.{dropped_last, dropped_moved, left_sized, moved_sized}
 use Rattle.page_store.proofs.buffer.Buffer.drop_slot.Goals as goal
 
@@ -14,7 +14,7 @@ place-requires c =
     let pages : List FreshPage = buffered c.args.self.now in
     let p : FreshPage = c.index.result.now in
     let at : slice_get pages c.args.slot ≡ Some p = slice_get_read pages (length pages) c.args.slot p refl c.requires.slot c.index.ensures in
-    record { prepared = ready_prepared c.args.index.now _ _ (buffered_ready c.args.index.now _ _ c.args.slot ((holding _ _ c.requires.buffers).told _ _ c.args.slot (here pages c.args.slot p at))); number = tt }
+    record { prepared = ready_prepared c.args.index.now _ _ (buffered_ready c.args.index.now _ _ c.args.slot ((holding _ _ c.requires.buffers).reported _ _ c.args.slot (here pages c.args.slot p at))); number = tt }
 
 pub place-requires-then-slot-len : goal.place-requires-then-slot-len
 place-requires-then-slot-len c =
@@ -22,7 +22,7 @@ place-requires-then-slot-len c =
     let last : FreshPage = c.in-Some.last in
     let split : buffered c.args.self.now ≡ init ++ last ∷ [] = rw c.in-Some.is at c.pop.ensures.items in
     let at : slice_get (buffered c.args.self.now) (length init) ≡ Some last = ap (λ (xs : List FreshPage). slice_get xs (length init)) split ∙ push_last init last in
-    record { prepared = c.place.ensures.prepared _ _ (ready_prepared c.args.index.now _ _ (buffered_ready c.args.index.now _ _ (length init) ((holding _ _ c.requires.buffers).told _ _ (length init) (here (buffered c.args.self.now) (length init) last at)))); number = omega (arith, c.requires.slot, c.args.self.now.few, c.args.self.now.small) }
+    record { prepared = c.place.ensures.prepared _ _ (ready_prepared c.args.index.now _ _ (buffered_ready c.args.index.now _ _ (length init) ((holding _ _ c.requires.buffers).reported _ _ (length init) (here (buffered c.args.self.now) (length init) last at)))); number = omega (arith, c.requires.slot, c.args.self.now.few, c.args.self.now.small) }
 
 pub invariant_of-self-then-slot-len : goal.invariant_of-self-then-slot-len
 invariant_of-self-then-slot-len c =
@@ -65,8 +65,8 @@ returns-then-slot-len-clause-buffers c =
     let lt : c.args.slot < length c.pop.new.self.items = omega (arith, c.if-slot-len.true, c.len.ensures) in
     buffers _ _ (dropped_moved c.args.index.now c.place.new.self c.place-then-slot-len.new.self pages c.pop.new.self.items p c.in-Some.last c.args.slot split at lt (holding _ _ c.requires.buffers) c.place.ensures.places c.place-then-slot-len.ensures.places).0
 
-pub returns-then-slot-len-clause-kept : goal.returns-then-slot-len-clause-kept
-returns-then-slot-len-clause-kept c = kept_on _ _ _ c.place.ensures.kept c.place-then-slot-len.ensures.kept
+pub returns-then-slot-len-clause-committed : goal.returns-then-slot-len-clause-committed
+returns-then-slot-len-clause-committed c = committed_on _ _ _ c.place.ensures.committed c.place-then-slot-len.ensures.committed
 
 pub returns-then-slot-len-clause-drops : goal.returns-then-slot-len-clause-drops
 returns-then-slot-len-clause-drops c =

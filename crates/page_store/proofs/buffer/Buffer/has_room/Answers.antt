@@ -1,5 +1,5 @@
 use Rattle.std.proofs.Common.{arith, refl}
-use Rattle.page_store.proofs.Counted.{new_few}
+use Rattle.page_store.proofs.Totaled.{new_few}
 use Rattle.page_store.proofs.buffer.Buffer.has_room.Goals as goal
 
 pub returns-then-len-most : goal.returns-then-len-most

@@ -39,7 +39,7 @@ loop-page-preserved c =
     let putting = subst (λ (xs : List FreshPage). PuttingAll (with_new c.args.index.now (buffered c.args.self.now) c.args.pages.items) (bytes_of_page c.args.self.now) c.args.pages.items xs c.args.index.now c.loop-page.index (buffered c.args.self.now) (buffered c.loop-page.self)) step.0 c.loop-page.invariant.putting in
     record {
       putting = putting_more (with_new c.args.index.now (buffered c.args.self.now) c.args.pages.items) (bytes_of_page c.args.self.now) c.args.pages.items (into_iter_items c.next.new.self) c.in-Some.page c.args.index.now c.loop-page.index c.put.new.index (buffered c.args.self.now) (buffered c.loop-page.self) (buffered c.put.new.self)
-          putting c.put.ensures.buffers c.put.ensures.kept c.put.ensures.prepared c.put.ensures.puts;
+          putting c.put.ensures.buffers c.put.ensures.committed c.put.ensures.prepared c.put.ensures.puts;
       sizes = (c.put.ensures.sizes.0 ∙ c.loop-page.invariant.sizes.0, c.put.ensures.sizes.1 ∙ c.loop-page.invariant.sizes.1);
       len = omega (arith, step.1, ap length step.0, c.loop-page.invariant.len);
     }

@@ -1,7 +1,7 @@
 use Rattle.page_store.proofs.flash_pages.FlashPagesPageStore.apply.Goals as goal
 
-pub returns-in-Store-clause-present : goal.returns-in-Store-clause-present
-returns-in-Store-clause-present g c = rw c.in-Store.is c.apply.ensures.present
+pub returns-in-Store-clause-makes : goal.returns-in-Store-clause-makes
+returns-in-Store-clause-makes g c = rw c.in-Store.is c.apply.ensures.makes
 
-pub returns-in-ReadOnly-clause-present : goal.returns-in-ReadOnly-clause-present
-returns-in-ReadOnly-clause-present g c = rw c.in-ReadOnly.is c.apply-in-ReadOnly.ensures.present
+pub returns-in-ReadOnly-clause-makes : goal.returns-in-ReadOnly-clause-makes
+returns-in-ReadOnly-clause-makes g c = rw c.in-ReadOnly.is c.apply-in-ReadOnly.ensures.makes

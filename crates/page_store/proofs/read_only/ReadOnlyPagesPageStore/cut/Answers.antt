@@ -4,8 +4,8 @@ use Rattle.page_store.specs.Newest.{seen}
 use Rattle.page_store.proofs.Keeping.{goes_on, keeps_all}
 use Rattle.page_store.proofs.read_only.ReadOnlyPagesPageStore.cut.Goals as goal
 
-pub returns-clause-kept : goal.returns-clause-kept
-returns-clause-kept g c = λ sound.
+pub returns-clause-committed : goal.returns-clause-committed
+returns-clause-committed g c = λ sound.
     let self = c.args.self.now in
     keeps_all (record (seen (g.N.Nand.state self.pages.device) self.pages.index self.pages.page.items) { checkpoint = self.checkpoint }) (numbers_of self.greatest) self.spare self.most true self.worn self.numbers self.carrying refl
 

@@ -2,8 +2,8 @@ use Rattle.std.proofs.Common.{refl, true, arith}
 use Rattle.flash_tree.specs.Places.{numbers_of}
 use Rattle.page_store.specs.Newest.{seen}
 use Rattle.page_store.specs.ReadOnly.{only_read}
-use Rattle.page_store.proofs.Keeping.{costs_nothing, goes_on, keeps_all, worn_told}
-use Rattle.page_store.proofs.Told.{not_sound}
+use Rattle.page_store.proofs.Keeping.{costs_nothing, goes_on, keeps_all, worn_reported}
+use Rattle.page_store.proofs.Reported.{not_sound}
 use Rattle.page_store.proofs.read_only.ReadOnlyPagesPageStore.refresh.Goals as goal
 
 pub returns : goal.returns
@@ -22,9 +22,9 @@ returns g c =
       costs = costs_nothing (only_read p n self.spare self.most self.refused_change);
       reads = omega arith;
       ends = λ sound. record {
-        kept = keeps_all p n self.spare self.most true self.worn self.numbers self.carrying refl;
+        committed = keeps_all p n self.spare self.most true self.worn self.numbers self.carrying refl;
         done = tt;
-        cause = worn_told d n self.spare self.worn;
+        cause = worn_reported d n self.spare self.worn;
         idle = λ none. refl;
       };
     }

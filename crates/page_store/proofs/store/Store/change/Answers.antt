@@ -121,7 +121,7 @@ returns-clause-room g c = λ fits.
     commits_not_after (state_of self) m (state_of c.make.new.self)
     (commits_not (state_of self) (state_of p) m same
     (c.make_room.ensures.enough (fits_on self.log.index p.log.index self.buffer p.buffer c.args.change.pages.items c.deref-2.result.now same.current same.buffer c.deref-2.ensures.value fits)))
-    c.make.ensures.same c.make.ensures.committed
+    c.make.ensures.same c.make.ensures.committed_map
 
 pub returns-clause-ends : goal.returns-clause-ends
 returns-clause-ends g c =
@@ -135,10 +135,10 @@ returns-clause-ends g c =
     let room = c.in_ok-is_committed.ensures.ends in
     record {
       whole = whole_made a b m n before after room.whole;
-      committed = committed_made a b m n before after c.make.ensures.committed room.committed;
+      committed_map = committed_made a b m n before after c.make.ensures.committed_map room.committed_map;
       current = λ honest o k.
-          let told : m.log.device.honest ≡ true = (lasts_made a b m m before (same_here m) c.make_room.ensures.keeps.lasts).device.honest ∙ honest in
-          c.make.ensures.current told o k ∙ changed_same c.args.change (current_in m) (current_in a) o k (room.current o k ∙ current_before a b m n before after o k);
+          let reported : m.log.device.honest ≡ true = (lasts_made a b m m before (same_here m) c.make_room.ensures.keeps.lasts).device.honest ∙ honest in
+          c.make.ensures.current reported o k ∙ changed_same c.args.change (current_in m) (current_in a) o k (room.current o k ∙ current_before a b m n before after o k);
       buffered = c.make.ensures.buffered;
       few =
           let same = ap (λ (x : Buffer). length (buffered x)) before.buffer in

@@ -4,15 +4,15 @@ use Rattle.page_store.specs.BufferOf.{buffered}
 use Rattle.page_store.specs.Shown.{present_data}
 use Rattle.pages.specs.declared.change.Cut.{Cut}
 use Rattle.page_store.specs.declared.store.Found.TheVariants as places
-use Rattle.page_store.proofs.Carried.{newest_kept}
-use Rattle.page_store.proofs.Findable.{mountable_kept_since}
-use Rattle.page_store.proofs.Steps.{stands_kept, known_cut, objects_cut, shown_cut}
+use Rattle.page_store.proofs.Carried.{newest_committed_page}
+use Rattle.page_store.proofs.Findable.{mountable_committed_since}
+use Rattle.page_store.proofs.Steps.{stands_committed, known_cut, objects_cut, shown_cut}
 use Rattle.page_store.proofs.store.Store.cut_away.Goals as goal
 
 pub invariant_of-self : goal.invariant_of-self
 invariant_of-self g c =
     let log = c.args.self.now.log in
-    (log.ready, (stands_kept log.index c.cut_all.new.index c.cut_all.ensures.kept _ _ _ log.stands, (log.room_size, (mountable_kept_since _ _ log.index c.cut_all.new.index c.cut_all.ensures.kept log.mountable, tt))))
+    (log.ready, (stands_committed log.index c.cut_all.new.index c.cut_all.ensures.committed _ _ _ log.stands, (log.room_size, (mountable_committed_since _ _ log.index c.cut_all.new.index c.cut_all.ensures.committed log.mountable, tt))))
 
 pub invariant_of-self-2 : goal.invariant_of-self-2
 invariant_of-self-2 g c =
@@ -31,7 +31,7 @@ invariant_of-self-2 g c =
       place = λ i is. absurd (let two : places.Nowhere ≡ places.Buffered i = is in cc);
       few = self.few;
       free = self.free;
-      newest = λ whole honest. newest_kept flash self.log.index y e.kept (self.newest whole honest);
+      newest = λ whole honest. newest_committed_page flash self.log.index y e.committed (self.newest whole honest);
       shown = λ whole honest o k xs is. e.cuts flash o k ∙ shown_cut cuts (present_data self.log.index (buffered self.buffer) flash) self.cache c.drop_cuts.new.cache (self.shown whole honest) c.drop_cuts.ensures.fewer c.drop_cuts.ensures.lacks o k xs is;
     }
 

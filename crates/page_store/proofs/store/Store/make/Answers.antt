@@ -7,16 +7,16 @@ use Rattle.pages.specs.declared.change.Cut.{Cut}
 use Rattle.page_store.specs.Slots.{Held}
 use Rattle.page_store.specs.Caching.{LacksCuts, LacksPages, KeepsUncut}
 use Rattle.page_store.specs.declared.store.Found.TheVariants as places
-use Rattle.page_store.proofs.Carried.{newest_kept}
-use Rattle.page_store.proofs.Findable.{mountable_kept_since}
+use Rattle.page_store.proofs.Carried.{newest_committed_page}
+use Rattle.page_store.proofs.Findable.{mountable_committed_since}
 use Rattle.page_store.proofs.Shown.{lacks_on}
-use Rattle.page_store.proofs.Steps.{stands_kept, known_changed, objects_changed, shown_changed}
+use Rattle.page_store.proofs.Steps.{stands_committed, known_changed, objects_changed, shown_changed}
 use Rattle.page_store.proofs.store.Store.make.Goals as goal
 
 pub invariant_of-self : goal.invariant_of-self
 invariant_of-self g c =
     let log = c.args.self.now.log in
-    (log.ready, (stands_kept log.index c.apply.new.index c.apply.ensures.kept _ _ _ log.stands, (log.room_size, (mountable_kept_since _ _ log.index c.apply.new.index c.apply.ensures.kept log.mountable, tt))))
+    (log.ready, (stands_committed log.index c.apply.new.index c.apply.ensures.committed _ _ _ log.stands, (log.room_size, (mountable_committed_since _ _ log.index c.apply.new.index c.apply.ensures.committed log.mountable, tt))))
 
 pub invariant_of-self-2 : goal.invariant_of-self-2
 invariant_of-self-2 g c =
@@ -34,7 +34,7 @@ invariant_of-self-2 g c =
       place = λ i is. absurd (let two : places.Nowhere ≡ places.Buffered i = is in cc);
       few = self.few;
       free = self.free;
-      newest = λ whole honest. newest_kept (g.N.Nand.state self.log.device).flash self.log.index y e.kept (self.newest whole honest);
+      newest = λ whole honest. newest_committed_page (g.N.Nand.state self.log.device).flash self.log.index y e.committed (self.newest whole honest);
       shown = λ whole honest o k xs is. e.changes flash o k
           ∙ shown_changed c.args.change (present_data self.log.index (buffered self.buffer) flash) self.cache c.drop_cuts.new.cache c.drop_committed.new.cache (self.shown whole honest)
           c.drop_cuts.ensures.fewer c.drop_committed.ensures.fewer (subst (λ (l : List Cut). LacksCuts l c.drop_cuts.new.cache) c.deref.ensures.value c.drop_cuts.ensures.lacks) (subst (λ (l : List FreshPage). LacksPages l c.drop_committed.new.cache) c.deref-2.ensures.value c.drop_committed.ensures.lacks) o k xs is;

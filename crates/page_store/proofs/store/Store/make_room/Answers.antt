@@ -27,7 +27,7 @@ returns-then-has_room-clause-enough g c = λ _. record { log = refl; index = ref
 pub returns-then-has_room-clause-ends : goal.returns-then-has_room-clause-ends
 returns-then-has_room-clause-ends g c = record {
   whole = record { was = c.requires.whole; is = c.requires.whole; power = refl };
-  committed = inl (λ _ _. refl);
+  committed_map = inl (λ _ _. refl);
   current = λ _ _. refl;
   room = c.if-has_room.ensures.0 refl;
   fewer = omega arith;
@@ -49,7 +49,7 @@ returns-in-Ok-clause-ends g c =
     let none : length (buffered new.buffer) ≡ 0 = ap length done.empty in
     record {
       whole = done.whole;
-      committed = inr done.committed;
+      committed_map = inr done.committed_map;
       current = done.current;
       room = room_after new.log.index (buffered new.buffer) c.args.pages.now _ done.empty (subst (λ n. length c.args.pages.now ≤ n) (sym most) c.requires.few);
       fewer = omega (arith, none);

@@ -22,6 +22,6 @@ invariant_of-result g c =
       place = λ i is. absurd (let two : places.Nowhere ≡ places.Buffered i = is in cc);
       few = λ _. c.requires.few;
       free = λ _. c.requires.free;
-      newest = λ _ honest. c.requires.kept honest;
+      newest = λ _ honest. c.requires.committed honest;
       shown = λ _ _ o k xs is. absurd (let two : None ≡ Some xs = sym (ap (option_and_then page_in) (e.cache.1 o k)) ∙ is in cc);
     }

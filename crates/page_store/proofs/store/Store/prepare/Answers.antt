@@ -1,15 +1,15 @@
 use Rattle.std.proofs.Common.{◌∙◌}
 use Rattle.page_store.specs.BufferOf.{buffered}
 use Rattle.page_store.specs.laws.Buffering.{buffers_same}
-use Rattle.page_store.proofs.Carried.{newest_kept}
-use Rattle.page_store.proofs.Findable.{mountable_kept_since}
-use Rattle.page_store.proofs.Steps.{stands_kept, shown_same}
+use Rattle.page_store.proofs.Carried.{newest_committed_page}
+use Rattle.page_store.proofs.Findable.{mountable_committed_since}
+use Rattle.page_store.proofs.Steps.{stands_committed, shown_same}
 use Rattle.page_store.proofs.store.Store.prepare.Goals as goal
 
 pub invariant_of-self : goal.invariant_of-self
 invariant_of-self g c =
     let log = c.args.self.now.log in
-    (log.ready, (stands_kept log.index c.prepare_all.new.index c.prepare_all.ensures.kept _ _ _ log.stands, (log.room_size, (mountable_kept_since _ _ log.index c.prepare_all.new.index c.prepare_all.ensures.kept log.mountable, tt))))
+    (log.ready, (stands_committed log.index c.prepare_all.new.index c.prepare_all.ensures.committed _ _ _ log.stands, (log.room_size, (mountable_committed_since _ _ log.index c.prepare_all.new.index c.prepare_all.ensures.committed log.mountable, tt))))
 
 pub invariant_of-self-in-Ok : goal.invariant_of-self-in-Ok
 invariant_of-self-in-Ok g c =
@@ -26,7 +26,7 @@ invariant_of-self-in-Ok g c =
       place = self.place;
       few = self.few;
       free = self.free;
-      newest = λ whole honest. newest_kept (g.N.Nand.state self.log.device).flash self.log.index y e.kept (self.newest whole honest);
+      newest = λ whole honest. newest_committed_page (g.N.Nand.state self.log.device).flash self.log.index y e.committed (self.newest whole honest);
       shown = λ whole honest. shown_same self.log.index y (buffered self.buffer) (g.N.Nand.state self.log.device).flash self.cache c.prepare_all.new.cache e.present e.fewer (self.shown whole honest);
     }
 
@@ -45,6 +45,6 @@ invariant_of-self-in-Err g c =
       place = self.place;
       few = self.few;
       free = self.free;
-      newest = λ whole honest. newest_kept (g.N.Nand.state self.log.device).flash self.log.index y e.kept (self.newest whole honest);
+      newest = λ whole honest. newest_committed_page (g.N.Nand.state self.log.device).flash self.log.index y e.committed (self.newest whole honest);
       shown = λ whole honest. shown_same self.log.index y (buffered self.buffer) (g.N.Nand.state self.log.device).flash self.cache c.prepare_all.new.cache e.present e.fewer (self.shown whole honest);
     }

@@ -3,14 +3,14 @@ use Rattle.std.proofs.Common.{◌∙◌, refl, sym, ap, subst, inl, inr, arith, 
 use Rattle.std.proofs.lemmas.Bool.{true≢false}
 use Rattle.nand_model.specs.Calls.{Device}
 use Rattle.nand_model.specs.declared.geometry.Geometry.{Geometry}
-use Rattle.block_state.specs.Kept.{bad_count}
+use Rattle.block_state.specs.Committed.{bad_count}
 use Rattle.block_state.specs.Table.{Table}
 use Rattle.block_state.specs.TableOf.{table}
-use Rattle.chunk_index.specs.Maps.{kept_pages}
+use Rattle.chunk_index.specs.Maps.{committed_pages}
 use Rattle.transactions.specs.Checking.{LogState, log_of}
-use Rattle.flash_log.specs.Standing.{AreKept, HasFreeBlocks}
+use Rattle.flash_log.specs.Standing.{AreCommitted, HasFreeBlocks}
 use Rattle.page_store.specs.BufferOf.{buffered}
-use Rattle.page_store.specs.Shown.{kept_data, present_data}
+use Rattle.page_store.specs.Shown.{committed_data, present_data}
 use Rattle.page_store.specs.Refreshing.{IsRefreshFault}
 use Rattle.page_store.specs.StateOf.{state_of}
 use Rattle.page_store.specs.StoreState.{StoreState}
@@ -18,7 +18,7 @@ use Rattle.page_store.proofs.Carried.{found_known, store_finds}
 use Rattle.flash_log.specs.laws.Steps.{step_none}
 use Rattle.page_store.proofs.Changed.{lasts_still}
 use Rattle.page_store.proofs.Following.{buffers_moved}
-use Rattle.page_store.proofs.Refreshed.{current_refreshed, found_moved, kept_now, kept_refreshed, leaves_known, leaves_none, leaves_refreshed, none_outside, pays_refresh, pays_refreshed, power_now, refresh_fails}
+use Rattle.page_store.proofs.Refreshed.{current_refreshed, found_moved, committed_now, committed_refreshed, leaves_known, leaves_none, leaves_refreshed, none_outside, pays_refresh, pays_refreshed, power_now, refresh_fails}
 use Rattle.page_store.proofs.Steps.{known_on, numbered_on}
 use Rattle.page_store.proofs.store.Store.refresh_block.Goals as goal
 
@@ -47,15 +47,15 @@ returns-in-Ok-clause-carried g c = λ whole honest.
     let self = c.args.self.now in
     let d : Device = g.N.Nand.state self.log.device in
     let e : Device = g.N.Nand.state c.refresh.new.self.device in
-    found_known (log_of d (table self.log.blocks)) self.log.index d.honest e self.log.spare (kept_data self.log.index d.flash)
+    found_known (log_of d (table self.log.blocks)) self.log.index d.honest e self.log.spare (committed_data self.log.index d.flash)
     (found_moved self.log.spare d e (table self.log.blocks) (table c.refresh.new.self.blocks) self.log.index c.refresh.new.self.index c.in-Ok.ensures.step self.log.ready self.log.stands
     c.the_counts_are_of_the_keys.ensures.none honest (self.newest whole honest))
 
 pub returns-in-Ok-clause-nothing : goal.returns-in-Ok-clause-nothing
 returns-in-Ok-clause-nothing g c = λ none.
     let self = c.args.self.now in
-    let kept : ((table self.log.blocks).entry c.args.block).kept ≡ 0 = self.log.stands.tables.counts.counts c.args.block ∙ c.the_counts_are_of_the_keys.ensures.zero self.log.index c.args.block none in
-    ap (λ (l : LogState). l.device) (c.in-Ok.ensures.nothing (inl kept)).0.log
+    let committed : ((table self.log.blocks).entry c.args.block).committed ≡ 0 = self.log.stands.tables.counts.counts c.args.block ∙ c.the_counts_are_of_the_keys.ensures.zero self.log.index c.args.block none in
+    ap (λ (l : LogState). l.device) (c.in-Ok.ensures.nothing (inl committed)).0.log
 
 pub returns-in-Ok-clause-ends : goal.returns-in-Ok-clause-ends
 returns-in-Ok-clause-ends g c =
@@ -69,16 +69,16 @@ returns-in-Ok-clause-ends g c =
     let r = c.in-Ok.ensures in
     let law = c.the_counts_are_of_the_keys.ensures.none in
     let whole : self.broken ≡ false = c.if-self.false in
-    let now : d.honest ≡ true → AreKept e.flash (kept_pages y) = λ honest.
-    kept_now c.args.block (log_of d t) (log_of e u) x y (λ idle. let same = (r.nothing idle).0 in (same.log, same.index)) (self.newest whole honest)
+    let now : d.honest ≡ true → AreCommitted e.flash (committed_pages y) = λ honest.
+    committed_now c.args.block (log_of d t) (log_of e u) x y (λ idle. let same = (r.nothing idle).0 in (same.log, same.index)) (self.newest whole honest)
     (λ power. r.step.stands.newest (r.step.lasts.honest ∙ honest) power) r.ends.moved in
     record {
       whole = record { was = whole; is = whole; power = power_now c.args.block (log_of d t) (log_of e u) x y r.step.lasts (λ idle. let same = (r.nothing idle).0 in (same.log, same.index)) r.ends.moved };
-      committed = known_on d.honest e.honest (kept_data x d.flash) (kept_data y e.flash) r.step.lasts.honest
-          (λ honest. kept_refreshed self.log.spare d e t u x y r.step self.log.ready self.log.stands law honest (self.newest whole honest) (now honest));
+      committed_map = known_on d.honest e.honest (committed_data x d.flash) (committed_data y e.flash) r.step.lasts.honest
+          (λ honest. committed_refreshed self.log.spare d e t u x y r.step self.log.ready self.log.stands law honest (self.newest whole honest) (now honest));
       current = known_on d.honest e.honest (present_data x (buffered self.buffer) d.flash) (present_data y (buffered self.buffer) e.flash) r.step.lasts.honest
           (λ honest. current_refreshed self.log.spare d e t u x y r.step self.log.ready self.log.stands law honest (self.newest whole honest) (now honest) (buffered self.buffer));
-      leaves = λ honest. leaves_known d.honest c.args.block d.flash e.flash (kept_data x d.flash)
+      leaves = λ honest. leaves_known d.honest c.args.block d.flash e.flash (committed_data x d.flash)
           (leaves_refreshed self.log.spare d e t u x y r.step self.log.ready self.log.stands law honest (self.newest whole honest) (now honest) c.args.block r.ends.moved r.anew);
     }
 
@@ -104,15 +104,15 @@ returns-in-Err-clause-carried g c = λ whole honest.
     let self = c.args.self.now in
     let d : Device = g.N.Nand.state self.log.device in
     let e : Device = g.N.Nand.state c.refresh.new.self.device in
-    found_known (log_of d (table self.log.blocks)) self.log.index d.honest e self.log.spare (kept_data self.log.index d.flash)
+    found_known (log_of d (table self.log.blocks)) self.log.index d.honest e self.log.spare (committed_data self.log.index d.flash)
     (found_moved self.log.spare d e (table self.log.blocks) (table c.refresh.new.self.blocks) self.log.index c.refresh.new.self.index c.in-Err.ensures.step self.log.ready self.log.stands
     c.the_counts_are_of_the_keys.ensures.none honest (self.newest whole honest))
 
 pub returns-in-Err-clause-nothing : goal.returns-in-Err-clause-nothing
 returns-in-Err-clause-nothing g c = λ none.
     let self = c.args.self.now in
-    let kept : ((table self.log.blocks).entry c.args.block).kept ≡ 0 = self.log.stands.tables.counts.counts c.args.block ∙ c.the_counts_are_of_the_keys.ensures.zero self.log.index c.args.block none in
-    ap (λ (l : LogState). l.device) (c.in-Err.ensures.nothing (inl kept)).0.log
+    let committed : ((table self.log.blocks).entry c.args.block).committed ≡ 0 = self.log.stands.tables.counts.counts c.args.block ∙ c.the_counts_are_of_the_keys.ensures.zero self.log.index c.args.block none in
+    ap (λ (l : LogState). l.device) (c.in-Err.ensures.nothing (inl committed)).0.log
 
 pub returns-in-Err-clause-ends : goal.returns-in-Err-clause-ends
 returns-in-Err-clause-ends g c =
@@ -144,9 +144,9 @@ returns-then-block-blocks-clause-ends g c =
     let past : d.geometry.blocks ≤ c.args.block = search rules in
     record {
       whole = record { was = c.if-self.false; is = c.if-self.false; power = refl };
-      committed = λ o l. refl;
+      committed_map = λ o l. refl;
       current = λ o l. refl;
-      leaves = λ honest. leaves_known d.honest c.args.block d.flash d.flash (kept_data x d.flash)
+      leaves = λ honest. leaves_known d.honest c.args.block d.flash d.flash (committed_data x d.flash)
           (leaves_none self.log.spare d d t t x x (step_none self.log.spare d t x self.log.ready self.log.stands) self.log.ready self.log.stands c.the_counts_are_of_the_keys.ensures.none honest (self.newest c.if-self.false honest)
           c.args.block (none_outside self.log.spare d t x c.args.block self.log.ready self.log.stands past));
     }
@@ -163,8 +163,8 @@ invariant_of-self g c =
     let r = c.in-Ok.ensures in
     let law = c.the_counts_are_of_the_keys.ensures.none in
     let bytes = ap (λ (z : Geometry). z.bytes) r.step.lasts.geometry in
-    let now : self.broken ≡ false → d.honest ≡ true → AreKept e.flash (kept_pages y) = λ whole honest.
-    kept_now c.args.block (log_of d t) (log_of e u) x y (λ idle. let same = (r.nothing idle).0 in (same.log, same.index)) (self.newest whole honest)
+    let now : self.broken ≡ false → d.honest ≡ true → AreCommitted e.flash (committed_pages y) = λ whole honest.
+    committed_now c.args.block (log_of d t) (log_of e u) x y (λ idle. let same = (r.nothing idle).0 in (same.log, same.index)) (self.newest whole honest)
     (λ power. r.step.stands.newest (r.step.lasts.honest ∙ honest) power) r.ends.moved in
     record {
       buffers = buffers_moved x y r.step.index (buffered self.buffer) self.buffers;

@@ -2,13 +2,13 @@ use Rattle.std.specs.Prelude.{◌≡◌, ◌≤◌, ◌/◌, true, false, List, 
 use Rattle.std.proofs.Common.{◌∙◌, refl, sym, ap, subst, inl, inr, arith}
 use Rattle.nand_model.specs.declared.geometry.Geometry.{Geometry}
 use Rattle.page_store.specs.BufferOf.{buffered}
-use Rattle.page_store.specs.Shown.{kept_data, present_data}
+use Rattle.page_store.specs.Shown.{committed_data, present_data}
 use Rattle.flash_tree.specs.declared.place.FreshPage.{FreshPage}
 use Rattle.page_store.specs.BufferOf.{last_written}
 use Rattle.page_store.specs.Buffering.{Buffers}
 use Rattle.page_store.specs.Caching.{Shows, AreIn, TakesPages}
 use Rattle.pages.specs.Stores.{SamePages}
-use Rattle.block_state.specs.Kept.{bad_count}
+use Rattle.block_state.specs.Committed.{bad_count}
 use Rattle.block_state.specs.TableOf.{table}
 use Rattle.flash_log.specs.Standing.{HasFreeBlocks}
 use Rattle.transactions.specs.Checking.{log_of}
@@ -18,7 +18,7 @@ use Rattle.page_store.specs.StateOf.{state_of}
 use Rattle.page_store.proofs.Changed.{lasts_still}
 use Rattle.page_store.specs.Changing.{IsCommitFault}
 use Rattle.page_store.specs.declared.store.Found.TheVariants as places
-use Rattle.page_store.proofs.Carried.{either_known, kept_is_carried, newest_committed}
+use Rattle.page_store.proofs.Carried.{either_known, committed_is_carried, newest_committed}
 use Rattle.page_store.proofs.Steps.{buffered_shown, commit_fails, committed_power, known_on, some_buffered, writable}
 use Rattle.page_store.proofs.store.Store.write_out.Goals as goal
 
@@ -34,18 +34,18 @@ invariant_of-self g c =
     let empty : buffered c.keep_written.new.buffer ≡ [] = k.pages ∙ done.empty in
     let bytes = ap (λ (z : Geometry). z.bytes) w.log.lasts.geometry in
     record {
-      buffers = subst (Buffers y) (sym k.pages) w.buffer.buffers;
+      buffers = subst (Buffers y) (sym k.pages) w.buffer.1.buffers;
       objects = λ _ i p is. absurd (let two : None ≡ Some p = sym (ap (λ (l : List FreshPage). slice_get l i) empty) ∙ is in cc);
-      most = k.buffer_sizes.0 ∙ w.sizes.most ∙ self.most ∙ ap (λ (z : Geometry). z.pages / 4) (sym w.log.lasts.geometry);
+      most = k.buffer_sizes.0 ∙ w.buffer.0.most ∙ self.most ∙ ap (λ (z : Geometry). z.pages / 4) (sym w.log.lasts.geometry);
       size = self.size ∙ sym bytes;
-      buffer_size = k.buffer_sizes.1 ∙ w.sizes.bytes ∙ self.buffer_size ∙ sym bytes;
+      buffer_size = k.buffer_sizes.1 ∙ w.buffer.0.bytes ∙ self.buffer_size ∙ sym bytes;
       cache_size = k.sizes.page_bytes ∙ self.cache_size ∙ sym bytes;
       place = λ i is. absurd (let two : places.Nowhere ≡ places.Buffered i = is in cc);
       few = λ _. subst (λ s. bad_count (table c.commit.new.log.blocks) ≤ s) (sym w.terms.spare) done.few;
       free = λ _. subst (HasFreeBlocks (table c.commit.new.log.blocks)) (sym w.terms.spare) done.free;
       newest = λ whole honest.
           let before = sym w.log.lasts.honest ∙ honest in
-          newest_committed (buffered self.buffer) old new self.log.index y (λ none. (w.nothing none).device) (λ none. (w.nothing none).kept) (self.newest whole before) done.power (w.log.stands.newest honest);
+          newest_committed (buffered self.buffer) old new self.log.index y (λ none. (w.nothing none).device) (λ none. (w.nothing none).committed) (self.newest whole before) done.power (w.log.stands.newest honest);
       shown = λ whole honest.
           let before = sym w.log.lasts.honest ∙ honest in
           let m = present_data y (buffered c.commit.new.buffer) new.flash in
@@ -59,14 +59,16 @@ pub returns-in-Err-clause-carried : goal.returns-in-Err-clause-carried
 returns-in-Err-clause-carried g c = λ whole honest.
     let self = c.args.self.now in
     let d = g.N.Nand.state self.log.device in
-    let carried = kept_is_carried self.log.spare d (table self.log.blocks) self.log.index c.the_counts_are_of_the_keys.ensures.none self.log.ready self.log.stands.tables (self.newest whole honest) in
-    either_known (log_of d (table self.log.blocks)) self.log.index d.honest (g.N.Nand.state c.commit.new.log.device) self.log.spare (kept_data self.log.index d.flash) (present_data self.log.index (buffered self.buffer) d.flash) (c.commit.ensures.newest honest carried)
+    let carried = committed_is_carried self.log.spare d (table self.log.blocks) self.log.index c.the_counts_are_of_the_keys.ensures.none self.log.ready self.log.stands.tables (self.newest whole honest) in
+    either_known (log_of d (table self.log.blocks)) self.log.index d.honest (g.N.Nand.state c.commit.new.log.device) self.log.spare (committed_data self.log.index d.flash) (present_data self.log.index (buffered self.buffer) d.flash) ((c.commit.ensures.carries honest).newest carried)
 
-pub commit-requires-clause-few : goal.commit-requires-clause-few
-commit-requires-clause-few g c = c.args.self.now.few c.if-self.false
+pub commit-requires-clause-reserve : goal.commit-requires-clause-reserve
+commit-requires-clause-reserve g c = (c.args.self.now.few c.if-self.false, c.args.self.now.free c.if-self.false)
 
-pub commit-requires-clause-pages : goal.commit-requires-clause-pages
-commit-requires-clause-pages g c = let self = c.args.self.now in writable (g.N.Nand.state self.log.device) self.buffer (self.objects c.if-self.false) self.buffer_size
+pub commit-requires-clause-buffers : goal.commit-requires-clause-buffers
+commit-requires-clause-buffers g c =
+    let self = c.args.self.now in
+    record { buffers = self.buffers; pages = writable (g.N.Nand.state self.log.device) self.buffer (self.objects c.if-self.false) self.buffer_size }
 
 pub returns-in-Err-clause-ends : goal.returns-in-Err-clause-ends
 returns-in-Err-clause-ends g c =
@@ -85,8 +87,8 @@ pub returns-in-Ok-clause-carried : goal.returns-in-Ok-clause-carried
 returns-in-Ok-clause-carried g c = λ whole honest.
     let self = c.args.self.now in
     let d = g.N.Nand.state self.log.device in
-    let carried = kept_is_carried self.log.spare d (table self.log.blocks) self.log.index c.the_counts_are_of_the_keys.ensures.none self.log.ready self.log.stands.tables (self.newest whole honest) in
-    either_known (log_of d (table self.log.blocks)) self.log.index d.honest (g.N.Nand.state c.commit.new.log.device) self.log.spare (kept_data self.log.index d.flash) (present_data self.log.index (buffered self.buffer) d.flash) (c.commit.ensures.newest honest carried)
+    let carried = committed_is_carried self.log.spare d (table self.log.blocks) self.log.index c.the_counts_are_of_the_keys.ensures.none self.log.ready self.log.stands.tables (self.newest whole honest) in
+    either_known (log_of d (table self.log.blocks)) self.log.index d.honest (g.N.Nand.state c.commit.new.log.device) self.log.spare (committed_data self.log.index d.flash) (present_data self.log.index (buffered self.buffer) d.flash) ((c.commit.ensures.carries honest).newest carried)
 
 pub returns-then-self-clause-keeps : goal.returns-then-self-clause-keeps
 returns-then-self-clause-keeps g c = record { lasts = lasts_still (state_of c.args.self.now); counts = record { refused = refl; commits = omega arith; none = λ _. refl }; keys = λ _ _ is. is; cache = λ _ _ is. is }
@@ -115,7 +117,7 @@ returns-in-Ok-clause-ends g c =
         is = c.if-self.false;
         power = committed_power old new (buffered self.buffer) c.commit.ensures.log.lasts (λ none. (c.commit.ensures.nothing none).device) done.power;
       };
-      committed = known_on old.honest new.honest (present_data self.log.index (buffered self.buffer) old.flash) (kept_data y new.flash) c.commit.ensures.log.lasts.honest done.kept;
+      committed_map = known_on old.honest new.honest (present_data self.log.index (buffered self.buffer) old.flash) (committed_data y new.flash) c.commit.ensures.log.lasts.honest done.committed;
       current = known_on old.honest new.honest (present_data self.log.index (buffered self.buffer) old.flash) (present_data y (buffered c.keep_written.new.buffer) new.flash) c.commit.ensures.log.lasts.honest
           (subst (λ (l : List FreshPage). old.honest ≡ true → SamePages (present_data y l new.flash) (present_data self.log.index (buffered self.buffer) old.flash)) (sym k.pages) done.present);
       empty = empty;

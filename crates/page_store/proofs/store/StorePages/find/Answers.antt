@@ -4,7 +4,7 @@ use Rattle.chunk_index.specs.Maps.{present}
 use Rattle.page_store.specs.laws.Buffering.{place_within}
 use Rattle.page_store.specs.BufferOf.{buffered}
 use Rattle.page_store.specs.StateOf.{lent_by, state_of}
-use Rattle.page_store.proofs.ReadOnly.{near_cached, finds_seen, buffered_lent, kept_lent, not_absent, fault_seen}
+use Rattle.page_store.proofs.ReadOnly.{near_cached, finds_seen, buffered_lent, committed_lent, not_absent, fault_seen}
 use Rattle.page_store.proofs.store.StorePages.find.Goals as goal
 
 pub invariant_of-self : goal.invariant_of-self
@@ -37,13 +37,13 @@ returns-in-InBuffer-clause-page g c = λ sound.
 pub returns-in-OnFlash-clause-finds : goal.returns-in-OnFlash-clause-finds
 returns-in-OnFlash-clause-finds g c =
     let self = c.args.self.now in
-    let new = c.find_kept.new.self in
-    finds_seen (state_of self) (state_of new) (lent_by self) (lent_by new) c.find_kept.ensures.looks
+    let new = c.find_committed.new.self in
+    finds_seen (state_of self) (state_of new) (lent_by self) (lent_by new) c.find_committed.ensures.looks
 
 pub returns-in-OnFlash-clause-page : goal.returns-in-OnFlash-clause-page
 returns-in-OnFlash-clause-page g c = λ sound.
-    let e = c.find_kept.ensures in
-    kept_lent (state_of c.args.self.now) (lent_by c.find_kept.new.self) c.args.key.object c.args.key.chunk c.in-OnFlash.at c.find_kept.result (sym c.present.ensures ∙ c.in-OnFlash.is) sound e.there e.page
+    let e = c.find_committed.ensures in
+    committed_lent (state_of c.args.self.now) (lent_by c.find_committed.new.self) c.args.key.object c.args.key.chunk c.in-OnFlash.at c.find_committed.result (sym c.present.ensures ∙ c.in-OnFlash.is) sound e.there e.page
 
 pub returns-in-OnFlash-clause-absent : goal.returns-in-OnFlash-clause-absent
 returns-in-OnFlash-clause-absent g c = λ sound none.
@@ -53,10 +53,10 @@ returns-in-OnFlash-clause-absent g c = λ sound none.
 pub returns-in-OnFlash-clause-fault : goal.returns-in-OnFlash-clause-fault
 returns-in-OnFlash-clause-fault g c =
     let self = c.args.self.now in
-    let new = c.find_kept.new.self in
-    fault_seen (state_of self) (state_of new) (lent_by self) (lent_by new) c.find_kept.result c.find_kept.ensures.fault
+    let new = c.find_committed.new.self in
+    fault_seen (state_of self) (state_of new) (lent_by self) (lent_by new) c.find_committed.result c.find_committed.ensures.fault
 
 pub returns-in-OnFlash-clause-near : goal.returns-in-OnFlash-clause-near
 returns-in-OnFlash-clause-near g c = λ near.
     let self = c.args.self.now in
-    c.find_kept.ensures.cached (near_cached (present self.log.index c.args.key.object c.args.key.chunk) c.in-OnFlash.at _ (sym c.present.ensures ∙ c.in-OnFlash.is) near)
+    c.find_committed.ensures.cached (near_cached (present self.log.index c.args.key.object c.args.key.chunk) c.in-OnFlash.at _ (sym c.present.ensures ∙ c.in-OnFlash.is) near)

@@ -2,14 +2,14 @@ use Rattle.std.proofs.Common.{◌∙◌, sym, ap, option_and_then}
 use Rattle.page_store.specs.BufferOf.{buffered}
 use Rattle.page_store.specs.Slots.{page_in}
 use Rattle.page_store.specs.StateOf.{state_of}
-use Rattle.page_store.proofs.CachedPages.{kept_same}
+use Rattle.page_store.proofs.CachedPages.{committed_same}
 use Rattle.page_store.proofs.Spares.{seen_same}
 use Rattle.page_store.proofs.store.StorePages.take_frame.Goals as goal
 
 pub invariant_of-self : goal.invariant_of-self
 invariant_of-self g c =
     let self = c.args.self.now in
-    let same = kept_same self.cache c.take_spare.new.self c.take_spare.ensures.same in
+    let same = committed_same self.cache c.take_spare.new.self c.take_spare.ensures.same in
     record {
       buffers = self.buffers;
       objects = self.objects;

@@ -5,7 +5,7 @@ use Rattle.nand_model.specs.declared.geometry.Geometry.{Geometry}
 use Rattle.block_state.specs.Table.{Table}
 use Rattle.flash_log.specs.Snapshots.{Snapshot, remembered_flash}
 use Rattle.page_store.specs.BufferOf.{buffered, most_pages}
-use Rattle.pages.specs.Stores.{AreNear}
+use Rattle.pages.specs.Stores.{BuffersPages}
 use Rattle.page_store.specs.StoreOf.{next_numbers}
 use Rattle.page_store.specs.StoreState.{committed_in, current_in, seen_of, StoreState}
 use Rattle.page_store.specs.StateOf.{lent_by, state_of}
@@ -13,7 +13,7 @@ use Rattle.page_store.proofs.Carried.{has_page, store_carries}
 use Rattle.page_store.proofs.Steps.{few_new}
 use Rattle.page_store.specs.laws.Sound.{sound_whole}
 use Rattle.page_store.proofs.ReadOnly.{near_buffered, sound_honest}
-use Rattle.page_store.proofs.Told.{both_whole, change_told, either_since, failed_stays, finds_now, hands_told, is_sound, keeps_either, limits_told, marks_told, sound_on, sound_stays, stays_broken_changed, stays_mountable, stops_changed, stops_told, unchanged, ways, when_changed}
+use Rattle.page_store.proofs.Reported.{both_whole, change_reported, either_since, failed_stays, finds_now, hands_reported, is_sound, keeps_either, limits_reported, marks_reported, sound_on, stays_broken_changed, stays_mountable, stops_changed, stops_reported, unchanged, ways, when_changed}
 use Rattle.page_store.proofs.store_trait.StorePageStore.apply.Goals as goal
 
 pub returns-clause-goes_on : goal.returns-clause-goes_on
@@ -32,30 +32,24 @@ returns-clause-goes_on g c =
       commits = lasts.counts.commits;
       failed = failed_stays a.log.device b.log.device a.broken b.broken lasts.device (stays_broken_changed c.args.change c.change.result a b e.ends);
       device = lasts.device;
-      numbers = hands_told a.log.device b.log.device a.log.table b.log.table lasts.numbers;
-      marks = marks_told a.log.device b.log.device a.log.table b.log.table c.args.self.now.log.ready new.log.ready e.pays.pays.marks;
-      limits = λ honest _. limits_told b.log.device b.log.table new.log.ready new.log.stands.limits (lasts.device.honest ∙ honest);
+      numbers = hands_reported a.log.device b.log.device a.log.table b.log.table lasts.numbers;
+      marks = marks_reported a.log.device b.log.device a.log.table b.log.table c.args.self.now.log.ready new.log.ready e.pays.pays.marks;
+      limits = λ honest _. limits_reported b.log.device b.log.table new.log.ready new.log.stands.limits (lasts.device.honest ∙ honest);
       truth = lasts.numbers.truth;
       mountable = stays_mountable a b (lent_by c.args.self.now) (lent_by new) lasts.device lasts.first new.log.mountable;
     }
 
-pub returns-clause-sound : goal.returns-clause-sound
-returns-clause-sound g c =
+pub returns-clause-makes : goal.returns-clause-makes
+returns-clause-makes g c = λ sound.
     let a : StoreState = state_of c.args.self.now in
     let b : StoreState = state_of c.change.new.self in
     let e = c.change.ensures in
-    sound_stays c.change.result a.log.device b.log.device a.broken b.broken e.lasts.device (when_changed c.args.change c.change.result a b e.ends (λ is. both_whole a b is.whole))
+    let honest = sound_honest a.log.device.honest a.broken sound in
+    when_changed c.args.change c.change.result a b e.ends
+    (λ is. record { sound = is_sound b.log.device.honest b.broken (e.lasts.device.honest ∙ honest) (both_whole a b is.whole).1; present = is.current honest })
 
-pub returns-clause-present : goal.returns-clause-present
-returns-clause-present g c = λ sound.
-    let a : StoreState = state_of c.args.self.now in
-    when_changed c.args.change c.change.result a (state_of c.change.new.self) c.change.ensures.ends (λ is. is.current (sound_honest a.log.device.honest a.broken sound))
-
-pub returns-clause-power : goal.returns-clause-power
-returns-clause-power g c = when_changed c.args.change c.change.result (state_of c.args.self.now) (state_of c.change.new.self) c.change.ensures.ends (λ is. is.whole.power)
-
-pub returns-clause-kept : goal.returns-clause-kept
-returns-clause-kept g c = λ sound.
+pub returns-clause-committed : goal.returns-clause-committed
+returns-clause-committed g c = λ sound.
     let new = c.change.new.self in
     let a : StoreState = state_of c.args.self.now in
     let b : StoreState = state_of new in
@@ -69,8 +63,8 @@ returns-clause-kept g c = λ sound.
     let n = current_in a in
     keeps_either q m n
     (ways r q m n (sound_on r a.log.device b.log.device a.broken b.broken e.lasts.device (when_changed change r a b e.ends (λ is. both_whole a b is.whole)) honest)
-    (when_changed change r a b e.ends (λ is. is.committed)) (stops_told r b.log.device.honest b.broken (stops_changed change r a b e.ends))
-    (λ none. let is = unchanged change r a b e.ends none in (is_sound b.log.device.honest b.broken (e.lasts.device.honest ∙ honest) (is.broken ∙ whole), is.committed)))
+    (when_changed change r a b e.ends (λ is. is.committed_map)) (stops_reported r b.log.device.honest b.broken (stops_changed change r a b e.ends))
+    (λ none. let is = unchanged change r a b e.ends none in (is_sound b.log.device.honest b.broken (e.lasts.device.honest ∙ honest) (is.broken ∙ whole), is.committed_map)))
     (λ is. record {
       carried = store_carries b.spare b.log.device b.log.table b.index c.the_counts_are_of_the_keys.ensures.none new.log.ready new.log.stands.tables (new.newest (sound_whole b.log.device.honest b.broken is) (sound_honest b.log.device.honest b.broken is));
       found = finds_now b (lent_by new) new.log.mountable;
@@ -84,7 +78,7 @@ returns-clause-refused g c = λ none.
     let is = unchanged c.args.change c.change.result a b c.change.ensures.ends none in
     record {
       present = is.current;
-      kept = is.committed;
+      committed = is.committed_map;
       sound = ap (λ w. b.log.device.honest && not w) is.broken ∙ ap (λ (d : Device). d.honest && not a.broken) is.device;
       device = is.device;
       next = ap next_numbers is.table;
@@ -95,7 +89,7 @@ returns-clause-refused g c = λ none.
 pub returns-clause-stops : goal.returns-clause-stops
 returns-clause-stops g c =
     let b : StoreState = state_of c.change.new.self in
-    stops_told c.change.result b.log.device.honest b.broken (stops_changed c.args.change c.change.result (state_of c.args.self.now) b c.change.ensures.ends)
+    stops_reported c.change.result b.log.device.honest b.broken (stops_changed c.args.change c.change.result (state_of c.args.self.now) b c.change.ensures.ends)
 
 pub returns-clause-fault : goal.returns-clause-fault
 returns-clause-fault g c = λ sound.
@@ -108,8 +102,8 @@ returns-clause-fault g c = λ sound.
     let whole = sound_whole a.log.device.honest a.broken sound in
     let few : length (buffered self.buffer) ≤ most_pages self.buffer = self.buffer.few in
     let most : most_pages self.buffer ≡ a.log.device.geometry.pages / 4 = self.most in
-    change_told a b (lent_by self) (lent_by new) self.log.ready.geometry e.lasts.device.geometry e.lasts.spare new.log.ready (omega (arith, most)) few (self.few whole)
-    (c.the_counts_add_up_to_the_kept_keys.ensures.all a.log.table a.index self.log.stands.tables.counts) (λ o k at is. has_page a.log.device a.index o k at honest (self.newest whole honest) is)
+    change_reported a b (lent_by self) (lent_by new) self.log.ready.geometry e.lasts.device.geometry e.lasts.spare new.log.ready (omega (arith, most)) few (self.few whole)
+    (c.the_counts_add_up_to_the_committed_keys.ensures.all a.log.table a.index self.log.stands.tables.counts) (λ o k at is. has_page a.log.device a.index o k at honest (self.newest whole honest) is)
     c.args.change c.change.result whole e.ends
 
 pub returns-clause-room : goal.returns-clause-room
@@ -117,12 +111,9 @@ returns-clause-room g c = λ fits.
     let none = c.change.ensures.room (omega (arith, fits, few_new c.args.self.now.log.index c.args.change.pages.items)) in
     record { device = none.device; commits = none.commits }
 
-pub returns-clause-buffered : goal.returns-clause-buffered
-returns-clause-buffered g c = when_changed c.args.change c.change.result (state_of c.args.self.now) (state_of c.change.new.self) c.change.ensures.ends (λ is. is.few)
-
-pub returns-clause-near : goal.returns-clause-near
-returns-clause-near g c =
+pub returns-clause-buffers : goal.returns-clause-buffers
+returns-clause-buffers g c =
     let new = c.change.new.self in
-    let change = c.args.change in
-    when_changed {A = AreNear change.pages.items (seen_of (state_of new) (lent_by new))} change c.change.result (state_of c.args.self.now) (state_of new) c.change.ensures.ends
-    (λ is i p there. near_buffered _ _ (is.buffered i p there))
+    when_changed {A = BuffersPages c.args.change.pages.items (seen_of (state_of c.args.self.now) (lent_by c.args.self.now)) (seen_of (state_of new) (lent_by new))} c.args.change c.change.result (state_of c.args.self.now)
+    (state_of new) c.change.ensures.ends
+    (λ is. record { power = is.whole.power; buffered = is.few; near = λ i p there. near_buffered _ _ (is.buffered i p there) })

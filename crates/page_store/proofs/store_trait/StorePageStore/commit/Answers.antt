@@ -9,7 +9,7 @@ use Rattle.page_store.specs.StateOf.{lent_by, state_of}
 use Rattle.page_store.proofs.Carried.{has_page, store_carries}
 use Rattle.page_store.specs.laws.Sound.{sound_whole}
 use Rattle.page_store.proofs.ReadOnly.{sound_honest}
-use Rattle.page_store.proofs.Told.{both_whole, commit_told, none_buffered, committed, either_since, failed_stays, finds_now, hands_told, keeps_either, limits_told, marks_told, sound_on, sound_stays, stays_broken, stays_mountable, stopped, stops_either, stops_told, stops_written, takes_none, ways, when_written}
+use Rattle.page_store.proofs.Reported.{both_whole, commit_reported, none_buffered, committed_map, made_durable, either_since, failed_stays, finds_now, hands_reported, keeps_either, limits_reported, marks_reported, sound_on, stays_broken, stays_mountable, stopped, stops_either, stops_reported, stops_written, takes_none, ways, when_written}
 use Rattle.page_store.proofs.store_trait.StorePageStore.commit.Goals as goal
 
 pub returns-clause-goes_on : goal.returns-clause-goes_on
@@ -28,28 +28,21 @@ returns-clause-goes_on g c =
       commits = lasts.counts.commits;
       failed = failed_stays a.log.device b.log.device a.broken b.broken lasts.device (stays_broken c.write_out.result a b e.ends);
       device = lasts.device;
-      numbers = hands_told a.log.device b.log.device a.log.table b.log.table lasts.numbers;
-      marks = marks_told a.log.device b.log.device a.log.table b.log.table c.args.self.now.log.ready new.log.ready e.pays.marks;
-      limits = λ honest _. limits_told b.log.device b.log.table new.log.ready new.log.stands.limits (lasts.device.honest ∙ honest);
+      numbers = hands_reported a.log.device b.log.device a.log.table b.log.table lasts.numbers;
+      marks = marks_reported a.log.device b.log.device a.log.table b.log.table c.args.self.now.log.ready new.log.ready e.pays.marks;
+      limits = λ honest _. limits_reported b.log.device b.log.table new.log.ready new.log.stands.limits (lasts.device.honest ∙ honest);
       truth = lasts.numbers.truth;
       mountable = stays_mountable a b (lent_by c.args.self.now) (lent_by new) lasts.device lasts.first new.log.mountable;
     }
 
-pub returns-clause-sound : goal.returns-clause-sound
-returns-clause-sound g c =
+pub returns-clause-empties : goal.returns-clause-empties
+returns-clause-empties g c =
     let a : StoreState = state_of c.args.self.now in
     let b : StoreState = state_of c.write_out.new.self in
-    let e = c.write_out.ensures in
-    sound_stays c.write_out.result a.log.device b.log.device a.broken b.broken e.keeps.lasts.device (when_written c.write_out.result a b e.ends (λ is. both_whole a b is.whole))
+    when_written c.write_out.result a b c.write_out.ensures.ends (λ is. record { power = is.whole.power; empty = ap (λ (xs : List FreshPage). length xs) is.empty })
 
-pub returns-clause-present : goal.returns-clause-present
-returns-clause-present g c = λ _. when_written c.write_out.result (state_of c.args.self.now) (state_of c.write_out.new.self) c.write_out.ensures.ends (λ is. is.current)
-
-pub returns-clause-power : goal.returns-clause-power
-returns-clause-power g c = when_written c.write_out.result (state_of c.args.self.now) (state_of c.write_out.new.self) c.write_out.ensures.ends (λ is. is.whole.power)
-
-pub returns-clause-kept : goal.returns-clause-kept
-returns-clause-kept g c = λ sound.
+pub returns-clause-committed : goal.returns-clause-committed
+returns-clause-committed g c = λ sound.
     let new = c.write_out.new.self in
     let a : StoreState = state_of c.args.self.now in
     let b : StoreState = state_of new in
@@ -62,28 +55,29 @@ returns-clause-kept g c = λ sound.
     let n = current_in a in
     keeps_either q m n
     (ways r q m n (sound_on r a.log.device b.log.device a.broken b.broken e.keeps.lasts.device (when_written r a b e.ends (λ is. both_whole a b is.whole)) honest)
-    (when_written {A = SamePages q.kept m ⊎ SamePages q.kept n} r a b e.ends (λ is. inr is.committed))
-    (stops_told r b.log.device.honest b.broken (stops_either r b.broken (stops_written r a b e.ends))) (λ none. absurd (takes_none r a b e.ends none)))
+    (when_written {A = SamePages q.committed m ⊎ SamePages q.committed n} r a b e.ends (λ is. inr is.committed_map))
+    (stops_reported r b.log.device.honest b.broken (stops_either r b.broken (stops_written r a b e.ends))) (λ none. absurd (takes_none r a b e.ends none)))
     (λ is. record {
       carried = store_carries b.spare b.log.device b.log.table b.index c.the_counts_are_of_the_keys.ensures.none new.log.ready new.log.stands.tables (new.newest (sound_whole b.log.device.honest b.broken is) (sound_honest b.log.device.honest b.broken is));
       found = finds_now b (lent_by new) new.log.mountable;
     })
     (either_since a b (lent_by c.args.self.now) (lent_by new) m n e.keeps.lasts c.args.self.now.log.mountable (e.carried whole honest))
 
-pub returns-clause-committed : goal.returns-clause-committed
-returns-clause-committed g c = λ sound.
+pub returns-clause-makes : goal.returns-clause-makes
+returns-clause-makes g c = λ sound.
     let new = c.write_out.new.self in
     let a : StoreState = state_of c.args.self.now in
     let b : StoreState = state_of new in
     let r = c.write_out.result in
     let e = c.write_out.ensures in
     let honest = sound_honest a.log.device.honest a.broken sound in
-    committed r (seen_of b (lent_by new)) (current_in a)
-    (sound_on r a.log.device b.log.device a.broken b.broken e.keeps.lasts.device (when_written r a b e.ends (λ is. both_whole a b is.whole)) honest) (when_written r a b e.ends (λ is. is.committed))
+    let whole = sound_on r a.log.device b.log.device a.broken b.broken e.keeps.lasts.device (when_written r a b e.ends (λ is. both_whole a b is.whole)) honest in
+    let committed = committed_map r (seen_of b (lent_by new)) (current_in a) whole (when_written r a b e.ends (λ is. is.committed_map))
     (λ is. record {
       carried = store_carries b.spare b.log.device b.log.table b.index c.the_counts_are_of_the_keys.ensures.none new.log.ready new.log.stands.tables (new.newest (sound_whole b.log.device.honest b.broken is) (sound_honest b.log.device.honest b.broken is));
       found = finds_now b (lent_by new) new.log.mountable;
-    })
+    }) in
+    made_durable r (seen_of a (lent_by c.args.self.now)) (seen_of b (lent_by new)) whole (when_written r a b e.ends (λ is. is.current)) committed
 
 pub returns-clause-stops : goal.returns-clause-stops
 returns-clause-stops g c =
@@ -101,24 +95,18 @@ returns-clause-fault g c = λ sound.
     let whole = sound_whole a.log.device.honest a.broken sound in
     let few : length (buffered self.buffer) ≤ most_pages self.buffer = self.buffer.few in
     let most : most_pages self.buffer ≡ a.log.device.geometry.pages / 4 = self.most in
-    commit_told a b (lent_by self) (lent_by new) self.log.ready.geometry e.keeps.lasts.device.geometry e.keeps.lasts.spare new.log.ready (omega (arith, most)) few (self.few whole)
-    (c.the_counts_add_up_to_the_kept_keys.ensures.all a.log.table a.index self.log.stands.tables.counts) (λ o k at is. has_page a.log.device a.index o k at honest (self.newest whole honest) is)
+    commit_reported a b (lent_by self) (lent_by new) self.log.ready.geometry e.keeps.lasts.device.geometry e.keeps.lasts.spare new.log.ready (omega (arith, most)) few (self.few whole)
+    (c.the_counts_add_up_to_the_committed_keys.ensures.all a.log.table a.index self.log.stands.tables.counts) (λ o k at is. has_page a.log.device a.index o k at honest (self.newest whole honest) is)
     c.write_out.result whole e.ends
 
 pub returns-clause-memory : goal.returns-clause-memory
 returns-clause-memory g c = λ none. takes_none c.write_out.result (state_of c.args.self.now) (state_of c.write_out.new.self) c.write_out.ensures.ends none
 
-pub returns-clause-nothing : goal.returns-clause-nothing
-returns-clause-nothing g c = λ none. record {
-  device = c.write_out.ensures.nothing (none_buffered (buffered c.args.self.now.buffer) none);
-  commits = c.write_out.ensures.keeps.counts.none none;
-}
-
 pub returns-clause-idle : goal.returns-clause-idle
-returns-clause-idle g c = λ sound none.
+returns-clause-idle g c = λ none.
     let self = c.args.self.now in
-    c.write_out.ensures.unhindered (sound_whole (g.N.Nand.state self.log.device).honest self.broken sound) (inl (none_buffered (buffered self.buffer) none))
-
-pub returns-clause-buffered : goal.returns-clause-buffered
-returns-clause-buffered g c =
-    when_written c.write_out.result (state_of c.args.self.now) (state_of c.write_out.new.self) c.write_out.ensures.ends (λ is. ap (λ (xs : List FreshPage). length xs) is.empty)
+    let empty = none_buffered (buffered self.buffer) none in
+    record {
+      commits = record { device = c.write_out.ensures.nothing empty; commits = c.write_out.ensures.keeps.counts.none none };
+      done = λ sound. c.write_out.ensures.unhindered (sound_whole (g.N.Nand.state self.log.device).honest self.broken sound) (inl empty);
+    }

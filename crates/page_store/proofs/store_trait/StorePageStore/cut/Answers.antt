@@ -8,14 +8,14 @@ use Rattle.pages.specs.State.{PagesState}
 use Rattle.pages.specs.Stores.{HasNumbersLeft}
 use Rattle.transactions.specs.Checking.{LogState}
 use Rattle.page_store.specs.declared.counts.StoreCounts.{StoreCounts}
-use Rattle.page_store.specs.StoreOf.{kept_map, next_numbers}
+use Rattle.page_store.specs.StoreOf.{committed_data_map, next_numbers}
 use Rattle.page_store.specs.StoreState.{seen_of}
 use Rattle.page_store.specs.StateOf.{lent_by, state_of}
 use Rattle.page_store.proofs.Carried.{store_carries}
 use Rattle.page_store.specs.laws.Sound.{sound_whole}
 use Rattle.page_store.proofs.ReadOnly.{sound_honest}
 use Rattle.page_store.proofs.Steps.{hands_still}
-use Rattle.page_store.proofs.Told.{cut_stopped, cut_takes_none, cut_told, failed_stays, finds_now, hands_none, kept_as, marks_none, stays_mountable}
+use Rattle.page_store.proofs.Reported.{cut_stopped, cut_takes_none, cut_reported, failed_stays, finds_now, hands_none, committed_as, marks_none, stays_mountable}
 use Rattle.page_store.proofs.store_trait.StorePageStore.cut.Goals as goal
 
 pub returns-clause-goes_on : goal.returns-clause-goes_on
@@ -47,8 +47,8 @@ returns-clause-goes_on g c =
 pub returns-clause-present : goal.returns-clause-present
 returns-clause-present g c = λ sound. let self = c.args.self.now in c.cut_away.ensures.current (sound_honest (g.N.Nand.state self.log.device).honest self.broken sound)
 
-pub returns-clause-kept : goal.returns-clause-kept
-returns-clause-kept g c = λ sound.
+pub returns-clause-committed : goal.returns-clause-committed
+returns-clause-committed g c = λ sound.
     let self = c.args.self.now in
     let new = c.cut_away.new.self in
     let e = c.cut_away.ensures in
@@ -57,7 +57,7 @@ returns-clause-kept g c = λ sound.
     let honest : now.honest ≡ true = ap (λ (l : LogState). l.device.honest) e.same.log ∙ sound_honest old.honest self.broken sound in
     let whole : new.broken ≡ false = e.same.broken ∙ sound_whole old.honest self.broken sound in
     let q : PagesState = seen_of (state_of new) (lent_by new) in
-    kept_as q (kept_map old self.log.index) e.committed (record {
+    committed_as q (committed_data_map old self.log.index) e.committed_map (record {
       carried = store_carries new.log.spare now (table new.log.blocks) new.log.index c.the_counts_are_of_the_keys.ensures.none new.log.ready new.log.stands.tables (new.newest whole honest);
       found = finds_now (state_of new) (lent_by new) new.log.mountable;
     })
@@ -72,7 +72,7 @@ pub returns-clause-fault : goal.returns-clause-fault
 returns-clause-fault g c = λ sound.
     let self = c.args.self.now in
     let new = c.cut_away.new.self in
-    cut_told c.cut_away.result (seen_of (state_of self) (lent_by self))
+    cut_reported c.cut_away.result (seen_of (state_of self) (lent_by self))
     (seen_of (state_of new) (lent_by new)) self.broken
     (sound_whole (g.N.Nand.state self.log.device).honest self.broken sound) c.cut_away.ensures.fault
 

@@ -8,8 +8,8 @@ use Rattle.page_store.specs.declared.buffer.Buffer.{Buffer}
 use Rattle.page_store.specs.declared.counts.StoreCounts.{StoreCounts}
 use Rattle.page_store.specs.laws.Sound.{sound_whole}
 use Rattle.page_store.proofs.ReadOnly.{sound_honest}
-use Rattle.page_store.proofs.Refreshed.{breaks_refreshed, kept_seen, none_held, refresh_told, refreshed_seen, stops_refreshed, when_refreshed}
-use Rattle.page_store.proofs.Told.{carries_since, failed_stays, hands_told, limits_told, marks_told, stays_mountable, stopped}
+use Rattle.page_store.proofs.Refreshed.{breaks_refreshed, committed_seen, none_held, refresh_reported, refreshed_seen, stops_refreshed, when_refreshed}
+use Rattle.page_store.proofs.Reported.{carries_since, failed_stays, hands_reported, limits_reported, marks_reported, stays_mountable, stopped}
 use Rattle.page_store.proofs.store_trait.StorePageStore.refresh.Goals as goal
 
 pub returns : goal.returns
@@ -32,9 +32,9 @@ returns g c =
         commits = lasts.counts.commits;
         failed = failed_stays a.log.device b.log.device a.broken b.broken lasts.device (breaks_refreshed r block a b e.ends);
         device = lasts.device;
-        numbers = hands_told a.log.device b.log.device a.log.table b.log.table lasts.numbers;
-        marks = marks_told a.log.device b.log.device a.log.table b.log.table self.log.ready new.log.ready e.pays.marks;
-        limits = λ honest _. limits_told b.log.device b.log.table new.log.ready new.log.stands.limits (lasts.device.honest ∙ honest);
+        numbers = hands_reported a.log.device b.log.device a.log.table b.log.table lasts.numbers;
+        marks = marks_reported a.log.device b.log.device a.log.table b.log.table self.log.ready new.log.ready e.pays.marks;
+        limits = λ honest _. limits_reported b.log.device b.log.table new.log.ready new.log.stands.limits (lasts.device.honest ∙ honest);
         truth = lasts.numbers.truth;
         mountable = stays_mountable a b (lent_by self) (lent_by new) lasts.device lasts.first new.log.mountable;
       };
@@ -49,9 +49,9 @@ returns g c =
           let honest = sound_honest a.log.device.honest a.broken sound in
           let whole = sound_whole a.log.device.honest a.broken sound in
           record {
-            kept = kept_seen r block a b (lent_by new) e.ends (carries_since a b (lent_by self) (lent_by new) (committed_in a) lasts self.log.mountable (e.carried whole honest));
+            committed = committed_seen r block a b (lent_by new) e.ends (carries_since a b (lent_by self) (lent_by new) (committed_in a) lasts self.log.mountable (e.carried whole honest));
             done = refreshed_seen r block a b (lent_by self) (lent_by new) lasts.device honest e.ends;
-            cause = refresh_told r block a b (lent_by new) lasts.spare new.log.ready whole e.ends;
+            cause = refresh_reported r block a b (lent_by new) lasts.spare new.log.ready whole e.ends;
             idle = λ none. e.nothing (none_held block a (lent_by self) honest (self.newest whole honest) none);
           };
     }

@@ -4,7 +4,7 @@ use Rattle.std.proofs.Common.{ap}
 use Rattle.std.proofs.lemmas.Result.{on_ok_weaker}
 use Rattle.object_store.specs.Changes.{made}
 use Rattle.object_store.specs.declared.change.ObjectChange.TheVariants as changes
-use Rattle.object_store.specs.Told.{table_sizes}
+use Rattle.object_store.specs.Reported.{table_sizes}
 use Rattle.paged_objects.specs.Parts.{state_of}
 use Rattle.paged_objects.proofs.Meant.{has_objects, can_make, applied, forgets}
 use Rattle.paged_objects.specs.declared.store.PagedObjects.{PagedObjects}

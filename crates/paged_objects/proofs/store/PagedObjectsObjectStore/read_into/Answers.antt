@@ -22,4 +22,4 @@ pub returns-in-Ok-clause-finds : goal.returns-in-Ok-clause-finds
 returns-in-Ok-clause-finds g c = λ z objects has is.
     let p : PagesState = g.P.Pages.state c.args.self.now.pages in
     let mine = has_objects (state_of g.P.Pages.state) c.args.self.now z objects has in
-    c.in-Ok.ensures.found _ objects (holds_in _ p objects mine.pages.stands) is (c.length_of-len.ensures objects mine.tells mine.pages.can.forest)
+    c.in-Ok.ensures.found _ objects (holds_in _ p objects mine.pages.stands) is (c.length_of-len.ensures objects mine.reports mine.pages.can.forest)

@@ -8,5 +8,5 @@ use Rattle.plain_volume.proofs.state.charge.charge.Given as goal
 abbrev pub invariant-loop-object : goal.invariant-loop-object
 invariant-loop-object l = record {
   small : l.total ≤ 2 ^ 64 - 1;
-  told : min (l.total + sum_by (λ x. cost (sizes_of l.sizes) (object_of x)) l.object-iterator) (2 ^ 64 - 1) ≡ min (charge (sizes_of l.fn.sizes) (objects_in l.fn.objects)) (2 ^ 64 - 1);
+  reported : min (l.total + sum_by (λ x. cost (sizes_of l.sizes) (object_of x)) l.object-iterator) (2 ^ 64 - 1) ≡ min (charge (sizes_of l.fn.sizes) (objects_in l.fn.objects)) (2 ^ 64 - 1);
 }

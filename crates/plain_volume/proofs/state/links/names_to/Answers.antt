@@ -11,4 +11,4 @@ loop-child-init c =
     let left = ap (count_left (nat_eq c.args.number)) start in
     let all = names_count c.in-Directory.entries c.args.number c.in-Directory.moment c.values-child-items.ensures.ordered in
     let is = ap (λ x. length (names_to c.args.number (object_of x))) c.in-Directory.is in
-    record { small = omega (arith, long, c.values-child-items.ensures.len, c.values-child-items.ensures.fits); told = omega (arith, left, all, is) }
+    record { small = omega (arith, long, c.values-child-items.ensures.len, c.values-child-items.ensures.fits); reported = omega (arith, left, all, is) }

@@ -7,5 +7,5 @@ use Rattle.plain_volume.proofs.state.links.names_to.Given as goal
 abbrev pub invariant-loop-child : goal.invariant-loop-child
 invariant-loop-child l = record {
   small : l.count + length l.child-iterator < 2 ^ 63;
-  told : l.count + count_left (nat_eq l.number) l.child-iterator ≡ length (names_to l.fn.number (object_of l.fn.object));
+  reported : l.count + count_left (nat_eq l.number) l.child-iterator ≡ length (names_to l.fn.number (object_of l.fn.object));
 }

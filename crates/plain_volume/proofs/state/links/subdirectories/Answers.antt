@@ -12,4 +12,4 @@ loop-child-init c =
     let start = c.into_iter-child-iterator.ensures.into_iter_gives ∙ c.values-child-items.ensures.rest in
     let long = ap length c.into_iter-child-iterator.ensures.into_iter_gives in
     let left = ap (count_left p) (start ∙ sym (values_entries c.args.entries.now c.values-child-items.ensures.ordered)) ∙ count_left_is p _ in
-    record { small = omega (arith, long, c.values-child-items.ensures.len, c.values-child-items.ensures.fits); told = omega (arith, left) }
+    record { small = omega (arith, long, c.values-child-items.ensures.len, c.values-child-items.ensures.fits); reported = omega (arith, left) }

@@ -9,6 +9,6 @@ use Rattle.plain_volume.proofs.state.links.subdirectories.Given as goal
 abbrev pub invariant-loop-child : goal.invariant-loop-child
 invariant-loop-child l = record {
   small : l.count + length l.child-iterator < 2 ^ 63;
-  told : l.count + count_left (λ child. is_directory (map.get (objects_in l.objects) child)) l.child-iterator
+  reported : l.count + count_left (λ child. is_directory (map.get (objects_in l.objects) child)) l.child-iterator
       ≡ count_by (λ child. is_directory (map.get (objects_in l.fn.objects) child)) (map.values (entries_in l.fn.entries));
 }

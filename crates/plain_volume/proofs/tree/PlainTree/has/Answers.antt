@@ -24,9 +24,9 @@ returns-clause-listed c =
     let here : AreRead (shown_of c.args.self.now) (root_path ∷ []) items = subst (λ (v : PlainView). AreRead (shown_of v) (root_path ∷ []) items) c.self.view_is
     (subst (λ (v : PlainView). AreRead v.state.objects (root_path ∷ []) items) made.settles read.0) in
     let listed_items = list_map item_of c.args.list.now.entries.items in
-    let told : IsTrue c.same_tree.result ↔ (items ≡ listed_items) =
+    let reported : IsTrue c.same_tree.result ↔ (items ≡ listed_items) =
     subst (λ k. IsTrue c.same_tree.result ↔ (items ≡ list_map item_of k)) c.deref-2.ensures.value
     (subst (λ k. IsTrue c.same_tree.result ↔ (list_map item_of k ≡ list_map item_of c.deref-2.result.now)) c.deref.ensures.value c.same_tree.ensures) in (
-      λ same. subst (AreRead (shown_of c.args.self.now) (root_path ∷ [])) (told.0 same) here,
-      λ listed. told.1 (one_reading (shown_of c.args.self.now) (root_path ∷ []) (root_path ∷ []) items listed_items refl here listed),
+      λ same. subst (AreRead (shown_of c.args.self.now) (root_path ∷ [])) (reported.0 same) here,
+      λ listed. reported.1 (one_reading (shown_of c.args.self.now) (root_path ∷ []) (root_path ∷ []) items listed_items refl here listed),
     )

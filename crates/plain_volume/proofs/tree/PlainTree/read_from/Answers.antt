@@ -2,7 +2,7 @@ use Rattle.std.proofs.Common.{map as list_map}
 use Rattle.plain_volume.specs.Items.{item_of}
 use Rattle.plain_volume.specs.Lists.{shown_of}
 use Rattle.plain_volume.specs.laws.Sameness.{same_read, state_tree}
-use Rattle.plain_volume.proofs.Asked.{ok_then}
+use Rattle.plain_volume.proofs.StampedRequest.{ok_then}
 use Rattle.plain_volume.proofs.tree.PlainTree.read_from.Goals as goal
 
 pub returns : goal.returns

@@ -33,7 +33,7 @@ returns-then-not-close_all-clause-tree g c goes z s is tree shown =
     subst (λ (q : PagesState). Shown z q tree ⊎ Shown z q (settled s.objects)) (sym (ap g.P.Pages.state c.into_pages-then-not-close_all.ensures)) (c.close_all.ensures.closes.tree z s is tree shown)
 
 pub returns-then-not-close_all-clause-cause : goal.returns-then-not-close_all-clause-cause
-returns-then-not-close_all-clause-cause g c goes z s is told =
+returns-then-not-close_all-clause-cause g c goes z s is reported =
     subst (HasEnded (g.P.Pages.state (pages_of c.args.self))) (sym (ap g.P.Pages.state c.into_pages-then-not-close_all.ensures)) (c.close_all.ensures.closes.cause (not-false _ (sym c.if-not-close_all.ensures.stops)) z s is)
 
 pub returns-clause-goes_on : goal.returns-clause-goes_on
@@ -46,16 +46,16 @@ returns-clause-goes_on g c =
     (subst (λ (p : PagesState). GoesOn p (state c.commit.new.self.pages)) before c.commit.ensures.lasts.0))
 
 pub returns-clause-power : goal.returns-clause-power
-returns-clause-power g c told was =
+returns-clause-power g c reported was =
     let state = g.P.Pages.state in
     let before : (state c.into_store-objects.result.pages).device.gone ≡ false = ap (λ o. (state o.pages).device.gone) c.into_store-objects.ensures ∙ ap (λ d. d.gone) c.close_all.ensures.closes.device ∙ was in
     elim c.match-commit.branch [
       | in-Ok w ↦ subst (λ (q : PagesState). q.device.gone ≡ false) (sym (ap state c.into_pages-2.ensures)) (not-true _ (w.in-Ok.ensures.power ∙ ap not before))
-      | in-Err w ↦ let two : replies.Error errors.EIO ≡ replies.Done = sym w.reply-is ∙ told in absurd cc
+      | in-Err w ↦ let two : replies.Error errors.EIO ≡ replies.Done = sym w.reply-is ∙ reported in absurd cc
     ]
 
 pub returns-clause-done : goal.returns-clause-done
-returns-clause-done g c goes z s is told =
+returns-clause-done g c goes z s is reported =
     let state = g.P.Pages.state in
     let a = c.into_store-objects.result in
     let b = c.commit.new.self in
@@ -65,11 +65,11 @@ returns-clause-done g c goes z s is told =
       | in-Ok w ↦ subst (λ (q : PagesState). Shown z q (settled s.objects)) (sym (ap state c.into_pages-2.ensures))
           (subst (λ (objects : Objects). Shown z (state b.pages) objects) at.2.settles
           (commit_done state z at.0.objects a b has c.commit.result _ w.in-Ok.is (c.commit.ensures.commits z at.0.objects has)))
-      | in-Err w ↦ let two : replies.Error errors.EIO ≡ replies.Done = sym w.reply-is ∙ told in absurd cc
+      | in-Err w ↦ let two : replies.Error errors.EIO ≡ replies.Done = sym w.reply-is ∙ reported in absurd cc
     ]
 
 pub returns-clause-exact : goal.returns-clause-exact
-returns-clause-exact g c z s is told =
+returns-clause-exact g c z s is reported =
     let state = g.P.Pages.state in
     let a = c.into_store-objects.result in
     let b = c.commit.new.self in
@@ -82,7 +82,7 @@ returns-clause-exact g c z s is told =
       | in-Ok w ↦ subst (λ (q : PagesState). KeepsOnly z q (settled s.objects)) (sym (ap state c.into_pages-2.ensures))
           (subst (λ (objects : Objects). KeepsOnly z (state b.pages) objects) at.2.settles
           (commit_exact state z at.0.objects a b has (all_named z at.0 at.1.sound.well_formed at.2.closed) c.commit.result _ w.in-Ok.is (c.commit.ensures.commits z at.0.objects has) (λ sound. g.met.P.PageStore.few b.pages sound (goes.worn ∙ is.1.worn ∙ is.0))))
-      | in-Err w ↦ let two : replies.Error errors.EIO ≡ replies.Done = sym w.reply-is ∙ told in absurd cc
+      | in-Err w ↦ let two : replies.Error errors.EIO ≡ replies.Done = sym w.reply-is ∙ reported in absurd cc
     ]
 
 pub returns-clause-tree : goal.returns-clause-tree
@@ -99,14 +99,14 @@ returns-clause-tree g c goes z s is tree shown =
     (subst (λ (q : PagesState). Shown z q tree ⊎ Shown z q (settled s.objects)) (sym before) (c.close_all.ensures.closes.tree z s is tree shown)))
 
 pub returns-clause-cause : goal.returns-clause-cause
-returns-clause-cause g c goes z s is told =
+returns-clause-cause g c goes z s is reported =
     let state = g.P.Pages.state in
     let a = c.into_store-objects.result in
     let b = c.commit.new.self in
     let at = c.close_all.ensures.closes.stands (not-true _ (sym c.if-not-close_all.ensures.stops)) z s is in
     let has = has_of state z at.0 c.close_all.new.self a c.into_store-objects.ensures at.1 in
     elim c.match-commit.branch [
-      | in-Ok w ↦ let two : replies.Done ≡ replies.Error errors.EIO = sym w.reply-is ∙ told in absurd cc
+      | in-Ok w ↦ let two : replies.Done ≡ replies.Error errors.EIO = sym w.reply-is ∙ reported in absurd cc
       | in-Err w ↦ subst (HasEnded (state (pages_of c.args.self))) (sym (ap state c.into_pages-2.ensures))
           (ended_after (state (pages_of c.args.self)) (state a.pages) (state b.pages)
           (subst (λ (p : PagesState). (state (pages_of c.args.self)).commits ≤ p.commits) (sym (ap (λ o. state o.pages) c.into_store-objects.ensures)) c.close_all.ensures.closes.goes_on.commits)

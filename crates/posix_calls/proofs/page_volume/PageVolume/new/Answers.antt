@@ -3,7 +3,7 @@ use Rattle.std.specs.FinMap as map
 use Rattle.std.specs.Ordering.{nat_cmp}
 use Rattle.name_index.specs.declared.index.NameIndex.{NameIndex}
 use Rattle.paged_objects.specs.Naming.{HasNames}
-use Rattle.object_store.specs.Told.{table_sizes, Tells}
+use Rattle.object_store.specs.Reported.{table_sizes, Reports}
 use Rattle.object_store.specs.declared.table.ObjectTable.{ObjectTable}
 use Rattle.paged_objects.specs.Standing.{StandsFor, Shown}
 use Rattle.pages.specs.State.{PagesState}
@@ -21,7 +21,7 @@ returns-clause-at g c tree stored worn shown =
       numbers = stored.numbers;
       sizes = ap table_sizes table;
       stands = subst (λ (p : PagesState). StandsFor z p tree) (sym pages) stored.stands;
-      tells = subst (λ (t : ObjectTable). Tells t tree) (sym table) stored.tells;
+      reports = subst (λ (t : ObjectTable). Reports t tree) (sym table) stored.reports;
       hashes = subst (λ (x : NameIndex). HasNames x z (state c.over.result.store.pages).present tree) (sym names)
           (subst (λ (p : PagesState). HasNames c.args.objects.names z p.present tree) (sym pages) stored.hashes);
       handles = made.1 ∙ c.requires;

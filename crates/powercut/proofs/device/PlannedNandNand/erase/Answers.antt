@@ -10,6 +10,6 @@ invariant_of-self c =
     let new = c.erase.new.self in
     let did = c.erase.ensures in
     record {
-      kept = erase_keeps (device old) (device new) (plan old) (plan new) was.start.told was.kept c.args.block c.erase.result did.erases did.planned did.counted;
-      run = erase_runs was.start.told (plan old) (plan new) (device old) (device new) was.kept was.run c.args.block c.erase.result did.erases did.planned did.counted;
+      committed = erase_keeps (device old) (device new) (plan old) (plan new) was.start.reported was.committed c.args.block c.erase.result did.erases did.planned did.totaled;
+      run = erase_runs was.start.reported (plan old) (plan new) (device old) (device new) was.committed was.run c.args.block c.erase.result did.erases did.planned did.totaled;
     }

@@ -10,6 +10,6 @@ invariant_of-self c =
     let new = c.mark_bad.new.self in
     let did = c.mark_bad.ensures in
     record {
-      kept = mark_keeps (device old) (device new) (plan old) (plan new) was.start.told was.kept c.args.block c.mark_bad.result did.marks did.planned did.counted;
-      run = mark_runs was.start.told (plan old) (plan new) (device old) (device new) was.kept was.run c.args.block c.mark_bad.result did.marks did.planned did.counted;
+      committed = mark_keeps (device old) (device new) (plan old) (plan new) was.start.reported was.committed c.args.block c.mark_bad.result did.marks did.planned did.totaled;
+      run = mark_runs was.start.reported (plan old) (plan new) (device old) (device new) was.committed was.run c.args.block c.mark_bad.result did.marks did.planned did.totaled;
     }

@@ -10,6 +10,6 @@ invariant_of-self c =
     let new = c.program.new.self in
     let did = c.program.ensures in
     record {
-      kept = program_keeps (device old) (device new) (plan old) (plan new) was.start.told was.kept c.args.block c.args.page c.args.bytes.now c.args.tag.now c.program.result did.programs did.planned did.counted;
-      run = program_runs was.start.told (plan old) (plan new) (device old) (device new) was.kept was.run c.args.block c.args.page c.args.bytes.now c.args.tag.now c.program.result did.programs did.planned did.counted;
+      committed = program_keeps (device old) (device new) (plan old) (plan new) was.start.reported was.committed c.args.block c.args.page c.args.bytes.now c.args.tag.now c.program.result did.programs did.planned did.totaled;
+      run = program_runs was.start.reported (plan old) (plan new) (device old) (device new) was.committed was.run c.args.block c.args.page c.args.bytes.now c.args.tag.now c.program.result did.programs did.planned did.totaled;
     }

@@ -10,6 +10,6 @@ invariant_of-self c =
     let new = c.read_page.new.self in
     let did = c.read_page.ensures in
     record {
-      kept = read_keeps (device old) (device new) (plan old) (plan new) was.start.told was.kept c.read_page.result did.reads did.planned did.counted;
-      run = read_runs was.start.told (plan old) (plan new) (device old) (device new) was.kept was.run c.read_page.result did.reads did.planned did.counted;
+      committed = read_keeps (device old) (device new) (plan old) (plan new) was.start.reported was.committed c.read_page.result did.reads did.planned did.totaled;
+      run = read_runs was.start.reported (plan old) (plan new) (device old) (device new) was.committed was.run c.read_page.result did.reads did.planned did.totaled;
     }

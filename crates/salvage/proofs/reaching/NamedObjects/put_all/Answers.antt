@@ -1,7 +1,7 @@
 use Rattle.std.proofs.Common.{◌≡◌, ◌<◌, ◌+◌, ◌∙◌, ◌∷◌, List, ℕ, drop, length, length-drop, get_or, ap, subst, arith}
 use Rattle.std.proofs.lemmas.List.{drop_more, get_or-map, length-map, nil_from_length}
 use Rattle.salvage.specs.Reaching.{objects_in}
-use Rattle.salvage.specs.declared.told.SalvagedName.{SalvagedName}
+use Rattle.salvage.specs.declared.reported.SalvagedName.{SalvagedName}
 use Rattle.salvage.proofs.Going.{IsPutting, put_none, put_next, put_all}
 use Rattle.salvage.proofs.reaching.NamedObjects.put_all.Goals as goal
 

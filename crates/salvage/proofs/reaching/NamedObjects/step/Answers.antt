@@ -6,7 +6,7 @@ use Rattle.pages.specs.Maps.{has}
 use Rattle.pages.specs.State.{PagesState}
 use Rattle.salvage.specs.Reaching.{Puts, objects_in}
 use Rattle.salvage.specs.SeenBy.{seen_by}
-use Rattle.salvage.specs.Told.{ListsDirectory}
+use Rattle.salvage.specs.Reported.{ListsDirectory}
 use Rattle.salvage.proofs.Going.{goes_on, stays_on}
 use Rattle.salvage.proofs.Named.{led, leads}
 use Rattle.salvage.proofs.Seeing.{page_size, single}
@@ -22,12 +22,12 @@ returns-in-Some-clause-goes g c = λ z from is r.
     let object : ℕ = c.index-object.result.now in
     let at : slice_get list c.args.place ≡ Some object = slice_get-get_or list c.args.place object c.requires.within ∙ ap Some (sym c.index-object.ensures) in
     let size = page_size z (g.N.Nand.state c.args.pages.now.device) c.args.pages.now.index c.args.pages.now.page.items is in
-    let told : ListsDirectory z (has old.present) object (Some c.in-Some.listing) = rw c.in-Some.is at c.in_ok-listing.ensures.lists z is in
+    let reported : ListsDirectory z (has old.present) object (Some c.in-Some.listing) = rw c.in-Some.is at c.in_ok-listing.ensures.lists z is in
     on_ok_weaker c.put_all.result
     (λ (puts : Puts (objects_in c.deref.result.now) c.args.self.now c.put_all.new.self).
     goes_on z (has old.present) from c.args.place object list (objects_in c.in-Some.listing.names.items) c.put_all.new.self.objects.items r at
-    (led z size.most (has old.present) (single old.present) object (Some c.in-Some.listing) told)
-    (leads z size.most (has old.present) (single old.present) object (Some c.in-Some.listing) told)
+    (led z size.most (has old.present) (single old.present) object (Some c.in-Some.listing) reported)
+    (leads z size.most (has old.present) (single old.present) object (Some c.in-Some.listing) reported)
     (subst (λ xs. c.put_all.new.self.objects.items ≡ with_new list (objects_in xs)) c.deref.ensures.value puts.objects))
     c.put_all.ensures.puts
 
@@ -37,5 +37,5 @@ returns-in-None-clause-goes g c = λ z from is r.
     let list = c.args.self.now.objects.items in
     let object : ℕ = c.index-object.result.now in
     let at : slice_get list c.args.place ≡ Some object = slice_get-get_or list c.args.place object c.requires.within ∙ ap Some (sym c.index-object.ensures) in
-    let told : ListsDirectory z (has old.present) object None = rw c.in-None.is at c.in_ok-listing.ensures.lists z is in
-    stays_on z (has old.present) from c.args.place object list r at (λ o l. told l.fields l.has l.kind)
+    let reported : ListsDirectory z (has old.present) object None = rw c.in-None.is at c.in_ok-listing.ensures.lists z is in
+    stays_on z (has old.present) from c.args.place object list r at (λ o l. reported l.fields l.has l.kind)

@@ -18,8 +18,8 @@ returns-in-Ok-new-clause-tree g c = λ honest spare objects tree.
     let d : Device = g.N.Nand.state c.find_pages.new.device in
     let left = c.in-Ok-new.left in
     let reads : OnlyReads a d = c.reads_change_nothing.ensures.more a b d c.has_whole_tree-device.ensures.reads c.find_pages.ensures.reads in
-    let told : IfOk c.has_whole_tree-device.result.1 (λ whole. whole ≡ true) = c.has_whole_tree-device.ensures.tree honest spare objects tree in
-    let whole : c.in-Ok.whole ≡ true = subst (λ (r : Result Bool SalvageFault). IfOk r (λ w. w ≡ true)) c.in-Ok.is told in
+    let reported : IfOk c.has_whole_tree-device.result.1 (λ whole. whole ≡ true) = c.has_whole_tree-device.ensures.tree honest spare objects tree in
+    let whole : c.in-Ok.whole ≡ true = subst (λ (r : Result Bool SalvageFault). IfOk r (λ w. w ≡ true)) c.in-Ok.is reported in
     let still : d.honest ≡ true = reads.lasts.honest ∙ honest in
     carried IsNewestMap a d (g.N.Nand.state (device_in left)) c.in-Ok-find_pages.found.index (index_in left) reads honest
     (ap g.N.Nand.state c.in-Ok-new.ensures.device) c.in-Ok-new.ensures.index (c.in-Ok-find_pages.ensures.whole still whole)
@@ -32,8 +32,8 @@ returns-in-Ok-new-clause-pages g c = λ honest.
     let left = c.in-Ok-new.left in
     let reads : OnlyReads a d = c.reads_change_nothing.ensures.more a b d c.has_whole_tree-device.ensures.reads c.find_pages.ensures.reads in
     let still : d.honest ≡ true = reads.lasts.honest ∙ honest in
-    let told : IfOk c.has_whole_tree-device.result.1 (λ whole. whole ≡ true → ShowsVolume a.geometry a.flash) = c.has_whole_tree-device.ensures.shows honest in
-    let shows : c.in-Ok.whole ≡ true → ShowsVolume a.geometry a.flash = subst (λ (r : Result Bool SalvageFault). IfOk r (λ w. w ≡ true → ShowsVolume a.geometry a.flash)) c.in-Ok.is told in
+    let reported : IfOk c.has_whole_tree-device.result.1 (λ whole. whole ≡ true → ShowsVolume a.geometry a.flash) = c.has_whole_tree-device.ensures.shows honest in
+    let shows : c.in-Ok.whole ≡ true → ShowsVolume a.geometry a.flash = subst (λ (r : Result Bool SalvageFault). IfOk r (λ w. w ≡ true → ShowsVolume a.geometry a.flash)) c.in-Ok.is reported in
     let same = ap g.N.Nand.state c.in-Ok-new.ensures.device in
     let newest : c.in-Ok.whole ≡ true → IsNewestMap a.flash (state left).present = λ whole. carried IsNewestMap a d (g.N.Nand.state (device_in left))
     c.in-Ok-find_pages.found.index (index_in left) reads honest same c.in-Ok-new.ensures.index (c.in-Ok-find_pages.ensures.whole still whole) in

@@ -11,7 +11,7 @@ use Rattle.tree_walk.proofs.Counting.{pages_more}
 use Rattle.tree_walk.proofs.Going.{goes_on}
 use Rattle.tree_walk.proofs.Hashing.{covers_visited}
 use Rattle.tree_walk.proofs.Seeing.{page_size, single}
-use Rattle.tree_walk.proofs.Telling.{tells_as, result_lacks_memory, when_done}
+use Rattle.tree_walk.proofs.Reporting.{reports_as, result_lacks_memory, when_done}
 use Rattle.tree_walk.proofs.walking.WalkState.step.Goals as goal
 
 pub returns-in_err-visited-clause-stops : goal.returns-in_err-visited-clause-stops
@@ -21,7 +21,7 @@ returns-in_err-visited-clause-stops g c = λ z seen.
     let object : ℕ = c.index-object.result.now in
     let at : slice_get list c.args.place ≡ Some object = slice_get-get_or list c.args.place object c.requires.within ∙ ap Some (sym c.index-object.ensures) in
     let p = err_from_is_err_and c.from_residual.result c.from_residual.ensures.1 in
-    rw (p.1, p.2) (tells_as (StopsAt z (has old.present) object) (StopsOn z (has old.present) c.args.self.now c.args.place)
+    rw (p.1, p.2) (reports_as (StopsAt z (has old.present) object) (StopsOn z (has old.present) c.args.self.now c.args.place)
     (λ b stops. (at ∙ ap Some (sym stops.0), (refl, stops.1, subst (λ o. Finds z (has old.present) o (Stops (wrong_of b.rule))) (sym stops.0) stops.2))) (g.P.Pages.state c.visit.new.pages) _ (c.in_err-visited.ensures.stops z seen))
 
 pub returns-clause-knows : goal.returns-clause-knows
@@ -38,8 +38,8 @@ returns-clause-goes g c = λ z seen going.
     when_done (Visits object c.in_ok-visited.visited c.args.self.now c.take.new.self) (IsGoing z (has old.present) (c.args.place + 1) c.take.new.self) c.take.result
     (λ t. goes_on z size (has old.present) (single old.present) c.args.place object c.args.self.now c.in_ok-visited.visited c.take.new.self going at (c.in_ok-visited.ensures.leads z seen) t) c.take.ensures.takes
 
-pub returns-clause-asked : goal.returns-clause-asked
-returns-clause-asked g c = λ z seen going.
+pub returns-clause-issued : goal.returns-clause-issued
+returns-clause-issued g c = λ z seen going.
     let old : PagesState = g.P.Pages.state c.args.pages.now in
     let new : PagesState = g.P.Pages.state c.visit.new.pages in
     let was = c.args.self.now in
@@ -47,8 +47,8 @@ returns-clause-asked g c = λ z seen going.
     let object : ℕ = c.index-object.result.now in
     let visited = c.in_ok-visited.visited in
     let at : slice_get list c.args.place ≡ Some object = slice_get-get_or list c.args.place object c.requires.within ∙ ap Some (sym c.index-object.ensures) in
-    let few = c.in_ok-visited.ensures.asked z seen.size in
-    when_done (Visits object visited was c.take.new.self) (new.asked + pages_before z was c.args.place ≤ old.asked + pages_before z c.take.new.self (c.args.place + 1)) c.take.result
+    let few = c.in_ok-visited.ensures.issued z seen.size in
+    when_done (Visits object visited was c.take.new.self) (new.issued + pages_before z was c.args.place ≤ old.issued + pages_before z c.take.new.self (c.args.place + 1)) c.take.result
     (λ t. let more = pages_more z c.args.place object was visited c.take.new.self going.once at t in omega (arith, more, few)) c.take.ensures.takes
 
 pub returns-clause-stops : goal.returns-clause-stops

@@ -1,6 +1,0 @@
-use Rattle.std.proofs.Common.{◌≡◌}
-use Rattle.block_summaries.specs.Contents.{AreListed, entries_in}
-use Rattle.block_summaries.proofs.entries.take_entries.Given as goal
-
-abbrev pub invariant-loop-k : goal.invariant-loop-k
-invariant-loop-k l = record { is : l.entries.items ≡ entries_in l.bytes l.k; listed : AreListed l.geometry l.head l.entries.items }

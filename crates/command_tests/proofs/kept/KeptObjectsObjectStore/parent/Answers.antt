@@ -1,5 +1,0 @@
-use Rattle.command_tests.proofs.Copies.{maps_have}
-use Rattle.command_tests.proofs.kept.KeptObjectsObjectStore.parent.Goals as goal
-
-pub returns : goal.returns
-returns c z objects has is = c.parent.ensures z objects (maps_have z objects c.args.self.now has) is

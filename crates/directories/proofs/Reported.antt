@@ -1,0 +1,119 @@
+-- What a header and a search of the slots report on a directory that is there.
+use Rattle.std.specs.Prelude.{◌≡◌, ◌<◌, ◌≤◌, ◌+◌, ◌/◌, ℕ, length, Option, Some, None, slice_get, true}
+use Rattle.std.specs.FinMap as map
+use Rattle.std.specs.Int.{div_ceil}
+use Rattle.std.proofs.Common.{refl, sym, ◌∙◌, subst, arith}
+use Rattle.page_tags.specs.Headers.{IsHeader, greatest_recorded}
+use Rattle.page_tags.specs.declared.header.ObjectKind.TheVariants as kinds
+use Rattle.page_tags.specs.Slots.{Entry}
+use Rattle.flash_tree.specs.Tree.{IsPageSize}
+use Rattle.volume_terms.specs.Sizes.{Sizes, page_slots}
+use Rattle.posix_profile.specs.State.{Name, Entries}
+use Rattle.pages.specs.Afterwards.{after}
+use Rattle.pages.specs.Maps.{PageMap}
+use Rattle.pages.specs.State.{PagesState, OnlyFinds}
+use Rattle.directories.specs.Directories.{DirIn, HasBeside, SlotOf, ReportsEnd, ReportsName}
+use Rattle.directories.specs.Heads.{IsHeadOf, SaysHead}
+use Rattle.directories.specs.Slots.{AreSlots, Finds}
+use Rattle.directories.specs.declared.head.DirectoryHead.{DirectoryHead}
+use Rattle.directories.specs.declared.lookup.Located.{Located}
+use Rattle.directories.proofs.Lists.{entries_len}
+use Rattle.directories.proofs.Reading.{head_is, slots_are, slot_is, found_leads}
+
+module _ (p q : PagesState) (finds : OnlyFinds p q) (z : Sizes) (o moment : ℕ) (entries : Entries) (d : DirIn p z o moment entries) (sized : (512 ≤ p.page_bytes) × (p.page_bytes ≤ 4096))
+    (head : DirectoryHead) (s : SaysHead p o head) where
+  pub few : z.page_bytes ≤ 4096
+  few = let most : p.page_bytes ≤ 4096 = sized.1 in omega (arith, d.size, most)
+
+  least : 512 ≤ z.page_bytes
+  least = let low : 512 ≤ p.page_bytes = sized.0 in omega (arith, d.size, low)
+
+  pub page_size : IsPageSize z.page_bytes
+  page_size = record { least = omega (arith, least); most = few }
+
+  -- a page has a slot
+  pub some_slots : 1 ≤ page_slots z
+  some_slots = omega (arith, least)
+
+  pub head_says : IsHeadOf head d.reads.fields
+  head_says = head_is p z o moment entries d page_size head s
+
+  pub length_is : head.length ≡ length d.reads.slots
+  length_is = head_says.length_is ∙ d.reads.size
+
+  pub count_is : head.length ≡ map.len entries
+  count_is = length_is ∙ sym (entries_len d.reads.slots d.reads.once entries d.reads.entries_are)
+
+  pub sound_on : q.sound ≡ true
+  sound_on = finds.sound ∙ d.sound
+
+  pub size_on : z.page_bytes ≡ q.page_bytes
+  size_on = d.size ∙ sym finds.page_bytes
+
+  -- the slots that the header counts are there
+  pub are_on : AreSlots (SlotOf z q.present o) 0 head.length
+  are_on = subst (λ (m : PageMap). AreSlots (SlotOf z m o) 0 head.length) (sym finds.present) (subst (λ n. AreSlots (SlotOf z p.present o) 0 n) (sym length_is) (slots_are p z o moment entries d))
+
+  at_entry : (name : Name) (found : Option Located) → Finds (SlotOf z q.present o) 0 head.length name found → Finds (SlotOf z p.present o) 0 (length d.reads.slots) name found
+  at_entry name found is = subst (λ n. Finds (SlotOf z p.present o) 0 n name found) length_is (subst (λ (m : PageMap). Finds (SlotOf z m o) 0 head.length name found) finds.present is)
+
+  -- a slot that was found is one of the directory's
+  pub located : (name : Name) (l : Located) → Finds (SlotOf z q.present o) 0 head.length name (Some l)
+      → (e : Entry) × (slice_get d.reads.slots l.place ≡ Some e) × (e.name ≡ name) × (l.object ≡ e.object)
+  located name l is =
+      let at = at_entry name (Some l) is in
+      (at.entry, slot_is p z o moment entries d few l.place at.entry at.most at.there, at.name_is, at.object_is)
+
+  pub leads_to : (name : Name) (l : Located) → Finds (SlotOf z q.present o) 0 head.length name (Some l) → Some l.object ≡ map.get entries name
+  leads_to name l is = found_leads p z o moment entries d few name (Some l) (at_entry name (Some l) is)
+
+  pub leads_nowhere : (name : Name) → Finds (SlotOf z q.present o) 0 head.length name None → None ≡ map.get entries name
+  leads_nowhere name is = found_leads p z o moment entries d few name None (at_entry name None is)
+
+  -- how many pages a search looked up
+  pub asked_for : (old mid new : ℕ) → mid ≤ old + 1 → new ≤ mid + div_ceil head.length (q.page_bytes / 272) → new ≤ old + 1 + div_ceil (map.len entries) (page_slots z)
+  asked_for old mid new first rest =
+      let at : new ≤ mid + div_ceil (map.len entries) (page_slots z) =
+      subst (λ n. new ≤ mid + div_ceil n (page_slots z)) count_is (subst (λ n. new ≤ mid + div_ceil head.length (n / 272)) (sym size_on) rest) in
+      omega (arith, first, at)
+
+  -- and where more pages were
+  pub asked_more : (old mid next new most : ℕ) → mid ≤ old + 1 → next ≤ mid + div_ceil head.length (q.page_bytes / 272) → new ≤ next + most → new ≤ old + (1 + most) + div_ceil (map.len entries) (page_slots z)
+  asked_more old mid next new most first rest last = let at = asked_for old mid next first rest in omega (arith, at, last)
+
+-- what is reported of a name, whatever is there
+module _ (p q : PagesState) (finds : OnlyFinds p q) (z : Sizes) (o : ℕ) (head : DirectoryHead) (s : SaysHead p o head) where
+  pub reported_leads : (name : Name) (l : Located) → Finds (SlotOf z q.present o) 0 head.length name (Some l) → ReportsName z p o name (Some l.object)
+  reported_leads name l is =
+      let at : Finds (SlotOf z p.present o) 0 s.0.fields.length name (Some l) = subst (λ n. Finds (SlotOf z p.present o) 0 n name (Some l)) s.1.length_is
+      (subst (λ (m : PageMap). Finds (SlotOf z m o) 0 head.length name (Some l)) finds.present is) in
+      (s.0, (l.place, at.most, (at.entry, at.there, at.name_is, at.object_is)))
+
+  -- and of the page behind the slots
+  pub reported_end : HasBeside z q.present o head.length head.length → ReportsEnd z p o
+  reported_end is = (s.0, subst (λ n. HasBeside z p.present o n n) s.1.length_is (subst (λ (m : PageMap). HasBeside z m o head.length head.length) finds.present is))
+
+-- what a header says after no change, it says
+pub said_now : (p : PagesState) (o : ℕ) (head : DirectoryHead) → SaysHead (after None p) o head → SaysHead p o head
+said_now p o head s = (record { fields = s.0.fields; has = s.0.has; valid = s.0.valid; kind = s.0.kind }, s.1)
+
+-- what is reported of a directory that is there, where its entries are in the count elsewhere
+module _ (p : PagesState) (z : Sizes) (o moment : ℕ) (entries : Entries) (d : DirIn p z o moment entries) (count : ℕ) (is : count ≡ map.len entries) where
+  abbrev pub head_of : DirectoryHead
+  head_of = record { spare = d.reads.fields.spare; length = count; moment = d.reads.fields.moment }
+
+  totaled : count ≡ d.reads.fields.length
+  totaled = is ∙ entries_len d.reads.slots d.reads.once entries d.reads.entries_are ∙ sym d.reads.size
+
+  pub head_reported : SaysHead p o head_of
+  head_reported = (
+    record { fields = d.reads.fields; has = d.reads.has.0; valid = subst (λ n. IsHeader n d.reads.fields) d.size d.reads.has.1; kind = d.reads.kind },
+    record { spare = refl; length_is = totaled; moment = refl },
+  )
+
+  -- a header can say so many
+  pub few_counted : count < 4294967296
+  few_counted =
+      let most : d.reads.fields.length ≤ greatest_recorded z.page_bytes kinds.Directory =
+      subst (λ k. d.reads.fields.length ≤ greatest_recorded z.page_bytes k) d.reads.kind d.reads.has.1.length_fits in
+      omega (arith, most, totaled)

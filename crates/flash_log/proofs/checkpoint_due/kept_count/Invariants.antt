@@ -1,7 +1,0 @@
-use Rattle.std.proofs.Common.{◌≡◌, ◌≤◌, ◌*◌, ◌^◌}
-use Rattle.block_state.specs.Counting.{sum_below}
-use Rattle.block_state.specs.TableOf.{table}
-use Rattle.flash_log.proofs.checkpoint_due.kept_count.Given as goal
-
-abbrev pub invariant-loop-block : goal.invariant-loop-block
-invariant-loop-block l = (l.count ≡ sum_below (λ b. ((table l.blocks).entry b).kept) l.block) × (l.count ≤ 2 ^ 32 * l.block)

@@ -1,9 +1,0 @@
-use Rattle.std.proofs.Common.{◌≡◌}
-use Rattle.block_state.specs.Counting.{how_many}
-use Rattle.block_state.specs.Kept.{is_unkept}
-use Rattle.block_state.specs.TableOf.{table}
-use Rattle.mounting.specs.Marked.{marked}
-use Rattle.mounting.proofs.marks.count_unkept.Given as goal
-
-abbrev pub invariant-loop-block : goal.invariant-loop-block
-invariant-loop-block g l = l.count ≡ how_many (is_unkept (marked (g.N.Nand.state l.device).flash (table l.blocks))) l.block

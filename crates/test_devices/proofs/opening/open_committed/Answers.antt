@@ -1,0 +1,22 @@
+use Rattle.std.proofs.Common.{refl}
+use Rattle.flash_log.specs.laws.Mountable.{mountable_unknown}
+use Rattle.test_devices.proofs.opening.open_committed.Goals as goal
+
+pub new-requires : goal.new-requires
+new-requires g c = λ κs within.
+    let d = g.N.Nand.state c.open_noted.new.device in
+    let opened = c.forget.ensures d c.in_ok-opened.ensures.opened in
+    let may = c.if-not-may_stand.ensures in
+    (within, (may.ready refl d opened, (may.stands refl d opened, mountable_unknown _ _)))
+
+pub new-requires-2-clause-committed : goal.new-requires-2-clause-committed
+new-requires-2-clause-committed g c = let made = c.in-Ok.ensures in rw (made.device, made.tables.1) ((c.forget.ensures (g.N.Nand.state c.open_noted.new.device) c.in_ok-opened.ensures.opened).newest)
+
+pub new-requires-2-clause-few : goal.new-requires-2-clause-few
+new-requires-2-clause-few g c = let made = c.in-Ok.ensures in rw (made.tables.0, made.spare) (c.if-not-may_stand.ensures.few refl)
+
+pub new-requires-2-clause-free : goal.new-requires-2-clause-free
+new-requires-2-clause-free g c = let made = c.in-Ok.ensures in rw (made.tables.0, made.spare) (c.if-not-may_stand.ensures.free refl)
+
+pub new-requires-2-clause-none : goal.new-requires-2-clause-none
+new-requires-2-clause-none g c = let made = c.in-Ok.ensures in rw made.tables.1 ((c.forget.ensures (g.N.Nand.state c.open_noted.new.device) c.in_ok-opened.ensures.opened).unbuffered)

@@ -1,5 +1,0 @@
-use Rattle.std.proofs.Common.{None}
-use Rattle.test_devices.proofs.opening.open_kept.Given as goal
-
-abbrev pub ghost-new : goal.ghost-new
-ghost-new g a = None

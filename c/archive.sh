@@ -9,12 +9,13 @@
 #
 # PROVE=yes first proves by `rt lib` what changed of those libraries, and builds nothing where the archive was made of the same
 # texts. KEEP=FILE keeps there the LLVM module that the archive is compiled from. JOBS: how many proofs at a time (2).
+# OPTIMIZE=-Os compiles the module by this flag in place of -O3, for less code: the archive lies in a folder Os beside the other.
 set -eu
 module=${KEEP:+$(realpath -m "$KEEP")}
 cd "$(dirname "$0")/.."
 kit=$(dirname "$(dirname "$(readlink -f "$(command -v rt)")")")
 target=${1:-x86_64-unknown-linux-gnu}
-folder=crates/flash_c/out${1:+/$1}${2:+-$2}
+folder=crates/flash_c/out${1:+/$1}${2:+-$2}${OPTIMIZE:+/${OPTIMIZE#-}}
 archive=$PWD/$folder/libflash_c.a
 words=()
 formats=()
@@ -51,8 +52,9 @@ made_of() {
         sha256sum
 }
 
-# A toolchain folder whose clang is the kit's, and keeps its input. rattle clears the environment: the paths are in the script.
-make_keeping_toolchain() {
+# A toolchain folder whose clang is the kit's, and keeps its input where it is to be kept, and takes the flag that is given in place of -O3.
+# rattle clears the environment: paths and flags are in the script.
+make_toolchain() {
     local tool
     mkdir "$1/bin"
     ln -s "$kit/toolchain/lib" "$1/lib"
@@ -61,8 +63,8 @@ make_keeping_toolchain() {
     done
     cat > "$1/bin/clang" << WRAPPER
 #!/usr/bin/env bash
-for word in "\$@"; do case \$word in *.bc) cat "\$word" > "$module";; esac; done
-exec -a clang "$kit/toolchain/bin/clang" "\$@"
+for word in "\$@"; do case \$word in *.bc) cat "\$word" > "${module:-/dev/null}";; esac; done
+exec -a clang "$kit/toolchain/bin/clang" "\${@/#-O3/${OPTIMIZE:--O3}}"
 WRAPPER
     chmod +x "$1/bin/clang"
 }
@@ -81,10 +83,10 @@ for name in std $(libraries_of flash_c); do
     fi
 done
 toolchain=$kit/toolchain
-if [ -n "$module" ]; then
+if [ -n "$module${OPTIMIZE:-}" ]; then
     toolchain=$(mktemp -d)
     trap 'rm -rf "$toolchain"' EXIT
-    make_keeping_toolchain "$toolchain"
+    make_toolchain "$toolchain"
 fi
 mkdir -p "$folder"
 rm -f "$archive.made_of"

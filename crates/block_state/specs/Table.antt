@@ -80,6 +80,12 @@ pub record IsNextTaken (t : Table) (n b : ℕ) : Type 0 where
   pub first : (c : ℕ) → t.checkpoint ≡ Some c → is_free t c ≡ true → b ≡ c
   pub turn : ((c : ℕ) → t.checkpoint ≡ Some c → is_free t c ≡ false) → IsNextFree t n b
 
+-- a good block of the device in which no page is committed
+pub record IsEmptyBlock (b : ℕ) (t : Table) : Type 0 where
+  pub within : b < t.geometry.blocks
+  pub good : (t.entry b).bad ≡ false
+  pub uncommitted : (t.entry b).committed ≡ 0
+
 -- none of the first n blocks is free
 abbrev pub NoneFree : Table → ℕ → Type 0
 NoneFree t n = (b : ℕ) → b < n → is_free t b ≡ false
@@ -116,6 +122,10 @@ pub record Sets (b : ℕ) (entry : BlockEntry) (old new : Table) : Type 0 where
   pub others : (k : ℕ) → k ≢ b → new.entry k ≡ old.entry k
   pub geometry : new.geometry ≡ old.geometry
   pub next_group : new.next_group ≡ old.next_group
+
+-- the block is marked bad, and the rest of its entry and those of all others stay, with the sizes and the group number
+abbrev pub MarksEntry : ℕ → Table → Table → Type 0
+MarksEntry b old new = Sets b (record (old.entry b) { bad = true }) old new
 
 -- the entry of one block is this, and all else of the table stays
 pub record SetsEntry (b : ℕ) (entry : BlockEntry) (old new : Table) : Type 0 where

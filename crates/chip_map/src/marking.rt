@@ -56,7 +56,7 @@ pub(crate) fn note_valid(
     valid: &[Found],
     newest: &BTreeMap<(u64, u64), Found>,
 )
-    requires few { block_pages ≤ 256 }
+    requires within_limit { block_pages ≤ 256 }
     requires within { AreWithin block_pages valid.now pages.old }
     ensures { (flash : Flash) → AreValid flash valid.now → HasEachNewest flash newest.now → AreNoted flash block_pages pages.old
         → AreSurveyed flash block_pages pages.new }

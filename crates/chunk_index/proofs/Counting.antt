@@ -21,8 +21,8 @@ use Rattle.chunk_index.specs.Counts.{Recounts, HasRoom, HasCounted, Tallies}
 -- after a change there is room for what is in the count then
 pub room_after : {t u : Table} {f g : ℕ → ℕ} {n : ℕ} → HasRoom t f n → Recounts f g t u → HasRoom u g n
 room_after {t} {u} {f} {g} {n} r c = record {
-  enough = λ b.
-      let one : f b ≤ (t.entry b).committed = r.enough b in
+  sufficient = λ b.
+      let one : f b ≤ (t.entry b).committed = r.sufficient b in
       let two : (u.entry b).committed + f b ≡ (t.entry b).committed + g b = c.committed b in
       omega (arith, one, two);
   room = λ b.
@@ -168,8 +168,8 @@ reported_count (Some e) b = refl
 
 -- a key has room to be in the count elsewhere
 pub room_for : (t : Table) (m : ObjectMap) (o c : ℕ) → Tallies t m → IsSome (look m o c) → (size : ℕ) → total (λ (e : KeyEntry). 1) m ≡ size → size < 4294967296 → HasRoom t (one_at (committed_of (look m o c))) 1
-room_for t m o c tallies some size totaled few = record {
-  enough = λ b.
+room_for t m o c tallies some size totaled within_limit = record {
+  sufficient = λ b.
       let all : (t.entry b).committed ≡ total (counted_at b) m = tallies.counts b in
       let part = part_of_all (counted_at b) m o c in
       let reported = reported_count (look m o c) b in
@@ -178,7 +178,7 @@ room_for t m o c tallies some size totaled few = record {
       let all : (t.entry b).committed ≡ total (counted_at b) m = tallies.counts b in
       let less = less_than_all (counted_at b) (λ e. one_most e.committed b) m o c some in
       let reported = reported_count (look m o c) b in
-      omega (arith, all, less, reported, totaled, few);
+      omega (arith, all, less, reported, totaled, within_limit);
   within = λ b le.
       let none : total (counted_at b) m ≡ 0 = tallies.within b le in
       let part = part_of_all (counted_at b) m o c in
@@ -212,7 +212,7 @@ recounts_altered t u m n o c to alters recounts = recounts_more (λ b.
 
 -- the room of an entry that is there
 pub entry_room : (t : Table) (m : ObjectMap) (o c : ℕ) (e : KeyEntry) → look m o c ≡ Some e → Tallies t m → (size : ℕ) → total (λ (x : KeyEntry). 1) m ≡ size → size < 4294967296 → HasRoom t (one_at e.committed) 1
-entry_room t m o c e is tallies size totaled few = subst (λ v. HasRoom t (one_at (committed_of v)) 1) is (room_for t m o c tallies (rw is refl) size totaled few)
+entry_room t m o c e is tallies size totaled within_limit = subst (λ v. HasRoom t (one_at (committed_of v)) 1) is (room_for t m o c tallies (rw is refl) size totaled within_limit)
 
 -- the count of an entry that is there
 pub entry_counts : (t u : Table) (m : ObjectMap) (o c : ℕ) (e : KeyEntry) (to : Option KeyEntry) → look m o c ≡ Some e → Recounts (one_at e.committed) (one_at (committed_of to)) t u → Recounts (one_at (committed_of (look m o c))) (one_at (committed_of to)) t u

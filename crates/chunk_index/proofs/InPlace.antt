@@ -123,13 +123,13 @@ alters_twice {m} {n} {p} {o} {c} {v} {w} a b = record {
 
 -- the entry of a key may be settled, where all may
 pub may_key : (g : WrittenGroup) (m : ObjectMap) (o c : ℕ) (t : Table) → MaySettle g m t → (size : ℕ) → total (λ (e : KeyEntry). 1) m ≡ size → size < 4294967296 → IfSome (look m o c) (λ e. MaySettleEntry g e t)
-may_key g m o c t may size totaled few = go (look m o c) refl where
+may_key g m o c t may size totaled within_limit = go (look m o c) refl where
   go : (v : Option KeyEntry) → look m o c ≡ v → IfSome v (λ e. MaySettleEntry g e t)
   go None is = tt
   go (Some e) is = record {
     block = may.block;
     page = settled_page g m o c e is (λ i shown. let fits = may.fits o c i shown in omega (arith, fits, t.geometry.most_pages));
-    room = settled_room g m o c e is t may.tallies size totaled few;
+    room = settled_room g m o c e is t may.tallies size totaled within_limit;
   }
 
 module _ (g : WrittenGroup) (k : Key) (m n : ObjectMap) (t u : Table) (alters : AltersKey k.object k.chunk (left_of g (look m k.object k.chunk)) m n)

@@ -19,10 +19,10 @@ use Rattle.chunk_index.proofs.Counting.{entry_room, recounts_here}
 -- the page of an entry may be copied, where the counts agree
 pub may_move : (place : PagePlace) (m : ObjectMap) (o c : ℕ) (t : Table) → place.block < t.geometry.blocks → place.page < t.geometry.pages → Tallies t m
     → (size : ℕ) → total (λ (e : KeyEntry). 1) m ≡ size → size < 4294967296 → IfSome (look m o c) (λ e. MayMove place e t)
-may_move place m o c t block page tallies size totaled few = go (look m o c) refl where
+may_move place m o c t block page tallies size totaled within_limit = go (look m o c) refl where
   go : (v : Option KeyEntry) → look m o c ≡ v → IfSome v (λ e. MayMove place e t)
   go None is = tt
-  go (Some e) is = record { block = block; page = page; room = entry_room t m o c e is tallies size totaled few }
+  go (Some e) is = record { block = block; page = page; room = entry_room t m o c e is tallies size totaled within_limit }
 
 pub counts_moved : (place : PagePlace) (v : Option KeyEntry) (e to : KeyEntry) (t u : Table) → v ≡ Some e → to ≡ moved place e → Recounts (one_at e.committed) (one_at to.committed) t u → RecountsMoved place v t u
 counts_moved place v e to t u is by counts = subst (λ w. RecountsMoved place w t u) (sym is) (subst (λ (x : KeyEntry). Recounts (one_at e.committed) (one_at x.committed) t u) by counts)

@@ -230,8 +230,8 @@ module _ (x : Index) where
   -- no object is left, and no key
   pub passed_all : (last : Option ℕ) (passed : Passed) (count : ℕ) → PassesUpTo x last passed → IsNextObject x.shelf.objects last None → passed.count ≤ count
       → (ks : List CommittedKey) → IsListOf (committed_pages x) ks → passed.last ≡ last_key ks count
-  passed_all last passed count so_far none few ks list =
+  passed_all last passed count so_far none within_limit ks list =
       let nothing : IsNextCommitted (committed_pages x) passed.last None = λ o c after. elim (so_far.rest o c after) [ inl absent ↦ absent | inr beyond ↦ absent_none o c (none o beyond) ] in
       let past : slice_get ks passed.count ≡ None = place_is (committed_pages x) ks list passed.count passed.last (so_far.is ks list) None nothing in
-      let sum : passed.count + (count - passed.count) ≡ count = omega (arith, few) in
+      let sum : passed.count + (count - passed.count) ≡ count = omega (arith, within_limit) in
       so_far.is ks list ∙ sym (last_past ks passed.count (count - passed.count) past) ∙ ap (last_key ks) sum

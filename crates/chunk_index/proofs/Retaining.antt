@@ -157,8 +157,8 @@ module _ (keeps : ℕ → Bool) (first : List KeyEntry) (n : ℕ) (now : List Ke
   -- the page of the next entry is in the count
   pub next_counted : HasCounted t (λ b. weigh (counted_at b) first) → HasCounted u (one_at e.committed)
   next_counted totaled = record {
-    enough = λ b.
-        let all : weigh (counted_at b) first ≤ (t.entry b).committed = totaled.enough b in
+    sufficient = λ b.
+        let all : weigh (counted_at b) first ≤ (t.entry b).committed = totaled.sufficient b in
         let most = sum_by_more_le (counted_at b) first n e lt in
         let one : counted_at b (get_or first n e) ≡ one_at e.committed b = ap (counted_at b) (sym at_first) in
         let is : (u.entry b).committed + weigh (counted_at b) (take n first) ≡ (t.entry b).committed + weigh (counted_at b) (take committed now) = was.counts.committed b in

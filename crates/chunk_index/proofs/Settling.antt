@@ -46,7 +46,7 @@ has_page g e fits = go e.state refl where
 
 module _ (g : WrittenGroup) (m : ObjectMap) (o c : ℕ) (e : KeyEntry) (is : look m o c ≡ Some e) where
   pub settled_room : (t : Table) → Tallies t m → (size : ℕ) → total (λ (x : KeyEntry). 1) m ≡ size → size < 4294967296 → HasRoom t (one_at e.committed) 1
-  settled_room t tallies size totaled few = subst (λ v. HasRoom t (one_at (committed_of v)) 1) is (room_for t m o c tallies (rw is refl) size totaled few)
+  settled_room t tallies size totaled within_limit = subst (λ v. HasRoom t (one_at (committed_of v)) 1) is (room_for t m o c tallies (rw is refl) size totaled within_limit)
 
   pub settled_page : (fits : (i : ℕ) → present_of (look m o c) ≡ presents.InBuffer i → g.first + i < 256) → HasPage g e.state
   settled_page fits = has_page g e (λ i shown. fits i (ap present_of is ∙ shown))

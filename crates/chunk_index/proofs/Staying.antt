@@ -34,7 +34,7 @@ object_part f m o x is =
 -- so its pages are in the count
 pub object_counted : (t : Table) (m : ObjectMap) (o : ℕ) (x : ObjectEntries) → get nat_cmp m o ≡ Some x → Tallies t m → HasCounted t (λ b. weigh (counted_at b) x.entries.items)
 object_counted t m o x is tallies = record {
-  enough = λ b.
+  sufficient = λ b.
       let all : (t.entry b).committed ≡ total (counted_at b) m = tallies.counts b in
       omega (arith, all, object_part (counted_at b) m o x is);
   within = λ b le.

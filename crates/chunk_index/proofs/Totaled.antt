@@ -87,9 +87,9 @@ module _ (x : Index) (b : ℕ) (ks : List CommittedKey) (each : (i : ℕ) (k : C
     | inl is ↦ is
     | inr not ↦
         let below : (q : ℕ) → list_any (nat_eq q) (j ∷ xs) ≡ true → q < length all = λ q is. within q (place_of (j ∷ xs) q is) in
-        let few = length-le_from_distinct_below (j ∷ xs) (length all) (distinct (j ∷ xs) (once_more j xs not one_place)) below in
+        let within_limit = length-le_from_distinct_below (j ∷ xs) (length all) (distinct (j ∷ xs) (once_more j xs not one_place)) below in
         let same : length xs ≡ length ks = length-places all ks stand in
-        absurd (omega (arith, few, same, count, count_of_list x b))
+        absurd (omega (arith, within_limit, same, count, count_of_list x b))
   ] where
     within : (q : ℕ) → (i : ℕ) × (slice_get (j ∷ xs) i ≡ Some q) → q < length all
     within q (zero, at) = let same : j ≡ q = cc in omega (arith, same, lt)

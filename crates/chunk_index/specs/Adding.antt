@@ -5,7 +5,7 @@ use Rattle.page_tags.specs.declared.check.CheckEntry.{CheckEntry}
 use Rattle.chunk_index.specs.declared.form.CommittedKey.{CommittedKey}
 use Rattle.chunk_index.specs.Entries.{committed_at}
 use Rattle.chunk_index.specs.Newest.{page_of}
-use Rattle.chunk_index.specs.Shelves.{ObjectMap, look, Differs}
+use Rattle.chunk_index.specs.Shelves.{ObjectMap, look, Differs, AltersKey}
 
 -- the key of a page that a scan found, with the page
 abbrev pub found_key : PageCopy → CommittedKey
@@ -38,6 +38,10 @@ AreLow ks = (i : ℕ) (k : CommittedKey) → slice_get ks i ≡ Some k → k.key
 -- the key of none of the pages has an entry
 abbrev pub AreAbsent : List CommittedKey → ObjectMap → Type 0
 AreAbsent ks m = (i : ℕ) (k : CommittedKey) → slice_get ks i ≡ Some k → look m k.key.object k.key.chunk ≡ None
+
+-- the key gets an entry by which its page is committed and present, and no other key's entry changes
+abbrev pub AddsKey : CommittedKey → ObjectMap → ObjectMap → Type 0
+AddsKey k old new = AltersKey k.key.object k.key.chunk (Some (committed_at k.key.chunk (Some k.at))) old new
 
 -- The first n of the pages have their entries, and no other key's entry changes.
 pub record AddsFirst (ks : List CommittedKey) (n : ℕ) (old new : ObjectMap) : Type 0 where

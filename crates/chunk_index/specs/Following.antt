@@ -53,5 +53,5 @@ pub record PassesEntries (o : ℕ) (es : List KeyEntry) (count : ℕ) (old new :
   pub entries : ℕ
   pub within : entries ≤ length es
   pub are : new ≡ pass_first o es entries old
-  pub few : new.count ≤ count
+  pub within_limit : new.count ≤ count
   pub ends : (new.count ≡ count) ⊎ (entries ≡ length es)

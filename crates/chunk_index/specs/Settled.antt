@@ -5,9 +5,9 @@ use Rattle.block_state.specs.Table.{Table}
 use Rattle.chunk_index.specs.declared.form.WrittenGroup.{WrittenGroup}
 use Rattle.chunk_index.specs.declared.form.Present.TheVariants as presents
 use Rattle.chunk_index.specs.declared.entry.KeyEntry.{KeyEntry}
-use Rattle.chunk_index.specs.Entries.{settled, present_of, committed_of, one_at, counted_at, HasPage}
-use Rattle.chunk_index.specs.Shelves.{ObjectMap, look, total}
-use Rattle.chunk_index.specs.Counts.{Recounts, HasRoom, Tallies}
+use Rattle.chunk_index.specs.Entries.{settled, present_of, committed_of, one_at, HasPage}
+use Rattle.chunk_index.specs.Shelves.{ObjectMap, look}
+use Rattle.chunk_index.specs.Counts.{Recounts, RecountsObjects, HasRoom, Tallies}
 
 -- The group's block and each page of the buffer lie on the device, and the blocks count what is committed.
 pub record MaySettle (g : WrittenGroup) (m : ObjectMap) (t : Table) : Type 0 where
@@ -29,7 +29,7 @@ RecountsSettled g v t u = Recounts (one_at (committed_of v)) (one_at (committed_
 pub record SettlesWhere (g : WrittenGroup) (Meant : ℕ → ℕ → Type 0) (old new : ObjectMap) (t u : Table) : Type 0 where
   pub each : (o c : ℕ) → (look new o c ≡ settled g (look old o c)) ⊎ ((look new o c ≡ look old o c) × (Meant o c → ⊥))
   pub tallies : Tallies u new
-  pub counts : Recounts (λ b. total (counted_at b) old) (λ b. total (counted_at b) new) t u
+  pub counts : RecountsObjects old new t u
 
 -- the key is the one
 abbrev pub IsKey : Key → ℕ → ℕ → Type 0

@@ -1,12 +1,12 @@
 // The index of pages whose places are known.
 ghost use Rattle.std.specs.Prelude.{◌≡◌, ◌<◌, ◌≤◌, ◌^◌, ℕ, length, map, None, Some, IfOk, OnOk};
 ghost use Rattle.block_state.specs.TableOf.{table};
-ghost use Rattle.chunk_index.specs.Adding.{AddsFirst, AreAbsent, AreOfOtherKeys, AreInPages, AreLow, AreWithin};
+ghost use Rattle.chunk_index.specs.Adding.{AddsFirst, AddsKey, AreAbsent, AreOfOtherKeys, AreInPages, AreLow, AreWithin};
 ghost use Rattle.chunk_index.specs.Counts.{Recounts};
-ghost use Rattle.chunk_index.specs.Entries.{as_committed, committed_at};
+ghost use Rattle.chunk_index.specs.Entries.{as_committed};
 ghost use Rattle.chunk_index.specs.Committed.{IsListOf, KeyRises};
 ghost use Rattle.chunk_index.specs.Maps.{count_committed_in, committed_pages, present, CountsAgree};
-ghost use Rattle.chunk_index.specs.Shelves.{look, AltersKey, SameEntries};
+ghost use Rattle.chunk_index.specs.Shelves.{look, SameEntries};
 
 use crate::entry::{KeyEntry, State};
 use crate::form::CommittedKey;
@@ -98,7 +98,7 @@ impl Index {
         requires page { page.at.page < (table blocks.old).geometry.pages }
         requires low { page.key.chunk < 2 ^ 32 }
         requires agree { CountsAgree (table blocks.old) self.old }
-        ensures alters { OnOk result (AltersKey page.key.object page.key.chunk (Some (committed_at page.key.chunk (Some page.at))) self.old.shelf.objects self.new.shelf.objects) }
+        ensures alters { OnOk result (AddsKey page self.old.shelf.objects self.new.shelf.objects) }
         ensures agree { OnOk result (CountsAgree (table blocks.new) self.new) }
         ensures counts { OnOk result (Recounts (count_committed_in self.old) (count_committed_in self.new) (table blocks.old) (table blocks.new)) }
     {

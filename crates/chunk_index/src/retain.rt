@@ -2,8 +2,8 @@
 ghost use Rattle.std.specs.Prelude.{◌≡◌, ◌<◌, ◌≤◌, ◌+◌, ℕ, length, IfSome};
 ghost use Rattle.block_state.specs.TableOf.{table};
 ghost use Rattle.chunk_index.specs.Entries.{committed_of, one_at, counted_at, weigh, IsSmall};
-ghost use Rattle.chunk_index.specs.Shelves.{look, total, IsNextObject};
-ghost use Rattle.chunk_index.specs.Counts.{Recounts, HasCounted, Tallies};
+ghost use Rattle.chunk_index.specs.Shelves.{look, IsNextObject};
+ghost use Rattle.chunk_index.specs.Counts.{Recounts, RecountsEntries, RecountsObjects, HasCounted, Tallies};
 ghost use Rattle.chunk_index.specs.Retained.{retained, retained_reported, retained_of, RetainsObject};
 ghost use Rattle.chunk_index.specs.Maps.{count_committed_in, CountsAgree, Retains};
 
@@ -37,7 +37,7 @@ impl Shelf {
         requires tallies { Tallies (table blocks.old) self.old.objects }
         ensures looks { (o c : ℕ) → look self.new.objects o c ≡ retained_reported (F.keeps filter.now o c) (look self.old.objects o c) }
         ensures tallies { Tallies (table blocks.new) self.new.objects }
-        ensures counts { Recounts (λ b. total (counted_at b) self.old.objects) (λ b. total (counted_at b) self.new.objects) (table blocks.old) (table blocks.new) }
+        ensures counts { RecountsObjects self.old.objects self.new.objects (table blocks.old) (table blocks.new) }
     {
         let mut done = None;
         while let Some(object) = self.next_object(done) {
@@ -51,7 +51,7 @@ impl Shelf {
         requires tallies { Tallies (table blocks.old) self.old.objects }
         ensures retains { RetainsObject object (F.keeps filter.now object) self.old.objects self.new.objects }
         ensures tallies { Tallies (table blocks.new) self.new.objects }
-        ensures counts { Recounts (λ b. total (counted_at b) self.old.objects) (λ b. total (counted_at b) self.new.objects) (table blocks.old) (table blocks.new) }
+        ensures counts { RecountsObjects self.old.objects self.new.objects (table blocks.old) (table blocks.new) }
     {
         self.retain_entries(object, filter, blocks);
         self.drop_empty(object);
@@ -62,7 +62,7 @@ impl Shelf {
         requires tallies { Tallies (table blocks.old) self.old.objects }
         ensures retains { RetainsObject object (F.keeps filter.now object) self.old.objects self.new.objects }
         ensures tallies { Tallies (table blocks.new) self.new.objects }
-        ensures counts { Recounts (λ b. total (counted_at b) self.old.objects) (λ b. total (counted_at b) self.new.objects) (table blocks.old) (table blocks.new) }
+        ensures counts { RecountsObjects self.old.objects self.new.objects (table blocks.old) (table blocks.new) }
     {
         match self.objects.get_mut(&object) {
             Some(entries) => {
@@ -80,7 +80,7 @@ impl ObjectEntries {
         requires totaled { HasCounted (table blocks.old) (λ b. weigh (counted_at b) self.old.entries.items) }
         ensures items { self.new.entries.items ≡ retained_of (F.keeps filter.now object) self.old.entries.items }
         ensures gone { length self.new.entries.items + result ≡ length self.old.entries.items }
-        ensures counts { Recounts (λ b. weigh (counted_at b) self.old.entries.items) (λ b. weigh (counted_at b) self.new.entries.items) (table blocks.old) (table blocks.new) }
+        ensures counts { RecountsEntries self.old.entries.items self.new.entries.items (table blocks.old) (table blocks.new) }
     {
         let before = self.entries.len();
         gather(&mut self.entries, object, filter, blocks);
@@ -97,7 +97,7 @@ fn gather<F: KeyFilter>(
 )
     requires totaled { HasCounted (table blocks.old) (λ b. weigh (counted_at b) entries.old.items) }
     ensures items { entries.new.items ≡ retained_of (F.keeps filter.now object) entries.old.items }
-    ensures counts { Recounts (λ b. weigh (counted_at b) entries.old.items) (λ b. weigh (counted_at b) entries.new.items) (table blocks.old) (table blocks.new) }
+    ensures counts { RecountsEntries entries.old.items entries.new.items (table blocks.old) (table blocks.new) }
 {
     let mut committed = 0;
     for at in 0..entries.len() {

@@ -1,11 +1,11 @@
 // What becomes of the entries once the buffer was written.
 ghost use Rattle.std.specs.Prelude.{◌≡◌, ◌<◌, ◌≤◌, ◌+◌, ◌^◌, ℕ, false, Some, IfSome};
 ghost use Rattle.block_state.specs.TableOf.{table};
-ghost use Rattle.chunk_index.specs.Entries.{chunk, settled, settled_by, same_of, committed_of, one_at, counted_at, HasPage, Alters, IsSmall};
+ghost use Rattle.chunk_index.specs.Entries.{chunk, settled, settled_by, same_of, committed_of, one_at, HasPage, Alters, IsSmall};
 ghost use Rattle.chunk_index.specs.InPlace.{goes_of, left_of};
 ghost use Rattle.chunk_index.specs.Lists.{find_by};
-ghost use Rattle.chunk_index.specs.Shelves.{look, total, AltersKey, IsListed};
-ghost use Rattle.chunk_index.specs.Counts.{Recounts, Tallies};
+ghost use Rattle.chunk_index.specs.Shelves.{look, AltersKey, IsListed};
+ghost use Rattle.chunk_index.specs.Counts.{Recounts, RecountsObjects, Tallies};
 ghost use Rattle.chunk_index.specs.Settled.{MaySettle, MaySettleEntry, SettlesWhere, RecountsSettled, IsKey, IsFrom, IsAny};
 ghost use Rattle.chunk_index.specs.Noted.{IsNoted, IsCut};
 
@@ -78,7 +78,7 @@ impl Shelf {
         requires noted { (o c : ℕ) → same_of (look self.old.objects o c) ≡ false → ∥ IsNoted changes.now o c ∥₁ }
         ensures looks { (o c : ℕ) → look self.new.objects o c ≡ settled group (look self.old.objects o c) }
         ensures tallies { Tallies (table blocks.new) self.new.objects }
-        ensures counts { Recounts (λ b. total (counted_at b) self.old.objects) (λ b. total (counted_at b) self.new.objects) (table blocks.old) (table blocks.new) }
+        ensures counts { RecountsObjects self.old.objects self.new.objects (table blocks.old) (table blocks.new) }
     {
         if changes.has_all {
             self.settle_all(group, blocks);

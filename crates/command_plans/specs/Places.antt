@@ -1,7 +1,7 @@
 -- What a path leads to, for a command.
 use Rattle.std.specs.Prelude.{◌≡◌, ℕ, Some, Result, Ok}
 use Rattle.std.specs.FinMap as map
-use Rattle.posix_profile.specs.State.{Object, State}
+use Rattle.posix_profile.specs.State.{Object, Objects, State}
 use Rattle.posix_profile.specs.NameSteps.{at_object}
 use Rattle.posix_profile.specs.Outcomes.{Outcome, refuse, at_place}
 use Rattle.posix_profile.specs.Paths.{Place}
@@ -41,3 +41,7 @@ NoObject s r e = (act : Place → ℕ → Outcome) → refuse s e ≡ at_place s
 -- the object at the place, or why there is none
 abbrev pub FindsObject : {S : Type 0} (m : Meaning S) → State → Result Place Errno → S → S → Result FoundObject Refusal → Type 0
 FindsObject m s r a b result = Reports m a b (λ f. AtObject s r (place_of f.place) f.number) (NoObject s r) result
+
+-- what is true where the number has an object
+abbrev pub OfObject : Objects → ℕ → Type 0 → Type 0
+OfObject objects o A = (x : Object) → map.get objects o ≡ Some x → A

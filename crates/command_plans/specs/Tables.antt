@@ -1,5 +1,5 @@
 -- What the descriptors of a table stand for.
-use Rattle.std.specs.Prelude.{◌≡◌, ℕ, ◌+◌, List, [], ◌∷◌, Option, Some, None}
+use Rattle.std.specs.Prelude.{◌≡◌, ◌≢◌, ℕ, ◌+◌, List, [], ◌∷◌, Option, Some, None}
 use Rattle.std.specs.FinMap as map
 use Rattle.posix_profile.specs.State.{Handle, Handles}
 use Rattle.command_plans.specs.declared.table.OpenDescription.{OpenDescription}
@@ -22,3 +22,7 @@ handles_in table = handles_from 0 table.slots.items
 -- the descriptor is open on the object
 abbrev pub StandsFor : Handles → ℕ → ℕ → Type 0
 StandsFor handles fd o = (handle : Handle) × (map.get handles fd ≡ Some handle) × (handle.object ≡ o)
+
+-- the descriptor is open on another object, if it is open
+abbrev pub StandsForOther : Handles → ℕ → ℕ → Type 0
+StandsForOther handles fd o = (handle : Handle) → map.get handles fd ≡ Some handle → handle.object ≢ o

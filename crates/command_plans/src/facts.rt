@@ -1,11 +1,12 @@
 // What a store knows of an object without reading.
 ghost use Rattle.std.specs.Prelude.{◌≡◌, true, false, Some, length, nat_le, MatchBool};
 ghost use Rattle.std.specs.FinMap as map;
-ghost use Rattle.posix_profile.specs.State.{Object, is_directory};
+ghost use Rattle.posix_profile.specs.State.{is_directory};
 ghost use Rattle.posix_profile.specs.Names.{link_pairs};
 ghost use Rattle.posix_profile.specs.WellFormed.{IsNamed};
 ghost use Rattle.object_store.specs.Facts.{bytes_of};
 ghost use Rattle.object_store.specs.Stores.{OfTree};
+ghost use Rattle.command_plans.specs.Places.{OfObject};
 ghost use Rattle.command_plans.specs.Rooms.{IsFileLength};
 
 use object_store::ObjectStore;
@@ -62,8 +63,7 @@ pub fn has_other_name<S: ObjectStore>(store: &S, number: u64) -> bool
 
 /// Whether a name leads to an object that is there.
 pub fn is_named<S: ObjectStore>(store: &S, number: u64) -> bool
-    ensures { OfTree S.meaning store.now (λ z objects. (x : Object) → map.get objects number ≡ Some x
-        → MatchBool result (IsNamed objects number) (IsNamed objects number → ⊥)) }
+    ensures { OfTree S.meaning store.now (λ z objects. OfObject objects number (MatchBool result (IsNamed objects number) (IsNamed objects number → ⊥))) }
 {
     match store.info(number) {
         Some(info) => match info.kind {

@@ -28,7 +28,7 @@ pub fn find_place<'a, S: ObjectStore>(
 ) -> Result<PathPlace<'a>, Refusal>
     ensures reads { S.meaning.reads store.old store.new }
     ensures power { KeepsPower S.meaning store.old store.new result }
-    ensures finds { (z : Sizes) (s : State) → Holds S.meaning z s store.old
+    ensures lookups { (z : Sizes) (s : State) → Holds S.meaning z s store.old
         → FindsPlace S.meaning s (resolve s.objects path.now) store.old store.new result }
 {
     resolve(alloc, store, path)
@@ -42,7 +42,7 @@ pub fn find_object<'a, S: ObjectStore>(
 ) -> Result<FoundObject<'a>, Refusal>
     ensures reads { S.meaning.reads store.old store.new }
     ensures power { KeepsPower S.meaning store.old store.new result }
-    ensures finds { (z : Sizes) (s : State) → Holds S.meaning z s store.old
+    ensures lookups { (z : Sizes) (s : State) → Holds S.meaning z s store.old
         → FindsObject S.meaning s (resolve s.objects path.now) store.old store.new result }
 {
     let place = find_place(alloc, store, path)?;

@@ -1,16 +1,13 @@
 // Whether there is room for a change.
-ghost use Rattle.std.specs.Prelude.{◌≡◌, ◌<◌, ◌≤◌, ◌-◌, ◌+◌, ℕ, List, length};
+ghost use Rattle.std.specs.Prelude.{◌≡◌, ◌<◌, ◌≤◌, ◌-◌, ◌+◌, length};
 ghost use Rattle.std.specs.FinMap as map;
 ghost use Rattle.volume_terms.specs.Sizes.{page_slots, capacity};
-ghost use Rattle.posix_profile.specs.Charge.{fits, charge};
+ghost use Rattle.posix_profile.specs.Charge.{charge};
 ghost use Rattle.volume_terms.specs.Rounding.{ceiling};
-ghost use Rattle.posix_profile.specs.Changes.{with_object, with_name, with_bytes};
-ghost use Rattle.posix_profile.specs.declared.reply.Kind.{Kind};
 ghost use Rattle.volume_terms.specs.VolumeSizes.{sizes_of};
-ghost use Rattle.object_store.specs.Changes.{empty_object};
 ghost use Rattle.object_store.specs.Facts.{bytes_of};
 ghost use Rattle.object_store.specs.Stores.{OfDirectory, OfFile, OfTree, OfAnyFile};
-ghost use Rattle.command_plans.specs.Rooms.{entry_units, OfNewName, IsRoomOf};
+ghost use Rattle.command_plans.specs.Rooms.{entry_units, IsRoomForObject, IsRoomForName, IsRoomForBytes, IsRoomOf};
 
 use crate::facts::length;
 use object_store::ObjectStore;
@@ -20,7 +17,7 @@ use volume_terms::VolumeSizes;
 fn entry_units(count: u64, slots: u64) -> u64
     requires { 0 < slots }
     ensures units { result ≡ entry_units count slots }
-    ensures few { result ≤ 1 }
+    ensures within_limit { result ≤ 1 }
 {
     if count % slots == 0 { 1 } else { 0 }
 }
@@ -36,7 +33,7 @@ fn slots_of(sizes: VolumeSizes) -> u64
 /// The units that a further entry of a directory of so many takes.
 pub fn units_past<S: ObjectStore>(store: &S, count: u64) -> u64
     ensures units { OfTree S.meaning store.now (λ z objects. result ≡ entry_units count (page_slots z)) }
-    ensures few { result ≤ 1 }
+    ensures within_limit { result ≤ 1 }
 {
     entry_units(count, slots_of(store.sizes()))
 }
@@ -50,8 +47,7 @@ pub fn free_units<S: ObjectStore>(store: &S) -> u64
 
 /// Whether there is room for a new object and its name.
 pub fn has_object_room<S: ObjectStore>(store: &S, directory: u64) -> bool
-    ensures { OfDirectory S.meaning store.now directory (λ z objects. OfNewName objects directory (λ name.
-        (kind : Kind) (moment : ℕ) → result ≡ fits z (with_object objects moment directory name (empty_object kind moment)))) }
+    ensures { OfDirectory S.meaning store.now directory (λ z objects. IsRoomForObject z objects directory result) }
 {
     let units = units_past(store, store.entry_count(directory));
     1 + units <= free_units(store)
@@ -59,8 +55,7 @@ pub fn has_object_room<S: ObjectStore>(store: &S, directory: u64) -> bool
 
 /// Whether there is room for a further name.
 pub fn has_name_room<S: ObjectStore>(store: &S, directory: u64) -> bool
-    ensures { OfDirectory S.meaning store.now directory (λ z objects. OfNewName objects directory (λ name.
-        (number moment : ℕ) → result ≡ fits z (with_name objects moment directory name number))) }
+    ensures { OfDirectory S.meaning store.now directory (λ z objects. IsRoomForName z objects directory result) }
 {
     units_past(store, store.entry_count(directory)) <= free_units(store)
 }
@@ -81,7 +76,7 @@ pub fn units_for<S: ObjectStore>(store: &S, size: u64) -> u64
 
 /// Whether there is room for so many bytes in place of those of a file.
 pub fn has_bytes_room<S: ObjectStore>(store: &S, file: u64, size: u64) -> bool
-    ensures { OfFile S.meaning store.now file (λ z objects. (moment : ℕ) (new : List ℕ) → size ≡ length new → result ≡ fits z (with_bytes objects moment file new)) }
+    ensures { OfFile S.meaning store.now file (λ z objects. IsRoomForBytes z objects file size result) }
 {
     units_of(store.sizes(), size) <= units_for(store, length(store, file))
 }

@@ -1,10 +1,9 @@
 // The table of descriptors: it takes memory when it is made, and none later.
-ghost use Rattle.std.specs.Prelude.{◌≡◌, ◌≢◌, ◌<◌, ◌≤◌, Some, None, length, IfOk, MatchBool, not};
+ghost use Rattle.std.specs.Prelude.{◌≡◌, ◌<◌, ◌≤◌, Some, None, length, IfOk, MatchBool, not};
 ghost use Rattle.std.specs.Option.{option_map};
 ghost use Rattle.std.specs.FinMap as map;
 ghost use Rattle.volume_terms.specs.Sizes.{descriptors};
 ghost use Rattle.posix_profile.specs.Changes.{free_descriptor};
-ghost use Rattle.posix_profile.specs.State.{Handle};
 ghost use Rattle.posix_profile.specs.WellFormed.{IsOpen};
 
 use posix_profile::OpenFlags;
@@ -27,7 +26,7 @@ pub struct DescriptorTable {
 }
 
 impl DescriptorTable {
-    ghost use Rattle.command_plans.specs.Tables.{handle_of, handles_in, StandsFor};
+    ghost use Rattle.command_plans.specs.Tables.{handle_of, handles_in, StandsFor, StandsForOther};
 
     /// No descriptor is open.
     pub fn new(alloc: Global) -> Result<DescriptorTable, AllocError>
@@ -97,7 +96,7 @@ impl DescriptorTable {
 
     /// Whether the descriptor stands for the object.
     fn stands_for(&self, fd: u32, number: u64) -> bool
-        ensures { MatchBool result (StandsFor (handles_in self.now) fd number) ((handle : Handle) → map.get (handles_in self.now) fd ≡ Some handle → handle.object ≢ number) }
+        ensures { MatchBool result (StandsFor (handles_in self.now) fd number) (StandsForOther (handles_in self.now) fd number) }
     {
         match self.get(fd) {
             Some(description) => description.object == number,

@@ -40,13 +40,13 @@ module _ (z : Sizes) (old new : PageMap) (o before : ℕ) (entries : Entries) (r
   -- one slot less
   pub fewer_each : z.page_bytes ≤ 4096 → (last : ℕ) → length r.slots ≡ last + 1 → (i : ℕ) (e : Entry) → slice_get r.slots i ≡ Some e → (l : Entry) → slice_get r.slots last ≡ Some l
       → (i < last → (x : Entry) × SlotOf z old o last x × SlotOf z new o i x) → KeepsSlots z old new o last i → (k : ℕ) (y : Entry) → slice_get (take last (set r.slots i l)) k ≡ Some y → SlotOf z new o k y
-  fewer_each few last len i e at_i l at_last filled committed k y at =
+  fewer_each within_limit last len i e at_i l at_last filled committed k y at =
       let x = origin r.slots r.once entries r.entries_are i e at_i last len l at_last k y at in
       elim x.4 [
         | inl p ↦
             let f = filled (omega (arith, p.0, x.3)) in
             let there : SlotOf z old o last y = r.each last y (ap (slice_get r.slots) (sym p.1) ∙ x.1) in
-            let one : f.0 ≡ y = one_entry z few old o last f.0 y f.1 there in
+            let one : f.0 ≡ y = one_entry z within_limit old o last f.0 y f.1 there in
             subst (λ n. SlotOf z new o n y) (sym p.0) (subst (λ e. SlotOf z new o i e) one f.2)
         | inr p ↦ committed k y p.0 x.3 (r.each k y (ap (slice_get r.slots) (sym p.1) ∙ x.1))
       ]
@@ -89,12 +89,12 @@ module _ (z : Sizes) (old new : PageMap) (o before moment : ℕ) (entries : Entr
   -- one slot less
   pub reads_fewer : z.page_bytes ≤ 4096 → length r.slots ≡ head.length + 1 → (i : ℕ) (e : Entry) → slice_get r.slots i ≡ Some e
       → (i < head.length → (x : Entry) × SlotOf z old o head.length x × SlotOf z new o i x) → KeepsSlots z old new o head.length i → ReadsDirectory z new o moment (map.remove entries e.name) r.fields.spare
-  reads_fewer few len i e at_i filled committed =
+  reads_fewer within_limit len i e at_i filled committed =
       let last : ℕ = head.length in
       let l = slice_get_there r.slots last (omega (arith, len)) in
       reads_slots (fewer r.slots r.once entries r.entries_are i e at_i last len l.0 l.1) (map.remove entries e.name)
       (let t : length (fewer r.slots r.once entries r.entries_are i e at_i last len l.0 l.1) ≡ _ = length-take last (set r.slots i l.0) in omega (arith, t, put_len r.slots i l.0, len))
-      (fewer_each z old new o before entries r few last len i e at_i l.0 l.1 filled committed)
+      (fewer_each z old new o before entries r within_limit last len i e at_i l.0 l.1 filled committed)
       (once_fewer r.slots r.once entries r.entries_are i e at_i last len l.0 l.1) (entries_fewer r.slots r.once entries r.entries_are i e at_i last len l.0 l.1)
 
 -- a directory whose pages stay

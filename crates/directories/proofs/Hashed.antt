@@ -49,7 +49,7 @@ module _ (z : Sizes) (some : 1 ≤ page_slots z) (old new : NameIndex) (more : H
       let chunk : p.key.chunk ≡ 1 + s / n = first.0.chunk in
       let begins : p.key.chunk - 1 ≡ s / n = omega (arith, chunk) in
       let number : (p.key.chunk - 1) * n + s % n ≡ s = ap (λ k. k * n + s % n) begins ∙ div-add-mod' s n in
-      let small : s < 2 ^ 32 = omega (arith, less, w.few) in
+      let small : s < 2 ^ 32 = omega (arith, less, w.within_limit) in
       let held = all i p first.0.there (omega (arith, chunk)) (no_other p.key.object first.0.object) (s % n) e (omega (arith, some))
       (at.2, ap (λ (xs : List ℕ). take 272 (drop (272 * (s % n)) xs)) one ∙ at.3) (subst (λ k. k < 2 ^ 32) (sym number) small) in
       subst (λ k. Holds new d (fnv1a e.name) k) number (subst (λ o. Holds new o (fnv1a e.name) ((p.key.chunk - 1) * n + s % n)) first.0.object held)

@@ -42,14 +42,14 @@ module _ (names : NameIndex) (d : ℕ) (name : List ℕ) where
   asked_on old mid new from p before le holds more =
       let below : (i s : ℕ) → slice_get before.0 i ≡ Some s → s < p = λ i s at. let less : s < from = before.2 i s at in omega (arith, less, le) in
       let size : length (before.0 ++ p ∷ []) ≡ length before.0 + 1 = length-append before.0 (p ∷ []) in
-      let few : mid ≤ old + length before.0 = before.3 in (
+      let within_limit : mid ≤ old + length before.0 = before.3 in (
         before.0 ++ p ∷ [],
         push_held before.0 p before.1 below holds,
         λ i s at. elim (get_push before.0 p i s at) [
           | inl x ↦ let less : s < p = below i s x.1 in omega (arith, less)
           | inr x ↦ omega (arith, x.1)
         ],
-        omega (arith, few, size, more),
+        omega (arith, within_limit, size, more),
       )
 
   pub asks_none : (old new : ℕ) → new ≤ old → IssuesHeld names d name old new
@@ -57,7 +57,7 @@ module _ (names : NameIndex) (d : ℕ) (name : List ℕ) where
 
   -- some more before the search and some behind it
   pub asks_more : (old new old' new' k : ℕ) → IssuesHeld names d name old new → old + k ≤ old' → new' ≤ new + k → IssuesHeld names d name old' new'
-  asks_more old new old' new' k asks low high = let few : new ≤ old + length asks.0 = asks.2 in (asks.0, asks.1, omega (arith, few, low, high))
+  asks_more old new old' new' k asks low high = let within_limit : new ≤ old + length asks.0 = asks.2 in (asks.0, asks.1, omega (arith, within_limit, low, high))
 
 -- two names are looked for, one after the other, and some pages are looked up besides
 pub asks_both : (names : NameIndex) (d e : ℕ) (to from : List ℕ) (old mid next new : ℕ) → IssuesHeld names d to (old + 1) mid → IssuesHeld names e from (mid + 3) next → new ≤ next + 2

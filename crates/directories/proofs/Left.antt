@@ -50,7 +50,7 @@ module _ (pages : List FreshPage) (d slot page_bytes : ℕ) (page : List ℕ) (f
 -- a page with less bytes than a slot has none
 length_is : (e : Entry) → IsSlot e → length (slot_bytes e) ≡ 272
 unfolding slot_bytes
-length_is e s = let few = s.name.few in simp (length-append, length-replicate) (omega (arith, few))
+length_is e s = let within_limit = s.name.within_limit in simp (length-append, length-replicate) (omega (arith, within_limit))
 
 no_room : (e : Entry) → IsTreeSlot e → (page : List ℕ) (j : ℕ) → length page < 272 → take 272 (drop j page) ≢ slot_bytes e
 no_room e tree page j short same =

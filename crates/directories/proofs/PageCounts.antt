@@ -40,5 +40,5 @@ module _ (z : Sizes) (old new : PageMap) (d but count : ℕ) (some : 1 ≤ page_
 
   pub only_written : (before : ℕ) → before ≤ count → HasOnly z old d before → HasOnly z new d count
   only_written before le only c behind =
-      let few : div_ceil before (page_slots z) ≤ div_ceil count (page_slots z) = ceil_up before count (page_slots z) some le in
-      committed_behind c behind ∙ only c (omega (arith, behind, few))
+      let within_limit : div_ceil before (page_slots z) ≤ div_ceil count (page_slots z) = ceil_up before count (page_slots z) some le in
+      committed_behind c behind ∙ only c (omega (arith, behind, within_limit))

@@ -27,7 +27,7 @@ single m o c xs ys = one_page m o c xs ys
 
 -- a slot is one entry
 pub one_entry : (z : Sizes) → z.page_bytes ≤ 4096 → (m : PageMap) (d i : ℕ) (a b : Entry) → SlotOf z m d i a → SlotOf z m d i b → a ≡ b
-one_entry z few m d i a b = one_slot z few (has m) (single m) d i a b
+one_entry z within_limit m d i a b = one_slot z within_limit (has m) (single m) d i a b
 
 -- the header counts the entries
 pub count_after : (z : Sizes) → IsPageSize z.page_bytes → (m : PageMap) (o moment : ℕ) (entries : Entries) (r : ReadsDir z (has m) o moment entries) (head : DirectoryHead) → HasHead z m o head → map.len entries ≡ head.length
@@ -49,33 +49,33 @@ module _ (p : PagesState) (z : Sizes) (o moment : ℕ) (entries : Entries) (d : 
 
   -- a slot that is reported is the one of the directory
   pub slot_is : z.page_bytes ≤ 4096 → (i : ℕ) (e : Entry) → i < length d.reads.slots → SlotOf z p.present o i e → slice_get d.reads.slots i ≡ Some e
-  slot_is few i e less at =
+  slot_is within_limit i e less at =
       let s = slice_get_there d.reads.slots i less in
-      s.1 ∙ ap Some (one_entry z few p.present o i s.0 e (d.reads.each i s.0 s.1) at)
+      s.1 ∙ ap Some (one_entry z within_limit p.present o i s.0 e (d.reads.each i s.0 s.1) at)
 
   -- where a name was found, it leads to the object
   pub found_leads : z.page_bytes ≤ 4096 → (name : Name) (found : Option Located) → Finds (SlotOf z p.present o) 0 (length d.reads.slots) name found → option_map (λ (x : Located). x.object) found ≡ map.get entries name
-  found_leads few name (Some l) is =
-      let at = slot_is few l.place is.entry is.most is.there in
+  found_leads within_limit name (Some l) is =
+      let at = slot_is within_limit l.place is.entry is.most is.there in
       ap Some is.object_is ∙ sym (leads d.reads.slots d.reads.once entries d.reads.entries_are l.place is.entry at) ∙ ap (map.get entries) is.name_is
-  found_leads few name None is = sym (none d.reads.slots d.reads.once entries d.reads.entries_are name (λ k e at same.
+  found_leads within_limit name None is = sym (none d.reads.slots d.reads.once entries d.reads.entries_are name (λ k e at same.
       let within = slice_get_within d.reads.slots k e at in
       let s = is k (omega arith) within in
-      s.2 (ap (λ (x : Entry). x.name) (one_entry z few p.present o k s.0 e s.1 (d.reads.each k e at)) ∙ same)))
+      s.2 (ap (λ (x : Entry). x.name) (one_entry z within_limit p.present o k s.0 e s.1 (d.reads.each k e at)) ∙ same)))
 
 -- the directory, after a look-up
 abbrev pub later : (p q : PagesState) (z : Sizes) (o moment : ℕ) (entries : Entries) → OnlyFinds p q → DirIn p z o moment entries → DirIn q z o moment entries
-later p q z o moment entries finds d = record {
-  sound = finds.sound ∙ d.sound;
-  size = d.size ∙ sym finds.page_bytes;
+later p q z o moment entries lookups d = record {
+  sound = lookups.sound ∙ d.sound;
+  size = d.size ∙ sym lookups.page_bytes;
   reads = record {
     fields = d.reads.fields;
-    has = (subst (λ (m : PageMap). m o 0 ≡ Some (header_bytes d.reads.fields)) (sym finds.present) d.reads.has.0, d.reads.has.1);
+    has = (subst (λ (m : PageMap). m o 0 ≡ Some (header_bytes d.reads.fields)) (sym lookups.present) d.reads.has.0, d.reads.has.1);
     kind = d.reads.kind;
     when = d.reads.when;
     slots = d.reads.slots;
     size = d.reads.size;
-    each = λ i e at. subst (λ (m : PageMap). SlotOf z m o i e) (sym finds.present) (d.reads.each i e at);
+    each = λ i e at. subst (λ (m : PageMap). SlotOf z m o i e) (sym lookups.present) (d.reads.each i e at);
     once = d.reads.once;
     entries_are = d.reads.entries_are;
   };

@@ -21,25 +21,25 @@ use Rattle.directories.proofs.Sought.{stands_then}
 
 -- a directory whose names an index holds, after a look-up
 abbrev pub named_later : (names : NameIndex) (p q : PagesState) (z : Sizes) (o moment : ℕ) (entries : Entries) → OnlyFinds p q → NamedIn names p z o moment entries → NamedIn names q z o moment entries
-named_later names p q z o moment entries finds d =
-    let l = later p q z o moment entries finds (record { sound = d.sound; size = d.size; reads = d.reads }) in
-    record { sound = l.sound; size = l.size; reads = l.reads; hashes = λ s e less at. d.hashes s e less (subst (λ (m : PageMap). SlotOf z m o s e) finds.present at) }
+named_later names p q z o moment entries lookups d =
+    let l = later p q z o moment entries lookups (record { sound = d.sound; size = d.size; reads = d.reads }) in
+    record { sound = l.sound; size = l.size; reads = l.reads; hashes = λ s e less at. d.hashes s e less (subst (λ (m : PageMap). SlotOf z m o s e) lookups.present at) }
 
-module _ (names : NameIndex) (old mid next : PagesState) (first_finds : OnlyFinds old mid) (finds : OnlyFinds mid next) (z : Sizes) (size : IsPageSize z.page_bytes) (o before : ℕ) (entries : Entries)
+module _ (names : NameIndex) (old mid next : PagesState) (first_finds : OnlyFinds old mid) (lookups : OnlyFinds mid next) (z : Sizes) (size : IsPageSize z.page_bytes) (o before : ℕ) (entries : Entries)
     (d : NamedIn names old z o before entries) (from : Name) (taken : Taken) (moment : ℕ) (t : TakesName z mid.present o d.reads.slots from taken)
     (reads : ReadsDirectory z (changed taken.change mid.present) o moment (map.remove entries from) d.reads.fields.spare) where
   -- the directory without the name
   abbrev pub reads_then : ReadsDirectory z (changed taken.change next.present) o moment (map.remove entries from) d.reads.fields.spare
-  reads_then = subst (λ (k : PageMap). ReadsDirectory z (changed taken.change k) o moment (map.remove entries from) d.reads.fields.spare) (sym finds.present) reads
+  reads_then = subst (λ (k : PageMap). ReadsDirectory z (changed taken.change k) o moment (map.remove entries from) d.reads.fields.spare) (sym lookups.present) reads
 
   abbrev pub then_in : DirIn (after (Some taken.change) next) z o moment (map.remove entries from)
-  then_in = record { sound = finds.sound ∙ first_finds.sound ∙ d.sound; size = d.size ∙ sym first_finds.page_bytes ∙ sym finds.page_bytes; reads = reads_then.0 }
+  then_in = record { sound = lookups.sound ∙ first_finds.sound ∙ d.sound; size = d.size ∙ sym first_finds.page_bytes ∙ sym lookups.page_bytes; reads = reads_then.0 }
 
   pub spare_then : then_in.reads.fields.spare ≡ d.reads.fields.spare
   spare_then = reads_then.1
 
   pub same : changed taken.change next.present ≡ changed taken.change mid.present
-  same = ap (changed taken.change) finds.present
+  same = ap (changed taken.change) lookups.present
 
   pub totaled : length then_in.reads.slots ≡ taken.last
   totaled =

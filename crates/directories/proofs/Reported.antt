@@ -20,16 +20,16 @@ use Rattle.directories.specs.declared.lookup.Located.{Located}
 use Rattle.directories.proofs.Lists.{entries_len}
 use Rattle.directories.proofs.Reading.{head_is, slots_are, slot_is, found_leads}
 
-module _ (p q : PagesState) (finds : OnlyFinds p q) (z : Sizes) (o moment : ℕ) (entries : Entries) (d : DirIn p z o moment entries) (sized : (512 ≤ p.page_bytes) × (p.page_bytes ≤ 4096))
+module _ (p q : PagesState) (lookups : OnlyFinds p q) (z : Sizes) (o moment : ℕ) (entries : Entries) (d : DirIn p z o moment entries) (sized : (512 ≤ p.page_bytes) × (p.page_bytes ≤ 4096))
     (head : DirectoryHead) (s : SaysHead p o head) where
-  pub few : z.page_bytes ≤ 4096
-  few = let most : p.page_bytes ≤ 4096 = sized.1 in omega (arith, d.size, most)
+  pub within_limit : z.page_bytes ≤ 4096
+  within_limit = let most : p.page_bytes ≤ 4096 = sized.1 in omega (arith, d.size, most)
 
   least : 512 ≤ z.page_bytes
   least = let low : 512 ≤ p.page_bytes = sized.0 in omega (arith, d.size, low)
 
   pub page_size : IsPageSize z.page_bytes
-  page_size = record { least = omega (arith, least); most = few }
+  page_size = record { least = omega (arith, least); most = within_limit }
 
   -- a page has a slot
   pub some_slots : 1 ≤ page_slots z
@@ -45,30 +45,30 @@ module _ (p q : PagesState) (finds : OnlyFinds p q) (z : Sizes) (o moment : ℕ)
   count_is = length_is ∙ sym (entries_len d.reads.slots d.reads.once entries d.reads.entries_are)
 
   pub sound_on : q.sound ≡ true
-  sound_on = finds.sound ∙ d.sound
+  sound_on = lookups.sound ∙ d.sound
 
   pub size_on : z.page_bytes ≡ q.page_bytes
-  size_on = d.size ∙ sym finds.page_bytes
+  size_on = d.size ∙ sym lookups.page_bytes
 
   -- the slots that the header counts are there
   pub are_on : AreSlots (SlotOf z q.present o) 0 head.length
-  are_on = subst (λ (m : PageMap). AreSlots (SlotOf z m o) 0 head.length) (sym finds.present) (subst (λ n. AreSlots (SlotOf z p.present o) 0 n) (sym length_is) (slots_are p z o moment entries d))
+  are_on = subst (λ (m : PageMap). AreSlots (SlotOf z m o) 0 head.length) (sym lookups.present) (subst (λ n. AreSlots (SlotOf z p.present o) 0 n) (sym length_is) (slots_are p z o moment entries d))
 
   at_entry : (name : Name) (found : Option Located) → Finds (SlotOf z q.present o) 0 head.length name found → Finds (SlotOf z p.present o) 0 (length d.reads.slots) name found
-  at_entry name found is = subst (λ n. Finds (SlotOf z p.present o) 0 n name found) length_is (subst (λ (m : PageMap). Finds (SlotOf z m o) 0 head.length name found) finds.present is)
+  at_entry name found is = subst (λ n. Finds (SlotOf z p.present o) 0 n name found) length_is (subst (λ (m : PageMap). Finds (SlotOf z m o) 0 head.length name found) lookups.present is)
 
   -- a slot that was found is one of the directory's
   pub located : (name : Name) (l : Located) → Finds (SlotOf z q.present o) 0 head.length name (Some l)
       → (e : Entry) × (slice_get d.reads.slots l.place ≡ Some e) × (e.name ≡ name) × (l.object ≡ e.object)
   located name l is =
       let at = at_entry name (Some l) is in
-      (at.entry, slot_is p z o moment entries d few l.place at.entry at.most at.there, at.name_is, at.object_is)
+      (at.entry, slot_is p z o moment entries d within_limit l.place at.entry at.most at.there, at.name_is, at.object_is)
 
   pub leads_to : (name : Name) (l : Located) → Finds (SlotOf z q.present o) 0 head.length name (Some l) → Some l.object ≡ map.get entries name
-  leads_to name l is = found_leads p z o moment entries d few name (Some l) (at_entry name (Some l) is)
+  leads_to name l is = found_leads p z o moment entries d within_limit name (Some l) (at_entry name (Some l) is)
 
   pub leads_nowhere : (name : Name) → Finds (SlotOf z q.present o) 0 head.length name None → None ≡ map.get entries name
-  leads_nowhere name is = found_leads p z o moment entries d few name None (at_entry name None is)
+  leads_nowhere name is = found_leads p z o moment entries d within_limit name None (at_entry name None is)
 
   -- how many pages a search looked up
   pub asked_for : (old mid new : ℕ) → mid ≤ old + 1 → new ≤ mid + div_ceil head.length (q.page_bytes / 272) → new ≤ old + 1 + div_ceil (map.len entries) (page_slots z)
@@ -82,16 +82,16 @@ module _ (p q : PagesState) (finds : OnlyFinds p q) (z : Sizes) (o moment : ℕ)
   asked_more old mid next new most first rest last = let at = asked_for old mid next first rest in omega (arith, at, last)
 
 -- what is reported of a name, whatever is there
-module _ (p q : PagesState) (finds : OnlyFinds p q) (z : Sizes) (o : ℕ) (head : DirectoryHead) (s : SaysHead p o head) where
+module _ (p q : PagesState) (lookups : OnlyFinds p q) (z : Sizes) (o : ℕ) (head : DirectoryHead) (s : SaysHead p o head) where
   pub reported_leads : (name : Name) (l : Located) → Finds (SlotOf z q.present o) 0 head.length name (Some l) → ReportsName z p o name (Some l.object)
   reported_leads name l is =
       let at : Finds (SlotOf z p.present o) 0 s.0.fields.length name (Some l) = subst (λ n. Finds (SlotOf z p.present o) 0 n name (Some l)) s.1.length_is
-      (subst (λ (m : PageMap). Finds (SlotOf z m o) 0 head.length name (Some l)) finds.present is) in
+      (subst (λ (m : PageMap). Finds (SlotOf z m o) 0 head.length name (Some l)) lookups.present is) in
       (s.0, (l.place, at.most, (at.entry, at.there, at.name_is, at.object_is)))
 
   -- and of the page behind the slots
   pub reported_end : HasBeside z q.present o head.length head.length → ReportsEnd z p o
-  reported_end is = (s.0, subst (λ n. HasBeside z p.present o n n) s.1.length_is (subst (λ (m : PageMap). HasBeside z m o head.length head.length) finds.present is))
+  reported_end is = (s.0, subst (λ n. HasBeside z p.present o n n) s.1.length_is (subst (λ (m : PageMap). HasBeside z m o head.length head.length) lookups.present is))
 
 -- what a header says after no change, it says
 pub said_now : (p : PagesState) (o : ℕ) (head : DirectoryHead) → SaysHead (after None p) o head → SaysHead p o head

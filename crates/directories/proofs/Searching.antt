@@ -47,5 +47,5 @@ pub slots_among : (at : ℕ → Entry → Type 0) (from to most : ℕ) → to �
 slots_among at from to most high are i low less = are i (omega arith) (omega (arith, less, high))
 
 pub none_found : (at : ℕ → Entry → Type 0) (from to : ℕ) (name : Name) (found : Option Located) (b : Bool) → b ≡ is_some found → b ≡ false → Finds at from to name found → Finds at from to name None
-none_found at from to name None b reported is finds = finds
-none_found at from to name (Some found) b reported is finds = let two : true ≡ false = sym reported ∙ is in absurd cc
+none_found at from to name None b reported is lookups = lookups
+none_found at from to name (Some found) b reported is lookups = let two : true ≡ false = sym reported ∙ is in absurd cc

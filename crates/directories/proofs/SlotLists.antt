@@ -75,14 +75,14 @@ module _ (z : Sizes) (m : PageMap) (change : Change) (d bytes most : ℕ) (is : 
       let len : length page ≡ z.page_bytes = is.size i of.page of.there ∙ sym size in
       let at : changed change m d (1 + c) ≡ Some page = page_at change m is.apart d (1 + c) i of in
       let count : length es ≡ min n (length slots - c * n) = length-take n (drop (c * n) slots) ∙ ap (min n) (length-drop (c * n) slots) in
-      let few : length es ≤ n = grind (arith, count) in
+      let within_limit : length es ≤ n = grind (arith, count) in
       let same : length es ≡ min (length slots - c * n) n = grind (arith, count) in
       let whole = page_is es page
       (λ k e found.
       let t = get_take n (drop (c * n) slots) k e found in
       slot_in_page z (changed change m) d c k e page t.0 at (each (c * n + k) e (sym (get_drop (c * n) slots k) ∙ t.1)))
       (λ j le. zeros c i of j (subst (λ k. 272 * k ≤ j) same le))
-      (omega (arith, few, len)) in
+      (omega (arith, within_limit, len)) in
       let made : List ℕ = flat_map slot_bytes es in
       let rest : ℕ = length page - 272 * length es in
       let sum : length page ≡ length made + length (replicate {A = ℕ} rest 0) = ap length whole ∙ length-append made (replicate rest 0) in
@@ -179,7 +179,7 @@ module _ (z : Sizes) (first second both : Change) (apart : AreApart both.pages.i
 
 -- ---- the list without a name
 
-module _ (z : Sizes) (few : z.page_bytes ≤ 4096) (m : PageMap) (o before : ℕ) (entries : Entries) (r : ReadsDir z (has m) o before entries) (name : Name) (taken : Taken)
+module _ (z : Sizes) (within_limit : z.page_bytes ≤ 4096) (m : PageMap) (o before : ℕ) (entries : Entries) (r : ReadsDir z (has m) o before entries) (name : Name) (taken : Taken)
     (t : TakesName z m o r.slots name taken) where
   totaled : length r.slots ≡ t.head.length + 1
   totaled = omega (arith, t.counts, t.last_is)
@@ -207,7 +207,7 @@ module _ (z : Sizes) (few : z.page_bytes ≤ 4096) (m : PageMap) (o before : ℕ
       }
 
   left_each : (k : ℕ) (y : Entry) → slice_get left_slots k ≡ Some y → SlotOf z (changed taken.change m) o k y
-  left_each = fewer_each z m (changed taken.change m) o before entries r few t.head.length totaled taken.place t.entry t.there last_of.0 last_of.1 t.loses.filled t.loses.others
+  left_each = fewer_each z m (changed taken.change m) o before entries r within_limit t.head.length totaled taken.place t.entry t.there last_of.0 last_of.1 t.loses.filled t.loses.others
 
   pub left_writes : (bytes most : ℕ) → IsChange taken.change bytes most → z.page_bytes ≡ bytes → WritesSlots z taken.change o left_slots
   left_writes bytes most is size = writes_slots z m taken.change o bytes most is size left_slots (subst (EndsInZeros z taken.change o) (sym left_len) t.loses.zeros) left_each
@@ -215,7 +215,7 @@ module _ (z : Sizes) (few : z.page_bytes ≤ 4096) (m : PageMap) (o before : ℕ
   -- it is the list of the slots that are read afterwards
   pub left_are : (now : PageMap) → now ≡ changed taken.change m → (slots : List Entry) → length slots ≡ taken.last → ((k : ℕ) (y : Entry) → slice_get slots k ≡ Some y → SlotOf z now o k y) → left_slots ≡ slots
   left_are now same slots len each = same_lists left_slots slots (left_len ∙ t.counts ∙ sym len)
-      (λ i x y a b. one_entry z few (changed taken.change m) o i x y (left_each i x a) (subst (λ (k : PageMap). SlotOf z k o i y) same (each i y b)))
+      (λ i x y a b. one_entry z within_limit (changed taken.change m) o i x y (left_each i x a) (subst (λ (k : PageMap). SlotOf z k o i y) same (each i y b)))
 
 -- ---- what is reported of a result
 

@@ -81,21 +81,21 @@ module _ (names : NameIndex) (p : PagesState) (z : Sizes) (o moment : ℕ) (entr
 
     pub name_removed : z.page_bytes ≤ 4096 → LosesSlot z p.present change o shorter l.place
         → ReadsDirectory z (changed change p.present) o later (map.remove entries name) d.reads.fields.spare
-    name_removed few loses =
+    name_removed within_limit loses =
         subst (λ (k : Name). ReadsDirectory z (changed change p.present) o later (map.remove entries k) d.reads.fields.spare) found.2
-        (reads_fewer z p.present (changed change p.present) o moment later entries d.reads shorter loses.header says.spare refl few (sym last_is) l.place found.0 found.1 loses.filled loses.others)
+        (reads_fewer z p.present (changed change p.present) o moment later entries d.reads shorter loses.header says.spare refl within_limit (sym last_is) l.place found.0 found.1 loses.filled loses.others)
 
   -- a name that was taken was there
   pub was_named : (name : Name) (taken : Taken) → TakesName z p.present o d.reads.slots name taken → (object : ℕ) × (map.get entries name ≡ Some object)
   was_named name taken t = (t.entry.object, subst (λ (k : Name). map.get entries k ≡ Some t.entry.object) t.name_is (leads d.reads.slots d.reads.once entries d.reads.entries_are taken.place t.entry t.there))
 
   -- where another name is then
-  module _ (few : z.page_bytes ≤ 4096) (from to : Name) (taken : Taken) (t : TakesName z p.present o d.reads.slots from taken) (q : PagesState) (same : q.present ≡ changed taken.change p.present)
+  module _ (within_limit : z.page_bytes ≤ 4096) (from to : Name) (taken : Taken) (t : TakesName z p.present o d.reads.slots from taken) (q : PagesState) (same : q.present ≡ changed taken.change p.present)
       (later : ℕ) (then_in : DirIn q z o later (map.remove entries from)) (count : length then_in.reads.slots ≡ taken.last) where
     there_then : (i : ℕ) (e : Entry) → i < taken.last → e.name ≡ to → SlotOf z (changed taken.change p.present) o i e → StandsAt then_in.reads.slots (map.remove entries from) to (Some i)
     there_then i e less named at = (
       e,
-      slot_is q z o later (map.remove entries from) then_in few i e (omega (arith, less, count)) (subst (λ (m : PageMap). SlotOf z m o i e) (sym same) at),
+      slot_is q z o later (map.remove entries from) then_in within_limit i e (omega (arith, less, count)) (subst (λ (m : PageMap). SlotOf z m o i e) (sym same) at),
       named,
     )
 
@@ -117,7 +117,7 @@ module _ (names : NameIndex) (p : PagesState) (z : Sizes) (o moment : ℕ) (entr
           let less : taken.place < taken.last = omega (arith, within, t.last_is, apart) in
           let f = t.loses.filled (omega (arith, less, t.counts)) in
           let stood : SlotOf z p.present o t.head.length is.0 = subst (λ k. SlotOf z p.present o k is.0) (last.0 ∙ sym t.counts) (d.reads.each l.place is.0 is.1) in
-          let one : f.0 ≡ is.0 = one_entry z few p.present o t.head.length f.0 is.0 f.1 stood in
+          let one : f.0 ≡ is.0 = one_entry z within_limit p.present o t.head.length f.0 is.0 f.1 stood in
           subst (λ k. StandsAt then_in.reads.slots (map.remove entries from) to (Some k)) (sym last.1)
           (there_then taken.place f.0 less (ap (λ (x : Entry). x.name) one ∙ is.2) f.2)
       | inr other ↦

@@ -81,7 +81,7 @@ module _ (d bytes : ℕ) (slot_page head_page : FreshPage) (head : DirectoryHead
   two_change = record {
     apart = two_apart;
     size = λ i p at. both_size i p (ap (λ (ps : List FreshPage). slice_get ps i) (sym pages) ∙ at);
-    few = omega (arith, ap length pages);
+    within_limit = omega (arith, ap length pages);
   }
 
   pub two_only : IsOnlyOf change d
@@ -179,7 +179,7 @@ module _ (d bytes : ℕ) (head_page : FreshPage) (head : DirectoryHead) (head_is
   one_change = record {
     apart = λ o c i j a b. (only_head o c i a).0 ∙ sym (only_head o c j b).0;
     size = λ i p at. one_size i p (ap (λ (ps : List FreshPage). slice_get ps i) (sym pages) ∙ at);
-    few = omega (arith, ap length pages);
+    within_limit = omega (arith, ap length pages);
   }
 
   pub one_only : IsOnlyOf change d
@@ -250,7 +250,7 @@ pub cut_change_is : (change cut_change : Change) (bytes most : ℕ) → cut_chan
 cut_change_is change cut_change bytes most pages is = record {
   apart = subst AreApart (sym pages) is.apart;
   size = subst (λ (ps : List FreshPage). AreSized ps bytes) (sym pages) is.size;
-  few = subst (λ (ps : List FreshPage). length ps ≤ most) (sym pages) is.few;
+  within_limit = subst (λ (ps : List FreshPage). length ps ≤ most) (sym pages) is.within_limit;
 }
 
 -- a slot below a whole number of pages of slots stands before the next
@@ -337,8 +337,8 @@ page_made z old d writing entry page n count was xs slots some room within valid
       let a : ℕ = 272 * (writing.number % n) + 272 in
       let under : writing.number % n + 1 ≤ most = grind (arith, base, small, within) in
       let after_slot : a ≤ j = omega (arith, le_n, under) in
-      let few : count ≤ most = subst (λ m. m ≤ most) (sym count_is) (grind arith) in
-      let after_committed : 272 * count ≤ j = omega (arith, few, le_n) in
+      let within_limit : count ≤ most = subst (λ m. m ≤ most) (sym count_is) (grind arith) in
+      let after_committed : 272 * count ≤ j = omega (arith, within_limit, le_n) in
       let len : length (take (272 * count) xs) ≡ 272 * count = grind (arith, length-take (272 * count) xs, long) in
       let split : a + (j - a) ≡ j = omega (arith, after_slot) in
       ap (λ k. get_or page.bytes.items k 0) (sym split) ∙ sym (get_or-drop a page.bytes.items (j - a) 0) ∙ ap (λ (ys : List ℕ). get_or ys (j - a) 0) past ∙ get_or-drop a was (j - a) 0 ∙ ap (λ k. get_or was k 0) split

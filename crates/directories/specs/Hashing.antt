@@ -37,7 +37,7 @@ pub record WritesNewSlots (z : Sizes) (m : PageMap) (change : Change) (d before 
   pub fields : Fields
   pub has_header : HasHeader z (has (changed change m)) d fields
   pub kind : fields.kind ≡ kinds.Directory
-  pub few : later < 2 ^ 32
+  pub within_limit : later < 2 ^ 32
   pub written : WritesPast z change d before later
 
 -- where the page is of slots, and of an object that none of the pages says to be no directory, the index has the hash of each name on it

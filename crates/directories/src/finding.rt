@@ -20,7 +20,7 @@ pub fn find<P: Pages>(
     count: u64,
     name: &[u8],
 ) -> Result<Option<u64>, PageFault>
-    ensures finds { OnlyFinds (P.state pages.old) (P.state pages.new) }
+    ensures lookups { OnlyFinds (P.state pages.old) (P.state pages.new) }
     ensures issued { IssuesHeld names.now directory name.now (P.state pages.old).issued (P.state pages.new).issued }
     ensures power { OnOk result (KeepsPower (P.state pages.old) (P.state pages.new)) }
     ensures found { OfNamed names.now (P.state pages.old) directory (λ d. count ≡ map.len d.entries → IfOk result (λ it. it ≡ map.get d.entries name.now)) }

@@ -25,7 +25,7 @@ pub struct DirectoryHead {
 
 /// Reads the header of a directory.
 pub fn read_head<P: Pages>(pages: &mut P, directory: u64) -> Result<DirectoryHead, PageFault>
-    ensures finds { OnlyFinds (P.state pages.old) (P.state pages.new) }
+    ensures lookups { OnlyFinds (P.state pages.old) (P.state pages.new) }
     ensures issued { (P.state pages.new).issued ≤ (P.state pages.old).issued + 1 }
     ensures power { OnOk result (KeepsPower (P.state pages.old) (P.state pages.new)) }
     ensures reported { (P.state pages.old).sound ≡ true → IfOk result (SaysHead (P.state pages.old) directory) }
@@ -42,7 +42,7 @@ pub(crate) fn head_after<P: Pages>(
     directory: u64,
 ) -> Result<DirectoryHead, PageFault>
     requires { IsSizedBy (option_copied earlier) (P.state pages.old).page_bytes }
-    ensures finds { OnlyFinds (P.state pages.old) (P.state pages.new) }
+    ensures lookups { OnlyFinds (P.state pages.old) (P.state pages.new) }
     ensures issued { (P.state pages.new).issued ≤ (P.state pages.old).issued + 1 }
     ensures power { OnOk result (KeepsPower (P.state pages.old) (P.state pages.new)) }
     ensures reported { (P.state pages.old).sound ≡ true → IfOk result (SaysHead (later earlier.entry (P.state pages.old)) directory) }

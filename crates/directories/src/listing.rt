@@ -24,7 +24,7 @@ use volume_terms::SLOT_BYTES;
 
 /// The names of a directory, in the order of their bytes.
 pub fn names<P: Pages>(alloc: Global, pages: &mut P, directory: u64) -> Result<NameList, PageFault>
-    ensures finds { OnlyFinds (P.state pages.old) (P.state pages.new) }
+    ensures lookups { OnlyFinds (P.state pages.old) (P.state pages.new) }
     ensures issued { OfDir (P.state pages.old) directory (λ d. (P.state pages.new).issued ≤ (P.state pages.old).issued + 1 + pages_of d) }
     ensures power { OnOk result (KeepsPower (P.state pages.old) (P.state pages.new)) }
     ensures reported { OfPages (P.state pages.old) (λ z m. IfOk result (ReportsNames z m directory)) }
@@ -39,7 +39,7 @@ pub fn names<P: Pages>(alloc: Global, pages: &mut P, directory: u64) -> Result<N
 
 /// The names of a directory, with the objects that they lead to. Each page is looked up once.
 pub fn entries<P: Pages>(alloc: Global, pages: &mut P, directory: u64) -> Result<NameMap, PageFault>
-    ensures finds { OnlyFinds (P.state pages.old) (P.state pages.new) }
+    ensures lookups { OnlyFinds (P.state pages.old) (P.state pages.new) }
     ensures issued { OfDir (P.state pages.old) directory (λ d. (P.state pages.new).issued ≤ (P.state pages.old).issued + 1 + pages_of d) }
     ensures power { OnOk result (KeepsPower (P.state pages.old) (P.state pages.new)) }
     ensures reported { OfPages (P.state pages.old) (λ z m. IfOk result (λ entries. (moment : ℕ) × ReadsDir z (has m) directory moment entries)) }
@@ -67,7 +67,7 @@ fn take_chunk<P: Pages>(
     entries: &mut NameMap,
 ) -> Result<(), PageFault>
     requires { slot_length * count ≤ (P.state pages.old).page_bytes }
-    ensures finds { OnlyFinds (P.state pages.old) (P.state pages.new) }
+    ensures lookups { OnlyFinds (P.state pages.old) (P.state pages.new) }
     ensures issued { (P.state pages.new).issued ≤ (P.state pages.old).issued + 1 }
     ensures power { OnOk result (KeepsPower (P.state pages.old) (P.state pages.new)) }
     ensures reported { OfObject (P.state pages.old) directory (λ it. ReadsBefore it chunk entries.old → IfOk result (λ _. ReadsPast it chunk count entries.new)) }
@@ -91,7 +91,7 @@ fn take_page(
     entries: &mut NameMap,
 ) -> Result<(), PageFault>
     requires room { slot_length * count ≤ length page.now }
-    requires few { length page.now ≤ 4096 }
+    requires within_limit { length page.now ≤ 4096 }
     ensures reported { OfPage page.now chunk (λ it. ReadsBefore it chunk entries.old → IfOk result (λ _. ReadsPast it chunk count entries.new)) }
     ensures why { (new : PagesState) → IfErr result (SaysWhyMaking new) }
     ensures fault { (new : PagesState) → OfDirPage page.now chunk (λ d. OfChunk d chunk count entries.old (IfErr result (MayLackMemory new))) }

@@ -31,7 +31,7 @@ pub fn find_in_slot<P: Pages>(
     place: u32,
     name: &[u8],
 ) -> Result<Option<u64>, PageFault>
-    ensures finds { OnlyFinds (P.state pages.old) (P.state pages.new) }
+    ensures lookups { OnlyFinds (P.state pages.old) (P.state pages.new) }
     ensures issued { (P.state pages.new).issued ≤ (P.state pages.old).issued + 1 }
     ensures power { OnOk result (KeepsPower (P.state pages.old) (P.state pages.new)) }
     ensures reported { OfPages (P.state pages.old) (λ z m. IfOk result (ReportsSlot z m directory place name.now)) }

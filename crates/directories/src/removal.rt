@@ -31,7 +31,7 @@ pub(crate) fn remove_slot<P: Pages>(
     requires sized { IsSizedBy (option_copied earlier) (P.state pages.old).page_bytes }
     requires within { place ≤ shorter.length }
     requires fits { shorter.length + 1 < 2 ^ 32 }
-    ensures finds { OnlyFinds (P.state pages.old) (P.state pages.new) }
+    ensures lookups { OnlyFinds (P.state pages.old) (P.state pages.new) }
     ensures issued { (P.state pages.new).issued ≤ (P.state pages.old).issued + 2 }
     ensures power { OnOk result (KeepsPower (P.state pages.old) (P.state pages.new)) }
     ensures change { IfOk result (λ change. IsChange change (P.state pages.old).page_bytes 2) }
@@ -60,7 +60,7 @@ fn shorten<P: Pages>(
     requires sized { IsSizedBy (option_copied earlier) (P.state pages.old).page_bytes }
     requires within { place ≤ shorter.length }
     requires fits { shorter.length + 1 < 2 ^ 32 }
-    ensures finds { OnlyFinds (P.state pages.old) (P.state pages.new) }
+    ensures lookups { OnlyFinds (P.state pages.old) (P.state pages.new) }
     ensures issued { (P.state pages.new).issued ≤ (P.state pages.old).issued + 2 }
     ensures power { OnOk result (KeepsPower (P.state pages.old) (P.state pages.new)) }
     ensures change { IfOk result (λ change. IsChange change (P.state pages.old).page_bytes 2) }
@@ -115,7 +115,7 @@ fn fill<P: Pages>(
     requires sized { IsSizedBy (option_copied earlier) (P.state pages.old).page_bytes }
     requires within { place < shorter.length }
     requires fits { shorter.length + 1 < 2 ^ 32 }
-    ensures finds { OnlyFinds (P.state pages.old) (P.state pages.new) }
+    ensures lookups { OnlyFinds (P.state pages.old) (P.state pages.new) }
     ensures issued { (P.state pages.new).issued ≤ (P.state pages.old).issued + 2 }
     ensures power { OnOk result (KeepsPower (P.state pages.old) (P.state pages.new)) }
     ensures change { IfOk result (λ change. IsChange change (P.state pages.old).page_bytes 2) }
@@ -147,7 +147,7 @@ fn slot_bytes<P: Pages>(
     number: u32,
 ) -> Result<[u8; SLOT_BYTES], PageFault>
     requires { IsSizedBy (option_copied earlier) (P.state pages.old).page_bytes }
-    ensures finds { OnlyFinds (P.state pages.old) (P.state pages.new) }
+    ensures lookups { OnlyFinds (P.state pages.old) (P.state pages.new) }
     ensures issued { (P.state pages.new).issued ≤ (P.state pages.old).issued + 1 }
     ensures power { OnOk result (KeepsPower (P.state pages.old) (P.state pages.new)) }
     ensures reported { OfPages (later earlier.entry (P.state pages.old)) (λ z old. IfOk result (IsSlotBytes z old directory number)) }

@@ -110,7 +110,7 @@ fn put_at<P: Pages>(
 ) -> Result<Change, PageFault>
     requires sized { IsSizedBy (option_copied earlier) (P.state pages.old).page_bytes }
     requires valid { IsTreeSlot (entry_of slot.now) }
-    ensures finds { OnlyFinds (P.state pages.old) (P.state pages.new) }
+    ensures lookups { OnlyFinds (P.state pages.old) (P.state pages.new) }
     ensures issued { (P.state pages.new).issued ≤ (P.state pages.old).issued + 2 }
     ensures power { OnOk result (KeepsPower (P.state pages.old) (P.state pages.new)) }
     ensures change { IfOk result (λ change. IsChange change (P.state pages.old).page_bytes 2) }
@@ -153,7 +153,7 @@ fn push_slot<P: Pages>(
 ) -> Result<Change, PageFault>
     requires sized { IsSizedBy (option_copied earlier) (P.state pages.old).page_bytes }
     requires valid { IsTreeSlot (entry_of slot.now) }
-    ensures finds { OnlyFinds (P.state pages.old) (P.state pages.new) }
+    ensures lookups { OnlyFinds (P.state pages.old) (P.state pages.new) }
     ensures issued { (P.state pages.new).issued ≤ (P.state pages.old).issued + 1 }
     ensures power { OnOk result (KeepsPower (P.state pages.old) (P.state pages.new)) }
     ensures change { IfOk result (λ change. IsChange change (P.state pages.old).page_bytes 2) }

@@ -41,7 +41,7 @@ pub(crate) fn search_held<P: Pages>(
     length: u32,
     name: &[u8],
 ) -> Result<Option<Located>, PageFault>
-    ensures finds { OnlyFinds (P.state pages.old) (P.state pages.new) }
+    ensures lookups { OnlyFinds (P.state pages.old) (P.state pages.new) }
     ensures issued { IssuesHeld names.now directory name.now (P.state pages.old).issued (P.state pages.new).issued }
     ensures power { OnOk result (KeepsPower (P.state pages.old) (P.state pages.new)) }
     ensures within { IfOk result (λ found. IfSome found (λ it. it.place < length)) }
@@ -73,7 +73,7 @@ pub(crate) fn seek<P: Pages>(
     directory: u64,
     name: &[u8],
 ) -> Result<Sought, PageFault>
-    ensures finds { OnlyFinds (P.state pages.old) (P.state pages.new) }
+    ensures lookups { OnlyFinds (P.state pages.old) (P.state pages.new) }
     ensures issued { IssuesHeld names.now directory name.now ((P.state pages.old).issued + 1) (P.state pages.new).issued }
     ensures power { OnOk result (KeepsPower (P.state pages.old) (P.state pages.new)) }
     ensures within { IfOk result (λ sought. IfSome sought.found (λ it. it.place < sought.head.length)) }

@@ -55,7 +55,7 @@ pub(crate) fn take_name<P: Pages>(
     name: &[u8],
     moment: u64,
 ) -> Result<Option<Taken>, PageFault>
-    ensures finds { OnlyFinds (P.state pages.old) (P.state pages.new) }
+    ensures lookups { OnlyFinds (P.state pages.old) (P.state pages.new) }
     ensures issued { IssuesHeld names.now directory name.now ((P.state pages.old).issued + 3) (P.state pages.new).issued }
     ensures power { OnOk result (KeepsPower (P.state pages.old) (P.state pages.new)) }
     ensures change { IfTaken result (λ change. IsChange change (P.state pages.old).page_bytes 2) }

@@ -38,7 +38,7 @@ fn page_with<P: Pages>(
 ) -> Result<Vec<u8>, PageFault>
     requires sized { IsSizedBy (option_copied earlier) (P.state pages.old).page_bytes }
     requires room { slot_length * count ≤ (P.state pages.old).page_bytes }
-    ensures finds { OnlyFinds (P.state pages.old) (P.state pages.new) }
+    ensures lookups { OnlyFinds (P.state pages.old) (P.state pages.new) }
     ensures issued { (P.state pages.new).issued ≤ (P.state pages.old).issued + 1 }
     ensures power { OnOk result (KeepsPower (P.state pages.old) (P.state pages.new)) }
     ensures size { IfOk result (λ page. length page.items ≡ (P.state pages.old).page_bytes) }
@@ -67,7 +67,7 @@ pub(crate) fn slot_page<P: Pages>(
     requires sized { IsSizedBy (option_copied earlier) (P.state pages.old).page_bytes }
     requires valid { IsTreeSlot (entry_of slot.now) }
     requires within { writing.number < writing.afterwards }
-    ensures finds { OnlyFinds (P.state pages.old) (P.state pages.new) }
+    ensures lookups { OnlyFinds (P.state pages.old) (P.state pages.new) }
     ensures issued { (P.state pages.new).issued ≤ (P.state pages.old).issued + 1 }
     ensures power { OnOk result (KeepsPower (P.state pages.old) (P.state pages.new)) }
     ensures sized { IfOk result (IsSlotsPage directory (P.state pages.old).page_bytes) }
@@ -102,7 +102,7 @@ pub(crate) fn write<P: Pages>(
     requires sized { IsSizedBy (option_copied earlier) (P.state pages.old).page_bytes }
     requires valid { IsTreeSlot (entry_of slot.now) }
     requires within { writing.number < writing.afterwards }
-    ensures finds { OnlyFinds (P.state pages.old) (P.state pages.new) }
+    ensures lookups { OnlyFinds (P.state pages.old) (P.state pages.new) }
     ensures issued { (P.state pages.new).issued ≤ (P.state pages.old).issued + 1 }
     ensures power { OnOk result (KeepsPower (P.state pages.old) (P.state pages.new)) }
     ensures change { IfOk result (λ change. IsChange change (P.state pages.old).page_bytes 2) }

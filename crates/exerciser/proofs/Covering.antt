@@ -13,13 +13,13 @@ CoversFirst commands replies first k = (i : ℕ) → i < first → IsSyncDone co
 -- one command more, which is none
 pub covers_other : (commands : List Stamped) (replies : List Reply) (first k : ℕ) (command : Stamped) (reply : Reply) → CoversFirst commands replies first k
     → slice_get commands first ≡ Some command → slice_get replies first ≡ Some reply → is_synced command.command reply ≡ false → CoversFirst commands replies (first + 1) k
-covers_other commands replies first k command reply so_far issued reported other i few sync = elim (cases_eq i first) [
+covers_other commands replies first k command reply so_far issued reported other i within_limit sync = elim (cases_eq i first) [
   | inl is ↦
       let c : Some sync.0 ≡ Some command = sym sync.2 ∙ ap (λ n. slice_get commands n) is ∙ issued in
       let r : Some sync.1 ≡ Some reply = sym sync.3 ∙ ap (λ n. slice_get replies n) is ∙ reported in
       let both : is_synced sync.0.command sync.1 ≡ is_synced command.command reply = ap (λ x. is_synced x.command sync.1) (same c) ∙ ap (λ x. is_synced command.command x) (same r) in
       absurd (differ (sym sync.4 ∙ both ∙ other))
-  | inr not ↦ so_far i (omega (arith, few, not)) sync
+  | inr not ↦ so_far i (omega (arith, within_limit, not)) sync
 ]
   where
     same : {A : Type 0} {x y : A} → Some x ≡ Some y → x ≡ y
@@ -35,4 +35,4 @@ covers_all commands replies first k all so_far i sync = so_far i (all i (slice_g
 
 -- more commands cover no less
 pub covers_more : (commands : List Stamped) (replies : List Reply) (k more : ℕ) → k ≤ more → Covers commands replies k → Covers commands replies more
-covers_more commands replies k more few covers i sync = omega (arith, few, covers i sync)
+covers_more commands replies k more within_limit covers i sync = omega (arith, within_limit, covers i sync)

@@ -46,9 +46,9 @@ module _ (before : PlainView) (commands : List Stamped) (replies : List Reply) (
   NoneBelow n = (k : ℕ) → k < n → Leaves before commands replies IsSuch k → ⊥
 
   pub none_next : (n : ℕ) → (IsSuch (shown_after before commands replies n) → ⊥) → NoneBelow n → NoneBelow (n + 1)
-  none_next n other none k few leaves = elim (cases_eq k n) [
+  none_next n other none k within_limit leaves = elim (cases_eq k n) [
     | inl is ↦ other (subst (λ j. IsSuch (shown_after before commands replies j)) is leaves.such)
-    | inr not ↦ none k (omega (arith, few, not)) leaves
+    | inr not ↦ none k (omega (arith, within_limit, not)) leaves
   ]
 
   pub least_found : (n : ℕ) → Leaves before commands replies IsSuch n → NoneBelow n → IsLeast before commands replies IsSuch (Some n)

@@ -76,7 +76,7 @@ module _ (x : Exercise) (before : ℕ) (first last : Device) (tree : PlainView) 
     reported = Appends-trans old now later so_far.text (session_line (before + 1) done.operation (findings.Committed count) (length x.commands)) so_far.reported reported;
   }
 
-  module _ (seen : Seen) (few : before < x.sessions) (is_seen : IsSeen tree x.commands done.end.replies.items seen) (mounts : MountsAs last tree x.commands done.end.replies.items seen) where
+  module _ (seen : Seen) (within_limit : before < x.sessions) (is_seen : IsSeen tree x.commands done.end.replies.items seen) (mounts : MountsAs last tree x.commands done.end.replies.items seen) where
     -- the line of the session
     abbrev line : List ℕ
     line = session_line (before + 1) done.operation (finding_of seen) (length x.commands)
@@ -84,7 +84,7 @@ module _ (x : Exercise) (before : ℕ) (first last : Device) (tree : PlainView) 
     -- the lines so far and one more
     with_line : AreCommittedBefore x seen (so_far.text ++ line)
     with_line =
-        record { before = before; lines = so_far.text; first = first; last = last; tree = tree; few = few; committed = so_far.committed; on = was; done = done; is_seen = is_seen; mounts = mounts; text_is = refl }
+        record { before = before; lines = so_far.text; first = first; last = last; tree = tree; within_limit = within_limit; committed = so_far.committed; on = was; done = done; is_seen = is_seen; mounts = mounts; text_is = refl }
 
     -- a line that was not reported whole
     pub stops_reporting : (fault : CutFault) → IsStated now later line (Err fault) → Cuts x old later (Err fault)
@@ -125,12 +125,12 @@ reported_as old new number operation finding reported count commands result is t
 -- a session that was not done
 pub stops_silently : (x : Exercise) (before : ℕ) (last : Device) (tree : PlainView) (old now : Option (List ℕ)) (fault : CutFault) → before < x.sessions ⊎ (before ≡ 0)
     → SoFar x before last tree old now → WhyStopped x before last fault → Cuts x old now (Err fault)
-stops_silently x before last tree old now faults.NoMemory few so_far why = record { before = before; text = so_far.text; last = last; tree = tree; few = few; committed = so_far.committed; reported = so_far.reported; why = why }
-stops_silently x before last tree old now (faults.Mount fault) few so_far why = record { before = before; text = so_far.text; last = last; tree = tree; few = few; committed = so_far.committed; reported = so_far.reported; why = why }
-stops_silently x before last tree old now faults.Unmount few so_far why = record { before = before; text = so_far.text; last = last; tree = tree; few = few; committed = so_far.committed; reported = so_far.reported; why = why }
-stops_silently x before last tree old now faults.Unread few so_far why = record { before = before; text = so_far.text; last = last; tree = tree; few = few; committed = so_far.committed; reported = so_far.reported; why = why }
-stops_silently x before last tree old now faults.Torn few so_far why = absurd why
-stops_silently x before last tree old now faults.Write few so_far why = absurd why
+stops_silently x before last tree old now faults.NoMemory within_limit so_far why = record { before = before; text = so_far.text; last = last; tree = tree; within_limit = within_limit; committed = so_far.committed; reported = so_far.reported; why = why }
+stops_silently x before last tree old now (faults.Mount fault) within_limit so_far why = record { before = before; text = so_far.text; last = last; tree = tree; within_limit = within_limit; committed = so_far.committed; reported = so_far.reported; why = why }
+stops_silently x before last tree old now faults.Unmount within_limit so_far why = record { before = before; text = so_far.text; last = last; tree = tree; within_limit = within_limit; committed = so_far.committed; reported = so_far.reported; why = why }
+stops_silently x before last tree old now faults.Unread within_limit so_far why = record { before = before; text = so_far.text; last = last; tree = tree; within_limit = within_limit; committed = so_far.committed; reported = so_far.reported; why = why }
+stops_silently x before last tree old now faults.Torn within_limit so_far why = absurd why
+stops_silently x before last tree old now faults.Write within_limit so_far why = absurd why
 
 pub ends : (x : Exercise) (before : ℕ) (last : Device) (tree : PlainView) (old now : Option (List ℕ)) → before ≡ x.sessions → SoFar x before last tree old now → Cuts x old now (Ok tt)
 ends x before last tree old now all so_far = (last, tree, so_far.text, subst (λ n. AreCommitted x n last tree so_far.text) all so_far.committed, so_far.reported)

@@ -56,7 +56,7 @@ pub record AreCommittedBefore (x : Exercise) (seen : Seen) (text : List ℕ) : T
   pub first : Device
   pub last : Device
   pub tree : PlainView
-  pub few : before < x.sessions
+  pub within_limit : before < x.sessions
   pub committed : AreCommitted x before first tree lines
   pub on : IsTreeOn first tree
   pub done : IsCutSession x before first last
@@ -86,7 +86,7 @@ pub record IsStopped (x : Exercise) (fault : CutFault) (old new : Option (List �
   pub text : List ℕ
   pub last : Device
   pub tree : PlainView
-  pub few : before < x.sessions ⊎ (before ≡ 0)
+  pub within_limit : before < x.sessions ⊎ (before ≡ 0)
   pub committed : AreCommitted x before last tree text
   pub reported : Appends old new text
   pub why : WhyStopped x before last fault

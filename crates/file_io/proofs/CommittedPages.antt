@@ -79,11 +79,11 @@ grows_past d old len some more =
     omega (arith, le)
 
 -- what was found after the header was read was there before, by the header
-module _ (p q : PagesState) (finds : OnlyFinds p q) (o : ℕ) (head : FileHead) (s : SaysHead p o head) where
+module _ (p q : PagesState) (lookups : OnlyFinds p q) (o : ℕ) (head : FileHead) (s : SaysHead p o head) where
   abbrev at_entry : (IsOne : ℕ → ℕ → ℕ → Type 0) → HasPages q.present o (bits_in head) (IsOne q.page_bytes head.length) → HasPages p.present o s.0.fields.bits (IsOne p.page_bytes s.0.fields.length)
   at_entry IsOne is =
-      subst (λ (m : PageMap). HasPages m o s.0.fields.bits (IsOne p.page_bytes s.0.fields.length)) finds.present
-      (subst (λ d. HasPages q.present o s.0.fields.bits (IsOne d s.0.fields.length)) finds.page_bytes
+      subst (λ (m : PageMap). HasPages m o s.0.fields.bits (IsOne p.page_bytes s.0.fields.length)) lookups.present
+      (subst (λ d. HasPages q.present o s.0.fields.bits (IsOne d s.0.fields.length)) lookups.page_bytes
       (subst (λ n. HasPages q.present o s.0.fields.bits (IsOne q.page_bytes n)) s.1.length_is
       (subst (λ (xs : List ℕ). HasPages q.present o xs (IsOne q.page_bytes head.length)) s.1.bits is)))
 

@@ -31,8 +31,8 @@ count_next m o first index issued now new low before one =
 pub counted_for : (d size off count len end got : ℕ) (m : PageMap) (o first now : ℕ) → d ≡ size → end ≡ min len (off + count) → off < end
     → now ≤ first + count_pages m o (1 + off / d) got → got ≤ (end - 1) / d + 1 - off / d
     → now ≤ first + count_pages m o (1 + off / size) (chunks_over size off (min count (len - off)))
-counted_for d size off count len end got m o first now same is some issued few =
+counted_for d size off count len end got m o first now same is some issued within_limit =
     let fewer : got ≤ 0 + chunks_over size off (min count (len - off)) =
-    asked_for d size off count len end 0 got got same is some (omega arith) few in
+    asked_for d size off count len end 0 got got same is some (omega arith) within_limit in
     let most : count_pages m o (1 + off / d) got ≤ count_pages m o (1 + off / d) (chunks_over size off (min count (len - off))) = count_most m o (1 + off / d) got (chunks_over size off (min count (len - off))) (omega (arith, fewer)) in
     subst (λ k. now ≤ first + count_pages m o (1 + off / k) (chunks_over size off (min count (len - off)))) same (omega (arith, issued, most))

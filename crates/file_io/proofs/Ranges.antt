@@ -41,15 +41,15 @@ with_front buffer bytes = bytes ++ drop (length bytes) buffer
 -- a buffer with the bytes before a place at its front, and those up to a next one put behind them
 over_next : (off at next : ℕ) (all buffer now new : List ℕ) → off ≤ at → at ≤ next → next ≤ length all → now ≡ with_front buffer (take (at - off) (drop off all))
     → new ≡ overwritten now (at - off) (take (next - at) (drop at all)) → new ≡ with_front buffer (take (next - off) (drop off all))
-over_next off at next all buffer now new low high few was adds =
+over_next off at next all buffer now new low high within_limit was adds =
     let i : ℕ = at - off in
     let k : ℕ = next - at in
     let first : List ℕ = take i (drop off all) in
     let more : List ℕ = take k (drop at all) in
     let both : List ℕ = take (next - off) (drop off all) in
-    let len_first : length first ≡ i = length-take-le i (drop off all) (omega (arith, length-drop off all, low, high, few)) in
-    let len_more : length more ≡ k = length-take-le k (drop at all) (omega (arith, length-drop at all, high, few)) in
-    let len_both : length both ≡ next - off = length-take-le (next - off) (drop off all) (omega (arith, length-drop off all, low, high, few)) in
+    let len_first : length first ≡ i = length-take-le i (drop off all) (omega (arith, length-drop off all, low, high, within_limit)) in
+    let len_more : length more ≡ k = length-take-le k (drop at all) (omega (arith, length-drop at all, high, within_limit)) in
+    let len_both : length both ≡ next - off = length-take-le (next - off) (drop off all) (omega (arith, length-drop off all, low, high, within_limit)) in
     let front : take i now ≡ first = ap (take i) was ∙ take_at first (drop (length first) buffer) i len_first in
     let sum : length first + k ≡ length both = omega (arith, len_first, len_both, low, high) in
     let back : drop (i + length more) now ≡ drop (length both) buffer =
@@ -124,6 +124,6 @@ read_all off count end all is some =
 -- no more is looked up than the chunks of the range
 pub asked_for : (d size off count len end first got now : ℕ) → d ≡ size → end ≡ min len (off + count) → off < end → now ≤ first + got → got ≤ (end - 1) / d + 1 - off / d
     → now ≤ first + chunks_over size off (min count (len - off))
-asked_for d size off count len end first got now same is some issued few =
+asked_for d size off count len end first got now same is some issued within_limit =
     subst (λ k. now ≤ first + chunks_over k off (min count (len - off))) same
-    (omega (arith, issued, few, chunks_of d off end (min count (len - off)) some (omega (arith, is, some))))
+    (omega (arith, issued, within_limit, chunks_of d off end (min count (len - off)) some (omega (arith, is, some))))

@@ -29,7 +29,7 @@ pub one_cut : (o committed chunks : ℕ) → committed < chunks → (x : Cut) �
 one_cut o committed chunks more x object from = record {
   only = λ p c i is. only p c i is.cut is.there is.object is.chunk;
   all = λ c less past. (0, record { cut = x; there = refl; object = object; chunk = omega (arith, from, past) });
-  few = omega arith;
+  within_limit = omega arith;
 }
   where
     only : (p c i : ℕ) (y : Cut) → slice_get (x ∷ []) i ≡ Some y → y.object ≡ p → y.from ≤ c → (p ≡ o) × (1 + committed ≤ c) × (committed < chunks)
@@ -140,9 +140,9 @@ module _ (p : PagesState) (z : Sizes) (o before : ℕ) (all : List ℕ) (f : Fil
       | inl more ↦
           let at = cuts.all (1 + k) more (omega (arith, low)) in
           inr (not_tail k low, cut_here change.cuts.items p.present o (1 + k) at.0 at.1, unset_past k low)
-      | inr few ↦ inl (
-        cut_elsewhere change.cuts.items p.present o (1 + k) (λ i is. omega (arith, few, (cuts.only o (1 + k) i is).2)),
-        unset_past k low ∙ sym (old_unset k (omega (arith, few, low))),
+      | inr within_limit ↦ inl (
+        cut_elsewhere change.cuts.items p.present o (1 + k) (λ i is. omega (arith, within_limit, (cuts.only o (1 + k) i is).2)),
+        unset_past k low ∙ sym (old_unset k (omega (arith, within_limit, low))),
       )
     ]
 

@@ -63,12 +63,12 @@ write_valid d len was old is least off n moment long bits some fits when long_is
 
 -- so many bytes lie over at most one chunk more than they fill
 pub chunks_few : (d off n chunks : ℕ) → 1 ≤ d → 1 ≤ n → n ≤ chunks * d → (off + n - 1) / d ≤ off / d + chunks
-chunks_few d off n chunks some any few = elim (cases_lt (off / d + chunks) ((off + n - 1) / d)) [
+chunks_few d off n chunks some any within_limit = elim (cases_lt (off / d + chunks) ((off + n - 1) / d)) [
   | inr not_more ↦ not_more
   | inl more ↦
       let le : (off / d + chunks + 1) * d ≤ (off + n - 1) / d * d = mul-le-mul_right d (omega (arith, more)) in
       let in_it : off < off / d * d + d = lt-div-mul-add (omega (arith, some)) in
-      absurd (omega (arith, le, in_it, few, any, div-mul-le_self (off + n - 1) d))
+      absurd (omega (arith, le, in_it, within_limit, any, div-mul-le_self (off + n - 1) d))
 ]
 
 -- nothing is cut

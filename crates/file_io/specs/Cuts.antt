@@ -7,4 +7,4 @@ use Rattle.pages.specs.declared.change.Cut.{Cut}
 pub record CutsFrom (o committed chunks : ℕ) (cuts : List Cut) : Type 0 where
   pub only : (p c i : ℕ) → IsCut cuts p c i → (p ≡ o) × (1 + committed ≤ c) × (committed < chunks)
   pub all : (c : ℕ) → committed < chunks → 1 + committed ≤ c → (i : ℕ) × IsCut cuts o c i
-  pub few : length cuts ≤ 1
+  pub within_limit : length cuts ≤ 1

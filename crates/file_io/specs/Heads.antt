@@ -4,7 +4,7 @@ use Rattle.page_tags.specs.HeaderFields.{file_fields}
 use Rattle.page_tags.specs.Headers.{Fields, is_present}
 use Rattle.volume_terms.specs.Sizes.{Sizes}
 use Rattle.pages.specs.State.{PagesState}
-use Rattle.file_io.specs.Files.{FileIn, HasFileHeader, HasLastPage}
+use Rattle.file_io.specs.Files.{FileIn, HasCommittedPages, HasFileHeader, HasLastPage}
 use Rattle.file_io.specs.declared.file_head.FileHead.{FileHead}
 
 -- the presence bits, which stand in its page
@@ -32,6 +32,10 @@ OfHead p o head A = (z : Sizes) (moment : ℕ) (bytes : List ℕ) (f : FileIn p 
 -- chunk k of the bytes, if the header names it, has a page
 abbrev pub HasChunkPage : PagesState → ℕ → FileHead → ℕ → Type 0
 HasChunkPage p o head k = is_present (bits_in head) (1 + k) ≡ true → (page : List ℕ) × (p.present o (1 + k) ≡ Some page)
+
+-- each chunk that the header names, and of which a write of n bytes from a place on keeps a part, has a page
+abbrev pub HasPartPages : PagesState → ℕ → FileHead → ℕ → ℕ → Type 0
+HasPartPages p o head off n = HasCommittedPages p o (head_fields head) off n
 
 -- the last chunk, if it is before chunk k, its bytes do not fill it and the header names it, has a page
 abbrev pub HasTailPage : PagesState → ℕ → FileHead → ℕ → Type 0

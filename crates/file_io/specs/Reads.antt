@@ -18,6 +18,10 @@ HasRead bytes off old new count = take count new ≡ take (length old) (drop off
 abbrev pub filled : {p : PagesState} {z : Sizes} {o moment : ℕ} {bytes : List ℕ} → FileIn p z o moment bytes → ℕ → ℕ → ℕ → List ℕ → List ℕ
 filled {z = z} {bytes = bytes} f k off end buffer = overwritten buffer (part_from z.page_bytes k off - off) (part_of z.page_bytes k off end bytes)
 
+-- at most as many pages were looked up as the chunks over which n bytes from a place on extend
+abbrev pub IssuesForChunks : PagesState → PagesState → ℕ → ℕ → Type 0
+IssuesForChunks old new off n = new.issued ≤ old.issued + chunks_over old.page_bytes off n
+
 -- at most the page of chunk c was wanted for, and none where it has none
 abbrev pub IssuesForPage : PagesState → PagesState → ℕ → ℕ → Type 0
 IssuesForPage old new o c = new.issued ≤ old.issued + one_page (old.present o c)

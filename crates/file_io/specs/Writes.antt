@@ -1,5 +1,5 @@
 -- The change of a file's bytes.
-use Rattle.std.specs.Prelude.{◌≡◌, ◌≤◌, ◌+◌, ◌-◌, ◌/◌, ◌%◌, ℕ, true, List, length, min}
+use Rattle.std.specs.Prelude.{◌≡◌, ◌<◌, ◌≤◌, ◌+◌, ◌-◌, ◌/◌, ◌%◌, ◌^◌, ℕ, true, List, length, min}
 use Rattle.page_tags.specs.Headers.{is_present}
 use Rattle.posix_profile.specs.Changes.{resized, written}
 use Rattle.volume_terms.specs.Sizes.{Sizes}
@@ -16,6 +16,11 @@ use Rattle.file_io.specs.declared.file_head.FileHead.{FileHead}
 -- at most so many pages of the store's size, and each of a key of its own
 abbrev pub IsChangeIn : PagesState → ℕ → Change → Type 0
 IsChangeIn p most change = IsChange change p.page_bytes most
+
+-- some bytes are written, all of them before place 2^32
+pub record IsSmallWrite (off n : ℕ) : Type 0 where
+  pub some : 1 ≤ n
+  pub small : off + n < 2 ^ 32
 
 -- no page is of the object's chunk 0
 abbrev pub HasNoHeader : ℕ → Change → Type 0

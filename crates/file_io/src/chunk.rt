@@ -2,10 +2,9 @@
 ghost use Rattle.std.specs.Prelude.{◌≡◌, ◌<◌, ◌≤◌, ◌+◌, ◌-◌, ◌*◌, ◌/◌, ◌^◌, ℕ, true, IfOk, OnOk, IfErr, length, slice_index};
 ghost use Rattle.page_tags.specs.Headers.{is_present};
 ghost use Rattle.pages.specs.Changes.{AreSized};
-ghost use Rattle.pages.specs.State.{OnlyFinds, KeepsPower};
 ghost use Rattle.file_io.specs.Heads.{bits_in, HasChunkPage, HasTailPage, OfHead};
 ghost use Rattle.file_io.specs.Chunks.{AreOf, IsTail, HoldChunksIn, HoldsChunkIn};
-ghost use Rattle.pages.specs.Faults.{MayLackMemory, SaysWhyMaking};
+ghost use Rattle.pages.specs.Faults.{LooksUp, MayLackMemory, SaysWhyMaking};
 
 use crate::file_head::FileHead;
 use flash_tree::{FreshPage, Key};
@@ -32,13 +31,11 @@ pub(crate) fn chunk_bytes<P: Pages>(
     index: u64,
 ) -> Result<Vec<u8>, PageFault>
     requires { index < 2 ^ 32 }
-    ensures finds { OnlyFinds (P.state pages.old) (P.state pages.new) }
+    ensures looks { LooksUp SaysWhyMaking (P.state pages.old) (P.state pages.new) result }
     ensures issued { (P.state pages.new).issued ≤ (P.state pages.old).issued + 1 }
-    ensures power { OnOk result (KeepsPower (P.state pages.old) (P.state pages.new)) }
     ensures reported { (P.state pages.old).sound ≡ true → OnOk result (HasChunkPage (P.state pages.old) object head.now index) }
     ensures size { IfOk result (λ bytes. length bytes.items ≡ (P.state pages.old).page_bytes) }
     ensures holds { OfHead (P.state pages.old) object head.now (λ all. IfOk result (HoldsChunkIn (P.state pages.old) all index)) }
-    ensures why { IfErr result (SaysWhyMaking (P.state pages.new)) }
     ensures fault { OfHead (P.state pages.old) object head.now (λ all. IfErr result (MayLackMemory (P.state pages.new))) }
 {
     let page_bytes = u64::from(pages.page_bytes());
@@ -68,16 +65,14 @@ pub(crate) fn tail_pages<P: Pages>(
     before: u64,
 ) -> Result<Vec<FreshPage>, PageFault>
     requires { head.now.length < 2 ^ 32 }
-    ensures finds { OnlyFinds (P.state pages.old) (P.state pages.new) }
+    ensures looks { LooksUp SaysWhyMaking (P.state pages.old) (P.state pages.new) result }
     ensures issued { (P.state pages.new).issued ≤ (P.state pages.old).issued + 1 }
-    ensures power { OnOk result (KeepsPower (P.state pages.old) (P.state pages.new)) }
-    ensures unasked { before ≤ head.now.length / (P.state pages.old).page_bytes → (P.state pages.new).issued ≡ (P.state pages.old).issued }
+    ensures none_issued { before ≤ head.now.length / (P.state pages.old).page_bytes → (P.state pages.new).issued ≡ (P.state pages.old).issued }
     ensures reported { (P.state pages.old).sound ≡ true → OnOk result (HasTailPage (P.state pages.old) object head.now before) }
     ensures of { IfOk result (λ fresh. AreOf object (IsTail (P.state pages.old).page_bytes head.now.length (bits_in head.now) before) fresh.items) }
-    ensures few { IfOk result (λ fresh. length fresh.items ≤ 1) }
+    ensures within_limit { IfOk result (λ fresh. length fresh.items ≤ 1) }
     ensures sized { IfOk result (λ fresh. AreSized fresh.items (P.state pages.old).page_bytes) }
     ensures hold { OfHead (P.state pages.old) object head.now (λ all. IfOk result (HoldChunksIn (P.state pages.old) all)) }
-    ensures why { IfErr result (SaysWhyMaking (P.state pages.new)) }
     ensures fault { OfHead (P.state pages.old) object head.now (λ all. IfErr result (MayLackMemory (P.state pages.new))) }
 {
     let page_bytes = u64::from(pages.page_bytes());

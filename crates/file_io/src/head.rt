@@ -5,10 +5,9 @@ ghost use Rattle.page_tags.specs.Headers.{Fields, IsBytes, IsHeader, IsHeaderOf,
 ghost use Rattle.page_tags.specs.declared.header.ObjectKind.TheVariants as kinds;
 ghost use Rattle.volume_terms.specs.Sizes.{Sizes};
 ghost use Rattle.pages.specs.Maps.{PageMap, has};
-ghost use Rattle.pages.specs.State.{OnlyFinds, KeepsPower};
 ghost use Rattle.file_io.specs.Files.{HasFileHeader, IsEmptyFile, OfFile};
 ghost use Rattle.file_io.specs.Heads.{IsHeadOf, SaysHead, head_fields};
-ghost use Rattle.pages.specs.Faults.{MayLack, MayLackMemory, SaysWhy, SaysWhyMaking};
+ghost use Rattle.pages.specs.Faults.{LooksUp, MayLack, MayLackMemory, SaysWhy, SaysWhyMaking};
 ghost use Rattle.pages.specs.declared.fault.PageFault.TheVariants as faults;
 
 use crate::file_head::FileHead;
@@ -44,13 +43,11 @@ fn decode_file(page: &[u8]) -> Result<Header<'_>, PageFault>
 
 /// The length of a file and the moment of its last change. Its header is looked up.
 pub fn read_info<P: Pages>(pages: &mut P, object: u64) -> Result<FileInfo, PageFault>
-    ensures finds { OnlyFinds (P.state pages.old) (P.state pages.new) }
+    ensures looks { LooksUp (SaysWhy (P.state pages.old)) (P.state pages.old) (P.state pages.new) result }
     ensures issued { (P.state pages.new).issued ≤ (P.state pages.old).issued + 1 }
-    ensures power { OnOk result (KeepsPower (P.state pages.old) (P.state pages.new)) }
     ensures length { OfFile (P.state pages.old) object (λ z moment all f. IfOk result (λ info. info.length ≡ length all)) }
     ensures moment { OfFile (P.state pages.old) object (λ z moment all f. IfOk result (λ info. info.moment ≡ moment)) }
     ensures reported { (P.state pages.old).sound ≡ true → OnOk result (HasFileHeader (P.state pages.old) object) }
-    ensures why { IfErr result (SaysWhy (P.state pages.old) (P.state pages.new)) }
     ensures fault { OfFile (P.state pages.old) object (λ z moment all f. IfErr result (MayLack (P.state pages.old) (P.state pages.new))) }
 {
     load(pages, Key { object, chunk: 0 })?;
@@ -67,14 +64,12 @@ pub(crate) fn read_head<P: Pages>(
     pages: &mut P,
     object: u64,
 ) -> Result<FileHead, PageFault>
-    ensures finds { OnlyFinds (P.state pages.old) (P.state pages.new) }
+    ensures looks { LooksUp SaysWhyMaking (P.state pages.old) (P.state pages.new) result }
     ensures issued { (P.state pages.new).issued ≤ (P.state pages.old).issued + 1 }
-    ensures power { OnOk result (KeepsPower (P.state pages.old) (P.state pages.new)) }
     ensures head { OfFile (P.state pages.old) object (λ z moment all f. IfOk result (λ head. IsHeadOf head f.reads.fields)) }
     ensures size { IfOk result (λ head. length head.page.items ≡ (P.state pages.old).page_bytes) }
     ensures valid { IfOk result (λ head. IsHeader (P.state pages.old).page_bytes (head_fields head)) }
     ensures reported { (P.state pages.old).sound ≡ true → IfOk result (SaysHead (P.state pages.old) object) }
-    ensures why { IfErr result (SaysWhyMaking (P.state pages.new)) }
     ensures fault { OfFile (P.state pages.old) object (λ z moment all f. IfErr result (MayLackMemory (P.state pages.new))) }
 {
     load(pages, Key { object, chunk: 0 })?;

@@ -1,10 +1,9 @@
 // The reading of a file.
 ghost use Rattle.std.specs.Prelude.{◌≡◌, ◌<◌, ◌≤◌, ◌+◌, ◌-◌, ◌*◌, ◌/◌, true, IfOk, IfErr, OnOk, length, min, drop};
-ghost use Rattle.pages.specs.State.{OnlyFinds, KeepsPower};
 ghost use Rattle.file_io.specs.Files.{OfFileOnly};
-ghost use Rattle.file_io.specs.Chunks.{chunks_over};
-ghost use Rattle.pages.specs.Faults.{MayLack};
-ghost use Rattle.file_io.specs.Reads.{IssuesForPage, IssuesForPages, HasRead, filled, read_count};
+ghost use Rattle.pages.specs.Faults.{LooksUp, MayLack};
+ghost use Rattle.file_io.specs.Parts.{MeetsChunk};
+ghost use Rattle.file_io.specs.Reads.{IssuesForChunks, IssuesForPage, IssuesForPages, HasRead, filled, read_count};
 
 use crate::overwriting::{clear, overwrite};
 use flash_tree::Key;
@@ -22,17 +21,14 @@ fn read_part<P: Pages>(
 ) -> Result<(), PageFault>
     requires some { offset < end }
     requires room { end ≤ offset + length buffer.old }
-    requires begins { index * (P.state pages.old).page_bytes < end }
-    requires ends { offset < index * (P.state pages.old).page_bytes + (P.state pages.old).page_bytes }
-    ensures finds { OnlyFinds (P.state pages.old) (P.state pages.new) }
+    requires meets { MeetsChunk (P.state pages.old).page_bytes index offset end }
+    ensures looks { LooksUp (MayLack (P.state pages.old)) (P.state pages.old) (P.state pages.new) result }
     ensures issued { (P.state pages.new).issued ≤ (P.state pages.old).issued + 1 }
-    ensures power { OnOk result (KeepsPower (P.state pages.old) (P.state pages.new)) }
     ensures holes { (P.state pages.old).sound ≡ true → IssuesForPage (P.state pages.old) (P.state pages.new) object (1 + index) }
     ensures size { length buffer.new ≡ length buffer.old }
     ensures rest { drop (end - offset) buffer.new ≡ drop (end - offset) buffer.old }
     ensures part { OfFileOnly (P.state pages.old) object (λ z moment all f. end ≤ length all
         → OnOk result (buffer.new ≡ filled f index offset end buffer.old)) }
-    ensures fault { IfErr result (MayLack (P.state pages.old) (P.state pages.new)) }
 {
     let page_bytes = u64::from(pages.page_bytes());
     let begin = index * page_bytes;
@@ -65,15 +61,13 @@ pub fn read_at<P: Pages>(
     offset: u64,
     buffer: &mut [u8],
 ) -> Result<usize, PageFault>
-    ensures finds { OnlyFinds (P.state pages.old) (P.state pages.new) }
-    ensures power { OnOk result (KeepsPower (P.state pages.old) (P.state pages.new)) }
+    ensures looks { LooksUp (MayLack (P.state pages.old)) (P.state pages.old) (P.state pages.new) result }
     ensures size { length buffer.new ≡ length buffer.old }
     ensures count { IfOk result (λ count. count ≡ read_count buffer.old len offset) }
     ensures rest { IfOk result (λ count. drop count buffer.new ≡ drop count buffer.old) }
     ensures read { OfFileOnly (P.state pages.old) object (λ z moment all f. len ≡ length all → IfOk result (HasRead all offset buffer.old buffer.new)) }
-    ensures issued { (P.state pages.new).issued ≤ (P.state pages.old).issued + chunks_over (P.state pages.old).page_bytes offset (read_count buffer.old len offset) }
+    ensures issued { IssuesForChunks (P.state pages.old) (P.state pages.new) offset (read_count buffer.old len offset) }
     ensures holes { (P.state pages.old).sound ≡ true → IssuesForPages (P.state pages.old) (P.state pages.new) object offset (read_count buffer.old len offset) }
-    ensures fault { IfErr result (MayLack (P.state pages.old) (P.state pages.new)) }
 {
     let page_bytes = u64::from(pages.page_bytes());
     let end = len.min(offset.saturating_add(buffer.len() as u64));

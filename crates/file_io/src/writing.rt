@@ -4,12 +4,12 @@ ghost use Rattle.page_tags.specs.Headers.{greatest_recorded};
 ghost use Rattle.page_tags.specs.declared.header.ObjectKind.TheVariants as kinds;
 ghost use Rattle.posix_profile.specs.Changes.{written};
 ghost use Rattle.pages.specs.Changes.{AreSized, IsNothing, IsOnlyOf};
-ghost use Rattle.pages.specs.State.{OnlyFinds, KeepsPower};
-ghost use Rattle.file_io.specs.Files.{HasForWrite, HasCommittedPages, OfFile};
-ghost use Rattle.file_io.specs.Heads.{HasChunkPage, OfHead, head_fields};
+ghost use Rattle.file_io.specs.Files.{HasForWrite, OfFile};
+ghost use Rattle.file_io.specs.Heads.{HasChunkPage, HasPartPages, OfHead};
 ghost use Rattle.file_io.specs.Chunks.{AreOf, HoldChunksIn, HoldsChunkIn, IfNoneStays, IfPartStays};
 ghost use Rattle.pages.specs.Faults.{MayLackMemory, SaysWhyMaking, LooksUp};
-ghost use Rattle.file_io.specs.Writes.{AreFewOver, IssuesForWrite, HasNoHeader, IfHeaderStays, IsChangeIn, IsWrittenBy, MakesWritten, with_parts};
+ghost use Rattle.file_io.specs.Parts.{MeetsChunk};
+ghost use Rattle.file_io.specs.Writes.{AreFewOver, IssuesForWrite, HasNoHeader, IfHeaderStays, IsChangeIn, IsSmallWrite, IsWrittenBy, MakesWritten, with_parts};
 
 use crate::bits::{has_all, mark_in};
 use crate::chunk::{chunk_bytes, tail_pages};
@@ -31,19 +31,15 @@ fn written_bytes<P: Pages>(
     offset: u64,
     bytes: &[u8],
 ) -> Result<Vec<u8>, PageFault>
-    requires some { 1 ≤ length bytes.now }
-    requires small { offset + length bytes.now < 2 ^ 32 }
-    requires begins { index * (P.state pages.old).page_bytes < offset + length bytes.now }
-    requires ends { offset < index * (P.state pages.old).page_bytes + (P.state pages.old).page_bytes }
-    ensures finds { OnlyFinds (P.state pages.old) (P.state pages.new) }
+    requires write { IsSmallWrite offset (length bytes.now) }
+    requires meets { MeetsChunk (P.state pages.old).page_bytes index offset (offset + length bytes.now) }
+    ensures looks { LooksUp SaysWhyMaking (P.state pages.old) (P.state pages.new) result }
     ensures issued { (P.state pages.new).issued ≤ (P.state pages.old).issued + 1 }
-    ensures power { OnOk result (KeepsPower (P.state pages.old) (P.state pages.new)) }
-    ensures unasked { IfNoneStays (P.state pages.old) index offset (length bytes.now) ((P.state pages.new).issued ≡ (P.state pages.old).issued) }
+    ensures none_issued { IfNoneStays (P.state pages.old) index offset (length bytes.now) ((P.state pages.new).issued ≡ (P.state pages.old).issued) }
     ensures reported { IfPartStays (P.state pages.old) index offset (length bytes.now) (OnOk result (HasChunkPage (P.state pages.old) object head.now index)) }
     ensures size { IfOk result (λ page. length page.items ≡ (P.state pages.old).page_bytes) }
     ensures holds { OfHead (P.state pages.old) object head.now (λ all.
         IfOk result (HoldsChunkIn (P.state pages.old) (written all offset bytes.now) index)) }
-    ensures why { IfErr result (SaysWhyMaking (P.state pages.new)) }
     ensures fault { OfHead (P.state pages.old) object head.now (λ all. IfErr result (MayLackMemory (P.state pages.new))) }
 {
     let page_bytes = u64::from(pages.page_bytes());
@@ -70,18 +66,15 @@ fn written_pages<P: Pages>(
     offset: u64,
     bytes: &[u8],
 ) -> Result<Vec<FreshPage>, PageFault>
-    requires some { 1 ≤ length bytes.now }
-    requires small { offset + length bytes.now < 2 ^ 32 }
+    requires write { IsSmallWrite offset (length bytes.now) }
     requires short { head.now.length < 2 ^ 32 }
-    ensures finds { OnlyFinds (P.state pages.old) (P.state pages.new) }
+    ensures looks { LooksUp SaysWhyMaking (P.state pages.old) (P.state pages.new) result }
     ensures issued { (P.state pages.new).issued ≤ with_parts (P.state pages.old).page_bytes head.now.length offset (length bytes.now) (P.state pages.old).issued }
-    ensures power { OnOk result (KeepsPower (P.state pages.old) (P.state pages.new)) }
-    ensures reported { (P.state pages.old).sound ≡ true → OnOk result (HasCommittedPages (P.state pages.old) object (head_fields head.now) offset (length bytes.now)) }
+    ensures reported { (P.state pages.old).sound ≡ true → OnOk result (HasPartPages (P.state pages.old) object head.now offset (length bytes.now)) }
     ensures of { IfOk result (λ fresh. AreOf object (IsWrittenBy (P.state pages.old) head.now offset (length bytes.now)) fresh.items) }
-    ensures few { IfOk result (λ fresh. AreFewOver (P.state pages.old) offset (length bytes.now) fresh.items) }
+    ensures within_limit { IfOk result (λ fresh. AreFewOver (P.state pages.old) offset (length bytes.now) fresh.items) }
     ensures sized { IfOk result (λ fresh. AreSized fresh.items (P.state pages.old).page_bytes) }
     ensures hold { OfHead (P.state pages.old) object head.now (λ all. IfOk result (HoldChunksIn (P.state pages.old) (written all offset bytes.now))) }
-    ensures why { IfErr result (SaysWhyMaking (P.state pages.new)) }
     ensures fault { OfHead (P.state pages.old) object head.now (λ all. IfErr result (MayLackMemory (P.state pages.new))) }
 {
     let page_bytes = u64::from(pages.page_bytes());

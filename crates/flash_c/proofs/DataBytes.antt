@@ -8,12 +8,12 @@ use Rattle.posix_profile.specs.declared.reply.Reply.TheVariants as replies
 use Rattle.flash_c.specs.Filling.{data_number, filled}
 use Rattle.flash_c.specs.Numbers.{error_number, signed}
 
-module _ (before after : List ℕ) (count : ℕ) (few : count ≤ length before) (size : length after ≡ length before) where
+module _ (before after : List ℕ) (count : ℕ) (within_limit : count ≤ length before) (size : length after ≡ length before) where
   len : length (take count after) ≡ count
-  len = length-take-le count after (omega (arith, few, size))
+  len = length-take-le count after (omega (arith, within_limit, size))
 
   fits : nat_le (length (take count after)) (length before) ≡ Rattle.std.specs.Prelude.true
-  fits = le-leb (length (take count after)) (length before) (omega (arith, len, few))
+  fits = le-leb (length (take count after)) (length before) (omega (arith, len, within_limit))
 
   -- the number of the bytes at its front
   pub number_read : signed count ≡ data_number (length before) (replies.Data (take count after))

@@ -16,9 +16,9 @@ reason spare old new formats.Worn left gone worn = worn refl
 reason spare old new formats.Gone left gone worn = gone refl
 
 -- enough blocks, where too few are a fault
-pub enough : (blocks least : ℕ) → (blocks < least → ⊥) → least ≤ blocks
-enough blocks least few = elim (cases_lt blocks least) [
-  | inl less ↦ absurd (few less)
+pub sufficient : (blocks least : ℕ) → (blocks < least → ⊥) → least ≤ blocks
+sufficient blocks least within_limit = elim (cases_lt blocks least) [
+  | inl less ↦ absurd (within_limit less)
   | inr more ↦ omega arith
 ]
 

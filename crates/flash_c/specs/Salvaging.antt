@@ -24,7 +24,7 @@ use Rattle.flash_c.specs.declared.salvaged.FlashSalvaged.{FlashSalvaged}
 -- A call of a salvage and its result: it only looked for pages; of the pages that it goes by it returned what they say; an error has its cause.
 pub record Looks {T : Type 0} (Says : Sizes → NewestMap → T → Type 0) (Why : PagesState → SalvageFault → Type 0) (old : PagesState)
     (reported : Result T SalvageFault) (new : PagesState) : Type 0 where
-  pub finds : OnlyFinds old new
+  pub lookups : OnlyFinds old new
   pub says : (z : Sizes) → IsSeen z old → IfOk reported (Says z (has old.present))
   pub why : IfErr reported (Why new)
 

@@ -6,12 +6,11 @@ ghost use Rattle.nand_model.specs.Changes.{OnlyReads};
 ghost use Rattle.posix_calls.specs.PageVolumes.{pages_of};
 ghost use Rattle.posix_calls.specs.Endings.{LiesOn};
 ghost use Rattle.posix_calls.specs.Volumes.{over_pages};
+ghost use Rattle.page_store.specs.PagesOf.{mounted_pages};
 
 use crate::numbers::{done_number, format_number, mount_number};
 use crate::way::Way;
-use nand_model::{Nand, TrustedNand};
-use page_store::FlashPages;
-use pages::Pages;
+use nand_model::Nand;
 use posix_calls::{MountFault, Volume, format};
 use std::alloc::Global;
 
@@ -22,7 +21,7 @@ fn mount_by<N: Nand + Drop>(
     cache_pages: u32,
     way: Way,
 ) -> Result<Volume<N>, (N, MountFault)>
-    ensures mounted { IfOk result (λ v. IsMountedBy way ⟦<FlashPages<TrustedNand<N>> as Pages>⟧.state (N.state device) (over_pages v)) }
+    ensures mounted { IfOk result (λ v. IsMountedBy way mounted_pages (N.state device) (over_pages v)) }
     ensures back { IfErr result (λ failed. OnlyReads (N.state device) (N.state failed.0)) }
     ensures fault { IfErr result (λ failed. WhyNotMounted (N.state failed.0) failed.1) }
 {
@@ -40,7 +39,7 @@ pub(crate) fn mount_device<N: Nand + Drop>(
     cache_pages: u32,
     way: Way,
 ) -> Result<Volume<N>, (N, i32)>
-    ensures mounted { IfOk result (λ v. IsMountedBy way ⟦<FlashPages<TrustedNand<N>> as Pages>⟧.state (N.state device) (over_pages v)) }
+    ensures mounted { IfOk result (λ v. IsMountedBy way mounted_pages (N.state device) (over_pages v)) }
     ensures fault { IfErr result (λ back. NotMounted (N.state device) (N.state back.0) back.1) }
 {
     match mount_by(alloc, device, cache_pages, way) {
@@ -61,7 +60,7 @@ pub(crate) fn format_device<N: Nand + Drop>(alloc: Global, device: N, spare: u32
 
 /// Commits what was accepted and gives the device up: with 0, or EIO.
 pub(crate) fn end<N: Nand + Drop>(volume: Volume<N>) -> (N, i32)
-    ensures { IsEnded ⟦<FlashPages<TrustedNand<N>> as Pages>⟧.state (over_pages volume) (N.state result.0) result.1 }
+    ensures { IsEnded mounted_pages (over_pages volume) (N.state result.0) result.1 }
 {
     let (device, reply) = volume.unmount();
     let number = done_number(&reply);
@@ -70,7 +69,7 @@ pub(crate) fn end<N: Nand + Drop>(volume: Volume<N>) -> (N, i32)
 
 /// Gives the device up as it is: no call of it is made.
 pub(crate) fn abandon<N: Nand + Drop>(volume: Volume<N>) -> N
-    ensures { LiesOn (⟦<FlashPages<TrustedNand<N>> as Pages>⟧.state (pages_of (over_pages volume))) (N.state result) }
+    ensures { LiesOn (mounted_pages (pages_of (over_pages volume))) (N.state result) }
 {
     volume.abandon()
 }

@@ -98,7 +98,7 @@ module _ (spare : ℕ) (d : Device) (t : Table) (x : Index) (ready : IsReady d t
     lists = subst (λ (y : Index). IsListOf (committed_pages y) (committed_keys (committed_pages y))) (sym same) lists;
     entries = entries ∙ one (committed_count t) (length keys) totaled (keys, lists, refl) ∙ ap (λ (y : Index). length (committed_keys (committed_pages y))) (sym same);
     pages = pages ∙ ap (λ n. ceiling (32 * (1 + n)) t.geometry.bytes) (sym entries) ∙ ap (λ (g : Geometry). ceiling (32 * (1 + checks.entries)) g.bytes) sizes;
-    few = let most = due.pages in let pages_same : t.geometry.pages ≡ e.geometry.pages = ap (λ (g : Geometry). g.pages) sizes in omega (arith, pages, most, pages_same);
+    within_limit = let most = due.pages in let pages_same : t.geometry.pages ≡ e.geometry.pages = ap (λ (g : Geometry). g.pages) sizes in omega (arith, pages, most, pages_same);
     number = later.numbers.0;
   } where
     sizes : t.geometry ≡ e.geometry

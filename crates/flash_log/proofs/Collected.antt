@@ -23,10 +23,10 @@ use Rattle.flash_log.specs.RoomMaking.{IsCollected, CollectEnds}
 -- the copies are trusted
 pub collected_open : (v w spare : ℕ) (d : Device) (t u : Table) (y : Index) → 1 ≤ (t.entry v).committed → LiesOpen v w t u → (u.entry v).committed ≡ 0 → bad_count u ≤ spare → Stands spare d u y
     → IsCollected v spare t u
-collected_open v w spare d t u y some lies left few stands =
+collected_open v w spare d t u y some lies left within_limit stands =
     let there = lies.lies.there in
     let same : free_count u ≡ uncommitted_count u = free_where_held u w lies.open_block (omega (arith, there, some)) in
-    record { opened = (w, lies.open_block, lies.next); left = inl left; few = few; free = omega (arith, same, stands.tables.uncommitted) }
+    record { opened = (w, lies.open_block, lies.next); left = inl left; within_limit = within_limit; free = omega (arith, same, stands.tables.uncommitted) }
 
 -- their block is retired, and what was in it is moved, perhaps into the first
 pub collected_retired : (v w spare : ℕ) (t u s : Table) → 1 ≤ (t.entry v).committed → LiesIn v w t u → (u.entry v).committed ≡ 0 → IsRetired w spare u s → IsCollected v spare t s
@@ -38,7 +38,7 @@ collected_retired v w spare t u s some lies left out =
         | inl e ↦ inr (away.1.open_block ∙ ap Some (sym e))
         | inr ne ↦ inl (away.1.lies.elsewhere v apart ne ∙ left)
       ];
-      few = out.few;
+      within_limit = out.within_limit;
       free = out.free;
     } where
       apart : v ≢ w
@@ -58,12 +58,12 @@ pub pays_retired : (v w : ℕ) (d0 d1 d2 : Device) (t u s : Table) (result : Res
     → PaysRetirement (log_of d1 u) (log_of d2 s) result → PaysCollection v (log_of d0 t) (log_of d2 s) result
 pays_retired v w d0 d1 d2 t u s result geometry first then =
     pays_on ((t.entry v).committed + 1) 0 (bill_of (log_of d0 t) ((t.entry v).committed + 1) 0 1) (bill_of (log_of d1 u) (d1.geometry.pages + 2) 1 0) (log_of d0 t) (log_of d1 u) (log_of d2 s) (places.Suspect w) result
-    (each d0.geometry.pages d1.geometry.pages same) (enough d0.geometry.pages d1.geometry.pages (t.entry v).committed same) refl first then where
+    (each d0.geometry.pages d1.geometry.pages same) (sufficient d0.geometry.pages d1.geometry.pages (t.entry v).committed same) refl first then where
       same : d1.geometry.pages ≡ d0.geometry.pages
       same = ap (λ (x : Geometry). x.pages) geometry
 
       each : (a b : ℕ) → b ≡ a → b + 2 ≡ a + 2
       each a b is = omega (arith, is)
 
-      enough : (a b k : ℕ) → b ≡ a → k + 1 + (b + 2) ≤ k + 1 + (a + 2) * 1
-      enough a b k is = omega (arith, is)
+      sufficient : (a b k : ℕ) → b ≡ a → k + 1 + (b + 2) ≤ k + 1 + (a + 2) * 1
+      sufficient a b k is = omega (arith, is)

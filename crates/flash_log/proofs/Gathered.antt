@@ -62,9 +62,9 @@ pub pays_both : (committed count : ℕ) (a b e : LogState) (moved : Moved) → L
     → Pays {E = MoveFault} (bill_of a (committed + next.size + 1) 0 (left_unanswered (Ok (Some moved)))) a e (Ok (Some moved))
 pays_both committed count a b e moved lasts rises next wrote =
     pays_on (committed + next.size + 1) 0 (bill_of a (next.size + 1) 0 0) (open_bill committed b (Ok (Some moved))) a b e (tt {0}) (Ok (Some moved)) (same_each a b lasts)
-    (enough (a.device.geometry.pages + 2) next.size) refl next.pays (pays_each committed b e (Ok (Some moved)) rises wrote) where
-      enough : (each size : ℕ) → size + 1 + committed ≤ committed + size + 1 + each * 0
-      enough each size = omega arith
+    (sufficient (a.device.geometry.pages + 2) next.size) refl next.pays (pays_each committed b e (Ok (Some moved)) rises wrote) where
+      sufficient : (each size : ℕ) → size + 1 + committed ≤ committed + size + 1 + each * 0
+      sufficient each size = omega arith
 
 -- where the copy is trusted
 pub pays_trusted : (committed count : ℕ) (a b e : LogState) → Lasts a.device b.device → bad_count b.table ≤ bad_count e.table → PaysNext (committed + count) a b (Ok (tt {0})) → PaysOpen committed b e (Ok (Some places.Trusted))
@@ -80,10 +80,10 @@ pays_suspect w committed count a b e f result lasts later rises next wrote retir
     let both = pays_both committed count a b e (places.Suspect w) lasts rises next wrote in
     let pages : e.device.geometry.pages + 2 ≡ a.device.geometry.pages + 2 = same_each b e later ∙ same_each a b lasts in
     let all = pays_on (committed + next.size + 1) 0 (bill_of a (committed + next.size + 1) 0 1) (bill_of e (e.device.geometry.pages + 2) 1 0) a e f (Some (places.Suspect w)) result pages
-    (enough a.device.geometry.pages e.device.geometry.pages (committed + next.size + 1) (ap (λ (g : Geometry). g.pages) (later.geometry ∙ lasts.geometry))) refl both retired in
+    (sufficient a.device.geometry.pages e.device.geometry.pages (committed + next.size + 1) (ap (λ (g : Geometry). g.pages) (later.geometry ∙ lasts.geometry))) refl both retired in
     record { size = next.size; most = next.most; fits = next.fits; pays = all } where
-      enough : (m n k : ℕ) → n ≡ m → k + (n + 2) ≤ k + (m + 2) * 1
-      enough m n k is = omega (arith, is)
+      sufficient : (m n k : ℕ) → n ≡ m → k + (n + 2) ≤ k + (m + 2) * 1
+      sufficient m n k is = omega (arith, is)
 
 -- where the open block was marked all is written into another
 pub pays_again : (committed count : ℕ) (a b e f : LogState) (result : Result (Unit {0}) MoveFault) → Lasts a.device b.device → Lasts b.device e.device → bad_count b.table < bad_count e.table
@@ -124,34 +124,34 @@ pub pays_short : (committed count : ℕ) (a b e : LogState) (fault fault' : Move
 pays_short committed count a b e fault fault' lasts rises next wrote =
     let each = pays_each committed b e (Err fault) rises wrote in
     let all = pays_on {T = Unit {0}} {E = MoveFault} (committed + next.size + 1) 0 (bill_of a (next.size + 1) 0 0) (open_bill committed b (Err fault)) a b e (tt {0}) (Err fault) (same_each a b lasts)
-    (enough (a.device.geometry.pages + 2) next.size) refl next.pays each in
+    (sufficient (a.device.geometry.pages + 2) next.size) refl next.pays each in
     record { size = next.size; most = next.most; fits = next.fits; pays = record { costs = all.costs; marks = all.marks; answers = tt; reads = all.reads } } where
-      enough : (each size : ℕ) → size + 1 + committed ≤ committed + size + 1 + each * 0
-      enough each size = omega arith
+      sufficient : (each size : ℕ) → size + 1 + committed ≤ committed + size + 1 + each * 0
+      sufficient each size = omega arith
 
 -- ---- ends
 
 -- the copies are trusted
 pub gathered_behind : (v count spare : ℕ) (b e : LogState) (y : Index) → 1 ≤ (b.table.entry v).committed → LiesBehind v count b e → bad_count e.table ≤ spare → Stands spare e.device e.table y → e.device.gone ≡ false
     → IsGathered count spare e
-gathered_behind v count spare b e y some lies few stands power =
+gathered_behind v count spare b e y some lies within_limit stands power =
     let there = lies.lies.there in
     let same : free_count e.table ≡ uncommitted_count e.table = free_where_held e.table lies.block lies.open_block (omega (arith, there, some)) in
-    record { fits = lies.fits; few = few; free = omega (arith, same, stands.tables.uncommitted); power = power }
+    record { fits = lies.fits; within_limit = within_limit; free = omega (arith, same, stands.tables.uncommitted); power = power }
 
 -- their block is retired
 pub gathered_retired : (v w committed count spare : ℕ) (b e f : LogState) (result : Result (Unit {0}) MoveFault) → committed ≡ (b.table.entry v).committed → 1 ≤ committed → LiesIn v w b.table e.table → committed + count ≤ f.table.geometry.pages
     → RetireEnds w spare f.device e.table f.table result → GatherEnds count spare f result
-gathered_retired v w committed count spare b e f (Ok done) is some lies few (out, power) =
+gathered_retired v w committed count spare b e f (Ok done) is some lies within_limit (out, power) =
     let there = lies.there in
     let away = out.moved (omega (arith, there, is, some)) in
     let next = away.1.next in
-    record { fits = fits_open count away.0 committed f.table away.1.open_block (omega (arith, next, there, is)) few; few = out.few; free = out.free; power = power }
-gathered_retired v w committed count spare b e f (Err fault) is some lies few why = why
+    record { fits = fits_open count away.0 committed f.table away.1.open_block (omega (arith, next, there, is)) within_limit; within_limit = out.within_limit; free = out.free; power = power }
+gathered_retired v w committed count spare b e f (Err fault) is some lies within_limit why = why
 
 -- they were moved into another block
 pub gathered_again : (v committed count spare : ℕ) (e f : LogState) (result : Result (Unit {0}) MoveFault) → (e.table.entry v).committed ≡ committed → committed + count ≤ f.table.geometry.pages → CollectEnds v spare f.device e.table f.table result
     → GatherEnds count spare f result
-gathered_again v committed count spare e f (Ok done) is few (all, power) =
-    record { fits = fits_open count all.opened.0 committed f.table all.opened.1 (all.opened.2 ∙ is) few; few = all.few; free = all.free; power = power }
-gathered_again v committed count spare e f (Err fault) is few why = why
+gathered_again v committed count spare e f (Ok done) is within_limit (all, power) =
+    record { fits = fits_open count all.opened.0 committed f.table all.opened.1 (all.opened.2 ∙ is) within_limit; within_limit = all.within_limit; free = all.free; power = power }
+gathered_again v committed count spare e f (Err fault) is within_limit why = why

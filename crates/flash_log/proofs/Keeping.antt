@@ -5,7 +5,7 @@ use Rattle.nand_model.specs.Flash.{Flash}
 use Rattle.nand_model.specs.Calls.{Device, Lasts}
 use Rattle.nand_model.specs.declared.geometry.Geometry.{Geometry}
 use Rattle.block_state.specs.Table.{Table}
-use Rattle.transactions.specs.declared.copies.CopyOf.{CopyOf}
+use Rattle.chunk_index.specs.declared.form.CommittedKey.{CommittedKey}
 use Rattle.transactions.specs.Checking.{LogState}
 use Rattle.flash_log.specs.Copying.{KeepsCounts, KeepsCommittedAt, KeepsDataAt, MayBeCopied, NewestAfterCopies, CopiesPages, StayOrLieApart}
 use Rattle.flash_log.specs.Passing.{KeepsFound}
@@ -30,7 +30,7 @@ module _ (t u : Table) (committed : (b : ℕ) → (u.entry b).committed ≡ (t.e
     | inr power ↦ then o d p bytes (still p.block some) (stays power o d p some at) (first o d p bytes some at has)
   ]
 
-  pub newest_on : t.next_group ≤ u.next_group → (copies : List CopyOf) (f g h : Flash) (r : Result Copied MoveFault) → KeepsCommittedAt t f g → NewestAfterCopies copies u g h r → NewestAfterCopies copies t f h r
+  pub newest_on : t.next_group ≤ u.next_group → (copies : List CommittedKey) (f g h : Flash) (r : Result Copied MoveFault) → KeepsCommittedAt t f g → NewestAfterCopies copies u g h r → NewestAfterCopies copies t f h r
   newest_on rises copies f g h (Ok (ends.Into target)) first then = record {
     made = record {
       copied = then.made.copied;
@@ -41,7 +41,7 @@ module _ (t u : Table) (committed : (b : ℕ) → (u.entry b).committed ≡ (t.e
   newest_on rises copies f g h (Ok ends.Marked) first then = committed_on f g h first then
   newest_on rises copies f g h (Err fault) first then = committed_on f g h first then
 
-  pub apart_on : u.geometry ≡ t.geometry → (copies : List CopyOf) (f g : Flash) (d : Device) → KeepsCommittedAt t f g → StayOrLieApart copies u g d → StayOrLieApart copies t f d
+  pub apart_on : u.geometry ≡ t.geometry → (copies : List CommittedKey) (f g : Flash) (d : Device) → KeepsCommittedAt t f g → StayOrLieApart copies u g d → StayOrLieApart copies t f d
   apart_on geometry copies f g d first (inl stays) = inl (committed_on f g d.flash first stays)
   apart_on geometry copies f g d first (inr lie) = inr (record {
     at = lie.at;
@@ -55,28 +55,28 @@ module _ (t u : Table) (committed : (b : ℕ) → (u.entry b).committed ≡ (t.e
   })
 
 -- pages that may be copied still may after a step that left the index
-pub may_later : (a b : Device) (t u : Table) (copies : List CopyOf) → Lasts a b → t.next_group ≤ u.next_group → ((k : ℕ) → (u.entry k).committed ≡ (t.entry k).committed)
+pub may_later : (a b : Device) (t u : Table) (copies : List CommittedKey) → Lasts a b → t.next_group ≤ u.next_group → ((k : ℕ) → (u.entry k).committed ≡ (t.entry k).committed)
     → (a.honest ≡ true → b.gone ≡ false → KeepsCommittedAt t a.flash b.flash) → MayBeCopied a t copies → MayBeCopied b u copies
 may_later a b t u copies lasts rises committed stays may = record {
   can = record {
     some = may.can.some;
-    few = may.can.few;
+    within_limit = may.can.within_limit;
     within = λ i x at. let is = may.can.within i x at in (
-      subst (λ (g : Geometry). x.block < g.blocks) (sym lasts.geometry) is.0,
-      subst (λ (g : Geometry). x.page < g.pages) (sym lasts.geometry) is.1,
+      subst (λ (g : Geometry). x.at.block < g.blocks) (sym lasts.geometry) is.0,
+      subst (λ (g : Geometry). x.at.page < g.pages) (sym lasts.geometry) is.1,
     );
     named = λ i lt. let is = may.can.named i lt in record { object = is.object; chunk = is.chunk; version = (is.version.0, omega (arith, is.version.1, rises)) };
   };
-  few = subst (λ (g : Geometry). length copies ≤ g.pages) (sym lasts.geometry) may.few;
-  held = λ i x at. let some = may.held i x at in let same = committed x.block in omega (arith, some, same);
+  within_limit = subst (λ (g : Geometry). length copies ≤ g.pages) (sym lasts.geometry) may.within_limit;
+  held = λ i x at. let some = may.held i x at in let same = committed x.at.block in omega (arith, some, same);
   once = may.once;
   newest = λ honest power i x at.
       let was : a.honest ≡ true = sym lasts.honest ∙ honest in
-      stays was power x.name.key.object x.name.key.chunk _ (may.held i x at) (may.newest was (had_power a b lasts power) i x at);
+      stays was power x.key.object x.key.chunk _ (may.held i x at) (may.newest was (had_power a b lasts power) i x at);
   ordinary = λ honest. may.ordinary (sym lasts.honest ∙ honest);
 }
 
-module _ (copies : List CopyOf) (a b : LogState) (keeps : KeepsCounts a.device b.device a.table b.table) (committed : a.device.honest ≡ true → KeepsCommittedAt a.table a.device.flash b.device.flash)
+module _ (copies : List CommittedKey) (a b : LogState) (keeps : KeepsCounts a.device b.device a.table b.table) (committed : a.device.honest ≡ true → KeepsCommittedAt a.table a.device.flash b.device.flash)
     (stored : a.device.honest ≡ true → KeepsDataAt a.table a.device.flash b.device.flash) (found : a.device.honest ≡ true → KeepsFound a.table a.device b.device) where
   -- a fault after a step that keeps what is newest where it is
   pub pages_committed : (fault : MoveFault) → CopiesPages copies a b (Err fault)

@@ -23,9 +23,10 @@ use Rattle.transactions.specs.laws.Handing.{hands_same}
 use Rattle.transactions.specs.Sources.{IsPageName}
 use Rattle.transactions.specs.declared.source.PageName.{PageName}
 use Rattle.flash_tree.specs.Slots.{check_object}
-use Rattle.transactions.specs.declared.copies.CopyOf.{CopyOf}
+use Rattle.chunk_index.specs.declared.form.CommittedKey.{CommittedKey}
 use Rattle.flash_log.specs.Copying.{KeepsCounts, KeepsDataAt, MayBeCopied, AreWritten, IsCopyOf, IsTarget, OpenAfter, copy_in, place_of}
-use Rattle.flash_log.specs.Lists.{IsListed, committed_by}
+use Rattle.flash_log.specs.CopySource.{copied_name}
+use Rattle.flash_log.specs.Lists.{IsListed}
 use Rattle.flash_log.specs.Bills.{Pays, PaysTarget, PaysWriting, bill_of}
 use Rattle.flash_log.specs.declared.fault.MoveFault.{MoveFault}
 use Rattle.flash_log.specs.declared.moving.Moved.{Moved}
@@ -63,42 +64,42 @@ sum_at b n k lt =
 
 -- ---- what may be copied
 
-name_eta : (t : Table) (x : CopyOf) (n : ℕ) → MayLie t x.name.key.object x.name.key.chunk (committed_by x) → IsPageName t.next_group x.name
+name_eta : (t : Table) (x : CommittedKey) (n : ℕ) → MayLie t x.key.object x.key.chunk x.at → IsPageName t.next_group (copied_name x)
 name_eta t x n may = record { object = may.name.object; chunk = may.name.chunk; version = may.name.version }
 
-pub may_be_copied : (spare v : ℕ) (d : Device) (t : Table) (x : Index) (copies : List CopyOf) → IsReady d t → Stands spare d t x → IsListed v t x copies → MayBeCopied d t copies
+pub may_be_copied : (spare v : ℕ) (d : Device) (t : Table) (x : Index) (copies : List CommittedKey) → IsReady d t → Stands spare d t x → IsListed v t x copies → MayBeCopied d t copies
 may_be_copied spare v d t x copies ready stands listed =
     let fits = stands.tables.fits v in
     let count = listed.count in
     let some = listed.some in
     let most : t.geometry.pages ≤ 256 = t.geometry.most_pages in
-    let each : (i : ℕ) (y : CopyOf) → slice_get copies i ≡ Some y → MayLie t y.name.key.object y.name.key.chunk (committed_by y) = λ i y at. stands.tables.within y.name.key.object y.name.key.chunk (committed_by y) (listed.lists.committed i y at) in
+    let each : (i : ℕ) (y : CommittedKey) → slice_get copies i ≡ Some y → MayLie t y.key.object y.key.chunk y.at = λ i y at. stands.tables.within y.key.object y.key.chunk y.at (listed.lists.committed i y at) in
     record {
       can = record {
         some = omega (arith, count, some);
-        few = omega (arith, count, fits, most);
+        within_limit = omega (arith, count, fits, most);
         within = λ i y at. let may = each i y at in (
-          subst (λ (g : Geometry). y.block < g.blocks) ready.geometry may.block,
-          subst (λ (g : Geometry). y.page < g.pages) ready.geometry may.page,
+          subst (λ (g : Geometry). y.at.block < g.blocks) ready.geometry may.block,
+          subst (λ (g : Geometry). y.at.page < g.pages) ready.geometry may.page,
         );
         named = λ i lt.
             let there = slice_get_there copies i lt in
             subst (IsPageName t.next_group) (sym (name_is copies i there.0 there.1)) (name_eta t there.0 i (each i there.0 there.1));
       };
-      few = subst (λ (g : Geometry). length copies ≤ g.pages) ready.geometry (omega (arith, count, fits));
-      held = λ i y at. let here : (t.entry y.block).committed ≡ (t.entry v).committed = ap (λ b. (t.entry b).committed) (listed.lists.here i y at) in omega (arith, here, some);
+      within_limit = subst (λ (g : Geometry). length copies ≤ g.pages) ready.geometry (omega (arith, count, fits));
+      held = λ i y at. let here : (t.entry y.at.block).committed ≡ (t.entry v).committed = ap (λ b. (t.entry b).committed) (listed.lists.here i y at) in omega (arith, here, some);
       once = listed.lists.once;
-      newest = λ honest power i y at. stands.newest honest power y.name.key.object y.name.key.chunk (committed_by y) (listed.lists.committed i y at);
+      newest = λ honest power i y at. stands.newest honest power y.key.object y.key.chunk y.at (listed.lists.committed i y at);
       ordinary = λ honest i lt.
           let there = slice_get_there copies i lt in
-          let y : CopyOf = there.0 in
+          let y : CommittedKey = there.0 in
           subst (λ (n : PageName). n.key.object ≢ check_object) (sym (name_is copies i y there.1))
-          (stands.ordinary honest y.name.key.object y.name.key.chunk (committed_by y) (listed.lists.committed i y there.1));
+          (stands.ordinary honest y.key.object y.key.chunk y.at (listed.lists.committed i y there.1));
     }
 
 -- ---- where the copies are reported
 
-module _ (spare v : ℕ) (target : Target) (d0 d1 : Device) (t0 t1 t2 : Table) (x y : Index) (copies : List CopyOf) (listed : IsListed v t0 x copies) (held : AreHeld t0 x)
+module _ (spare v : ℕ) (target : Target) (d0 d1 : Device) (t0 t1 t2 : Table) (x y : Index) (copies : List CommittedKey) (listed : IsListed v t0 x copies) (held : AreHeld t0 x)
     (keeps : KeepsCounts d0 d1 t0 t1) (stands : Stands spare d0 t0 x) (is : IsTarget (length copies) target t0 t1)
     (reports : Reports v (length copies) (place_of target) copies x y t1 t2) (agree : CountsAgree t2 y)
     (newest : d0.honest ≡ true → d1.gone ≡ false → AreWritten (place_of target) copies t0 d0.flash d1.flash) where
@@ -124,8 +125,8 @@ module _ (spare v : ℕ) (target : Target) (d0 d1 : Device) (t0 t1 t2 : Table) (
   ]
 
   -- a key that is reported of a copy is its
-  reported : (o c i : ℕ) (z : CopyOf) → slice_get copies i ≡ Some z → IsCopyOf z o c → committed_pages y o c ≡ Some (copy_in (place_of target) i z)
-  reported o c i z at of = sym (ap (λ q. committed_pages y q c) of.0) ∙ ap (committed_pages y z.name.key.object) (sym of.1) ∙ reports.index.committed_here i z (slice_get_within copies i z at) at
+  reported : (o c i : ℕ) (z : CommittedKey) → slice_get copies i ≡ Some z → IsCopyOf z o c → committed_pages y o c ≡ Some (copy_in (place_of target) i z)
+  reported o c i z at of = sym (ap (λ q. committed_pages y q c) of.0) ∙ ap (committed_pages y z.key.object) (sym of.1) ∙ reports.index.committed_here i z (slice_get_within copies i z at) at
 
   pub same_bads : bad_count t2 ≡ bad_count t1
   same_bads = ap (λ (g : Geometry). how_many (is_bad t2) g.blocks) reports.counts.geometry ∙ counts_same (is_bad t2) (is_bad t1) t1.geometry.blocks (λ b lt. reports.counts.bad b)
@@ -200,10 +201,10 @@ module _ (spare v : ℕ) (target : Target) (d0 d1 : Device) (t0 t1 t2 : Table) (
             let same : p ≡ copy_in (place_of target) i z = cc in
             let lt : i < length copies = slice_get_within copies i z there in
             let fits = stands.tables.fits v in
-            let was = stands.tables.within z.name.key.object z.name.key.chunk (committed_by z) (listed.lists.committed i z there) in
+            let was = stands.tables.within z.key.object z.key.chunk z.at (listed.lists.committed i z there) in
             let page : target.first + i < t0.geometry.pages = let room = is.fits in omega (arith, lt, room) in
-            let may : MayLie t0 z.name.key.object z.name.key.chunk (copy_in (place_of target) i z) = record { block = is.within; page = page; name = was.name } in
-            subst (MayLie t2 o c) (sym same) (subst (λ q. MayLie t2 q c (copy_in (place_of target) i z)) of.0 (subst (λ l. MayLie t2 z.name.key.object l (copy_in (place_of target) i z)) of.1
+            let may : MayLie t0 z.key.object z.key.chunk (copy_in (place_of target) i z) = record { block = is.within; page = page; name = was.name } in
+            subst (MayLie t2 o c) (sym same) (subst (λ q. MayLie t2 q c (copy_in (place_of target) i z)) of.0 (subst (λ l. MayLie t2 z.key.object l (copy_in (place_of target) i z)) of.1
             (may_lie_later t0 t2 _ _ _ (reports.counts.geometry ∙ keeps.geometry) (let group = reports.counts.next_group in omega (arith, group, keeps.numbers.numbers.groups_rise)) may)))
         | inr none ↦ may_lie_later t0 t2 o c p (reports.counts.geometry ∙ keeps.geometry) (let group = reports.counts.next_group in omega (arith, group, keeps.numbers.numbers.groups_rise))
             (stands.tables.within o c p (sym (reports.index.committed_elsewhere o c (λ j z lt there of. none j z there of)) ∙ at))
@@ -221,7 +222,7 @@ module _ (spare v : ℕ) (target : Target) (d0 d1 : Device) (t0 t1 t2 : Table) (
               let both : Some p ≡ Some (copy_in (place_of target) i z) = sym at ∙ reported o c i z there of in
               let same : p ≡ copy_in (place_of target) i z = cc in
               subst (IsCommittedAt d1.flash o c) (sym same) (subst (λ q. IsCommittedAt d1.flash q c (copy_in (place_of target) i z)) of.0
-              (subst (λ l. IsCommittedAt d1.flash z.name.key.object l (copy_in (place_of target) i z)) of.1 (all.copied i z there)))
+              (subst (λ l. IsCommittedAt d1.flash z.key.object l (copy_in (place_of target) i z)) of.1 (all.copied i z there)))
           | inr none ↦
               let before : committed_pages x o c ≡ Some p = sym (reports.index.committed_elsewhere o c (λ j z lt there of. none j z there of)) ∙ at in
               all.others o c p (held o c p before) none (stands.newest was (had_power d0 d1 keeps.lasts power) o c p before)
@@ -229,7 +230,7 @@ module _ (spare v : ℕ) (target : Target) (d0 d1 : Device) (t0 t1 t2 : Table) (
     ordinary = λ honest o c p at.
         let was = stands.ordinary (sym keeps.lasts.honest ∙ honest) in
         elim (listed_or_not copies o c) [
-          | inl (i, z, there, of) ↦ subst (λ q. q ≢ check_object) of.0 (was z.name.key.object z.name.key.chunk (committed_by z) (listed.lists.committed i z there))
+          | inl (i, z, there, of) ↦ subst (λ q. q ≢ check_object) of.0 (was z.key.object z.key.chunk z.at (listed.lists.committed i z there))
           | inr none ↦ was o c p (sym (reports.index.committed_elsewhere o c (λ j z lt there of. none j z there of)) ∙ at)
         ];
     limits = let now = keeps.limits stands.limits in (
@@ -249,7 +250,7 @@ module _ (spare v : ℕ) (target : Target) (d0 d1 : Device) (t0 t1 t2 : Table) (
   pub moves_out : MovesOut v x y
   moves_out = record {
     moved = λ o c p at here.
-        let z : CopyOf = record { block = p.block; page = p.page; name = record { key = record { object = o; chunk = c }; version = p.version } } in
+        let z : CommittedKey = record { key = record { object = o; chunk = c }; at = p } in
         let there = listed.lists.all o c p at here in
         let lt : there.0 < length copies = slice_get_within copies there.0 z there.1 in
         record { at = copy_in (place_of target) there.0 z; is = reports.index.committed_here there.0 z lt there.1; version = refl; present = reports.index.present_here there.0 z lt there.1 };
@@ -258,10 +259,10 @@ module _ (spare v : ℕ) (target : Target) (d0 d1 : Device) (t0 t1 t2 : Table) (
     prepared = reports.index.prepared;
     ready = reports.index.ready;
   } where
-    in_v : (o c j : ℕ) (z : CopyOf) → slice_get copies j ≡ Some z → IsCopyOf z o c → IsCommittedPageIn v x o c
+    in_v : (o c j : ℕ) (z : CommittedKey) → slice_get copies j ≡ Some z → IsCopyOf z o c → IsCommittedPageIn v x o c
     in_v o c j z there of = (
-      committed_by z,
-      sym (ap (λ q. committed_pages x q c) of.0) ∙ ap (committed_pages x z.name.key.object) (sym of.1) ∙ listed.lists.committed j z there,
+      z.at,
+      sym (ap (λ q. committed_pages x q c) of.0) ∙ ap (committed_pages x z.key.object) (sym of.1) ∙ listed.lists.committed j z there,
       listed.lists.here j z there,
     )
 
@@ -269,7 +270,7 @@ module _ (spare v : ℕ) (target : Target) (d0 d1 : Device) (t0 t1 t2 : Table) (
   pub fills_anew : FillsAnew (log_of d0 t0) (log_of d1 t2) y
   fills_anew b none honest power o c p s at here last = elim (listed_or_not copies o c) [
     | inl (i, z, there, of) ↦
-        (newest honest power).numbered i z s there (subst (λ q. IsNewest d1.flash q z.name.key.chunk s) (sym of.0) (subst (λ l. IsNewest d1.flash o l s) (sym of.1) last))
+        (newest honest power).numbered i z s there (subst (λ q. IsNewest d1.flash q z.key.chunk s) (sym of.0) (subst (λ l. IsNewest d1.flash o l s) (sym of.1) last))
     | inr apart' ↦
         let some = held o c p (sym (reports.index.committed_elsewhere o c (λ j z lt there of. apart' j z there of)) ∙ at) in
         let same : (t0.entry p.block).committed ≡ (t0.entry b).committed = ap (λ k. (t0.entry k).committed) here in
@@ -305,7 +306,7 @@ module _ (spare v : ℕ) (target : Target) (d0 d1 : Device) (t0 t1 t2 : Table) (
   free_moved : AreHeld t2 y → d1.gone ≡ false → KeepsFree spare d0 d1 x y
   free_moved there power honest free = free_where_stands spare d1 t2 y (ready_reported keeps.ready) there (stands_moved keeps.ready) (keeps.lasts.honest ∙ honest) power
 
-  some_copy : (x0 : CopyOf) × (slice_get copies 0 ≡ Some x0)
+  some_copy : (x0 : CommittedKey) × (slice_get copies 0 ≡ Some x0)
   some_copy = slice_get_there copies 0 (let count = listed.count in let some = listed.some in omega (arith, count, some))
 
   -- no block begins erased in which a copy was made

@@ -40,11 +40,11 @@ pub record PaysBegun (count : ℕ) (old new : LogState) (result : Result Summari
 
 module _ (a b c : LogState) (block : ℕ) (lasts : Lasts a.device b.device) (took : PaysAllocation a b (Ok block)) (marked : bad_count b.table + a.device.failures ≤ bad_count a.table + b.device.failures)
     (after : Lasts b.device c.device) where
-  enough : (count spare size : ℕ) (r : Result Summarized MoveFault) → SummaryEnds count spare b c r → bad_count c.table + b.device.failures ≤ bad_count b.table + c.device.failures
+  sufficient : (count spare size : ℕ) (r : Result Summarized MoveFault) → SummaryEnds count spare b c r → bad_count c.table + b.device.failures ≤ bad_count b.table + c.device.failures
       → most_programs size r + 1 + b.device.failures + 0 ≤ begun_changes size r + c.device.failures
-  enough count spare size (Ok ends.Written) ends marks = let failures = after.failures in omega (arith, failures)
-  enough count spare size (Ok ends.Marked) ends marks = omega (arith, marks, ends.1)
-  enough count spare size (Err fault) ends marks = let failures = after.failures in omega (arith, failures)
+  sufficient count spare size (Ok ends.Written) ends marks = let failures = after.failures in omega (arith, failures)
+  sufficient count spare size (Ok ends.Marked) ends marks = omega (arith, marks, ends.1)
+  sufficient count spare size (Err fault) ends marks = let failures = after.failures in omega (arith, failures)
 
   pub pays_begun : (count spare : ℕ) (r : Result Summarized MoveFault) → SummaryEnds count spare b c r → PaysSummary count b c r → PaysBegun count a c r
   pays_begun count spare r ends pays =
@@ -61,7 +61,7 @@ module _ (a b c : LogState) (block : ℕ) (lasts : Lasts a.device b.device) (too
         fits = subst (λ (g : Geometry). pays.size + count ≤ g.pages) lasts.geometry pays.fits;
         pays = record {
           costs = costs_once a.device.geometry.pages (most_programs pays.size r) (begun_changes pays.size r) 0 a.device b.device c.device lasts took.costs
-              (let more = after.failures in omega (arith, more)) (enough count spare pays.size r ends (let all = marks in omega (arith, all))) costs;
+              (let more = after.failures in omega (arith, more)) (sufficient count spare pays.size r ends (let all = marks in omega (arith, all))) costs;
           marks = omega (arith, marked, marks);
           answers = on_ok_weaker r (λ others. omega (arith, answered, others)) pays.pays.answers;
           reads = omega (arith, same, reads, changes, failures);
@@ -71,13 +71,13 @@ module _ (a b c : LogState) (block : ℕ) (lasts : Lasts a.device b.device) (too
 -- without a failure of the summary, that is what the next block costs
 pub pays_next_from : (count : ℕ) (a c : LogState) (r : Result Summarized MoveFault) (result : Result (Unit {0}) MoveFault) (begun : PaysBegun count a c r) → begun_changes begun.size r ≤ begun.size + 1
     → OnOk result (AnswersFailures 0 0 a.device c.device a.table c.table) → ReadsFew (unfinished result) a.device c.device → PaysNext count a c result
-pays_next_from count a c r result begun few answers reads =
+pays_next_from count a c r result begun within_limit answers reads =
     let costs = begun.pays.costs in
     record {
       size = begun.size;
       most = begun.most;
       fits = begun.fits;
-      pays = record { costs = omega (arith, costs, few); marks = begun.pays.marks; answers = answers; reads = reads };
+      pays = record { costs = omega (arith, costs, within_limit); marks = begun.pays.marks; answers = answers; reads = reads };
     }
 
 -- and with one, that of another block
@@ -96,14 +96,14 @@ pays_next_again count a c e result begun lasts then =
 -- a block without a summary
 pub pays_plain : (count : ℕ) (a b : LogState) (block : Result ℕ TakeFault) (r : Result (Unit {0}) MoveFault) → Lasts a.device b.device → bad_count b.table + a.device.failures ≤ bad_count a.table + b.device.failures
     → PaysAllocation a b block → count ≤ a.device.geometry.pages → OnOk r (AnswersFailures 0 0 a.device b.device a.table b.table) → PaysNext count a b r
-pays_plain count a b block r lasts marked took few answers =
+pays_plain count a b block r lasts marked took within_limit answers =
     let same = took.reads in
     let changes = lasts.changes in
     let failures = lasts.failures in
     record {
       size = 0;
       most = omega arith;
-      fits = omega (arith, few);
+      fits = omega (arith, within_limit);
       pays = record { costs = costs_taken a.device.geometry.pages 0 a.device b.device lasts took.costs; marks = omega (arith, marked); answers = answers; reads = omega (arith, same, changes, failures) };
     }
 

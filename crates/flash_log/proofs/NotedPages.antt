@@ -1,8 +1,7 @@
 -- The pages that were noted of a block, and are committed there.
-use Rattle.std.specs.Prelude.{◌≡◌, ◌≢◌, ◌<◌, ◌≤◌, ℕ, zero, suc, ◌+◌, List, [], ◌∷◌, length, map, get_or, Some, slice_get, slice_set, take, AllPairs, Contains}
+use Rattle.std.specs.Prelude.{◌≡◌, ◌≢◌, ◌<◌, ◌≤◌, ℕ, zero, suc, ◌+◌, List, [], ◌∷◌, length, map, get_or, Some, slice_get, slice_set, take}
 use Rattle.std.proofs.Common.{refl, sym, ◌∙◌, ap, subst, arith, inl, inr}
 use Rattle.std.proofs.lemmas.Bool.{cases_eq, cases_lt}
-use Rattle.std.proofs.lemmas.List.{length-map}
 use Rattle.std.proofs.lemmas.Option.{get_or_from_slice_get, slice_get-get_or, slice_get_within}
 use Rattle.volume_terms.specs.laws.List.{at_mapped, mapped_at, slice_get_there}
 use Rattle.page_tags.specs.declared.check.CheckEntry.{CheckEntry}
@@ -11,9 +10,9 @@ use Rattle.chunk_index.specs.declared.form.CommittedKey.{CommittedKey}
 use Rattle.chunk_index.specs.declared.form.CommittedPage.{CommittedPage}
 use Rattle.chunk_index.specs.declared.index.Index.{Index}
 use Rattle.chunk_index.specs.Listing.{IsCommittedKey, HasKeysOnce}
-use Rattle.chunk_index.specs.Maps.{CommittedMap, count_committed_in, committed_pages}
+use Rattle.chunk_index.specs.Maps.{CommittedMap, committed_pages}
 use Rattle.flash_log.specs.Noted.{AreRising, IsCommittedIn, LiesBehind}
-use Rattle.flash_log.specs.SummaryMaking.{ComesBefore, ListsEntries, entry_at, page_of}
+use Rattle.flash_log.specs.SummaryMaking.{ListsEntries, entry_at, page_of}
 
 -- ---- one more entry
 

@@ -1,22 +1,19 @@
 -- What is committed in a block after moves was written since.
-use Rattle.std.proofs.Common.{◌≡◌, ◌≢◌, ◌≤◌, ℕ, true, false, None, Result, Ok, Err, sym, ap, subst, ◌∙◌, arith, inl, inr}
+use Rattle.std.proofs.Common.{◌≡◌, ◌≢◌, ◌≤◌, ℕ, true, false, None, sym, ap, subst, ◌∙◌, arith, inl, inr}
 use Rattle.std.proofs.lemmas.Bool.{cases_eq}
 use Rattle.nand_model.specs.Calls.{Device, Lasts}
 use Rattle.flash_tree.specs.Keeping.{KeepsElsewhere}
 use Rattle.flash_tree.specs.Newest.{Spot}
 use Rattle.flash_tree.specs.laws.Newest.{one_spot}
 use Rattle.flash_tree.specs.laws.Place.{had_power}
-use Rattle.block_state.specs.Committed.{bad_count}
 use Rattle.block_state.specs.Table.{Table}
 use Rattle.chunk_index.specs.declared.index.Index.{Index}
 use Rattle.transactions.specs.Checking.{LogState, log_of}
 use Rattle.transactions.specs.Ready.{IsReady}
 use Rattle.flash_log.specs.Moving.{LiesIn}
-use Rattle.flash_log.specs.Refreshing.{FillsAnew, IsRefreshed, IsWrittenAnew, MovesNothing, RefreshEnds}
-use Rattle.flash_log.specs.RoomMaking.{CollectEnds}
+use Rattle.flash_log.specs.Refreshing.{FillsAnew, IsWrittenAnew, MovesNothing}
 use Rattle.flash_log.specs.Standing.{AreHeld, Stands}
 use Rattle.flash_log.specs.Steps.{Step}
-use Rattle.flash_log.specs.declared.fault.MoveFault.{MoveFault}
 use Rattle.flash_log.specs.laws.CommittedPages.{spot_of}
 
 -- nothing is committed in the block

@@ -105,7 +105,7 @@ module _ (spare v w : ℕ) (d0 d : Device) (t0 t : Table) (x0 x : Index) (r : Re
         uncommitted = uncommitted_on suspect (out.moved there_some);
         was_empty = λ none_there. absurd (omega (arith, some, none_there));
         moved = λ _. away_on suspect (out.moved there_some);
-        few = out.few;
+        within_limit = out.within_limit;
         more = omega (arith, r.out.more, out.more);
       };
       power = power;
@@ -117,7 +117,7 @@ retired_all spare v d0 d t0 t x0 x r = record {
   bad = r.out.bad;
   uncommitted = r.out.uncommitted;
   moved = r.out.moved;
-  few = r.out.few;
+  within_limit = r.out.within_limit;
   more = r.out.more;
   free = elim (cases_eq (t0.entry v).committed 0) [
     | inl none ↦ let same : free_count t ≡ uncommitted_count t = free_where_closed t (r.out.was_empty none).0 in omega (arith, same, r.step.stands.tables.uncommitted)
@@ -138,7 +138,7 @@ ends_closed v spare d t t' (Ok done) (is, power) = (
     uncommitted = is.uncommitted;
     moved = λ some. let m = is.moved some in
         (m.0, record { lies = record { within = m.1.lies.within; good = m.1.lies.good; was = m.1.lies.was; there = m.1.lies.there; elsewhere = m.1.lies.elsewhere }; open_block = m.1.open_block; next = m.1.next });
-    few = is.few;
+    within_limit = is.within_limit;
     more = is.more;
     free = is.free;
   },

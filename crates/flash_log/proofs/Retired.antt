@@ -52,12 +52,12 @@ module _ (v : ℕ) (t u s : Table) (committed : (b : ℕ) → (s.entry b).commit
 
   -- the mark of an emptied block
   pub out_marked : (spare : ℕ) (suspect : Option ℕ) → IsEmptied v t u suspect → (s.entry v).bad ≡ true → bad_count s ≤ spare → bad_count t < bad_count s → IsOut v spare t s suspect
-  out_marked spare suspect e is few more = record {
+  out_marked spare suspect e is within_limit more = record {
     bad = is;
     uncommitted = committed v ∙ none;
     was_empty = λ zero_there. (open_block ∙ (e.was_empty zero_there).0, (e.was_empty zero_there).1);
     moved = λ some. marked_away suspect some (e.moved some);
-    few = few;
+    within_limit = within_limit;
     more = more;
   }
 
@@ -103,8 +103,8 @@ module _ (spare v : ℕ) (d1 d2 d3 : Device) (t1 t2 t3 : Table) (x y : Index) (g
       omega (arith, more, rises)
 
   pub out : (suspect : Option ℕ) → IsEmptied v t1 t2 suspect → (t3.entry v).bad ≡ true → bad_count t3 ≤ spare → IsOut v spare t1 t3 suspect
-  out suspect e is few = out_marked v t1 t2 t3 keeps.committed (λ b. (marked_entry v d3.flash t2 t3 notes b).1) (λ b ne. ap (λ (z : BlockEntry). z.bad) (notes.sets.others b ne)) notes.open_block empty
-      spare suspect e is few (more_bad e.left.good is)
+  out suspect e is within_limit = out_marked v t1 t2 t3 keeps.committed (λ b. (marked_entry v d3.flash t2 t3 notes b).1) (λ b ne. ap (λ (z : BlockEntry). z.bad) (notes.sets.others b ne)) notes.open_block empty
+      spare suspect e is within_limit (more_bad e.left.good is)
 
   -- what the mark costs besides
   module _ (suspect : Option ℕ) (pays : PaysEmptying (log_of d1 t1) (log_of d2 t2) (Ok suspect)) where

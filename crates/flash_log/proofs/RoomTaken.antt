@@ -27,11 +27,11 @@ free_next spare count d t u keeps opened more =
 -- what it costs, where the next block is opened or not
 pub pays_next : (spare count : ℕ) (old new : LogState) (next : Result (Unit {0}) MoveFault) (result : Result (Unit {0}) RoomFault) → bad_count old.table ≤ spare → HasMore old.table spare
     → PaysNext count old new next → OnOk result (AnswersFailures 0 0 old.device new.device old.table new.table) → ReadsFew (unfinished result) old.device new.device → PaysRoom spare old new result
-pays_next spare count old new next result few more opened answers reads =
+pays_next spare count old new next result within_limit more opened answers reads =
     let costs = opened.pays.costs in
     record {
       pays = record { costs = omega (arith, costs, opened.fits); marks = opened.pays.marks; answers = answers; reads = reads };
-      fewest = λ scarce v is. absurd (omega (arith, scarce, more, few));
+      fewest = λ scarce v is. absurd (omega (arith, scarce, more, within_limit));
       takes = λ _. omega (arith, costs, opened.most);
     }
 
@@ -53,7 +53,7 @@ pays_collected spare v count old new gathered result fewest none pays answers re
     let costs = pays.pays.costs in
     record {
       pays = record { costs = omega (arith, costs, pays.fits); marks = pays.pays.marks; answers = answers; reads = reads };
-      fewest = λ scarce w is. let few : (old.table.entry v).committed ≤ (old.table.entry w).committed = fewest.least w is.within is.good is.some in omega (arith, few, costs, pays.most);
+      fewest = λ scarce w is. let within_limit : (old.table.entry v).committed ≤ (old.table.entry w).committed = fewest.least w is.within is.good is.some in omega (arith, within_limit, costs, pays.most);
       takes = λ more. absurd (none more);
     }
 
@@ -71,5 +71,5 @@ fits_clear count d t opened = fits_open count opened.block (t.entry opened.block
 pub scarce_unless : (spare : ℕ) (t : Table) → (HasMore t spare → ⊥) → IsScarce t spare
 scarce_unless spare t none = elim (cases_lt (1 + spare) (uncommitted_count t + bad_count t)) [
   | inl more ↦ absurd (none more)
-  | inr few ↦ omega (arith, few)
+  | inr within_limit ↦ omega (arith, within_limit)
 ]

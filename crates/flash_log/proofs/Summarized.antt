@@ -18,7 +18,7 @@ use Rattle.flash_tree.specs.laws.Newest.{stays_on}
 use Rattle.block_state.specs.declared.blocks.BlockEntry.{BlockEntry}
 use Rattle.block_state.specs.Committed.{bad_count}
 use Rattle.block_state.specs.laws.Committed.{same_bad_count}
-use Rattle.block_state.specs.Table.{Table}
+use Rattle.block_state.specs.Table.{Table, IsEmptyBlock}
 use Rattle.chunk_index.specs.declared.index.Index.{Index}
 use Rattle.chunk_index.specs.Maps.{committed_pages}
 use Rattle.transactions.specs.Checking.{LogState, WritesGroup, log_of}
@@ -35,7 +35,7 @@ use Rattle.flash_log.specs.Copying.{IsFresh, KeepsCounts}
 use Rattle.flash_log.specs.Passing.{KeepsFound}
 use Rattle.flash_log.specs.Standing.{AreHeld, IsCommittedKey, KeepsFindable, Stands}
 use Rattle.flash_log.specs.Steps.{Step}
-use Rattle.flash_log.specs.SummaryMaking.{CostsAMark, HasClear, IsEmptyBlock, KeepsListed, IsListOf, MarkingEnds, PaysSummary, Summarizes, SummaryEnds, summary_of}
+use Rattle.flash_log.specs.SummaryMaking.{CostsAMark, HasClear, KeepsListed, IsListOf, MarkingEnds, PaysSummary, Summarizes, SummaryEnds, summary_of}
 use Rattle.flash_log.specs.SummarySource.{CanSummarize, summary_name, summary_size, source_page}
 use Rattle.flash_log.specs.declared.fault.MoveFault.{MoveFault}
 use Rattle.flash_log.specs.declared.fault.MoveFault.TheVariants as faults
@@ -144,7 +144,7 @@ empty_still count w d t u result fresh table =
 
 -- a fresh block has room for the pages of a block
 pub clear_fresh_block : (w count : ℕ) (d : Device) (t : Table) → IsFresh w d t → count ≤ t.geometry.pages → HasClear count d t
-clear_fresh_block w count d t fresh few = record { block = w; clear = clear_fresh w d t fresh; fits = let next = fresh.next in omega (arith, next, few) }
+clear_fresh_block w count d t fresh within_limit = record { block = w; clear = clear_fresh w d t fresh; fits = let next = fresh.next in omega (arith, next, within_limit) }
 
 -- how it ends without a failure
 pub ends_written : (source : SummarySource) (w : ℕ) (d e : Device) (t u : Table) (placed : Placed) → IsFresh w d t → t.next_group + 1 < number_end → Lasts d e

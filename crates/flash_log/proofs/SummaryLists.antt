@@ -30,7 +30,7 @@ use Rattle.flash_log.proofs.Summarized.{step_summarized}
 
 module _ (spare : ℕ) (x : Index) (d : Device) (t : Table) (w : ℕ) (b : WrittenBlock) (source : SummarySource) (ready : IsReady d t) (stands : Stands spare d t x) (fresh : IsFresh w d t)
     (was : WasWritten b d t) (block : source.head.block ≡ b.block) (seq : source.head.seq ≡ b.seq) (lists : ListsEntries b.block (committed_pages x) source.entries.now)
-    (few : length source.entries.now ≤ t.geometry.pages) (can : CanSummarize source d.geometry t.next_group) (honest : d.honest ≡ true) where
+    (within_limit : length source.entries.now ≤ t.geometry.pages) (can : CanSummarize source d.geometry t.next_group) (honest : d.honest ≡ true) where
   -- the committed page of an entry is the newest of its key
   at : (e : CheckEntry) → Contains source.entries.now e → IsCommittedAt d.flash e.object e.chunk (page_of e)
   at e listed = stands.newest honest fresh.power e.object e.chunk (page_of e) (lists.only e listed).1
@@ -91,7 +91,7 @@ module _ (spare : ℕ) (x : Index) (d : Device) (t : Table) (w : ℕ) (b : Writt
       size = can.pages;
       head = record {
         block = let within = was.within in omega (arith, block, within, t.geometry.most_blocks);
-        entries = let count = can.count in omega (arith, count, few, t.geometry.most_pages);
+        entries = let count = can.count in omega (arith, count, within_limit, t.geometry.most_pages);
         seq = let older = was.older w fresh.open_block in let next = (ready.open_block w fresh.open_block).seq.1 in let limit = stands.limits.1 in omega (arith, seq, older, next, limit);
       };
       count = can.count;
@@ -121,6 +121,6 @@ module _ (spare : ℕ) (x : Index) (d : Device) (t : Table) (w : ℕ) (b : Writt
 pub step_listed : (spare : ℕ) (x : Index) (d f : Device) (t v : Table) (w : ℕ) (b : WrittenBlock) (source : SummarySource) → IsReady d t → Stands spare d t x → AreHeld t x → IsFresh w d t → WasWritten b d t
     → (source.head.block ≡ b.block) × (source.head.seq ≡ b.seq) → ListsEntries b.block (committed_pages x) source.entries.now → length source.entries.now ≤ t.geometry.pages → CanSummarize source d.geometry t.next_group
     → Summarizes (summary_of source t w) (log_of d t) (log_of f v) → Step spare (log_of d t) (log_of f v) x x
-step_listed spare x d f t v w b source ready stands held fresh was head lists few can does =
+step_listed spare x d f t v w b source ready stands held fresh was head lists within_limit can does =
     step_summarized spare x (summary_of source t w) w d f t v held stands fresh does
-    (λ honest. lists_key spare x d t w b source ready stands fresh was head.0 head.1 lists few can honest)
+    (λ honest. lists_key spare x d t w b source ready stands fresh was head.0 head.1 lists within_limit can honest)

@@ -11,14 +11,14 @@ use Rattle.nand_model.specs.declared.geometry.Geometry.{Geometry}
 use Rattle.nand_model.specs.declared.nand.Gone.{Gone}
 use Rattle.nand_model.specs.laws.Calls.{lasts_on}
 use Rattle.flash_tree.specs.Keeping.{KeepsElsewhere, KeepsNewest}
-use Rattle.flash_tree.specs.Summarizing.{NamesNot}
+use Rattle.flash_tree.specs.Groups.{NamesNot}
 use Rattle.flash_tree.specs.Truth.{KeepsSummaries}
 use Rattle.flash_tree.specs.laws.Summarizing.{tag_elsewhere}
 use Rattle.block_state.specs.Committed.{bad_count}
 use Rattle.block_state.specs.Table.{Table}
 use Rattle.block_state.specs.declared.blocks.BlockEntry.{BlockEntry}
 use Rattle.transactions.specs.Checking.{LogState, log_of}
-use Rattle.transactions.specs.Copying.{copy_name, copy_bytes}
+use Rattle.flash_log.specs.CopySource.{copy_name, copy_bytes}
 use Rattle.transactions.specs.Groups.{GroupsAfter, OkTable, TableEnds, ReportsGroup, WritesOpen, next_group, closed}
 use Rattle.transactions.specs.Handing.{HandsOut}
 use Rattle.transactions.specs.Marking.{NotesMark}
@@ -29,7 +29,7 @@ use Rattle.transactions.specs.Ready.{IsReady}
 use Rattle.transactions.specs.Written.{tag_in}
 use Rattle.transactions.specs.laws.Handing.{hands_on}
 use Rattle.transactions.specs.laws.Newest.{copies_come_last, newest_after}
-use Rattle.transactions.specs.declared.copies.CopyOf.{CopyOf}
+use Rattle.chunk_index.specs.declared.form.CommittedKey.{CommittedKey}
 use Rattle.transactions.specs.declared.group.Placed.{Placed}
 use Rattle.transactions.specs.declared.group.GroupFault.{GroupFault}
 use Rattle.transactions.specs.declared.group.GroupFault.TheVariants as groups
@@ -49,7 +49,7 @@ use Rattle.flash_log.specs.laws.Erased.{erased_as, erased_marked, erased_on, era
 use Rattle.flash_log.specs.laws.Found.{found_after, found_as, found_copied}
 use Rattle.flash_log.proofs.CommittedPages.{is_of_copies, are_copied, data_copied, key_is, listed_or_not, names_once, numbered_copies}
 
-module _ (copies : List CopyOf) (w : ℕ) (d0 d1 : Device) (t : Table) (fresh : IsClear w d0 t) (may : MayBeCopied d0 t copies) (honest : d0.honest ≡ true) (grows : Grows d0.flash d1.flash) where
+module _ (copies : List CommittedKey) (w : ℕ) (d0 d1 : Device) (t : Table) (fresh : IsClear w d0 t) (may : MayBeCopied d0 t copies) (honest : d0.honest ≡ true) (grows : Grows d0.flash d1.flash) where
   abbrev to : PagePlace
   to = record { block = w; page = (t.entry w).next }
 
@@ -118,7 +118,7 @@ module _ (copies : List CopyOf) (w : ℕ) (d0 d1 : Device) (t : Table) (fresh : 
   keeps_failed totaled = after (Err groups.Failed) totaled
 
 -- what was findable by summaries is so still
-module _ (copies : List CopyOf) (w : ℕ) (d0 d1 : Device) (t : Table) (fresh : IsClear w d0 t) (may : MayBeCopied d0 t copies) (honest : d0.honest ≡ true) (ready : IsReady d0 t)
+module _ (copies : List CommittedKey) (w : ℕ) (d0 d1 : Device) (t : Table) (fresh : IsClear w d0 t) (may : MayBeCopied d0 t copies) (honest : d0.honest ≡ true) (ready : IsReady d0 t)
     (geometry : d1.geometry ≡ d0.geometry) (writes : WritesOpen t d0.flash d1.flash) (summaries : KeepsSummaries d0 d1) where
   begins_other : 1 ≤ length copies → BeginsOther (copy_name copies 0)
   begins_other some object chunk = may.ordinary honest 0 some object
@@ -138,7 +138,7 @@ module _ (copies : List CopyOf) (w : ℕ) (d0 d1 : Device) (t : Table) (fresh : 
       (is_of_copies copies may.once (next_group t (length copies) w) refl d0.flash (may.newest honest fresh.power) (may.ordinary honest) (fresh.older honest)) each_key)
 
 -- the block of copies that failed is passed over
-pub passes_failed : (copies : List CopyOf) (w : ℕ) (d0 d1 d2 : Device) (t t1 t2 : Table) (result : Result (Unit {0}) Gone) → IsClear w d0 t → MayBeCopied d0 t copies
+pub passes_failed : (copies : List CommittedKey) (w : ℕ) (d0 d1 d2 : Device) (t t1 t2 : Table) (result : Result (Unit {0}) Gone) → IsClear w d0 t → MayBeCopied d0 t copies
     → IsReady d0 t → HandsOut d0 d1 t t1 → Lasts d0 d1 → d1.failures ≡ d0.failures + 1 → (d0.honest ≡ true → WritesOpen t d0.flash d1.flash)
     → (d0.honest ≡ true → GroupsAfter (next_group t (length copies) w) (copy_name copies) (copy_bytes copies d0.flash) d0.flash d1.flash (Err groups.Failed))
     → t1 ≡ closed t → Marks w d1 d2 result → (d1.honest ≡ true → KeepsElsewhere w d1.flash d2.flash) → NotesMark w d2.flash t1 t2 → Passes d0 d2 (closed t) t2
@@ -174,7 +174,7 @@ clear_fresh w d t fresh = record { within = fresh.within; open_block = fresh.ope
 
 -- ---- one attempt
 
-module _ (copies : List CopyOf) (w : ℕ) (d0 d1 : Device) (t t1 : Table) (fresh : IsClear w d0 t) (may : MayBeCopied d0 t copies) (less : t.next_group < number_end)
+module _ (copies : List CommittedKey) (w : ℕ) (d0 d1 : Device) (t t1 : Table) (fresh : IsClear w d0 t) (may : MayBeCopied d0 t copies) (less : t.next_group < number_end)
     (lasts : Lasts d0 d1) (numbers : HandsOut d0 d1 t t1) where
   -- where no block was marked
   pub pages_written : (r : Result Placed GroupFault) (result : Result Copied MoveFault) → IsReady d0 t → IsReady d1 t1 → TableEnds (length copies) t t1 r → d1.flash.bad ≡ d0.flash.bad
@@ -237,14 +237,14 @@ reads_marked n d0 d1 d2 reads same changes failures = omega (arith, reads, same,
 pub changes_marked : (count : ℕ) (d0 d1 d2 : Device) → d2.changes ≤ d1.changes + 1 → d1.changes ≤ d0.changes + count → d2.changes ≤ d0.changes + count + 1
 changes_marked count d0 d1 d2 one changes = omega (arith, one, changes)
 
-module _ (count : ℕ) (a c : LogState) (few : count ≤ a.device.geometry.pages) (failed : c.device.failures ≡ a.device.failures + 1) (changes : c.device.changes ≤ a.device.changes + count + 1) where
+module _ (count : ℕ) (a c : LogState) (within_limit : count ≤ a.device.geometry.pages) (failed : c.device.failures ≡ a.device.failures + 1) (changes : c.device.changes ≤ a.device.changes + count + 1) where
   -- a failure pays for the programs and the mark
   pub costs_failed : (n : ℕ) → Costs n (a.device.geometry.pages + 1) 0 a.device c.device
   costs_failed n =
       let all : (a.device.geometry.pages + 1) * c.device.failures ≡ (a.device.geometry.pages + 1) * a.device.failures + (a.device.geometry.pages + 1)
       = ap (λ k. (a.device.geometry.pages + 1) * k) failed ∙ omega arith in
       let none : (a.device.geometry.pages + 1) * (a.device.failures + 0) ≡ (a.device.geometry.pages + 1) * a.device.failures = omega arith in
-      omega (arith, all, none, changes, few)
+      omega (arith, all, none, changes, within_limit)
 
   pub pays_marked : bad_count c.table ≡ bad_count a.table + 1 → ReadsFew 0 a.device c.device → PaysWriting count a c (Ok ends.Marked)
   pays_marked bad reads = record { costs = costs_failed 0; marks = omega (arith, bad, failed); answers = omega (arith, bad, failed); reads = reads }
@@ -254,7 +254,7 @@ module _ (count : ℕ) (a c : LogState) (few : count ≤ a.device.geometry.pages
 
 -- ---- a block that is taken before
 
-module _ (pages m n u : ℕ) (a b c : Device) (lasts : Lasts a b) (take : CostsATake a b) (rises : b.failures + u ≤ c.failures) (few : m + 1 + b.failures + u ≤ n + c.failures) where
+module _ (pages m n u : ℕ) (a b c : Device) (lasts : Lasts a b) (take : CostsATake a b) (rises : b.failures + u ≤ c.failures) (within_limit : m + 1 + b.failures + u ≤ n + c.failures) where
   -- what is written costs the erase more, or its failure pays for that
   pub costs_once : Costs m (pages + 1) u b c → Costs n (pages + 2) u a c
   costs_once costs =
@@ -264,7 +264,7 @@ module _ (pages m n u : ℕ) (a b c : Device) (lasts : Lasts a b) (take : CostsA
       let two : (pages + 2) * c.failures ≡ (pages + 2) * b.failures + (pages + 2) * u + (pages + 1) * x + x = ap (λ k. (pages + 2) * k) is ∙ omega arith in
       let three : (pages + 2) * (a.failures + u) ≡ (pages + 2) * a.failures + (pages + 2) * u = omega arith in
       let more = each_more (pages + 2) a.failures b.failures (omega arith) lasts.failures in
-      omega (arith, costs, take, more, one, two, three, is, few)
+      omega (arith, costs, take, more, one, two, three, is, within_limit)
 
 -- the failures that were in the count are no fewer than those that are unanswered, and a block that was marked had one
 counts_enough : (count spare : ℕ) (b c : LogState) (r : Result Copied MoveFault) → PaysWriting count b c r → CopiesEnd count spare c.device b.table c.table r → b.device.failures + left_open r ≤ c.device.failures

@@ -15,7 +15,7 @@ check_pages t = ceiling (32 * (1 + committed_count t)) t.geometry.bytes
 pub record IsDue (spare : ℕ) (t : Table) : Type 0 where
   pub none : t.checkpoint ≡ None
   pub pages : check_pages t ≤ t.geometry.pages
-  pub few : bad_count t ≤ spare
+  pub within_limit : bad_count t ≤ spare
   pub free : 1 + spare < free_count t + bad_count t
   pub group : t.next_group < number_end
   pub seq : t.next_seq < number_end

@@ -26,5 +26,5 @@ pub record CanList (checks : Checks) (g : Geometry) (group : ℕ) : Type 0 where
   pub lists : IsListOf (committed_pages checks.index.now) (committed_keys (committed_pages checks.index.now))
   pub entries : checks.entries ≡ length (committed_keys (committed_pages checks.index.now))
   pub pages : checks.pages ≡ ceiling (32 * (1 + checks.entries)) g.bytes
-  pub few : checks.pages ≤ g.pages
+  pub within_limit : checks.pages ≤ g.pages
   pub number : 1 ≤ group

@@ -65,6 +65,10 @@ pub record Leaves (right : Type 0) (block : ℕ) (old new : LogState) : Type 0 w
   pub open_block : new.table.open_block ≡ None
   pub checkpoint : (c : ℕ) → new.table.checkpoint ≡ Some c → c ≡ block
 
+-- the same, where what has to be right is that the committed keys of the index are those of the tree
+abbrev pub LeavesListed : Index → (block : ℕ) → LogState → LogState → Type 0
+LeavesListed x block old new = Leaves (ListCommitted x old.device) block old new
+
 -- A good block without a committed page, where none is open and no other may have a checkpoint.
 pub record MayMark (block : ℕ) (t : Table) : Type 0 where
   pub within : block < t.geometry.blocks

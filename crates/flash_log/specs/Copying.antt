@@ -8,15 +8,14 @@ use Rattle.block_state.specs.Table.{Table}
 use Rattle.chunk_index.specs.declared.form.CommittedPage.{CommittedPage}
 use Rattle.chunk_index.specs.declared.form.PagePlace.{PagePlace}
 use Rattle.transactions.specs.Checking.{LogState}
-use Rattle.transactions.specs.Copying.{CanCopy, copy_name}
+use Rattle.flash_log.specs.CopySource.{CanCopy, copy_name}
 use Rattle.transactions.specs.Naming.{AreOrdinary}
 use Rattle.transactions.specs.Handing.{HandsOut}
 use Rattle.flash_tree.specs.Newest.{Spot, Holds, IsNewest}
 use Rattle.flash_tree.specs.Slots.{check_object}
 use Rattle.transactions.specs.Ready.{IsReady}
-use Rattle.transactions.specs.declared.copies.CopyOf.{CopyOf}
+use Rattle.chunk_index.specs.declared.form.CommittedKey.{CommittedKey}
 use Rattle.flash_log.specs.Erased.{KeepsErased}
-use Rattle.flash_log.specs.Lists.{committed_by}
 use Rattle.flash_log.specs.Moving.{WhyNotMoved}
 use Rattle.flash_log.specs.Passing.{KeepsFound}
 use Rattle.flash_log.specs.Standing.{IsCommittedAt, HasVersion, IsWithinLimits}
@@ -41,8 +40,8 @@ pub record KeepsCounts (old new : Device) (t t' : Table) : Type 0 where
   pub erased : KeepsErased old new t t'
 
 -- the copy is of the key of object o and chunk c
-abbrev pub IsCopyOf : CopyOf → ℕ → ℕ → Type 0
-IsCopyOf x o c = (x.name.key.object ≡ o) × (x.name.key.chunk ≡ c)
+abbrev pub IsCopyOf : CommittedKey → ℕ → ℕ → Type 0
+IsCopyOf x o c = (x.key.object ≡ o) × (x.key.chunk ≡ c)
 
 -- a newest page in a block with committed pages stays so, in its version
 abbrev pub KeepsCommittedAt : Table → Flash → Flash → Type 0
@@ -54,46 +53,46 @@ KeepsDataAt t old new = (o c : ℕ) (p : CommittedPage) (bytes : List ℕ) → 1
     → HasVersion old o c p.version bytes → HasVersion new o c p.version bytes
 
 -- each page that is copied is the newest of its key
-abbrev pub AreCommittedAt : Flash → List CopyOf → Type 0
-AreCommittedAt flash copies = (i : ℕ) (x : CopyOf) → slice_get copies i ≡ Some x → IsCommittedAt flash x.name.key.object x.name.key.chunk (committed_by x)
+abbrev pub AreCommittedAt : Flash → List CommittedKey → Type 0
+AreCommittedAt flash copies = (i : ℕ) (x : CommittedKey) → slice_get copies i ≡ Some x → IsCommittedAt flash x.key.object x.key.chunk x.at
 
 -- Pages of a block that may be copied: no more than a block has pages, each in a block with committed pages, none of one key
 -- with another, and of an honest device none of the object of checkpoints and, where it has power, each the newest of its key.
-pub record MayBeCopied (device : Device) (t : Table) (copies : List CopyOf) : Type 0 where
+pub record MayBeCopied (device : Device) (t : Table) (copies : List CommittedKey) : Type 0 where
   pub can : CanCopy copies device.geometry t.next_group
-  pub few : length copies ≤ device.geometry.pages
-  pub held : (i : ℕ) (x : CopyOf) → slice_get copies i ≡ Some x → 1 ≤ (t.entry x.block).committed
-  pub once : (i j : ℕ) (x y : CopyOf) → slice_get copies i ≡ Some x → slice_get copies j ≡ Some y → x.name.key ≡ y.name.key → i ≡ j
+  pub within_limit : length copies ≤ device.geometry.pages
+  pub held : (i : ℕ) (x : CommittedKey) → slice_get copies i ≡ Some x → 1 ≤ (t.entry x.at.block).committed
+  pub once : (i j : ℕ) (x y : CommittedKey) → slice_get copies i ≡ Some x → slice_get copies j ≡ Some y → x.key ≡ y.key → i ≡ j
   pub newest : device.honest ≡ true → device.gone ≡ false → AreCommittedAt device.flash copies
   pub ordinary : device.honest ≡ true → AreOrdinary (length copies) (copy_name copies)
 
 -- copy i lies i pages behind a place, in its version
-abbrev pub copy_in : PagePlace → ℕ → CopyOf → CommittedPage
-copy_in at i x = record { block = at.block; page = at.page + i; version = x.name.version }
+abbrev pub copy_in : PagePlace → ℕ → CommittedKey → CommittedPage
+copy_in at i x = record { block = at.block; page = at.page + i; version = x.at.version }
 
 -- The copies are the newest pages of their keys, and of all other keys newest pages in blocks with committed pages stay so.
-pub record AreCopied (at : PagePlace) (copies : List CopyOf) (t : Table) (old new : Flash) : Type 0 where
-  pub copied : (i : ℕ) (x : CopyOf) → slice_get copies i ≡ Some x → IsCommittedAt new x.name.key.object x.name.key.chunk (copy_in at i x)
-  pub others : (o c : ℕ) (p : CommittedPage) → 1 ≤ (t.entry p.block).committed → ((i : ℕ) (x : CopyOf) → slice_get copies i ≡ Some x → IsCopyOf x o c → ⊥)
+pub record AreCopied (at : PagePlace) (copies : List CommittedKey) (t : Table) (old new : Flash) : Type 0 where
+  pub copied : (i : ℕ) (x : CommittedKey) → slice_get copies i ≡ Some x → IsCommittedAt new x.key.object x.key.chunk (copy_in at i x)
+  pub others : (o c : ℕ) (p : CommittedPage) → 1 ≤ (t.entry p.block).committed → ((i : ℕ) (x : CommittedKey) → slice_get copies i ≡ Some x → IsCopyOf x o c → ⊥)
       → IsCommittedAt old o c p → IsCommittedAt new o c p
 
 -- and they are in a group whose number was not handed out before
-pub record AreWritten (at : PagePlace) (copies : List CopyOf) (t : Table) (old new : Flash) : Type 0 where
+pub record AreWritten (at : PagePlace) (copies : List CommittedKey) (t : Table) (old new : Flash) : Type 0 where
   pub made : AreCopied at copies t old new
-  pub numbered : (i : ℕ) (x : CopyOf) (s : Spot) → slice_get copies i ≡ Some x → IsNewest new x.name.key.object x.name.key.chunk s → t.next_group ≤ s.tag.group
+  pub numbered : (i : ℕ) (x : CommittedKey) (s : Spot) → slice_get copies i ≡ Some x → IsNewest new x.key.object x.key.chunk s → t.next_group ≤ s.tag.group
 
 -- where the first copy lies
 abbrev pub place_of : Target → PagePlace
 place_of target = record { block = target.block; page = target.first }
 
 -- what is newest on an honest device that has power, after the copies were made or not
-abbrev pub NewestAfterCopies : List CopyOf → Table → Flash → Flash → Result Copied MoveFault → Type 0
+abbrev pub NewestAfterCopies : List CommittedKey → Table → Flash → Flash → Result Copied MoveFault → Type 0
 NewestAfterCopies copies t old new (Ok (ends.Into target)) = AreWritten (place_of target) copies t old new
 NewestAfterCopies copies t old new (Ok ends.Marked) = KeepsCommittedAt t old new
 NewestAfterCopies copies t old new (Err fault) = KeepsCommittedAt t old new
 
 -- The copies lie in a block that is good and without a committed page.
-pub record LieApart (copies : List CopyOf) (t : Table) (old : Flash) (new : Device) : Type 0 where
+pub record LieApart (copies : List CommittedKey) (t : Table) (old : Flash) (new : Device) : Type 0 where
   pub at : PagePlace
   pub within : at.block < t.geometry.blocks
   pub uncommitted : (t.entry at.block).committed ≡ 0
@@ -102,13 +101,13 @@ pub record LieApart (copies : List CopyOf) (t : Table) (old : Flash) (new : Devi
 
 -- What is newest wherever the copying ends, also where the power went in it: in blocks with committed pages all stays, or the
 -- copies are the newest of their keys. No third way.
-abbrev pub StayOrLieApart : List CopyOf → Table → Flash → Device → Type 0
+abbrev pub StayOrLieApart : List CommittedKey → Table → Flash → Device → Type 0
 StayOrLieApart copies t old new = KeepsCommittedAt t old new.flash ⊎ LieApart copies t old new
 
 -- What becomes of the log and of committed pages while listed ones are copied, wherever that ends: no count of a block changes but by
 -- marks; and on an honest device what is newest keeps its data, and stays where it is, or the copies are the newest of their keys; and
 -- what is findable by summaries is so still.
-pub record CopiesPages (copies : List CopyOf) (old new : LogState) (result : Result Copied MoveFault) : Type 0 where
+pub record CopiesPages (copies : List CommittedKey) (old new : LogState) (result : Result Copied MoveFault) : Type 0 where
   pub keeps : KeepsCounts old.device new.device old.table new.table
   pub stored : old.device.honest ≡ true → KeepsDataAt old.table old.device.flash new.device.flash
   pub newest : old.device.honest ≡ true → new.device.gone ≡ false → NewestAfterCopies copies old.table old.device.flash new.device.flash result

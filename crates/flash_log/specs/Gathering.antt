@@ -7,7 +7,7 @@ use Rattle.flash_log.specs.Bills.{Pays, bill_of}
 use Rattle.flash_log.specs.Moving.{IsLeft, LiesIn, WhyNotMoved}
 use Rattle.flash_log.specs.RoomMaking.{FitsOpen}
 use Rattle.flash_log.specs.Standing.{HasFreeBlocks}
-use Rattle.flash_log.specs.SummaryMaking.{KeepsHeld}
+use Rattle.flash_log.specs.SummaryMaking.{HasClear, KeepsHeld}
 use Rattle.flash_log.specs.SummarySource.{summary_size}
 use Rattle.flash_log.specs.declared.fault.MoveFault.{MoveFault}
 use Rattle.flash_log.specs.declared.moving.Moved.{Moved}
@@ -26,6 +26,10 @@ OpenEnds v count spare old new (Ok (Some places.Trusted)) = IsLeft v new.table �
 OpenEnds v count spare old new (Ok (Some (places.Suspect w))) = IsLeft v new.table × LiesIn v w old.table new.table × (new.table.checkpoint ≡ None) × (new.device.gone ≡ false)
 OpenEnds v count spare old new (Ok None) = (bad_count old.table < bad_count new.table) × KeepsHeld old.table new.table × (new.device.gone ≡ false)
 OpenEnds v count spare old new (Err fault) = WhyNotMoved spare new.device new.table fault
+
+-- and for how many pages more there is room, where the open block has room for them behind those of block v
+abbrev pub OpenEndsBehind : (v spare : ℕ) → LogState → LogState → Result (Option Moved) MoveFault → Type 0
+OpenEndsBehind v spare old new result = (count : ℕ) → HasClear ((old.table.entry v).committed + count) old.device old.table → OpenEnds v count spare old new result
 
 -- the programs that no failure pays for
 abbrev pub most_open : (count : ℕ) → Result (Option Moved) MoveFault → ℕ
@@ -55,7 +59,7 @@ pub record PaysGathering (committed count : ℕ) (old new : LogState) (result : 
 -- The open block has room for so many pages. No more blocks are bad than there are to spare, and blocks enough are free.
 pub record IsGathered (count spare : ℕ) (new : LogState) : Type 0 where
   pub fits : FitsOpen count new.table
-  pub few : bad_count new.table ≤ spare
+  pub within_limit : bad_count new.table ≤ spare
   pub free : HasFreeBlocks new.table spare
   pub power : new.device.gone ≡ false
 

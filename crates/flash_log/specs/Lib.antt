@@ -5,6 +5,7 @@ pub mod Faults
 pub mod Standing
 pub mod Lists
 pub mod Moving
+pub mod CopySource
 pub mod Copying
 pub mod Reporting
 pub mod Retiring

@@ -1,5 +1,5 @@
 -- The pages that were noted of a block.
-use Rattle.std.specs.Prelude.{◌≡◌, ◌<◌, ℕ, ◌-◌, zero, suc, List, Some, slice_get}
+use Rattle.std.specs.Prelude.{◌≡◌, ◌<◌, ℕ, zero, suc, List, Some, slice_get}
 use Rattle.page_tags.specs.declared.check.CheckEntry.{CheckEntry}
 use Rattle.chunk_index.specs.Maps.{CommittedMap}
 use Rattle.flash_log.specs.SummaryMaking.{page_of}

@@ -33,7 +33,7 @@ IsClearedOut v t = ((t.entry v).committed ≡ 0) ⊎ (t.open_block ≡ Some v)
 -- where blocks enough were free they are.
 pub record IsRefreshed (v spare : ℕ) (old new : LogState) : Type 0 where
   pub moved : MovesNothing v old.table ⊎ (IsClearedOut v new.table × (new.device.gone ≡ false))
-  pub few : bad_count new.table ≤ spare
+  pub within_limit : bad_count new.table ≤ spare
   pub free : HasFreeBlocks old.table spare → HasFreeBlocks new.table spare
 
 -- how a refresh ends

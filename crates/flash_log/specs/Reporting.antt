@@ -5,19 +5,19 @@ use Rattle.block_state.specs.Table.{Table}
 use Rattle.chunk_index.specs.declared.form.PagePlace.{PagePlace}
 use Rattle.chunk_index.specs.declared.index.Index.{Index}
 use Rattle.chunk_index.specs.Maps.{committed_pages, present, moved_to, StaysPrepared, IsReadyKey}
-use Rattle.transactions.specs.declared.copies.CopyOf.{CopyOf}
+use Rattle.chunk_index.specs.declared.form.CommittedKey.{CommittedKey}
 use Rattle.flash_log.specs.Copying.{IsCopyOf, copy_in}
 
 -- none of the first n copies is of the key
-abbrev pub IsNone : ℕ → List CopyOf → ℕ → ℕ → Type 0
-IsNone n copies o c = (j : ℕ) (x : CopyOf) → j < n → slice_get copies j ≡ Some x → IsCopyOf x o c → ⊥
+abbrev pub IsNone : ℕ → List CommittedKey → ℕ → ℕ → Type 0
+IsNone n copies o c = (j : ℕ) (x : CommittedKey) → j < n → slice_get copies j ≡ Some x → IsCopyOf x o c → ⊥
 
 -- The keys of the first n copies are committed in these, copy j lying j pages behind a place, and what is present of them follows;
 -- no other key changes.
-pub record ReportsFirst (n : ℕ) (at : PagePlace) (copies : List CopyOf) (old new : Index) : Type 0 where
-  pub committed_here : (j : ℕ) (x : CopyOf) → j < n → slice_get copies j ≡ Some x → committed_pages new x.name.key.object x.name.key.chunk ≡ Some (copy_in at j x)
-  pub present_here : (j : ℕ) (x : CopyOf) → j < n → slice_get copies j ≡ Some x
-      → present new x.name.key.object x.name.key.chunk ≡ moved_to (copy_in at j x) (present old x.name.key.object x.name.key.chunk)
+pub record ReportsFirst (n : ℕ) (at : PagePlace) (copies : List CommittedKey) (old new : Index) : Type 0 where
+  pub committed_here : (j : ℕ) (x : CommittedKey) → j < n → slice_get copies j ≡ Some x → committed_pages new x.key.object x.key.chunk ≡ Some (copy_in at j x)
+  pub present_here : (j : ℕ) (x : CommittedKey) → j < n → slice_get copies j ≡ Some x
+      → present new x.key.object x.key.chunk ≡ moved_to (copy_in at j x) (present old x.key.object x.key.chunk)
   pub committed_elsewhere : (o c : ℕ) → IsNone n copies o c → committed_pages new o c ≡ committed_pages old o c
   pub present_elsewhere : (o c : ℕ) → IsNone n copies o c → present new o c ≡ present old o c
   pub prepared : StaysPrepared old new
@@ -37,6 +37,6 @@ pub record CountsMoved (v w n : ℕ) (old new : Table) : Type 0 where
   pub next_seq : new.next_seq ≡ old.next_seq
   pub next_group : new.next_group ≡ old.next_group
 
-pub record Reports (v n : ℕ) (at : PagePlace) (copies : List CopyOf) (old new : Index) (t t' : Table) : Type 0 where
+pub record Reports (v n : ℕ) (at : PagePlace) (copies : List CommittedKey) (old new : Index) (t t' : Table) : Type 0 where
   pub index : ReportsFirst n at copies old new
   pub counts : CountsMoved v at.block n t t'

@@ -32,7 +32,7 @@ pub record IsRetired (v spare : ℕ) (old new : Table) : Type 0 where
   pub bad : (new.entry v).bad ≡ true
   pub uncommitted : (new.entry v).committed ≡ 0
   pub moved : 1 ≤ (old.entry v).committed → (w : ℕ) × LiesOpen v w old new
-  pub few : bad_count new ≤ spare
+  pub within_limit : bad_count new ≤ spare
   pub more : bad_count old < bad_count new
   pub free : HasFreeBlocks new spare
 
@@ -58,7 +58,7 @@ pub record IsOut (v spare : ℕ) (old new : Table) (suspect : Option ℕ) : Type
   pub uncommitted : (new.entry v).committed ≡ 0
   pub was_empty : (old.entry v).committed ≡ 0 → (new.open_block ≡ None) × (suspect ≡ None)
   pub moved : 1 ≤ (old.entry v).committed → IsAway v old new suspect
-  pub few : bad_count new ≤ spare
+  pub within_limit : bad_count new ≤ spare
   pub more : bad_count old < bad_count new
 
 abbrev pub OneEnds : (v spare : ℕ) → Device → Table → Table → Result (Option ℕ) MoveFault → Type 0

@@ -43,7 +43,7 @@ MovesFewest spare t x x' = (x' ≡ x) ⊎ (IsScarce t spare × ((v : ℕ) × IsF
 pub record IsCollected (v spare : ℕ) (old new : Table) : Type 0 where
   pub opened : (w : ℕ) × (new.open_block ≡ Some w) × ((new.entry w).next ≡ (old.entry v).committed)
   pub left : ((new.entry v).committed ≡ 0) ⊎ (new.open_block ≡ Some v)
-  pub few : bad_count new ≤ spare
+  pub within_limit : bad_count new ≤ spare
   pub free : HasFreeBlocks new spare
 
 -- how the collection of block v ends
@@ -64,7 +64,7 @@ LeavesNumber old new = old.next_group < number_end → new.next_group < number_e
 pub record HasRoom (count spare : ℕ) (old new : LogState) : Type 0 where
   pub fits : FitsOpen count new.table
   pub number : HasMore old.table spare → LeavesNumber old.table new.table
-  pub few : bad_count new.table ≤ spare
+  pub within_limit : bad_count new.table ≤ spare
   pub free : HasFreeBlocks old.table spare → HasFreeBlocks new.table spare
   pub power : old.device.gone ≡ false → new.device.gone ≡ false
 

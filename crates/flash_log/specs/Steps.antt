@@ -31,7 +31,7 @@ pub record MovesCommitted (old new : Index) : Type 0 where
 pub record CanWrite (spare : ℕ) (log : LogState) (x : Index) : Type 0 where
   pub ready : IsReady log.device log.table
   pub stands : Stands spare log.device log.table x
-  pub few : bad_count log.table ≤ spare
+  pub within_limit : bad_count log.table ≤ spare
 
 -- What every call of the log keeps while what is committed stays: what every group needs and what holds between two calls, the numbers,
 -- the marks, how many pages are committed, each of them and its data, perhaps elsewhere, blocks that are free of them, what

@@ -21,7 +21,7 @@ use Rattle.flash_log.specs.Bills.{Pays, bill_of}
 use Rattle.flash_log.specs.CheckpointKeeping.{KeepsObjects}
 use Rattle.flash_log.specs.Copying.{IsClear, KeepsCounts}
 use Rattle.flash_log.specs.Moving.{WhyNotMoved}
-use Rattle.flash_log.specs.RoomMaking.{LeavesNumber}
+use Rattle.flash_log.specs.RoomMaking.{FitsOpen, HasMore, LeavesNumber}
 use Rattle.flash_log.specs.SummarySource.{summary_in, summary_size}
 use Rattle.flash_log.specs.declared.fault.MoveFault.{MoveFault}
 use Rattle.flash_log.specs.declared.fault.MoveFault.TheVariants as faults
@@ -112,11 +112,13 @@ pub record Summarizes (s : Summary) (old new : LogState) : Type 0 where
   pub found : old.device.honest ≡ true → KeepsListed s old.table old.device new.device
   pub open_block : (o : ℕ) → new.table.open_block ≡ Some o → old.table.open_block ≡ Some o
 
--- a good block of the device in which no page is committed
-pub record IsEmptyBlock (b : ℕ) (t : Table) : Type 0 where
-  pub within : b < t.geometry.blocks
-  pub good : (t.entry b).bad ≡ false
-  pub uncommitted : (t.entry b).committed ≡ 0
+-- the same of the summary of this source in block w
+abbrev pub SummarizesBy : SummarySource → ℕ → LogState → LogState → Type 0
+SummarizesBy s w old new = Summarizes (summary_of s old.table w) old new
+
+-- the device has the whole summary of the source in block w, as it is written where the table is this
+abbrev pub HasSummary : SummarySource → ℕ → Table → Device → Type 0
+HasSummary s w t device = IsWholeSummary device.geometry device.flash (summary_of s t w)
 
 -- the device counts a change at most, and no failure and no read
 pub record CostsAMark (old new : Device) : Type 0 where
@@ -144,6 +146,10 @@ SummaryEnds count spare old new (Ok ends.Written) = HasClear count new.device ne
 SummaryEnds count spare old new (Ok ends.Marked) = (new.table.open_block ≡ None) × (bad_count old.table < bad_count new.table) × LeavesNumber old.table new.table × (new.device.gone ≡ false)
 SummaryEnds count spare old new (Err fault) = WhyNotMoved spare new.device new.table fault
 
+-- the same for any number of pages for which those of the summary leave room in a block
+abbrev pub SummaryEndsWithin : (pages : ℕ) → LogState → LogState → Result Summarized MoveFault → Type 0
+SummaryEndsWithin pages old new result = (count spare : ℕ) → pages + count ≤ old.table.geometry.pages → SummaryEnds count spare old new result
+
 -- On an honest device a summary that has room is whole, unless a program failed.
 abbrev pub IsWritten : (w : WrittenBlock) (count : ℕ) → LogState → LogState → Result Summarized MoveFault → Type 0
 IsWritten w count old new result = old.device.honest ≡ true → HasRoomBehind w.block count old.table → result ≡ Ok ends.Written → BeginsSummarized w.block w.seq new
@@ -160,6 +166,10 @@ pub record PaysSummary (count : ℕ) (old new : LogState) (result : Result Summa
   pub most : size ≤ summary_size old.device.geometry
   pub fits : size + count ≤ old.device.geometry.pages
   pub pays : Pays (record { changes = most_programs size result; each = old.device.geometry.pages + 1; marks = 0; unanswered = 0 }) old new result
+
+-- the same for any number of pages for which those of the summary leave room in a block
+abbrev pub PaysWithin : (pages : ℕ) → LogState → LogState → Result Summarized MoveFault → Type 0
+PaysWithin pages old new result = (count : ℕ) → pages + count ≤ old.table.geometry.pages → PaysSummary count old new result
 
 -- ---- the next block
 
@@ -185,3 +195,7 @@ NextEnds count spare old new (Err fault) = WhyNotMoved spare new.device new.tabl
 abbrev pub BeginsNext : {T E : Type 0} → (count : ℕ) → LogState → LogState → Result T E → Type 0
 BeginsNext count old new result = (b : ℕ) → IsWorthIt b old.table → HasRoomBehind b count old.table → old.device.honest ≡ true
     → new.device.failures ≡ old.device.failures → OnOk result (BeginsSummarized b (old.table.entry b).seq new)
+
+-- so it does where blocks can be allocated and the open one lacks room for so many pages
+abbrev pub BeginsWhereNeeded : {T E : Type 0} → (count spare : ℕ) → LogState → LogState → Result T E → Type 0
+BeginsWhereNeeded count spare old new result = HasMore old.table spare → (FitsOpen count old.table → ⊥) → BeginsNext count old new result

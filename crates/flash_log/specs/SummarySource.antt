@@ -4,6 +4,8 @@ use Rattle.volume_terms.specs.Rounding.{ceiling}
 use Rattle.nand_model.specs.Flash.{Flash}
 use Rattle.nand_model.specs.declared.geometry.Geometry.{Geometry}
 use Rattle.page_tags.specs.Summaries.{summary_bytes}
+use Rattle.page_tags.specs.declared.check.CheckEntry.{CheckEntry}
+use Rattle.page_tags.specs.declared.summary_head.SummaryHead.{SummaryHead}
 use Rattle.flash_tree.specs.Groups.{Group}
 use Rattle.flash_tree.specs.Slots.{check_object}
 use Rattle.flash_tree.specs.Summaries.{Summary, HasSummaryForm, summary_chunk}
@@ -19,6 +21,10 @@ summary_size g = ceiling (32 * (1 + g.pages)) g.bytes
 abbrev pub summary_name : ℕ → ℕ → PageName
 summary_name number i = record { key = record { object = check_object; chunk = summary_chunk + i }; version = number }
 
+-- n bytes of a summary of so many bytes, from the part of 32 bytes of number k on
+abbrev pub part_bytes : (size k n : ℕ) → SummaryHead → List CheckEntry → List ℕ
+part_bytes size k n head entries = take n (drop (32 * k) (summary_bytes size head entries))
+
 -- the data of page i of a summary, in whatever block it lies
 abbrev pub source_page : SummarySource → ℕ → List ℕ
 source_page s i = take s.geometry.bytes (drop (i * s.geometry.bytes) (summary_bytes (s.pages * s.geometry.bytes) s.head s.entries.now))
@@ -33,7 +39,7 @@ pub record CanSummarize (source : SummarySource) (g : Geometry) (group : ℕ) : 
   pub geometry : source.geometry ≡ g
   pub count : source.head.entries ≡ length source.entries.now
   pub pages : source.pages ≡ ceiling (32 * (1 + length source.entries.now)) g.bytes
-  pub few : source.pages ≤ g.pages
+  pub within_limit : source.pages ≤ g.pages
   pub number : 1 ≤ group
 
 -- The group begins with its block, and was added with the pages of a summary of the form.

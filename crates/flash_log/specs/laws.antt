@@ -13,3 +13,4 @@ pub mod OneProof
 pub mod Room
 pub mod Bills
 pub mod SummarySource
+pub mod CopySource

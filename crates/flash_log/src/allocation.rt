@@ -17,13 +17,13 @@ impl<N: Nand> Log<N> {
     /// block that was open is so no longer. A block whose erase fails is marked, and the next is tried, while there are blocks
     /// to spare.
     pub fn allocate_block(&mut self) -> Result<u32, TakeFault>
-        requires few { HasReserve self.old }
+        requires within_limit { HasReserve self.old }
         ensures terms { SameTerms (terms_of self.old) (terms_of self.new) }
         ensures index { self.new.index ≡ self.old.index }
         ensures step { Moves self.old self.new }
         ensures passes { Passes (N.state self.old.device) (N.state self.new.device) (table self.old.blocks) (table self.new.blocks) }
         ensures pays { PaysAllocation (log_state self.old) (log_state self.new) result }
-        ensures few { OnOk result (HasReserve self.new) }
+        ensures within_limit { OnOk result (HasReserve self.new) }
         ensures turn { IfOk result (λ block. IsItsTurn block (table self.old.blocks) (table self.new.blocks)) }
         ensures ends { TakeEnds self.old.spare (N.state self.new.device) (table self.old.blocks) (table self.new.blocks) result }
     {

@@ -18,7 +18,7 @@ pub(crate) struct Extent {
 /// How many keys are committed, in one pass over the blocks.
 fn committed_count(blocks: &Blocks) -> u64
     ensures is { result ≡ committed_count (table blocks.now) }
-    ensures few { result ≤ 2 ^ 44 }
+    ensures within_limit { result ≤ 2 ^ 44 }
 {
     let mut count = 0;
     for block in 0..blocks.geometry().blocks() {
@@ -29,7 +29,7 @@ fn committed_count(blocks: &Blocks) -> u64
 
 /// How many pages of so many bytes a head and so many entries take.
 fn pages_for(entries: u64, bytes: u32) -> u64
-    requires few { entries ≤ 2 ^ 44 }
+    requires within_limit { entries ≤ 2 ^ 44 }
     requires some { 1 ≤ bytes }
     ensures { result ≡ ceiling (32 * (1 + entries)) bytes }
 {

@@ -57,7 +57,7 @@ fn write_part(index: &Index, count: u64, k: u32, last: Option<Key>, part: &mut [
 /// Writes the parts of a page from part `first` on.
 pub(crate) fn write_parts(index: &Index, count: u64, first: u32, page: &mut [u8])
     requires size { 32 * (length page.old / 32) ≡ length page.old }
-    requires few { first + length page.old / 32 < 2 ^ 32 }
+    requires within_limit { first + length page.old / 32 < 2 ^ 32 }
     ensures size { length page.new ≡ length page.old }
     ensures parts { (ks : List CommittedKey) → HasKeys index.now ks → count ≡ length ks → page.new ≡ parts_from (check_entries ks) first (length page.old / 32) }
 {

@@ -9,7 +9,7 @@ ghost use Rattle.transactions.specs.Ready.{IsReady};
 ghost use Rattle.flash_log.specs.Moving.{AnswersFailures, MarksFailures};
 ghost use Rattle.flash_log.specs.Sealing.{IntoEnds};
 ghost use Rattle.flash_log.specs.CheckpointSource.{CanList};
-ghost use Rattle.flash_log.specs.CheckpointWriting.{ChangesAtMost, Leaves, ListCommitted, MarkEnds, MayMark, MayTake, WriteEnds, unanswered};
+ghost use Rattle.flash_log.specs.CheckpointWriting.{ChangesAtMost, Leaves, LeavesListed, MarkEnds, MayMark, MayTake, WriteEnds, unanswered};
 
 use crate::checkpoint_source::Checks;
 use crate::seal_fault::SealFault;
@@ -53,7 +53,7 @@ fn write_checks<N: Nand>(
     requires size { length scratch.old ≡ (N.state device.old).geometry.bytes }
     requires list { CanList checks.now (N.state device.old).geometry (table blocks.old).next_group }
     requires take { MayTake block checks.now.index.now (N.state device.old) (table blocks.old) }
-    ensures leaves { Leaves (ListCommitted checks.now.index.now (N.state device.old)) block (log_of (N.state device.old) (table blocks.old)) (log_of (N.state device.new) (table blocks.new)) }
+    ensures leaves { LeavesListed checks.now.index.now block (log_of (N.state device.old) (table blocks.old)) (log_of (N.state device.new) (table blocks.new)) }
     ensures block { MayMark block (table blocks.new) }
     ensures counts { (bad_count (table blocks.new) ≡ bad_count (table blocks.old)) × ChangesAtMost checks.now.pages (N.state device.old) (N.state device.new) }
     ensures answers { OnOk result ((N.state device.new).failures ≡ (N.state device.old).failures + unanswered result) }
@@ -89,7 +89,7 @@ fn mark_failed<N: Nand>(
     ensures leaves { Leaves (Unit {0}) block (log_of (N.state device.old) (table blocks.old)) (log_of (N.state device.new) (table blocks.new)) }
     ensures marks { bad_count (table blocks.new) ≤ bad_count (table blocks.old) + 1 }
     ensures failures { (N.state device.new).failures ≡ (N.state device.old).failures }
-    ensures few { OnOk result (bad_count (table blocks.new) ≤ spare) }
+    ensures within_limit { OnOk result (bad_count (table blocks.new) ≤ spare) }
     ensures costs { ChangesAtMost 1 (N.state device.old) (N.state device.new) }
     ensures ends { MarkEnds spare (log_of (N.state device.old) (table blocks.old)) (log_of (N.state device.new) (table blocks.new)) result }
 {
@@ -118,10 +118,10 @@ pub(crate) fn write_into<N: Nand>(
     requires size { length scratch.old ≡ (N.state device.old).geometry.bytes }
     requires list { CanList checks.now (N.state device.old).geometry (table blocks.old).next_group }
     requires take { MayTake block checks.now.index.now (N.state device.old) (table blocks.old) }
-    ensures leaves { Leaves (ListCommitted checks.now.index.now (N.state device.old)) block (log_of (N.state device.old) (table blocks.old)) (log_of (N.state device.new) (table blocks.new)) }
+    ensures leaves { LeavesListed checks.now.index.now block (log_of (N.state device.old) (table blocks.old)) (log_of (N.state device.new) (table blocks.new)) }
     ensures marks { MarksFailures 0 0 (N.state device.old) (N.state device.new) (table blocks.old) (table blocks.new) }
     ensures answers { OnOk result (AnswersFailures 0 0 (N.state device.old) (N.state device.new) (table blocks.old) (table blocks.new)) }
-    ensures few { bad_count (table blocks.old) ≤ spare → OnOk result (bad_count (table blocks.new) ≤ spare) }
+    ensures within_limit { bad_count (table blocks.old) ≤ spare → OnOk result (bad_count (table blocks.new) ≤ spare) }
     ensures costs { Costs checks.now.pages 1 0 (N.state device.old) (N.state device.new) }
     ensures ends { IntoEnds spare checks.now.index.now (log_of (N.state device.old) (table blocks.old)) (log_of (N.state device.new) (table blocks.new)) result }
 {

@@ -17,7 +17,7 @@ impl<N: Nand> Log<N> {
     /// Moves what is committed in a block into a freshly erased free block, which becomes the open one. Where the copy is suspect
     /// its block is retired.
     pub(crate) fn collect(&mut self, block: u32) -> Result<(), MoveFault>
-        requires few { HasReserve self.old }
+        requires within_limit { HasReserve self.old }
         requires block { block < (N.state self.old.device).geometry.blocks }
         requires good { ((table self.old.blocks).entry block).bad ≡ false }
         requires some { 1 ≤ ((table self.old.blocks).entry block).committed }

@@ -9,11 +9,13 @@ ghost use Rattle.flash_log.specs.Bills.{PaysWriting, PaysOneBlock, PaysTarget};
 ghost use Rattle.flash_log.specs.Copying.{MayBeCopied, CopiesPages, CopiesEnd, FewBad, IsClear, StartsAt, as_copied};
 ghost use Rattle.flash_log.specs.Taking.{HasUncommitted};
 
+use crate::copies::Copies;
 use crate::fault::MoveFault;
 use crate::take::take_block;
 use block_state::Blocks;
+use chunk_index::CommittedKey;
 use nand_model::Nand;
-use transactions::{Copies, CopyOf, GroupFault, mark_block, write_group};
+use transactions::{GroupFault, mark_block, write_group};
 use volume_terms::NUMBER_END;
 
 /// Where copies were made.
@@ -39,7 +41,7 @@ pub(crate) fn write_copies<N: Nand>(
     device: &mut N,
     blocks: &mut Blocks,
     block: u32,
-    copies: &[CopyOf],
+    copies: &[CommittedKey],
     scratch: &mut [u8],
 ) -> Result<Copied, MoveFault>
     requires ready { IsReady (N.state device.old) (table blocks.old) }
@@ -51,7 +53,7 @@ pub(crate) fn write_copies<N: Nand>(
     ensures pages { CopiesPages copies.now (log_of (N.state device.old) (table blocks.old)) (log_of (N.state device.new) (table blocks.new)) result }
     ensures pays { PaysWriting (length copies.now) (log_of (N.state device.old) (table blocks.old)) (log_of (N.state device.new) (table blocks.new)) result }
     ensures first { StartsAt ((table blocks.old).entry block).next result }
-    ensures few { (spare : ℕ) → bad_count (table blocks.old) ≤ spare → FewBad spare (table blocks.new) result }
+    ensures within_limit { (spare : ℕ) → bad_count (table blocks.old) ≤ spare → FewBad spare (table blocks.new) result }
     ensures ends { (spare : ℕ) → CopiesEnd (length copies.now) spare (N.state device.new) (table blocks.old) (table blocks.new) result }
 {
     match write_group(device, blocks, &Copies { places: copies }, scratch) {
@@ -74,7 +76,7 @@ pub(crate) fn write_copies<N: Nand>(
 fn copy_once<N: Nand>(
     device: &mut N,
     blocks: &mut Blocks,
-    copies: &[CopyOf],
+    copies: &[CommittedKey],
     scratch: &mut [u8],
     spare: u32,
 ) -> Result<Copied, MoveFault>
@@ -86,7 +88,7 @@ fn copy_once<N: Nand>(
     ensures pages { CopiesPages copies.now (log_of (N.state device.old) (table blocks.old)) (log_of (N.state device.new) (table blocks.new)) result }
     ensures pays { PaysOneBlock (length copies.now) (log_of (N.state device.old) (table blocks.old)) (log_of (N.state device.new) (table blocks.new)) result }
     ensures first { StartsAt 0 result }
-    ensures few { FewBad spare (table blocks.new) result }
+    ensures within_limit { FewBad spare (table blocks.new) result }
     ensures ends { CopiesEnd (length copies.now) spare (N.state device.new) (table blocks.old) (table blocks.new) result }
 {
     if blocks.next_group() >= NUMBER_END {
@@ -101,7 +103,7 @@ fn copy_once<N: Nand>(
 pub(crate) fn copy_listed<N: Nand>(
     device: &mut N,
     blocks: &mut Blocks,
-    copies: &[CopyOf],
+    copies: &[CommittedKey],
     scratch: &mut [u8],
     spare: u32,
 ) -> Result<Target, MoveFault>
@@ -112,7 +114,7 @@ pub(crate) fn copy_listed<N: Nand>(
     ensures pages { CopiesPages copies.now (log_of (N.state device.old) (table blocks.old)) (log_of (N.state device.new) (table blocks.new)) (as_copied result) }
     ensures pays { PaysTarget (length copies.now) (log_of (N.state device.old) (table blocks.old)) (log_of (N.state device.new) (table blocks.new)) result }
     ensures first { StartsAt 0 (as_copied result) }
-    ensures few { OnOk result (bad_count (table blocks.new) ≤ spare) }
+    ensures within_limit { OnOk result (bad_count (table blocks.new) ≤ spare) }
     ensures ends { CopiesEnd (length copies.now) spare (N.state device.new) (table blocks.old) (table blocks.new) (as_copied result) }
 {
     blocks.close();

@@ -17,7 +17,7 @@ impl<N: Nand> Log<N> {
     /// it, so that it has room for `count` pages more. Where the copy is suspect its block is retired; where a program of it fails its
     /// block is marked, and the pages are moved into another, which begins with them.
     pub(crate) fn gather(&mut self, block: u32, count: u32) -> Result<(), MoveFault>
-        requires few { HasReserve self.old }
+        requires within_limit { HasReserve self.old }
         requires block { block < (N.state self.old.device).geometry.blocks }
         requires good { ((table self.old.blocks).entry block).bad ≡ false }
         requires some { 1 ≤ ((table self.old.blocks).entry block).committed }

@@ -9,6 +9,7 @@ mod checkpoint_source;
 mod checkpoint_writing;
 mod choice;
 mod collection;
+mod copies;
 mod copying;
 mod fault;
 mod gathering;

@@ -1,5 +1,5 @@
 // The move of the committed pages of a block.
-ghost use Rattle.std.specs.Prelude.{◌≡◌, ◌<◌, ◌≤◌, ◌+◌, ℕ, length, false, None, Ok, OnOk};
+ghost use Rattle.std.specs.Prelude.{◌≡◌, ◌<◌, ◌≤◌, ℕ, length, false, None, Ok, OnOk};
 ghost use Rattle.block_state.specs.Committed.{bad_count};
 ghost use Rattle.block_state.specs.TableOf.{table};
 ghost use Rattle.transactions.specs.Checking.{log_of};
@@ -8,7 +8,7 @@ ghost use Rattle.flash_log.specs.Bills.{PaysCopies, PaysMove};
 ghost use Rattle.flash_log.specs.Lists.{IsListed};
 ghost use Rattle.flash_log.specs.Moving.{MoveEnds, MovesOut};
 ghost use Rattle.flash_log.specs.Refreshing.{FillsAnew};
-ghost use Rattle.flash_log.specs.Gathering.{OpenEnds, PaysOpen};
+ghost use Rattle.flash_log.specs.Gathering.{OpenEndsBehind, PaysOpen};
 ghost use Rattle.flash_log.specs.Steps.{CanWrite, Step};
 ghost use Rattle.flash_log.specs.SummaryMaking.{HasClear};
 
@@ -17,9 +17,8 @@ use crate::fault::MoveFault;
 use crate::log::Log;
 use crate::reporting::report_copies;
 use block_state::Blocks;
-use chunk_index::{Index, PagePlace, the_counts_are_of_the_keys};
+use chunk_index::{CommittedKey, Index, PagePlace, the_counts_are_of_the_keys};
 use nand_model::Nand;
-use transactions::CopyOf;
 
 /// Where the committed pages of a block were moved.
 #[derive(Clone, Copy, Debug, PartialEq, Eq)]
@@ -35,7 +34,7 @@ fn move_listed<N: Nand>(
     device: &mut N,
     blocks: &mut Blocks,
     index: &mut Index,
-    copies: &[CopyOf],
+    copies: &[CommittedKey],
     scratch: &mut [u8],
     spare: u32,
 ) -> Result<Moved, MoveFault>
@@ -45,7 +44,7 @@ fn move_listed<N: Nand>(
     ensures step { Step spare (log_of (N.state device.old) (table blocks.old)) (log_of (N.state device.new) (table blocks.new)) index.old index.new }
     ensures out { (v : ℕ) → IsListed v (table blocks.old) index.old copies.now → MovesOut v index.old index.new }
     ensures pays { PaysCopies (length copies.now) (log_of (N.state device.old) (table blocks.old)) (log_of (N.state device.new) (table blocks.new)) result }
-    ensures few { OnOk result (bad_count (table blocks.new) ≤ spare) }
+    ensures within_limit { OnOk result (bad_count (table blocks.new) ≤ spare) }
     // What is committed now in a block that had nothing was written in this call.
     ensures anew { OnOk result (FillsAnew (log_of (N.state device.old) (table blocks.old)) (log_of (N.state device.new) (table blocks.new)) index.new) }
     ensures ends { (v : ℕ) → IsListed v (table blocks.old) index.old copies.now
@@ -71,7 +70,7 @@ fn move_open<N: Nand>(
     device: &mut N,
     blocks: &mut Blocks,
     index: &mut Index,
-    copies: &[CopyOf],
+    copies: &[CommittedKey],
     scratch: &mut [u8],
     spare: u32,
 ) -> Result<Option<Moved>, MoveFault>
@@ -83,11 +82,10 @@ fn move_open<N: Nand>(
     ensures step { Step spare (log_of (N.state device.old) (table blocks.old)) (log_of (N.state device.new) (table blocks.new)) index.old index.new }
     ensures out { (v : ℕ) → IsListed v (table blocks.old) index.old copies.now → MovesOut v index.old index.new }
     ensures pays { PaysOpen (length copies.now) (log_of (N.state device.old) (table blocks.old)) (log_of (N.state device.new) (table blocks.new)) result }
-    ensures few { OnOk result (bad_count (table blocks.new) ≤ spare) }
+    ensures within_limit { OnOk result (bad_count (table blocks.new) ≤ spare) }
     ensures none { result ≡ Ok None → index.new ≡ index.old }
-    ensures ends { (v count : ℕ) → IsListed v (table blocks.old) index.old copies.now
-        → HasClear (length copies.now + count) (N.state device.old) (table blocks.old)
-        → OpenEnds v count spare (log_of (N.state device.old) (table blocks.old)) (log_of (N.state device.new) (table blocks.new)) result }
+    ensures ends { (v : ℕ) → IsListed v (table blocks.old) index.old copies.now
+        → OpenEndsBehind v spare (log_of (N.state device.old) (table blocks.old)) (log_of (N.state device.new) (table blocks.new)) result }
 {
     the_counts_are_of_the_keys();
     let Some(block) = blocks.open_block() else {
@@ -120,14 +118,14 @@ impl<N: Nand> Log<N> {
     /// Moves all pages that are committed in a good block into a freshly erased free block, as one group. A block in which
     /// that fails is marked, and they are written again into the next, while there are blocks to spare.
     pub fn move_committed(&mut self, block: u32) -> Result<Moved, MoveFault>
-        requires few { HasReserve self.old }
+        requires within_limit { HasReserve self.old }
         requires block { IsGoodBlock block (log_state self.old) }
         requires some { 1 ≤ ((table self.old.blocks).entry block).committed }
         ensures terms { SameTerms (terms_of self.old) (terms_of self.new) }
         ensures step { Moves self.old self.new }
         ensures out { MovesOut block self.old.index self.new.index }
         ensures pays { PaysMove block (log_state self.old) (log_state self.new) result }
-        ensures few { OnOk result (HasReserve self.new) }
+        ensures within_limit { OnOk result (HasReserve self.new) }
         // What is committed now in a block that had nothing was written in this call.
         ensures anew { OnOk result (FillsAnew (log_state self.old) (log_state self.new) self.new.index) }
         ensures ends { MoveEnds block self.old.spare (N.state self.new.device) (table self.old.blocks) (table self.new.blocks) result }
@@ -146,7 +144,7 @@ impl<N: Nand> Log<N> {
     /// Moves all pages that are committed in a good block into the open one, which has room for them and in which none is. Where a
     /// program fails the open block is marked, and none is moved.
     pub(crate) fn move_behind(&mut self, block: u32) -> Result<Option<Moved>, MoveFault>
-        requires few { HasReserve self.old }
+        requires within_limit { HasReserve self.old }
         requires block { block < (N.state self.old.device).geometry.blocks }
         requires good { ((table self.old.blocks).entry block).bad ≡ false }
         requires some { 1 ≤ ((table self.old.blocks).entry block).committed }
@@ -156,10 +154,9 @@ impl<N: Nand> Log<N> {
         ensures step { Moves self.old self.new }
         ensures out { MovesOut block self.old.index self.new.index }
         ensures pays { PaysOpen ((table self.old.blocks).entry block).committed (log_state self.old) (log_state self.new) result }
-        ensures few { OnOk result (HasReserve self.new) }
+        ensures within_limit { OnOk result (HasReserve self.new) }
         ensures none { result ≡ Ok None → self.new.index ≡ self.old.index }
-        ensures ends { (count : ℕ) → HasClear (((table self.old.blocks).entry block).committed + count) (N.state self.old.device) (table self.old.blocks)
-            → OpenEnds block count self.old.spare (log_state self.old) (log_state self.new) result }
+        ensures ends { OpenEndsBehind block self.old.spare (log_state self.old) (log_state self.new) result }
     {
         self.room.list(&self.index, block);
         self.room.note_copies(&self.blocks);

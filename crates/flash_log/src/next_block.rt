@@ -16,14 +16,14 @@ impl<N: Nand> Log<N> {
     /// open, where that is worth it and leaves room for `count` pages. Where a program of the summary fails its block is marked, and
     /// the next begins with none.
     pub(crate) fn open_next(&mut self, count: u32) -> Result<(), MoveFault>
-        requires few { HasReserve self.old }
+        requires within_limit { HasReserve self.old }
         requires count { count ≤ (table self.old.blocks).geometry.pages }
         ensures terms { SameTerms (terms_of self.old) (terms_of self.new) }
         ensures index { self.new.index ≡ self.old.index }
         ensures step { Moves self.old self.new }
         ensures pays { PaysNext count (log_state self.old) (log_state self.new) result }
         ensures holds { KeepsHeld (table self.old.blocks) (table self.new.blocks) }
-        ensures few { OnOk result (HasReserve self.new) }
+        ensures within_limit { OnOk result (HasReserve self.new) }
         ensures begins { BeginsNext count (log_state self.old) (log_state self.new) result }
         ensures ends { NextEnds count self.old.spare (log_state self.old) (log_state self.new) result }
     {
@@ -47,7 +47,7 @@ impl<N: Nand> Log<N> {
         ensures step { Moves self.old self.new }
         ensures pays { Pays (bill_of (log_state self.old) 1 0 0) (log_state self.old) (log_state self.new) result }
         ensures holds { KeepsHeld (table self.old.blocks) (table self.new.blocks) }
-        ensures few { OnOk result (HasReserve self.new) }
+        ensures within_limit { OnOk result (HasReserve self.new) }
         ensures ends { (count : ℕ) → count ≤ (table self.old.blocks).geometry.pages
             → NextEnds count self.old.spare (log_state self.old) (log_state self.new) result }
     {

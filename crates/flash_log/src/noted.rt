@@ -126,11 +126,11 @@ impl MoveRoom {
         };
         let mut page = blocks.geometry().pages().saturating_sub(blocks.open_room());
         for i in 0..self.copies.len() {
-            let name = self.copies[i].name;
+            let copied = self.copies[i];
             self.note(CheckEntry {
-                object: name.key.object,
-                chunk: name.key.chunk,
-                version: name.version,
+                object: copied.key.object,
+                chunk: copied.key.chunk,
+                version: copied.at.version,
                 block,
                 page,
             });

@@ -16,7 +16,7 @@ impl<N: Nand> Log<N> {
     /// Moves what is committed in a block into a freshly erased free block, as a garbage collection does. Of a block in which nothing
     /// is committed, or that is marked bad, it makes no call of the device.
     pub fn refresh(&mut self, block: u32) -> Result<(), MoveFault>
-        requires few { HasReserve self.old }
+        requires within_limit { HasReserve self.old }
         requires block { block < (N.state self.old.device).geometry.blocks }
         ensures terms { SameTerms (terms_of self.old) (terms_of self.new) }
         ensures step { Moves self.old self.new }

@@ -1,5 +1,5 @@
 // The retirement of a block.
-ghost use Rattle.std.specs.Prelude.{◌≡◌, ◌≢◌, ◌<◌, ◌≤◌, ◌+◌, true, false, Some, None, Ok, Result, IfErr, IfOk, OnOk};
+ghost use Rattle.std.specs.Prelude.{◌≡◌, ◌≢◌, ◌<◌, true, false, Some, None, Ok, Result, IfOk, OnOk};
 ghost use Rattle.nand_model.specs.Calls.{Marks};
 ghost use Rattle.nand_model.specs.declared.nand.Gone.{Gone};
 ghost use Rattle.flash_tree.specs.Keeping.{KeepsElsewhere};
@@ -11,7 +11,7 @@ ghost use Rattle.transactions.specs.Ready.{IsReady};
 ghost use Rattle.flash_log.specs.Bills.{PaysEmptying, PaysOut, PaysRetirement};
 ghost use Rattle.flash_log.specs.Moving.{MovesOut};
 ghost use Rattle.flash_log.specs.Refreshing.{FillsAnew};
-ghost use Rattle.flash_log.specs.Retiring.{EmptyEnds, MarkedEnds, OneEnds, RetireEnds, WhyNotMarked, MarksAlone};
+ghost use Rattle.flash_log.specs.Retiring.{EmptyEnds, MarkedEnds, OneEnds, RetireEnds, MarksAlone};
 
 use crate::fault::MoveFault;
 use crate::log::Log;
@@ -55,7 +55,7 @@ impl<N: Nand> Log<N> {
 
     /// Moves away what is committed in a good block, if anything. Returns the block of a suspect copy.
     fn empty_block(&mut self, block: u32) -> Result<Option<u32>, MoveFault>
-        requires few { HasReserve self.old }
+        requires within_limit { HasReserve self.old }
         requires closed { (table self.old.blocks).open_block ≡ None }
         requires block { block < (N.state self.old.device).geometry.blocks }
         requires good { ((table self.old.blocks).entry block).bad ≡ false }
@@ -81,7 +81,7 @@ impl<N: Nand> Log<N> {
 
     /// Moves away what is committed in a good block, if anything, and marks the block. Returns the block of a suspect copy.
     fn retire_one(&mut self, block: u32) -> Result<Option<u32>, MoveFault>
-        requires few { HasReserve self.old }
+        requires within_limit { HasReserve self.old }
         requires closed { (table self.old.blocks).open_block ≡ None }
         requires none { (table self.old.blocks).checkpoint ≡ None }
         requires block { block < (N.state self.old.device).geometry.blocks }
@@ -90,8 +90,8 @@ impl<N: Nand> Log<N> {
         ensures step { Moves self.old self.new }
         ensures out { MovesOut block self.old.index self.new.index }
         ensures pays { PaysOut (log_state self.old) (log_state self.new) result }
-        ensures empty { ((table self.old.blocks).entry block).committed ≡ 0 → ((N.state self.new.device).changes ≤ (N.state self.old.device).changes + 1) × IfOk result (λ suspect. suspect ≡ None) }
-        ensures needs_none { ((table self.old.blocks).entry block).committed ≡ 0 → IfErr result (WhyNotMarked self.old.spare (N.state self.new.device) (table self.new.blocks)) }
+        ensures empty { ((table self.old.blocks).entry block).committed ≡ 0 → MarksAlone self.old.spare (log_state self.old) (log_state self.new) result }
+        ensures moves_none { ((table self.old.blocks).entry block).committed ≡ 0 → IfOk result (λ suspect. suspect ≡ None) }
         // What is committed now in a block that had nothing was written in this call.
         ensures anew { OnOk result (FillsAnew (log_state self.old) (log_state self.new) self.new.index) }
         ensures ends { OneEnds block self.old.spare (N.state self.new.device) (table self.old.blocks) (table self.new.blocks) result }
@@ -105,7 +105,7 @@ impl<N: Nand> Log<N> {
 
     /// Retires a good block, where none is open, and each block of a suspect copy after it.
     fn retire_all(&mut self, block: u32) -> Result<(), MoveFault>
-        requires few { HasReserve self.old }
+        requires within_limit { HasReserve self.old }
         requires closed { (table self.old.blocks).open_block ≡ None }
         requires none { (table self.old.blocks).checkpoint ≡ None }
         requires block { block < (N.state self.old.device).geometry.blocks }
@@ -114,8 +114,7 @@ impl<N: Nand> Log<N> {
         ensures step { Moves self.old self.new }
         ensures out { MovesOut block self.old.index self.new.index }
         ensures pays { PaysRetirement (log_state self.old) (log_state self.new) result }
-        ensures empty { ((table self.old.blocks).entry block).committed ≡ 0 → (N.state self.new.device).changes ≤ (N.state self.old.device).changes + 1 }
-        ensures needs_none { ((table self.old.blocks).entry block).committed ≡ 0 → IfErr result (WhyNotMarked self.old.spare (N.state self.new.device) (table self.new.blocks)) }
+        ensures empty { ((table self.old.blocks).entry block).committed ≡ 0 → MarksAlone self.old.spare (log_state self.old) (log_state self.new) result }
         // What is committed now in a block that had nothing was written in this call.
         ensures anew { OnOk result (FillsAnew (log_state self.old) (log_state self.new) self.new.index) }
         ensures ends { RetireEnds block self.old.spare (N.state self.new.device) (table self.old.blocks) (table self.new.blocks) result }
@@ -132,7 +131,7 @@ impl<N: Nand> Log<N> {
     /// open one, and marks it. Where a copy is suspect its block is the next to retire. The block that was open is so no
     /// longer.
     pub fn retire(&mut self, block: u32) -> Result<(), MoveFault>
-        requires few { HasReserve self.old }
+        requires within_limit { HasReserve self.old }
         requires none { (table self.old.blocks).checkpoint ≡ None }
         requires block { IsGoodBlock block (log_state self.old) }
         ensures terms { SameTerms (terms_of self.old) (terms_of self.new) }

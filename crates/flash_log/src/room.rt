@@ -1,8 +1,8 @@
 // Room for the move of a block's committed pages.
-ghost use Rattle.std.specs.Prelude.{◌≡◌, ◌≤◌, ℕ, [], length, map, vec_capacity, IfOk};
+ghost use Rattle.std.specs.Prelude.{◌≡◌, ◌≤◌, ℕ, length, map, vec_capacity, IfOk};
 ghost use Rattle.nand_model.specs.declared.geometry.Geometry.{Geometry};
 ghost use Rattle.chunk_index.specs.Maps.{count_committed_in, committed_pages};
-ghost use Rattle.flash_log.specs.Lists.{ListsCommitted, copy_of};
+ghost use Rattle.flash_log.specs.Lists.{ListsCommitted};
 ghost use Rattle.flash_log.specs.SummaryMaking.{ListsEntries, entry_of_key};
 
 use chunk_index::{
@@ -11,16 +11,15 @@ use chunk_index::{
 use nand_model::Geometry;
 use page_tags::CheckEntry;
 use std::alloc::{AllocError, Global};
-use transactions::{CopyOf, PageName};
 
 /// Room for the move of a block's committed pages: for the lists of them, and for one page. It is made once, so that no move
 /// takes memory.
 #[derive(Drop)]
 pub struct MoveRoom {
-    keys: Vec<CommittedKey>,
     /// The pages of the open block, as far as they were noted; and then those of a summary.
     pub(crate) entries: Vec<CheckEntry>,
-    pub(crate) copies: Vec<CopyOf>,
+    /// The committed pages of a block, to be copied.
+    pub(crate) copies: Vec<CommittedKey>,
     /// One page, by way of which groups are written.
     pub scratch: Vec<u8>,
 }
@@ -34,7 +33,6 @@ impl MoveRoom {
     {
         let pages = geometry.pages() as usize;
         Ok(MoveRoom {
-            keys: Vec::with_capacity(alloc, pages)?,
             entries: Vec::with_capacity(alloc, pages)?,
             copies: Vec::with_capacity(alloc, pages)?,
             scratch: vec![in alloc; 0; geometry.bytes() as usize]?,
@@ -43,23 +41,21 @@ impl MoveRoom {
 
     /// Lists the pages that are committed in a block, for their copy.
     pub(crate) fn list(&mut self, index: &Index, block: u32)
-        requires keys { count_committed_in index.now block ≤ vec_capacity self.old.keys }
-        requires copies { count_committed_in index.now block ≤ vec_capacity self.old.copies }
+        requires { count_committed_in index.now block ≤ vec_capacity self.old.copies }
         ensures lists { ListsCommitted block (committed_pages index.now) self.new.copies.items }
         ensures count { length self.new.copies.items ≡ count_committed_in index.now block }
         ensures same { SameRoom self.old self.new }
     {
         the_list_of_a_block_is_whole();
-        self.keys.clear();
-        index.committed_in_block(block, &mut self.keys);
-        copy_all(&self.keys, &mut self.copies);
+        self.copies.clear();
+        index.committed_in_block(block, &mut self.copies);
     }
 
     /// Lists the pages that are committed in a block, so many of them, as entries of a summary: those that were noted, where these are
     /// all, and else by a pass over the index.
     pub(crate) fn list_entries(&mut self, index: &Index, block: u32, count: u32)
         requires totaled { count ≡ count_committed_in index.now block }
-        requires keys { count_committed_in index.now block ≤ vec_capacity self.old.keys }
+        requires copies { count_committed_in index.now block ≤ vec_capacity self.old.copies }
         requires entries { count_committed_in index.now block ≤ vec_capacity self.old.entries }
         ensures lists { ListsEntries block (committed_pages index.now) self.new.entries.items }
         ensures count { length self.new.entries.items ≡ count_committed_in index.now block }
@@ -69,8 +65,8 @@ impl MoveRoom {
             return;
         }
         the_sorted_list_of_a_block_is_whole();
-        index.committed_by_page(block, &mut self.keys);
-        enter_all(&self.keys, &mut self.entries);
+        index.committed_by_page(block, &mut self.copies);
+        enter_all(&self.copies, &mut self.entries);
     }
 }
 
@@ -88,26 +84,6 @@ fn enter_all(keys: &[CommittedKey], entries: &mut Vec<CheckEntry>)
             version: listed.at.version,
             block: listed.at.block,
             page: listed.at.page,
-        });
-    }
-}
-
-/// Lists copies of committed pages, under the names of their keys.
-fn copy_all(keys: &[CommittedKey], copies: &mut Vec<CopyOf>)
-    requires { length keys.now ≤ vec_capacity copies.old }
-    ensures copies { copies.new.items ≡ map copy_of keys.now }
-    ensures capacity { vec_capacity copies.old ≤ vec_capacity copies.new }
-{
-    copies.clear();
-    for committed in keys {
-        let name = PageName {
-            key: committed.key,
-            version: committed.at.version,
-        };
-        let _ = copies.push(CopyOf {
-            block: committed.at.block,
-            page: committed.at.page,
-            name,
         });
     }
 }

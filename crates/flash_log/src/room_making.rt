@@ -2,8 +2,8 @@
 ghost use Rattle.std.specs.Prelude.{IsOk};
 ghost use Rattle.block_state.specs.TableOf.{table};
 ghost use Rattle.flash_log.specs.LogOf.{HasReserve, Moves, SameTerms, log_state, terms_of};
-ghost use Rattle.flash_log.specs.SummaryMaking.{BeginsNext};
-ghost use Rattle.flash_log.specs.RoomMaking.{FitsOpen, HasMore, MovesFewest, PaysRoom, RoomEnds, StaysWhole, StaysWhereFull};
+ghost use Rattle.flash_log.specs.SummaryMaking.{BeginsWhereNeeded};
+ghost use Rattle.flash_log.specs.RoomMaking.{FitsOpen, MovesFewest, PaysRoom, RoomEnds, StaysWhole, StaysWhereFull};
 
 use crate::choice::{has_uncommitted, victim};
 use crate::log::Log;
@@ -18,17 +18,16 @@ impl<N: Nand> Log<N> {
     /// these are moved into a freshly erased block, which becomes the open one and may begin with a summary too. A block whose erase
     /// or copy fails is marked, while there are blocks to spare.
     pub fn make_room(&mut self, count: u32) -> Result<(), RoomFault>
-        requires few { HasReserve self.old }
+        requires within_limit { HasReserve self.old }
         ensures terms { SameTerms (terms_of self.old) (terms_of self.new) }
         ensures step { Moves self.old self.new }
         ensures fewest { MovesFewest self.old.spare (table self.old.blocks) self.old.index self.new.index }
         ensures pays { PaysRoom self.old.spare (log_state self.old) (log_state self.new) result }
         ensures ends { RoomEnds count self.old.spare (log_state self.old) (log_state self.new) result }
         // While blocks can be allocated each begins with a summary of the one that was open, where that is worth it.
-        ensures begins { HasMore (table self.old.blocks) self.old.spare → (FitsOpen count (table self.old.blocks) → ⊥)
-            → BeginsNext count (log_state self.old) (log_state self.new) result }
+        ensures begins { BeginsWhereNeeded count self.old.spare (log_state self.old) (log_state self.new) result }
         ensures succeeds { FitsOpen count (table self.old.blocks) → IsOk result }
-        ensures enough { FitsOpen count (table self.old.blocks) → StaysWhole self.old self.new }
+        ensures sufficient { FitsOpen count (table self.old.blocks) → StaysWhole self.old self.new }
         ensures full { StaysWhereFull self.old self.new result }
     {
         if count <= self.blocks.open_room() {

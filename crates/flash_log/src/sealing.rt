@@ -29,7 +29,7 @@ impl<N: Nand> Log<N> {
         ensures marks { MarksFailures 0 0 (N.state self.old.device) (N.state self.new.device) (table self.old.blocks) (table self.new.blocks) }
         ensures answers { OnOk result (AnswersFailures 0 0 (N.state self.old.device) (N.state self.new.device) (table self.old.blocks) (table self.new.blocks)) }
         // It is done only with no more bad blocks than there are to spare.
-        ensures few { HasReserve self.old → OnOk result (HasReserve self.new) }
+        ensures within_limit { HasReserve self.old → OnOk result (HasReserve self.new) }
         // The erase and the pages of the checkpoint, and for each failure an erase or a mark, and what failed.
         ensures costs { Costs (check_pages (table self.old.blocks) + 1) 2 0 (N.state self.old.device) (N.state self.new.device) }
         ensures reads { ReadsSuspects (N.state self.old.device) (N.state self.new.device) }

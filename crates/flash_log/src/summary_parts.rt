@@ -1,13 +1,13 @@
 // The parts of 32 bytes that the pages of a block summary are.
-ghost use Rattle.std.specs.Prelude.{◌≡◌, ◌<◌, ◌≤◌, ◌+◌, ◌*◌, ◌/◌, ◌^◌, ℕ, length, take, drop};
-ghost use Rattle.page_tags.specs.Summaries.{summary_bytes};
+ghost use Rattle.std.specs.Prelude.{◌≡◌, ◌<◌, ◌≤◌, ◌+◌, ◌*◌, ◌/◌, ◌^◌, ℕ, length};
+ghost use Rattle.flash_log.specs.SummarySource.{part_bytes};
 
 use page_tags::{CheckEntry, SummaryHead, encode_check_entry, encode_summary_head};
 
 /// Writes part `k` of a summary: the head, or an entry, or zeros.
 fn write_part(head: &SummaryHead, entries: &[CheckEntry], k: u32, part: &mut [u8])
     requires { length part.old ≡ 32 }
-    ensures { (size : ℕ) → 32 * (k + 1) ≤ size → part.new ≡ take 32 (drop (32 * k) (summary_bytes size head.now entries.now)) }
+    ensures { (size : ℕ) → 32 * (k + 1) ≤ size → part.new ≡ part_bytes size k 32 head.now entries.now }
 {
     if k == 0 {
         encode_summary_head(head, part);
@@ -22,10 +22,9 @@ fn write_part(head: &SummaryHead, entries: &[CheckEntry], k: u32, part: &mut [u8
 /// Writes the parts of a page of a summary from part `first` on.
 pub(crate) fn write_parts(head: &SummaryHead, entries: &[CheckEntry], first: u32, page: &mut [u8])
     requires size { 32 * (length page.old / 32) ≡ length page.old }
-    requires few { first + length page.old / 32 < 2 ^ 32 }
+    requires within_limit { first + length page.old / 32 < 2 ^ 32 }
     ensures size { length page.new ≡ length page.old }
-    ensures parts { (size : ℕ) → 32 * first + length page.old ≤ size
-        → page.new ≡ take (length page.old) (drop (32 * first) (summary_bytes size head.now entries.now)) }
+    ensures parts { (size : ℕ) → 32 * first + length page.old ≤ size → page.new ≡ part_bytes size first (length page.old) head.now entries.now }
 {
     for k in 0..page.len() / 32 {
         let part = &mut page[32 * k..32 * k + 32];

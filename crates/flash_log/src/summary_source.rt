@@ -128,6 +128,5 @@ impl PageSource for SummarySource<'_> {
 
 /// A group of the pages of a summary, at the beginning of a block, is a whole summary. It does nothing: its clause is the law.
 pub fn a_written_summary_is_whole()
-    ensures { (s : SummarySource) (g : Geometry) (group : Group) (old new : Flash)
-        → AddsSummaryPages s g group old new → IsWholeSummary g new (summary_in group s) }
+    ensures { (s : SummarySource) (g : Geometry) (x : Group) (old new : Flash) → AddsSummaryPages s g x old new → IsWholeSummary g new (summary_in x s) }
 {}

@@ -2,13 +2,13 @@
 ghost use Rattle.std.specs.Prelude.{◌≡◌, ◌<◌, ◌≤◌, ◌+◌, ℕ, length, true, None, Ok, IfSome, IfNone};
 ghost use Rattle.volume_terms.specs.Sizes.{number_end};
 ghost use Rattle.flash_tree.specs.Keeping.{KeepsElsewhere};
-ghost use Rattle.flash_tree.specs.Summaries.{IsWholeSummary};
+ghost use Rattle.block_state.specs.Table.{IsEmptyBlock};
 ghost use Rattle.block_state.specs.TableOf.{table};
 ghost use Rattle.transactions.specs.Checking.{log_of};
 ghost use Rattle.transactions.specs.Ready.{IsReady};
 ghost use Rattle.flash_log.specs.Copying.{IsFresh, KeepsCounts};
 ghost use Rattle.flash_log.specs.Passing.{KeepsFound};
-ghost use Rattle.flash_log.specs.SummaryMaking.{CostsAMark, IsEmptyBlock, IsListOf, IsOpenWith, IsWorthIt, IsWritten, KeepsHeld, MarkingEnds, PaysSummary, Summarizes, SummaryEnds, WasWritten, summary_of};
+ghost use Rattle.flash_log.specs.SummaryMaking.{CostsAMark, IsListOf, IsOpenWith, HasSummary, IsWorthIt, IsWritten, KeepsHeld, MarkingEnds, PaysSummary, PaysWithin, SummarizesBy, SummaryEnds, SummaryEndsWithin, WasWritten, summary_of};
 ghost use Rattle.flash_log.specs.SummarySource.{CanSummarize, summary_size};
 
 use crate::fault::MoveFault;
@@ -74,15 +74,11 @@ fn write_listed<N: Nand>(
     requires source { CanSummarize source.now (N.state device.old).geometry (table blocks.old).next_group }
     requires most { source.now.pages ≤ summary_size (N.state device.old).geometry }
     requires lists { (N.state device.old).honest ≡ true → IsListOf (summary_of source.now (table blocks.old) block) (N.state device.old) }
-    ensures does { Summarizes (summary_of source.now (table blocks.old) block)
-        (log_of (N.state device.old) (table blocks.old)) (log_of (N.state device.new) (table blocks.new)) }
-    ensures pays { (count : ℕ) → source.now.pages + count ≤ (table blocks.old).geometry.pages
-        → PaysSummary count (log_of (N.state device.old) (table blocks.old)) (log_of (N.state device.new) (table blocks.new)) result }
+    ensures does { SummarizesBy source.now block (log_of (N.state device.old) (table blocks.old)) (log_of (N.state device.new) (table blocks.new)) }
+    ensures pays { PaysWithin source.now.pages (log_of (N.state device.old) (table blocks.old)) (log_of (N.state device.new) (table blocks.new)) result }
     // On an honest device it is whole then.
-    ensures whole { (N.state device.old).honest ≡ true → result ≡ Ok Summarized.Written
-        → IsWholeSummary (N.state device.new).geometry (N.state device.new).flash (summary_of source.now (table blocks.old) block) }
-    ensures ends { (count spare : ℕ) → source.now.pages + count ≤ (table blocks.old).geometry.pages
-        → SummaryEnds count spare (log_of (N.state device.old) (table blocks.old)) (log_of (N.state device.new) (table blocks.new)) result }
+    ensures whole { (N.state device.old).honest ≡ true → result ≡ Ok Summarized.Written → HasSummary source.now block (table blocks.old) (N.state device.new) }
+    ensures ends { SummaryEndsWithin source.now.pages (log_of (N.state device.old) (table blocks.old)) (log_of (N.state device.new) (table blocks.new)) result }
 {
     match write_summary(device, blocks, source, scratch) {
         Ok(placed) => {

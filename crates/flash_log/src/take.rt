@@ -44,7 +44,7 @@ fn try_block<N: Nand>(device: &mut N, blocks: &mut Blocks) -> Result<Tried, Gone
     ensures answers { OnOk result (AnswersFailures 0 0 (N.state device.old) (N.state device.new) (table blocks.old) (table blocks.new)) }
     ensures costs { CostsATry (N.state device.old) (N.state device.new) result }
     ensures reads { (N.state device.new).reads ≡ (N.state device.old).reads }
-    ensures few { AsManyBad (table blocks.old) (table blocks.new) result }
+    ensures within_limit { AsManyBad (table blocks.old) (table blocks.new) result }
     ensures turn { TakesTurn (table blocks.old) (table blocks.new) result }
     ensures ends { TriesOne (N.state device.new) (table blocks.old) (table blocks.new) result }
 {

@@ -16,7 +16,7 @@ module _ (old new : Device) (had : old.gone ≡ false) (steady : old.steady ≡ 
   ]
 
   pub early : (fault : FormatFault) → (fault ≡ formats.Spare → ⊥) → (fault ≡ formats.Gone → new.gone ≡ true) → IsEarly (faults.Format fault)
-  early formats.Spare enough gone = absurd (enough refl)
-  early formats.NoMemory enough gone = tt
-  early formats.Worn enough gone = tt
-  early formats.Gone enough gone = absurd (has_power (gone refl))
+  early formats.Spare sufficient gone = absurd (sufficient refl)
+  early formats.NoMemory sufficient gone = tt
+  early formats.Worn sufficient gone = tt
+  early formats.Gone sufficient gone = absurd (has_power (gone refl))

@@ -18,6 +18,8 @@ use Rattle.nand_model.specs.Calls.{Device}
 use Rattle.nand_model.specs.Changes.{OnlyReads}
 use Rattle.nand_model.specs.Flash.{Flash}
 use Rattle.nand_model.specs.declared.geometry.Geometry.{Geometry}
+use Rattle.nand_model.specs.declared.nand.Nand.{Ghosts}
+use Rattle.nand_model.specs.declared.trusted_nand.TrustedNand.{TrustedNand}
 use Rattle.posix_calls.specs.PageVolumes.{pages_of, is_stopped, IsVolumeOf}
 use Rattle.posix_calls.specs.declared.page_volume.PageVolume.{PageVolume}
 use Rattle.paged_objects.specs.Ending.{HasEndedAt}
@@ -25,7 +27,10 @@ use Rattle.paged_objects.specs.Standing.{volume_of}
 use Rattle.paged_objects.specs.laws.Going.{ended_at, goes_here, goes_on}
 use Rattle.pages.specs.State.{PagesState, NextNumbers}
 use Rattle.pages.specs.Stores.{GoesOn}
+use Rattle.page_store.specs.PagesOf.{mounted_pages}
+use Rattle.page_store.specs.declared.flash_pages.FlashPages.{FlashPages}
 use Rattle.posix_calls.specs.Calls.{IsCalled}
+use Rattle.posix_calls.specs.Volumes.{over_pages}
 use Rattle.posix_calls.specs.Endings.{IsUnmounted}
 use Rattle.posix_calls.specs.laws.Ending.{ends_after}
 use Rattle.posix_calls.specs.laws.Trusting.{read_since, left_as_seen}
@@ -39,60 +44,71 @@ use Rattle.posix_profile.specs.declared.reply.Reply.{Reply}
 use Rattle.posix_profile.specs.declared.reply.Reply.TheVariants as replies
 use Rattle.powercut.specs.Limits.{StaysWithin}
 use Rattle.volume_terms.specs.Sizes.{Sizes}
-use Rattle.flash_program.specs.Sessions.{Session}
+use Rattle.flash_program.specs.Sessions.{Serves, Session, Stream}
+use Rattle.flash_program.specs.declared.serve.ServedVolume.{ServedVolume}
 use Rattle.flash_program.specs.declared.fault.ProgramFault.{ProgramFault}
 
-module _ {P V : Type 0} (state : P → PagesState) (inside : V → PageVolume P) (serves : V → Stamped → Reply → V → Type 0)
-    (serving : (old new : V) (command : Stamped) (reply : Reply) → serves old command reply new → IsCalled state (inside old) command reply (inside new)) where
+module _ {N : Type 0} (trusted : Ghosts (TrustedNand N)) where
+  abbrev V : Type 0
+  V = ServedVolume N trusted
+
+  -- the volume in it
+  abbrev inside : V → PageVolume (FlashPages (TrustedNand N) trusted)
+  inside v = over_pages v.volume
+
+  -- its pages
+  abbrev pages_in : V → PagesState
+  pages_in v = mounted_pages (pages_of (inside v))
+
   module _ (first : PagesState) (z : Sizes) where
     -- a volume after commands of a session that began with these pages: it is stopped for its reason, or stands for a state
     record Stays (v : V) : Type 0 where
-      pub goes : GoesOn first (state (pages_of (inside v)))
-      pub stands : ((is_stopped (inside v) ≡ true) × HasEndedAt (state (pages_of (inside v)))) ⊎ ((is_stopped (inside v) ≡ false) × ((s : State) × IsVolumeOf state z s (inside v)))
+      pub goes : GoesOn first (pages_in v)
+      pub stands : ((is_stopped (inside v) ≡ true) × HasEndedAt (pages_in v)) ⊎ ((is_stopped (inside v) ≡ false) × ((s : State) × IsVolumeOf mounted_pages z s (inside v)))
 
-    called : (old new : V) (command : Stamped) (reply : Reply) → Stays old → serves old command reply new → Stays new
+    called : (old new : V) (command : Stamped) (reply : Reply) → Stays old → Serves old command reply new → Stays new
     called old new command reply at served =
-        let one = serving old new command reply served in
+        let one : IsCalled mounted_pages (inside old) command reply (inside new) = served in
         record {
-          goes = goes_on first (state (pages_of (inside old))) (state (pages_of (inside new))) at.goes one.goes_on;
+          goes = goes_on first (pages_in old) (pages_in new) at.goes one.goes_on;
           stands = elim at.stands [
             | inl (stopped, ended) ↦
                 let same = (one.stopped stopped).1 in
-                inl (ap (λ (w : PageVolume P). is_stopped w) same ∙ stopped, subst (λ (w : PageVolume P). HasEndedAt (state (pages_of w))) (sym same) ended)
+                inl (ap (λ (w : PageVolume (FlashPages (TrustedNand N) trusted)). is_stopped w) same ∙ stopped, subst (λ (w : PageVolume (FlashPages (TrustedNand N) trusted)). HasEndedAt (mounted_pages (pages_of w))) (sym same) ended)
             | inr (runs, here) ↦
                 let replied = one.replied runs z here.0 here.1 in
                 elim (cases_Bool (is_stop reply)) [
-                  | inl stop ↦ inl (one.stops runs ∙ stop, ended_at (state (pages_of (inside old))) (state (pages_of (inside new))) (replied.cause stop))
+                  | inl stop ↦ inl (one.stops runs ∙ stop, ended_at (pages_in old) (pages_in new) (replied.cause stop))
                   | inr other ↦ inr (one.stops runs ∙ other, (_, replied.state_is other))
                 ]
           ];
         }
 
-    answered : (line : Line) (old new : Between V) (text : List ℕ) → Stays old.volume → Answers serves line old text new → Stays new.volume
+    answered : (line : Line) (old new : Between V) (text : List ℕ) → Stays old.volume → Answers Serves line old text new → Stays new.volume
     answered lines.Nothing old new text at (none, same) = subst (λ (s : Between V). Stays s.volume) (sym same) at
     answered (lines.Now moment) old new text at (done, same) = subst (λ (s : Between V). Stays s.volume) (sym same) at
     answered (lines.Do command) old new text at (reply, is, served, moment) = called old.volume new.volume _ reply at served
     answered lines.Bad old new text at (bad, same) = subst (λ (s : Between V). Stays s.volume) (sym same) at
 
-    run : (issued : List (List ℕ)) (old new : Between V) (text : List ℕ) → Stays old.volume → Run serves issued old text new → Stays new.volume
+    run : (issued : List (List ℕ)) (old new : Between V) (text : List ℕ) → Stays old.volume → Run Serves issued old text new → Stays new.volume
     unfolding Run
     run [] old new text at (none, same) = subst (λ (s : Between V). Stays s.volume) (sym same) at
     run (line ∷ issued) old new text at (head, rest, middle, is, here, later) = run issued middle new rest (answered (line_of line) old middle head at here) later
 
-    shell_ends : (input left before after : Option (List ℕ)) (old new : V) (ended : Result (Unit {0}) ShellFault) → Stays old → Shell serves input left before after old new ended → Stays new
+    shell_ends : (input left before after : Option (List ℕ)) (old new : V) (ended : Result (Unit {0}) ShellFault) → Stays old → Shell Serves input left before after old new ended → Stays new
     shell_ends input left before after old new (Ok done) at shell = run _ _ _ _ at shell.reported.run
     shell_ends input left before after old new (Err faults.Read) at shell = run _ _ _ _ at shell.reported.run
     shell_ends input left before after old new (Err faults.TooLong) at shell = run _ _ _ _ at shell.reported.run
     shell_ends input left before after old new (Err faults.NoMemory) at shell = run _ _ _ _ at shell.reported.run
     shell_ends input left before after old new (Err faults.Write) at shell = answered _ _ _ _ (run _ _ _ _ at shell.reported.run) shell.reported.answer
 
-    unmounts : (last : V) (device : Device) (reply : Reply) → Stays last → (u : IsUnmounted state (inside last) device reply)
+    unmounts : (last : V) (device : Device) (reply : Reply) → Stays last → (u : IsUnmounted mounted_pages (inside last) device reply)
         → HasEndedAt u.pages ⊎ ((is_stopped (inside last) ≡ false) × (reply ≡ replies.Done))
     unmounts last device reply at u = elim at.stands [
       | inl (stopped, ended) ↦ inl (subst (λ (q : PagesState). HasEndedAt q) (sym (u.stopped stopped).1) ended)
       | inr (runs, here) ↦ elim (u.replies_are runs) [
         | inl done ↦ inr (runs, done)
-        | inr stop ↦ inl (ended_at (state (pages_of (inside last))) u.pages (u.cause runs z here.0 here.1 stop))
+        | inr stop ↦ inl (ended_at (pages_in last) u.pages (u.cause runs z here.0 here.1 stop))
       ]
     ]
 
@@ -130,22 +146,22 @@ module _ {P V : Type 0} (state : P → PagesState) (inside : V → PageVolume P)
           let changes = reads.changes in
           let least = within.numbers.seqs next.0 greatest in
           omega (arith, seq, rose, is, changes, least)
-      not_ended (inr (inr (inr many))) = let few = within.few_bad in let committed = goes.spare in let is = spare_is in omega (arith, many, few, committed, is)
+      not_ended (inr (inr (inr many))) = let within_limit = within.few_bad in let committed = goes.spare in let is = spare_is in omega (arith, many, within_limit, committed, is)
 
-    pub only_a_cut_stops : (before after : Device) (input left written now : Option (List ℕ)) (result : Result (Unit {0}) ProgramFault)
-        → (session : Session state inside serves before input left written now after result)
+    pub only_a_cut_stops : (before after : Device) (input output : Stream) (result : Result (Unit {0}) ProgramFault)
+        → (session : Session trusted before input output after result)
         → (spare : ℕ) (tree : Objects) → before.honest ≡ true → IsSoundOn spare tree before → StaysWithin spare before after
         → after.gone ≡ false → (is_stopped (inside session.last) ≡ false) × (session.reply ≡ replies.Done)
-    only_a_cut_stops before after input left written now result session spare tree honest sound within power =
-        let p = state (pages_of (inside session.first)) in
+    only_a_cut_stops before after input output result session spare tree honest sound within power =
+        let p = pages_in session.first in
         let reads = read_since before session.mounted.now p.device session.mounted.since (honest, sound.truth) in
         let here = reads.lasts.honest ∙ honest in
         let reported = session.mounted.tree here in
         let z = volume_of p in
         let u = session.unmounted in
         let at_first : Stays p z session.first = record { goes = goes_here p; stands = inr (session.mounted.goes_on, (at_mount reported.0, reported.1.volume)) } in
-        let at_last = shell_ends p z input left written now session.first session.last session.shell at_first session.answered in
-        let ends = ends_after p (state (pages_of (inside session.last))) u.pages (ends_going p (state (pages_of (inside session.last))) at_last.goes) u.ends_on in
+        let at_last = shell_ends p z input.before input.after output.before output.after session.first session.last session.shell at_first session.answered in
+        let ends = ends_after p (pages_in session.last) u.pages (ends_going p (pages_in session.last) at_last.goes) u.ends_on in
         let same = left_as_seen u.pages after u.device_is (ends.device.honest ∙ here) in
         elim (unmounts p z session.last after session.reply at_last u) [
           | inl ended ↦

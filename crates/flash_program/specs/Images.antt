@@ -17,11 +17,10 @@ use Rattle.nand_image.specs.declared.fault.ImageFault.TheVariants as images
 use Rattle.nand_model.specs.Calls.{Device}
 use Rattle.nand_model.specs.Changes.{CountsNothing, IsBlank, PowersUp}
 use Rattle.nand_model.specs.Size.{IsSize}
-use Rattle.posix_calls.specs.declared.page_volume.PageVolume.{PageVolume}
-use Rattle.pages.specs.State.{PagesState}
+use Rattle.nand_model.specs.declared.nand.Nand.{Ghosts}
+use Rattle.nand_model.specs.declared.trusted_nand.TrustedNand.{TrustedNand}
 use Rattle.posix_profile.specs.declared.command.Stamped.{Stamped}
-use Rattle.posix_profile.specs.declared.reply.Reply.{Reply}
-use Rattle.flash_program.specs.Sessions.{LinesEnd}
+use Rattle.flash_program.specs.Sessions.{IsUntouched, LinesEnd, Stream}
 use Rattle.flash_program.specs.Spaces.{CheckEnds, FormatEnds}
 use Rattle.flash_program.specs.declared.fault.ProgramFault.{ProgramFault}
 use Rattle.flash_program.specs.declared.fault.ProgramFault.TheVariants as faults
@@ -41,18 +40,16 @@ abbrev pub IsCopy : {F : Type 0} → (F → Option (List ℕ)) → Option F → 
 IsCopy known image copy = (opened : Device) × Opens known image opened × PowersUp opened copy
 
 -- lines over an image: where it does not open none is read and nothing is written, else as they do over its device
-abbrev pub RunEnds : {F P V : Type 0} → (F → Option (List ℕ)) → (P → PagesState) → (V → PageVolume P) → (V → Stamped → Reply → V → Type 0)
-    → Option F → Option (List ℕ) → Option (List ℕ) → Option (List ℕ) → Option (List ℕ) → Result (Unit {0}) ProgramFault → Type 0
-RunEnds known state inside serves image input left written now result =
-    (NotOpened known image result × (left ≡ input) × (now ≡ written))
-    ⊎ ((before : Device) × (after : Device) × Opens known image before × LinesEnd state inside serves before input left written now after result)
+abbrev pub RunEnds : {F N : Type 0} → (F → Option (List ℕ)) → Ghosts (TrustedNand N) → Option F → (input output : Stream) → Result (Unit {0}) ProgramFault → Type 0
+RunEnds known trusted image input output result =
+    (NotOpened known image result × IsUntouched input × IsUntouched output)
+    ⊎ ((before : Device) × (after : Device) × Opens known image before × LinesEnd trusted before input output after result)
 
 -- the check of an image, on a copy of it
-abbrev pub ImageCheckEnds : {F P V : Type 0} → (F → Option (List ℕ)) → (P → PagesState) → (V → PageVolume P) → (V → Stamped → Reply → V → Type 0)
-    → Option F → Option (List ℕ) → Option (List ℕ) → Result (Unit {0}) ProgramFault → Type 0
-ImageCheckEnds known state inside serves image written now result =
-    (NotOpened known image result × (now ≡ written))
-    ⊎ ((copy : Device) × (after : Device) × IsCopy known image copy × CheckEnds state inside serves copy written now after result)
+abbrev pub ImageCheckEnds : {F N : Type 0} → (F → Option (List ℕ)) → Ghosts (TrustedNand N) → Option F → Stream → Result (Unit {0}) ProgramFault → Type 0
+ImageCheckEnds known trusted image output result =
+    (NotOpened known image result × IsUntouched output)
+    ⊎ ((copy : Device) × (after : Device) × IsCopy known image copy × CheckEnds trusted copy output after result)
 
 -- a fault of a script
 abbrev pub of_script : ScriptFault → ProgramFault
@@ -76,29 +73,28 @@ cut_ended (Ok done) = Ok done
 cut_ended (Err fault) = Err (of_cut fault)
 
 -- the lines were read as a script, or the fault of that is reported
-abbrev pub ReadsInput : Option (List ℕ) → Option (List ℕ) → Result (Vec Stamped) ProgramFault → Type 0
-ReadsInput input left (Ok script) = ReadsScript input left (Ok script)
-ReadsInput input left (Err reported) = (fault : ScriptFault) × ReadsScript input left (Err fault) × (reported ≡ of_script fault)
+abbrev pub ReadsInput : Stream → Result (Vec Stamped) ProgramFault → Type 0
+ReadsInput input (Ok script) = ReadsScript input.before input.after (Ok script)
+ReadsInput input (Err reported) = (fault : ScriptFault) × ReadsScript input.before input.after (Err fault) × (reported ≡ of_script fault)
 
 -- the lines were no script, and nothing is written
-abbrev pub NoScript : Option (List ℕ) → Option (List ℕ) → Option (List ℕ) → Option (List ℕ) → Result (Unit {0}) ProgramFault → Type 0
-NoScript input left written now result =
-    (fault : ScriptFault) × ReadsScript input left (Err fault) × (result ≡ Err (of_script fault)) × (now ≡ written)
+abbrev pub NoScript : (input output : Stream) → Result (Unit {0}) ProgramFault → Type 0
+NoScript input output result =
+    (fault : ScriptFault) × ReadsScript input.before input.after (Err fault) × (result ≡ Err (of_script fault)) × IsUntouched output
 
 -- The commands of the lines were done in sessions that are cut at calls that the seed draws, on a copy of the flash, and the sessions
 -- reported; a fault of them has its cause.
-abbrev pub ScriptCut : Device → (seed sessions : ℕ) → Option (List ℕ) → Option (List ℕ) → Option (List ℕ) → Option (List ℕ) → Result (Unit {0}) ProgramFault → Type 0
-ScriptCut opened seed sessions input left written now result =
-    (copy : Device) × (script : Vec Stamped) × (ended : Result (Unit {0}) CutFault) × PowersUp opened copy × ReadsScript input left (Ok script)
-    × Cuts (record { first = copy; seed = seed; commands = script.items; sessions = sessions }) written now ended × IfErr ended (HasCause copy) × (result ≡ cut_ended ended)
+abbrev pub ScriptCut : Device → (seed sessions : ℕ) → (input output : Stream) → Result (Unit {0}) ProgramFault → Type 0
+ScriptCut opened seed sessions input output result =
+    (copy : Device) × (script : Vec Stamped) × (ended : Result (Unit {0}) CutFault) × PowersUp opened copy × ReadsScript input.before input.after (Ok script)
+    × Cuts (record { first = copy; seed = seed; commands = script.items; sessions = sessions }) output.before output.after ended × IfErr ended (HasCause copy) × (result ≡ cut_ended ended)
 
 -- sessions that are cut, on a copy of an image: it does not open; or the lines are no script; or they are done, and the
 -- seed draws the calls
-abbrev pub CutEnds : {F : Type 0} → (F → Option (List ℕ)) → Option F → (seed sessions : ℕ) → Option (List ℕ) → Option (List ℕ) → Option (List ℕ) → Option (List ℕ) → Result (Unit {0}) ProgramFault → Type 0
-CutEnds known image seed sessions input left written now result =
-    (NotOpened known image result × (left ≡ input) × (now ≡ written))
-    ⊎ ((opened : Device) × Opens known image opened
-    × (NoScript input left written now result ⊎ ScriptCut opened seed sessions input left written now result))
+abbrev pub CutEnds : {F : Type 0} → (F → Option (List ℕ)) → Option F → (seed sessions : ℕ) → (input output : Stream) → Result (Unit {0}) ProgramFault → Type 0
+CutEnds known image seed sessions input output result =
+    (NotOpened known image result × IsUntouched input × IsUntouched output)
+    ⊎ ((opened : Device) × Opens known image opened × (NoScript input output result ⊎ ScriptCut opened seed sessions input output result))
 
 -- no image was made: there is no file, or the sizes are none of a device, or memory was refused or the file not written
 abbrev pub NotMade : {F : Type 0} → Option F → (size pages blocks : ℕ) → Result (Unit {0}) ProgramFault → Type 0
@@ -121,8 +117,7 @@ pub record IsNew (made : Device) : Type 0 where
   pub counts : CountsNothing made
 
 -- a new volume in an image
-abbrev pub MakeEnds : {F P V : Type 0} → (P → PagesState) → (V → PageVolume P) → (V → Stamped → Reply → V → Type 0)
-    → Option F → (size pages blocks spare : ℕ) → Option (List ℕ) → Option (List ℕ) → Result (Unit {0}) ProgramFault → Type 0
-MakeEnds state inside serves image size pages blocks spare written now result =
-    (NotMade image size pages blocks result × (now ≡ written))
-    ⊎ ((made : Device) × (after : Device) × HasSizes size pages blocks made × IsNew made × FormatEnds state inside serves spare made written now after result)
+abbrev pub MakeEnds : {F N : Type 0} → Ghosts (TrustedNand N) → Option F → (size pages blocks spare : ℕ) → Stream → Result (Unit {0}) ProgramFault → Type 0
+MakeEnds trusted image size pages blocks spare output result =
+    (NotMade image size pages blocks result × IsUntouched output)
+    ⊎ ((made : Device) × (after : Device) × HasSizes size pages blocks made × IsNew made × FormatEnds trusted spare made output after result)

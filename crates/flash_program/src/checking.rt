@@ -1,15 +1,11 @@
 // The check of an image.
-ghost use Rattle.posix_calls.specs.Volumes.{over_pages};
 ghost use Rattle.flash_program.specs.Images.{ImageCheckEnds};
+ghost use Rattle.flash_program.specs.Sessions.{stream};
 
 use crate::fault::ProgramFault;
 use crate::opening::copy_of;
-use crate::serve::ServedVolume;
 use crate::space::check_device;
-use line_shell::Serve;
-use nand_model::{MemNand, TrustedNand};
-use page_store::FlashPages;
-use pages::Pages;
+use nand_model::{MemNand, Nand, TrustedNand};
 use std::alloc::Global;
 use std::io::{Read, Write};
 
@@ -20,8 +16,7 @@ pub(crate) fn check_image<F: Read + Drop, W: Write>(
     image: Option<F>,
     writer: &mut W,
 ) -> Result<(), ProgramFault>
-    ensures { ImageCheckEnds F.remaining ⟦<FlashPages<TrustedNand<MemNand>> as Pages>⟧.state (λ v. over_pages v.volume) ⟦<ServedVolume<MemNand> as Serve>⟧.serves
-        image (W.contents writer.old) (W.contents writer.new) result }
+    ensures { ImageCheckEnds F.remaining ⟦<TrustedNand<MemNand> as Nand>⟧ image (stream W.contents writer.old writer.new) result }
 {
     let device = copy_of(alloc, image)?;
     let (_device, ended) = check_device(alloc, device, writer);

@@ -1,16 +1,12 @@
 // A new volume in an image.
-ghost use Rattle.posix_calls.specs.Volumes.{over_pages};
 ghost use Rattle.flash_program.specs.Images.{MakeEnds};
+ghost use Rattle.flash_program.specs.Sessions.{stream};
 ghost use Rattle.flash_program.specs.Spaces.{FormatEnds};
 
 use crate::fault::ProgramFault;
-use crate::serve::ServedVolume;
 use crate::space::show_device;
-use line_shell::Serve;
 use nand_image::{ImageNand, create_image};
 use nand_model::{Geometry, Nand, TrustedNand};
-use page_store::FlashPages;
-use pages::Pages;
 use posix_calls::format;
 use std::alloc::Global;
 use std::io::{Read, Seek, Write};
@@ -22,8 +18,7 @@ fn format_device<N: Nand, W: Write>(
     spare: u32,
     writer: &mut W,
 ) -> (N, Result<(), ProgramFault>)
-    ensures { FormatEnds ⟦<FlashPages<TrustedNand<N>> as Pages>⟧.state (λ v. over_pages v.volume) ⟦<ServedVolume<N> as Serve>⟧.serves
-        spare (N.state device) (W.contents writer.old) (W.contents writer.new) (N.state result.0) result.1 }
+    ensures { FormatEnds ⟦<TrustedNand<N> as Nand>⟧ spare (N.state device) (stream W.contents writer.old writer.new) (N.state result.0) result.1 }
 {
     match format(alloc, device, spare) {
         Ok(device) => show_device(alloc, device, writer),
@@ -41,8 +36,7 @@ pub(crate) fn make_image<F: Read + Write + Seek + Drop, W: Write>(
     spare: u32,
     writer: &mut W,
 ) -> Result<(), ProgramFault>
-    ensures { MakeEnds ⟦<FlashPages<TrustedNand<ImageNand<F>>> as Pages>⟧.state (λ v. over_pages v.volume) ⟦<ServedVolume<ImageNand<F>> as Serve>⟧.serves
-        image size pages blocks spare (W.contents writer.old) (W.contents writer.new) result }
+    ensures { MakeEnds ⟦<TrustedNand<ImageNand<F>> as Nand>⟧ image size pages blocks spare (stream W.contents writer.old writer.new) result }
 {
     let Some(file) = image else {
         return Err(ProgramFault::File);

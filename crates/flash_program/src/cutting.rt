@@ -1,6 +1,7 @@
 // Sessions that are cut, on a copy of an image.
 ghost use Rattle.std.specs.Prelude.{◌≡◌};
 ghost use Rattle.flash_program.specs.Images.{of_cut, ReadsInput, CutEnds};
+ghost use Rattle.flash_program.specs.Sessions.{stream};
 
 use crate::fault::ProgramFault;
 use crate::opening::copy_of;
@@ -12,7 +13,7 @@ use std::io::{BufRead, Read, Write};
 
 /// The commands of all lines.
 fn script_of<R: BufRead>(alloc: Global, reader: &mut R) -> Result<Vec<Stamped>, ProgramFault>
-    ensures { ReadsInput (R.remaining reader.old) (R.remaining reader.new) result }
+    ensures { ReadsInput (stream R.remaining reader.old reader.new) result }
 {
     Ok(read_script(alloc, reader)?)
 }
@@ -40,7 +41,7 @@ pub(crate) fn cut_image<F: Read + Drop, R: BufRead, W: Write>(
     reader: &mut R,
     writer: &mut W,
 ) -> Result<(), ProgramFault>
-    ensures { CutEnds F.remaining image seed sessions (R.remaining reader.old) (R.remaining reader.new) (W.contents writer.old) (W.contents writer.new) result }
+    ensures { CutEnds F.remaining image seed sessions (stream R.remaining reader.old reader.new) (stream W.contents writer.old writer.new) result }
 {
     let device = copy_of(alloc, image)?;
     let script = script_of(alloc, reader)?;

@@ -1,17 +1,14 @@
 // The program: a flash in memory is formatted, mounted, called by the lines of a shell and unmounted.
 ghost use Rattle.std.specs.Prelude.{◌≡◌, ◌⊎◌, IfOk, IfErr};
 ghost use Rattle.nand_model.specs.MemoryState.{device};
-ghost use Rattle.posix_calls.specs.Volumes.{over_pages};
 ghost use Rattle.posix_profile.specs.laws.Fresh.{fresh};
-ghost use Rattle.flash_program.specs.Sessions.{reported, LinesEnd, IsEarly, IsFresh, ProgramEnds};
+ghost use Rattle.flash_program.specs.Sessions.{reported, stream, LinesEnd, IsEarly, IsFresh, ProgramEnds};
 ghost use Rattle.flash_program.specs.declared.fault.ProgramFault.TheVariants as faults;
 
 use crate::fault::ProgramFault;
 use crate::serve::ServedVolume;
-use line_shell::{Serve, ShellFault, shell};
+use line_shell::{ShellFault, shell};
 use nand_model::{Geometry, MemNand, Nand, TrustedNand};
-use page_store::FlashPages;
-use pages::Pages;
 use posix_calls::{Volume, format};
 use posix_profile::Reply;
 use std::alloc::Global;
@@ -54,8 +51,7 @@ pub(crate) fn answer_lines<N: Nand, R: BufRead, W: Write>(
     reader: &mut R,
     writer: &mut W,
 ) -> (N, Result<(), ProgramFault>)
-    ensures { LinesEnd ⟦<FlashPages<TrustedNand<N>> as Pages>⟧.state (λ v. over_pages v.volume) ⟦<ServedVolume<N> as Serve>⟧.serves (N.state device)
-        (R.remaining reader.old) (R.remaining reader.new) (W.contents writer.old) (W.contents writer.new) (N.state result.0) result.1 }
+    ensures { LinesEnd ⟦<TrustedNand<N> as Nand>⟧ (N.state device) (stream R.remaining reader.old reader.new) (stream W.contents writer.old writer.new) (N.state result.0) result.1 }
 {
     let volume = match Volume::mount(alloc, device) {
         Ok(volume) => volume,
@@ -73,8 +69,7 @@ pub(crate) fn run_in_memory<R: BufRead, W: Write>(
     reader: &mut R,
     writer: &mut W,
 ) -> Result<(), ProgramFault>
-    ensures { ProgramEnds ⟦<FlashPages<TrustedNand<MemNand>> as Pages>⟧.state (λ v. over_pages v.volume) ⟦<ServedVolume<MemNand> as Serve>⟧.serves
-        (R.remaining reader.old) (R.remaining reader.new) (W.contents writer.old) (W.contents writer.new) result }
+    ensures { ProgramEnds ⟦<TrustedNand<MemNand> as Nand>⟧ (stream R.remaining reader.old reader.new) (stream W.contents writer.old writer.new) result }
 {
     let device = new_flash(alloc)?;
     let (_, ended) = answer_lines(alloc, device, reader, writer);

@@ -1,15 +1,11 @@
 // The lines of a shell over an image.
-ghost use Rattle.posix_calls.specs.Volumes.{over_pages};
 ghost use Rattle.flash_program.specs.Images.{RunEnds};
+ghost use Rattle.flash_program.specs.Sessions.{stream};
 
 use crate::fault::ProgramFault;
 use crate::memory::answer_lines;
-use crate::serve::ServedVolume;
-use line_shell::Serve;
 use nand_image::{ImageNand, open_image};
-use nand_model::TrustedNand;
-use page_store::FlashPages;
-use pages::Pages;
+use nand_model::{Nand, TrustedNand};
 use std::alloc::Global;
 use std::io::{BufRead, Read, Seek, Write};
 
@@ -20,8 +16,7 @@ pub(crate) fn run_image<F: Read + Write + Seek + Drop, R: BufRead, W: Write>(
     reader: &mut R,
     writer: &mut W,
 ) -> Result<(), ProgramFault>
-    ensures { RunEnds F.remaining ⟦<FlashPages<TrustedNand<ImageNand<F>>> as Pages>⟧.state (λ v. over_pages v.volume) ⟦<ServedVolume<ImageNand<F>> as Serve>⟧.serves
-        image (R.remaining reader.old) (R.remaining reader.new) (W.contents writer.old) (W.contents writer.new) result }
+    ensures { RunEnds F.remaining ⟦<TrustedNand<ImageNand<F>> as Nand>⟧ image (stream R.remaining reader.old reader.new) (stream W.contents writer.old writer.new) result }
 {
     let Some(file) = image else {
         return Err(ProgramFault::File);

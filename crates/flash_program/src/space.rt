@@ -1,7 +1,7 @@
 // The space of a volume.
 ghost use Rattle.std.specs.Prelude.{◌≡◌};
 ghost use Rattle.nand_model.specs.MemoryState as memory;
-ghost use Rattle.posix_calls.specs.Volumes.{over_pages};
+ghost use Rattle.flash_program.specs.Sessions.{stream};
 ghost use Rattle.flash_program.specs.Spaces.{space_asked, space_text, IsStated, CheckEnds, shown, ShowEnds};
 ghost use Rattle.line_shell.specs.Written.{Writes};
 
@@ -9,8 +9,6 @@ use crate::fault::ProgramFault;
 use crate::serve::ServedVolume;
 use line_shell::{Serve, write_bytes, write_reply};
 use nand_model::{MemNand, Nand, TrustedNand};
-use page_store::FlashPages;
-use pages::Pages;
 use posix_calls::Volume;
 use posix_profile::{Command, Reply, Stamped};
 use std::alloc::Global;
@@ -43,7 +41,7 @@ fn report_space<W: Write>(
     reply: &Reply,
     read_only: bool,
 ) -> Result<(), ProgramFault>
-    ensures { IsStated (W.contents writer.old) (W.contents writer.new) (space_text reply.now read_only) result }
+    ensures { IsStated (stream W.contents writer.old writer.new) (space_text reply.now read_only) result }
 {
     match write_space(writer, reply, read_only) {
         Ok(()) => Ok(()),
@@ -58,8 +56,7 @@ pub(crate) fn check_device<W: Write>(
     device: MemNand,
     writer: &mut W,
 ) -> (MemNand, Result<(), ProgramFault>)
-    ensures { CheckEnds ⟦<FlashPages<TrustedNand<MemNand>> as Pages>⟧.state (λ v. over_pages v.volume) ⟦<ServedVolume<MemNand> as Serve>⟧.serves
-        (memory.device device) (W.contents writer.old) (W.contents writer.new) (memory.device result.0) result.1 }
+    ensures { CheckEnds ⟦<TrustedNand<MemNand> as Nand>⟧ (memory.device device) (stream W.contents writer.old writer.new) (memory.device result.0) result.1 }
 {
     let volume = match Volume::mount_scanned(alloc, device) {
         Ok(volume) => volume,
@@ -88,8 +85,7 @@ pub(crate) fn show_device<N: Nand, W: Write>(
     device: N,
     writer: &mut W,
 ) -> (N, Result<(), ProgramFault>)
-    ensures { ShowEnds ⟦<FlashPages<TrustedNand<N>> as Pages>⟧.state (λ v. over_pages v.volume) ⟦<ServedVolume<N> as Serve>⟧.serves
-        (N.state device) (W.contents writer.old) (W.contents writer.new) (N.state result.0) result.1 }
+    ensures { ShowEnds ⟦<TrustedNand<N> as Nand>⟧ (N.state device) (stream W.contents writer.old writer.new) (N.state result.0) result.1 }
 {
     let volume = match Volume::mount(alloc, device) {
         Ok(volume) => volume,

@@ -89,7 +89,7 @@ module _ (g : Geometry) (flash : Flash) (within : IsWithin g.pages g.blocks flas
         with_tree list on whole = elim (twice_reported (z spare) (is_page_size g) m single (header spare) root_number list whole) [
           | inl twice ↦ (IsWrong IsDamaged, inr (inr (inl (spare, volume, refl, list, on, twice))))
           | inr once ↦
-              let content = λ (o : ℕ) (named : List ℕ) (finds : Finds (z spare) m o (Leads named)). content_there (z spare) m (λ o c page has. (fits o c page has).1) o named finds in
+              let content = λ (o : ℕ) (named : List ℕ) (lookups : Finds (z spare) m o (Leads named)). content_there (z spare) m (λ o c page has. (fits o c page has).1) o named lookups in
               let shown = some_tree (z spare) (is_page_size g) m single content volume.fields volume.has volume.kind list whole once in
               let objects = tree_objects (z spare) (is_page_size g) m single content volume.fields volume.has volume.kind list whole once in
               elim (room_reported g flash within spare (header spare) objects) [
@@ -106,7 +106,7 @@ module _ (g : Geometry) (flash : Flash) (within : IsWithin g.pages g.blocks flas
   root_answer : (f : Fields) → HasHeader (z 0) m root_number f → (kind : ObjectKind) → f.kind ≡ kind → (a : Answer) × Answers g flash a
   root_answer f has kinds.File is = (IsWrong IsDamaged, inl (inr (refl, f, has, inl is)))
   root_answer f has kinds.Directory is = elim (cases_lt g.blocks (f.spare + 4)) [
-    | inl few ↦ (IsWrong IsDamaged, inl (inr (refl, f, has, inr few)))
+    | inl within_limit ↦ (IsWrong IsDamaged, inl (inr (refl, f, has, inr within_limit)))
     | inr room ↦ volume_answer f.spare (record { fields = f; has = has; kind = is; spare_is = refl; room = room })
   ]
 

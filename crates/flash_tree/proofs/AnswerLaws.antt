@@ -44,7 +44,7 @@ module _ (g : Geometry) (m : NewestMap) (single : IsSingle m) where
   wrong_root_no_volume : (wrong : Wrong) (s : ℕ) → HasWrongRoot g m wrong → IsVolume g m s → ⊥
   wrong_root_no_volume wrong s (inl (fault, faulty, ne, is)) v = header_no_fault (z 0) (is_page_size g) m single root_number v.fields fault v.has faulty
   wrong_root_no_volume wrong s (inr (is, f, has, inl file)) v = kinds_apart (z 0) (is_page_size g) m single root_number f v.fields has v.has file v.kind
-  wrong_root_no_volume wrong s (inr (is, f, has, inr few)) v =
+  wrong_root_no_volume wrong s (inr (is, f, has, inr within_limit)) v =
       let same : f ≡ v.fields = same_header (z 0) (is_page_size g) m single root_number f v.fields has v.has in
       let spare : f.spare ≡ s = ap (λ (x : Fields). x.spare) same ∙ v.spare_is in
       let room = v.room in

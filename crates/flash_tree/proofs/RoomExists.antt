@@ -127,7 +127,7 @@ module _ (g : Geometry) (flash : Flash) (within : IsWithin g.pages g.blocks flas
     | inl lt ↦ elim (cases_Bool (flash.bad b)) [
       | inl bad ↦ inr (λ free. let two : true ≡ false = sym bad ∙ free.good in cc)
       | inr good ↦ elim (below_reported (HoldsOne b) (holds_one_reported b) g.pages) [
-        | inl (p, few, h) ↦ inr (λ free. free.apart h.object h.chunk h.spot h.looked h.newest h.block)
+        | inl (p, within_limit, h) ↦ inr (λ free. free.apart h.object h.chunk h.spot h.looked h.newest h.block)
         | inr none ↦ inl (record {
           within = lt;
           good = good;
@@ -195,7 +195,7 @@ module _ (g : Geometry) (flash : Flash) (within : IsWithin g.pages g.blocks flas
   count_reported count = go (free_below g.blocks) where
     -- more free blocks than there are have no places among them
     too_many : (bs : List ℕ) → AreFree g.blocks bs → length bs < count → HasFree g flash z objects count → ⊥
-    too_many bs are few h =
+    too_many bs are within_limit h =
         let l = listed (λ i p. (b : ℕ) × (slice_get h.blocks i ≡ Some b) × (slice_get bs p ≡ Some b)) count (λ i lt.
         let b = slice_get_there h.blocks i (omega (arith, h.size)) in
         let free = h.each i b.0 b.1 in
@@ -221,8 +221,8 @@ module _ (g : Geometry) (flash : Flash) (within : IsWithin g.pages g.blocks flas
 
     go : ((bs : List ℕ) × AreFree g.blocks bs) → IsStated (HasFree g flash z objects count)
     go (bs, are) = elim (cases_lt (length bs) count) [
-      | inl few ↦ inr (too_many bs are few)
-      | inr enough ↦ inl (record {
+      | inl within_limit ↦ inr (too_many bs are within_limit)
+      | inr sufficient ↦ inl (record {
         blocks = take count bs;
         size = length-take count bs ∙ omega arith;
         once = λ i j b is is'. are.once i j b (taken count bs i b is) (taken count bs j b is');
@@ -237,10 +237,10 @@ pub room_reported : (g : Geometry) (flash : Flash) (within : IsWithin g.pages g.
 room_reported g flash within spare header objects = elim (at_least_reported (charge (sizes_of g spare) objects) (capacity (sizes_of g spare))) [
   | inr full ↦ inr (λ room. full room.fits)
   | inl fits ↦ elim (at_least_reported (bad_blocks g flash) spare) [
-    | inr many ↦ inl (record { fits = fits; free = λ few. absurd (many few) })
-    | inl few ↦ elim (count_reported g flash within (sizes_of g spare) (is_page_size g) header objects (1 + spare - bad_blocks g flash)) [
-      | inl free ↦ inl (record { fits = fits; free = λ few. free })
-      | inr not ↦ inr (λ room. not (room.free few))
+    | inr many ↦ inl (record { fits = fits; free = λ within_limit. absurd (many within_limit) })
+    | inl within_limit ↦ elim (count_reported g flash within (sizes_of g spare) (is_page_size g) header objects (1 + spare - bad_blocks g flash)) [
+      | inl free ↦ inl (record { fits = fits; free = λ within_limit. free })
+      | inr not ↦ inr (λ room. not (room.free within_limit))
     ]
   ]
 ]

@@ -131,9 +131,9 @@ module _ (z : Sizes) (size : IsPageSize z.page_bytes) (m : NewestMap) (single : 
   -- what is led to is on the list, and reached
   led_reached : (o : ℕ) → IsLedTo z m root_number o → IsOn list o × Reached tree_objects o
   led_reached o is_first = (root_on, root)
-  led_reached o (is_named {o = d} named k led finds at) =
+  led_reached o (is_named {o = d} named k led lookups at) =
       let up = led_reached d led in
-      let n = slot_names d named k o up.0 finds at in
+      let n = slot_names d named k o up.0 lookups at in
       (leads_on d o n.0 n.1, below n.0 up.1 n.1)
 
   reached_on : (o : ℕ) → IsOn list o → Reached tree_objects o
@@ -149,8 +149,8 @@ module _ (z : Sizes) (size : IsPageSize z.page_bytes) (m : NewestMap) (single : 
   -- numbers from 1 up
   in_range : (o : ℕ) → IsLedTo z m root_number o → (1 ≤ o) × (o < 2 ^ 64 - 1)
   in_range o is_first = (omega arith, omega arith)
-  in_range o (is_named {o = d} named k led finds at) =
-      let n = slot_names d named k o (led_reached d led).0 finds at in
+  in_range o (is_named {o = d} named k led lookups at) =
+      let n = slot_names d named k o (led_reached d led).0 lookups at in
       let some = at_least_2 d o n.0 n.1 in
       (omega (arith, some.0), some.1)
 

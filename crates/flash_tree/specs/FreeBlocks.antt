@@ -15,5 +15,5 @@ pub record IsFreeOf (flash : Flash) (keys : ℕ → ℕ → Type 0) (b : ℕ) : 
 -- so many blocks as may still be needed for retirements, and one for a collection, are bad already or free of these keys
 pub record LeavesFree (g : Geometry) (flash : Flash) (spare : ℕ) (keys : ℕ → ℕ → Type 0) : Type 0 where
   pub free : ℕ → Bool
-  pub enough : 1 + spare ≤ count_by free (range_with_len 0 g.blocks) + bad_blocks g flash
+  pub sufficient : 1 + spare ≤ count_by free (range_with_len 0 g.blocks) + bad_blocks g flash
   pub each : (b : ℕ) → b < g.blocks → free b ≡ true → IsFreeOf flash keys b

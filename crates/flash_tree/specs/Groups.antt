@@ -2,6 +2,7 @@
 -- From: the format: tags, `FORMATS.md`.
 use Rattle.std.specs.Prelude.{◌≡◌, ◌⊎◌, ◌↔◌, ◌<◌, ◌≤◌, ℕ, ◌+◌, false, List}
 use Rattle.nand_model.specs.Flash.{Flash, Written}
+use Rattle.nand_model.specs.Changes.{Grows}
 use Rattle.page_tags.specs.declared.tag.Tag.{Tag}
 use Rattle.page_tags.specs.Tags.{tag_bytes, IsTag}
 
@@ -54,3 +55,20 @@ AddsGroup added old new = (g : Group) → IsGroup new g ↔ (IsGroup old g ⊎ (
 -- all pages of the group are there, with these tags and data
 abbrev pub AllThere : Group → (ℕ → Tag) → (ℕ → List ℕ) → Flash → Type 0
 AllThere g tag bytes flash = (i : ℕ) → i < g.size → (flash.page g.block (g.start + i) ≡ Written (bytes i) (tag_bytes (tag i))) × IsTag (tag i)
+
+-- The group is added, with these tags and data of its pages, and only erased pages are other than they were.
+pub record AddsWhole (g : Group) (tag : ℕ → Tag) (bytes : ℕ → List ℕ) (old new : Flash) : Type 0 where
+  pub adds : AddsGroup g old new
+  pub grows : Grows old new
+  pub pages : AllThere g tag bytes new
+
+-- page i of the group is of the key, and no other is
+pub record NamesOnce (x : Group) (tag : ℕ → Tag) (o c i : ℕ) : Type 0 where
+  pub within : i < x.size
+  pub object : (tag i).object ≡ o
+  pub chunk : (tag i).chunk ≡ c
+  pub once : (k : ℕ) → k < x.size → (tag k).object ≡ o → (tag k).chunk ≡ c → k ≡ i
+
+-- no page of the group is of the key
+abbrev pub NamesNot : Group → (ℕ → Tag) → ℕ → ℕ → Type 0
+NamesNot x tag o c = (i : ℕ) → i < x.size → (tag i).object ≡ o → (tag i).chunk ≡ c → ⊥

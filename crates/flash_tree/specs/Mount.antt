@@ -1,6 +1,6 @@
 -- What a mount answers of a flash.
 -- From: this project.
-use Rattle.std.specs.Prelude.{◌≡◌, ◌≢◌, ◌⊎◌, ◌<◌, ◌≤◌, ℕ, ◌+◌, ◌-◌, true, false, List, [], ◌∷◌, ◌++◌, length, slice_get, map as list_map, count_by, nat_eq, Some, if◌then◌else◌}
+use Rattle.std.specs.Prelude.{◌≡◌, ◌≢◌, ◌⊎◌, ◌<◌, ◌≤◌, ℕ, ◌+◌, ◌-◌, Bool, true, false, List, [], ◌∷◌, ◌++◌, length, slice_get, map as list_map, count_by, nat_eq, Some, if◌then◌else◌}
 use Rattle.std.specs.List.{list_any, range_with_len}
 use Rattle.nand_model.specs.Flash.{Flash}
 use Rattle.nand_model.specs.declared.geometry.Geometry.{Geometry}
@@ -13,7 +13,7 @@ use Rattle.volume_terms.specs.Sizes.{Sizes, capacity, root_number}
 use Rattle.posix_profile.specs.State.{Objects}
 use Rattle.posix_profile.specs.Charge.{charge}
 use Rattle.flash_tree.specs.Newest.{Spot, IsNewest, HasNewest}
-use Rattle.flash_tree.specs.Tree.{NewestMap, HasHeader, SlotIs, Shows, InFootprint}
+use Rattle.flash_tree.specs.Tree.{NewestMap, HasHeader, SlotIs, Shows, FlashShows, InFootprint}
 
 -- why a flash is no tree: an object's header is of a newer format, or something is amiss
 pub data Wrong : Type 0 where
@@ -100,6 +100,10 @@ pub data GoesThrough (z : Sizes) (m : NewestMap) : List ℕ → ℕ → ListEnd 
   goes : {list : List ℕ} {n : ℕ} {end : ListEnd} (o : ℕ) (named : List ℕ) → slice_get list n ≡ Some o → Finds z m o (Leads named)
       → GoesThrough z m (with_new list named) (n + 1) end → GoesThrough z m list n end
 
+-- going through the list from place n on, by the newest pages of the flash, ends so
+abbrev pub EndsBy : Sizes → Flash → List ℕ → ℕ → ListEnd → Type 0
+EndsBy z flash list n end = GoesThrough z (HasNewest flash) list n end
+
 -- the numbers of a volume with so many spare blocks on a device of these sizes
 abbrev pub sizes_of : Geometry → ℕ → Sizes
 sizes_of g spare = record { page_bytes = g.bytes; block_pages = g.pages; blocks = g.blocks; spare_blocks = spare }
@@ -167,10 +171,22 @@ pub record HasFree (g : Geometry) (flash : Flash) (z : Sizes) (objects : Objects
   pub once : (i j b : ℕ) → slice_get blocks i ≡ Some b → slice_get blocks j ≡ Some b → i ≡ j
   pub each : (i b : ℕ) → slice_get blocks i ≡ Some b → IsFree g flash z objects b
 
+-- a test picks so many blocks, or more, and each that it picks is free
+pub record PicksFree (g : Geometry) (flash : Flash) (z : Sizes) (objects : Objects) (count : ℕ) : Type 0 where
+  pub picks : ℕ → Bool
+  pub sufficient : count ≤ count_by picks (range_with_len 0 g.blocks)
+  pub each : (b : ℕ) → b < g.blocks → picks b ≡ true → IsFree g flash z objects b
+
 -- a volume can go on with the tree: it fits, and blocks enough are free, as long as not too many are bad
 pub record HasRoom (g : Geometry) (flash : Flash) (spare : ℕ) (objects : Objects) : Type 0 where
   pub fits : charge (sizes_of g spare) objects ≤ capacity (sizes_of g spare)
   pub free : bad_blocks g flash ≤ spare → HasFree g flash (sizes_of g spare) objects (1 + spare - bad_blocks g flash)
+
+-- the flash shows this tree of a volume of so many spare blocks, and the volume can go on with it
+pub record HasUsableTree (g : Geometry) (flash : Flash) (spare : ℕ) (objects : Objects) : Type 0 where
+  pub volume : IsVolume g (HasNewest flash) spare
+  pub shows : FlashShows (sizes_of g spare) flash objects
+  pub room : HasRoom g flash spare objects
 
 -- what a mount answers where neither power nor memory ends it
 pub data Answer : Type 0 where

@@ -34,6 +34,10 @@ IsAfter s t = (t.tag.version < s.tag.version)
     ⊎ ((s.tag.version ≡ t.tag.version) × ((t.tag.seq < s.tag.seq)
     ⊎ ((s.tag.seq ≡ t.tag.seq) × ((t.page < s.page) ⊎ ((s.page ≡ t.page) × (t.block < s.block))))))
 
+-- no page that counts for the key comes after this one
+abbrev pub HasNoneAfter : Flash → ℕ → ℕ → Spot → Type 0
+HasNoneAfter flash o c s = (t : Spot) → Holds flash o c t → IsAfter t s → ⊥
+
 -- the newest page of the key: it counts, and none that counts comes after it
 pub record IsNewest (flash : Flash) (o c : ℕ) (s : Spot) : Type 0 where
   pub holds : Holds flash o c s

@@ -7,11 +7,11 @@ use Rattle.nand_model.specs.declared.geometry.Geometry.{Geometry}
 use Rattle.page_tags.specs.declared.tag.Tag.{Tag}
 use Rattle.page_tags.specs.declared.check.CheckEntry.{CheckEntry}
 use Rattle.flash_tree.specs.Checkpoints.{entry_of}
-use Rattle.flash_tree.specs.Groups.{HasTag, Group, SameGroups, AddsGroup, AllThere}
-use Rattle.flash_tree.specs.Newest.{Spot, Holds, IsAfter, IsNewest}
+use Rattle.flash_tree.specs.Groups.{HasTag, Group, SameGroups, AddsGroup, AllThere, NamesOnce}
+use Rattle.flash_tree.specs.Newest.{Spot, spot_in, Holds, IsAfter, IsNewest}
 use Rattle.flash_tree.specs.Numbering.{AreBelow}
 use Rattle.flash_tree.specs.Slots.{check_object}
-use Rattle.flash_tree.specs.Summaries.{BeginsSummary, Summary, summary_group, IsWholeSummary, AreFindable}
+use Rattle.flash_tree.specs.Summaries.{BeginsSummary, Summary, summary_group, IsWholeSummary, AreSummariesRight, AreFindable}
 
 -- no good block has a tag
 abbrev pub HasNoTags : Flash → Type 0
@@ -28,6 +28,10 @@ pub record WritesIn (o number seq : ℕ) (old new : Flash) : Type 0 where
   pub named : (l : ℕ) (t : Tag) → HasTag new o l t → HasTag old o l t ⊎ (t.group ≡ number)
   pub begun : (l : ℕ) (t : Tag) → HasTag new o l t → new.page o 0 ≢ Erased
   pub below : AreBelow old number (1 + seq)
+
+-- pages are written in one block, for one group
+abbrev pub WritesInOne : Flash → Flash → Type 0
+WritesInOne old new = (o : ℕ) × (number : ℕ) × (seq : ℕ) × WritesIn o number seq old new
 
 -- the group that is added, if one is, does not begin as a summary
 abbrev pub AddsNoSummary : Flash → Flash → Type 0
@@ -58,16 +62,11 @@ pub record AddsNamed (x : Group) (tag : ℕ → Tag) (bytes : ℕ → List ℕ) 
   pub no_summary : BeginsSummary (tag 0) → ⊥
   pub in_order : (l : ℕ) → l < x.start → old.page x.block l ≢ Erased
 
--- page i of the group is of the key, and no other is
-pub record NamesOnce (x : Group) (tag : ℕ → Tag) (o c i : ℕ) : Type 0 where
-  pub within : i < x.size
-  pub object : (tag i).object ≡ o
-  pub chunk : (tag i).chunk ≡ c
-  pub once : (k : ℕ) → k < x.size → (tag k).object ≡ o → (tag k).chunk ≡ c → k ≡ i
-
--- no page of the group is of the key
-abbrev pub NamesNot : Group → (ℕ → Tag) → ℕ → ℕ → Type 0
-NamesNot x tag o c = (i : ℕ) → i < x.size → (tag i).object ≡ o → (tag i).chunk ≡ c → ⊥
+-- A group that is no summary is added, with these tags and some data, to a flash whose summaries are right.
+pub record AddsTagged (g : Geometry) (x : Group) (tag : ℕ → Tag) (old new : Flash) : Type 0 where
+  pub bytes : ℕ → List ℕ
+  pub named : AddsNamed x tag bytes old new
+  pub right : AreSummariesRight g old
 
 -- the numbers are those of the key
 abbrev pub IsKey : ℕ → ℕ → ℕ → ℕ → Type 0
@@ -76,6 +75,18 @@ IsKey o c k d = (k ≡ o) × (d ≡ c)
 -- the key alone is findable: keys are exactly if each of them is
 abbrev pub IsFindable : Geometry → Flash → ℕ → ℕ → Type 0
 IsFindable g flash o c = AreFindable g flash (IsKey o c)
+
+-- each of these keys that was findable is so still
+abbrev pub LeavesFindable : Geometry → Flash → Flash → (ℕ → ℕ → Type 0) → Type 0
+LeavesFindable g old new keys = (o c : ℕ) → keys o c → IsFindable g old o c → IsFindable g new o c
+
+-- each key that was findable is so still
+abbrev pub LeavesAllFindable : Geometry → Flash → Flash → Type 0
+LeavesAllFindable g old new = (o c : ℕ) → IsFindable g old o c → IsFindable g new o c
+
+-- no newest page of the key lies in block b
+abbrev pub LiesElsewhere : Flash → ℕ → ℕ → ℕ → Type 0
+LiesElsewhere flash b o c = (p : Spot) → IsNewest flash o c p → p.block ≢ b
 
 -- s has the version of the newest page of its key
 abbrev pub IsCopy : Flash → Spot → Type 0
@@ -87,3 +98,7 @@ pub record Renews (g : Geometry) (flash : Flash) (number : ℕ) (s : Spot) : Typ
   pub ordinary : s.tag.object ≢ check_object
   pub last : (t : Spot) → Holds flash s.tag.object s.tag.chunk t → IsAfter t s → ⊥
   pub version : (s.tag.version ≡ number) ⊎ (IsFindable g flash s.tag.object s.tag.chunk × IsCopy flash s)
+
+-- each key that the group names once, by a page that renews it, is findable afterwards
+abbrev pub FindsNamed : Geometry → Group → (ℕ → Tag) → Flash → Flash → Type 0
+FindsNamed g x tag old new = (o c i : ℕ) → NamesOnce x tag o c i → Renews g old x.number (spot_in x tag i) → IsFindable g new o c

@@ -6,8 +6,10 @@ use Rattle.page_tags.specs.Headers.{Fields, IsHeader, header_bytes, is_present}
 use Rattle.page_tags.specs.declared.header.ObjectKind.TheVariants as kinds
 use Rattle.page_tags.specs.Slots.{Entry, slot_bytes}
 use Rattle.volume_terms.specs.Sizes.{Sizes, page_slots}
+use Rattle.nand_model.specs.Flash.{Flash}
 use Rattle.posix_profile.specs.State.{Name, Entries, Object, File, Dir, Objects}
 use Rattle.posix_profile.specs.WellFormed.{IsTree}
+use Rattle.flash_tree.specs.Newest.{HasNewest}
 use Rattle.flash_tree.specs.Slots.{IsTreeSlot}
 
 -- the bytes of a page that a header can fill
@@ -73,6 +75,10 @@ pub record Shows (z : Sizes) (m : NewestMap) (objects : Objects) : Type 0 where
   pub tree : IsTree z objects
   pub each : (o : ℕ) (x : Object) → map.get objects o ≡ Some x → ReadsAs z m o x
 
+-- the newest pages of the flash show these objects
+abbrev pub FlashShows : Sizes → Flash → Objects → Type 0
+FlashShows z flash objects = Shows z (HasNewest flash) objects
+
 -- which chunks of an object are looked up: its header, of a file those that are present, of a directory those of its slots
 abbrev pub LooksUp : Sizes → Fields → ℕ → Type 0
 LooksUp z f c =
@@ -89,3 +95,7 @@ pub record InFootprint (z : Sizes) (m : NewestMap) (objects : Objects) (o c : �
 -- what one has at its footprint the other has too
 abbrev pub KeepsFootprint : Sizes → NewestMap → NewestMap → Objects → Type 0
 KeepsFootprint z m n objects = (o c : ℕ) (bytes : List ℕ) → InFootprint z m objects o c → m o c bytes → n o c bytes
+
+-- what is looked up to see these objects on the old flash has the same newest data on the new one
+abbrev pub KeepsTreePages : Sizes → Flash → Flash → Objects → Type 0
+KeepsTreePages z old new objects = KeepsFootprint z (HasNewest old) (HasNewest new) objects

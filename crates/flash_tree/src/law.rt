@@ -1,19 +1,18 @@
 // What follows from what counts and what is shown. A function here does nothing: its clause is the law.
-ghost use Rattle.std.specs.Prelude.{◌≡◌, ◌≢◌, ◌<◌, ◌≤◌, ◌↔◌, ◌+◌, List, ℕ, Bool, true, count_by, Result};
-ghost use Rattle.std.specs.List.{range_with_len};
+ghost use Rattle.std.specs.Prelude.{◌≡◌, ◌<◌, ◌≤◌, ◌↔◌, List, ℕ, true};
 ghost use Rattle.nand_model.specs.Flash.{Flash, IsWithin, IsSized};
-ghost use Rattle.nand_model.specs.Calls.{Device, Marks};
+ghost use Rattle.nand_model.specs.Calls.{Device};
 ghost use Rattle.nand_model.specs.Changes.{Grows, Shrinks, OnlyReads};
-ghost use Rattle.nand_model.specs.declared.nand.Gone.{Gone};
 ghost use Rattle.page_tags.specs.declared.tag.Tag.{Tag};
 ghost use Rattle.volume_terms.specs.Sizes.{Sizes};
 ghost use Rattle.posix_profile.specs.State.{Objects};
-ghost use Rattle.flash_tree.specs.Groups.{HasTag, Group, IsCounted, SameGroups, AddsGroup, AllThere};
-ghost use Rattle.flash_tree.specs.Newest.{Spot, spot_in, Holds, IsAfter, IsNewest, IsNewestWith, HasNewest, Numbers, AreGreatest};
-ghost use Rattle.flash_tree.specs.Keeping.{StaysNewest, KeepsNewest, KeepsElsewhere};
+ghost use Rattle.flash_tree.specs.Fading.{MarksHonest};
+ghost use Rattle.flash_tree.specs.Groups.{HasTag, Group, IsCounted, SameGroups, AddsWhole};
+ghost use Rattle.flash_tree.specs.Newest.{Spot, Holds, IsAfter, IsNewest, IsNewestWith, HasNewest, Numbers, AreGreatest};
+ghost use Rattle.flash_tree.specs.Keeping.{StaysNewest, KeepsNewest, KeepsElsewhere, KeepsUnnamed, RenewsNamed};
 ghost use Rattle.flash_tree.specs.Places.{CountsByTag};
-ghost use Rattle.flash_tree.specs.Tree.{Shows, KeepsFootprint};
-ghost use Rattle.flash_tree.specs.Mount.{ListEnd, GoesThrough, sizes_of, IsVolume, IsFree, HasFree, HasRoom, Answer, Answers, IsTreeOf};
+ghost use Rattle.flash_tree.specs.Tree.{IsPageSize, FlashShows, KeepsTreePages};
+ghost use Rattle.flash_tree.specs.Mount.{ListEnd, EndsBy, HasFree, PicksFree, HasUsableTree, Answer, Answers, IsTreeOf};
 ghost use Rattle.flash_tree.specs.Sound.{IsSoundFlash};
 ghost use Rattle.nand_model.specs.declared.geometry.Geometry.{Geometry};
 
@@ -52,8 +51,8 @@ pub fn the_greatest_numbers_are_one()
 
 /// A newest page that stays so has its data, and it stays so over changes in turn.
 pub fn what_stays_newest_has_its_data()
-    ensures place { (old new : Flash) (o c : ℕ) (s : Spot) (bytes : List ℕ) → IsNewestWith old o c s bytes → StaysNewest old new o c s → IsNewestWith new o c s bytes }
-    ensures bytes { (old new : Flash) (o c : ℕ) (bytes : List ℕ) (h : HasNewest old o c bytes) → StaysNewest old new o c h.spot → HasNewest new o c bytes }
+    ensures place { (old new : Flash) (o c : ℕ) (s : Spot) (xs : List ℕ) → IsNewestWith old o c s xs → StaysNewest old new o c s → IsNewestWith new o c s xs }
+    ensures bytes { (old new : Flash) (o c : ℕ) (xs : List ℕ) (h : HasNewest old o c xs) → StaysNewest old new o c h.spot → HasNewest new o c xs }
     ensures on { (f g h : Flash) (o c : ℕ) (s : Spot) → StaysNewest f g o c s → StaysNewest g h o c s → StaysNewest f h o c s }
 {}
 
@@ -74,39 +73,31 @@ pub fn an_erase_keeps_what_lies_elsewhere()
 
 /// A mark, done or cut, keeps the newest pages that lie in other blocks.
 pub fn a_mark_keeps_what_lies_elsewhere()
-    ensures { (b : ℕ) (old new : Device) (result : Result (Unit {0}) Gone) → old.honest ≡ true → Marks b old new result → KeepsElsewhere b old.flash new.flash }
+    ensures { (b : ℕ) (old new : Device) → MarksHonest b old new → KeepsElsewhere b old.flash new.flash }
 {}
 
 /// After one more group a key that it names once, above all pages that the key had, has the group's page; a key that
 /// it doesn't name keeps its own.
 pub fn one_more_group_is_newest()
-    ensures named { (g : Group) (tag : ℕ → Tag) (bytes : ℕ → List ℕ) (old new : Flash) → AddsGroup g old new → Grows old new → AllThere g tag bytes new
-        → (o c i : ℕ) → i < g.size → (tag i).object ≡ o → (tag i).chunk ≡ c
-        → ((k : ℕ) → k < g.size → (tag k).object ≡ o → (tag k).chunk ≡ c → k ≡ i)
-        → ((t : Spot) → Holds old o c t → IsAfter t (spot_in g tag i) → ⊥)
-        → IsNewestWith new o c (spot_in g tag i) (bytes i) }
-    ensures other { (g : Group) (tag : ℕ → Tag) (bytes : ℕ → List ℕ) (old new : Flash) → AddsGroup g old new → Grows old new → AllThere g tag bytes new
-        → (o c : ℕ) (s : Spot) → ((i : ℕ) → i < g.size → (tag i).object ≡ o → (tag i).chunk ≡ c → ⊥)
-        → IsNewest old o c s → StaysNewest old new o c s }
+    ensures named { (g : Group) (tag : ℕ → Tag) (bytes : ℕ → List ℕ) (old new : Flash) → AddsWhole g tag bytes old new → RenewsNamed g tag bytes old new }
+    ensures other { (g : Group) (tag : ℕ → Tag) (bytes : ℕ → List ℕ) (old new : Flash) → AddsWhole g tag bytes old new → KeepsUnnamed g tag old new }
 {}
 
 /// A flash that has the newest pages of a tree's footprint shows that tree, whatever else stands on it.
 pub fn the_footprint_shows_the_tree()
-    ensures { (z : Sizes) (old new : Flash) (objects : Objects) → KeepsFootprint z (HasNewest old) (HasNewest new) objects
-        → Shows z (HasNewest old) objects → Shows z (HasNewest new) objects }
+    ensures { (z : Sizes) (old new : Flash) (objects : Objects) → KeepsTreePages z old new objects → FlashShows z old objects → FlashShows z new objects }
 {}
 
 /// A flash shows one tree at most.
 pub fn a_flash_shows_one_tree()
-    ensures { (z : Sizes) (f : Flash) (x y : Objects) → z.page_bytes ≤ 4096 → Shows z (HasNewest f) x → Shows z (HasNewest f) y → x ≡ y }
+    ensures { (z : Sizes) (f : Flash) (x y : Objects) → z.page_bytes ≤ 4096 → FlashShows z f x → FlashShows z f y → x ≡ y }
 {}
 
 /// The flash of a device, as the laws of a device have it, has an answer, and the answer is the tree where one is shown
 /// with room.
 pub fn a_flash_has_an_answer()
     ensures answer { (g : Geometry) (flash : Flash) → IsWithin g.pages g.blocks flash → IsSized g.bytes flash → (a : Answer) × Answers g flash a }
-    ensures tree { (g : Geometry) (flash : Flash) (spare : ℕ) (objects : Objects) → IsVolume g (HasNewest flash) spare
-        → Shows (sizes_of g spare) (HasNewest flash) objects → HasRoom g flash spare objects → Answers g flash (IsTreeOf spare objects) }
+    ensures tree { (g : Geometry) (flash : Flash) (spare : ℕ) (objects : Objects) → HasUsableTree g flash spare objects → Answers g flash (IsTreeOf spare objects) }
 {}
 
 /// A mount has one answer at most.
@@ -121,12 +112,10 @@ pub fn a_sound_flash_answers_its_tree()
 
 /// Going through the objects of a list ends in one way.
 pub fn a_list_is_gone_through_in_one_way()
-    ensures { (z : Sizes) (flash : Flash) (list : List ℕ) (n : ℕ) (a b : ListEnd) → 32 ≤ z.page_bytes → z.page_bytes ≤ 4096
-        → GoesThrough z (HasNewest flash) list n a → GoesThrough z (HasNewest flash) list n b → a ≡ b }
+    ensures { (z : Sizes) (f : Flash) (list : List ℕ) (n : ℕ) (a b : ListEnd) → IsPageSize z.page_bytes → EndsBy z f list n a → EndsBy z f list n b → a ≡ b }
 {}
 
 /// So many blocks as a test picks, where it picks only free ones, are free.
 pub fn free_blocks_can_be_counted()
-    ensures { (g : Geometry) (flash : Flash) (z : Sizes) (objects : Objects) (f : ℕ → Bool) (count : ℕ)
-        → ((b : ℕ) → b < g.blocks → f b ≡ true → IsFree g flash z objects b) → count ≤ count_by f (range_with_len 0 g.blocks) → HasFree g flash z objects count }
+    ensures { (g : Geometry) (flash : Flash) (z : Sizes) (objects : Objects) (count : ℕ) → PicksFree g flash z objects count → HasFree g flash z objects count }
 {}

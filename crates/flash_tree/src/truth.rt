@@ -1,13 +1,12 @@
 // What keeps a flash true: why the next mount may go by a checkpoint. A function here does nothing: its clause is the law.
-ghost use Rattle.std.specs.Prelude.{◌≡◌, ◌≢◌, ◌⊎◌, ℕ, true, List, None, Some, Result};
+ghost use Rattle.std.specs.Prelude.{◌≡◌, ℕ, None, Some};
 ghost use Rattle.nand_model.specs.Flash.{Flash};
-ghost use Rattle.nand_model.specs.Calls.{Device, Marks};
+ghost use Rattle.nand_model.specs.Calls.{Device};
 ghost use Rattle.nand_model.specs.Changes.{Shrinks};
 ghost use Rattle.nand_model.specs.declared.geometry.Geometry.{Geometry};
-ghost use Rattle.nand_model.specs.declared.nand.Gone.{Gone};
 ghost use Rattle.flash_tree.specs.Groups.{Group};
 ghost use Rattle.flash_tree.specs.Checkpoints.{Checkpoint, IsWhole, IsTrueFlash, IsChecked, HasNothing, AddsOrdinary, AddsCheckpoint};
-ghost use Rattle.flash_tree.specs.Fading.{Fades};
+ghost use Rattle.flash_tree.specs.Fading.{Fades, MarksHonest};
 
 /// A true flash has one whole checkpoint at most.
 pub fn a_true_flash_has_one_checkpoint()
@@ -17,8 +16,7 @@ pub fn a_true_flash_has_one_checkpoint()
 /// An erase of a block fades it, however it ends, and so does a mark of an honest device.
 pub fn an_erase_and_a_mark_fade_a_block()
     ensures erase { (b : ℕ) (old new : Flash) → Shrinks b old new → Fades b old new }
-    ensures mark { (b : ℕ) (old new : Device) (result : Result (Unit {0}) Gone) → old.honest ≡ true
-        → Marks b old new result → Fades b old.flash new.flash }
+    ensures mark { (b : ℕ) (old new : Device) → MarksHonest b old new → Fades b old.flash new.flash }
 {}
 
 /// Where a block fades, a flash stays true: where it is the block of the checkpoint, and where there is no checkpoint. Once

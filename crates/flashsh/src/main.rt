@@ -4,27 +4,28 @@
 //! the lines or standard output failed. With 2 and 4 one line, `fault` and a name, goes to standard error.
 #![tactic(auto)]
 
-ghost use Rattle.std.specs.Prelude.{◌≡◌, ◌≤◌, IfOk, None, Result, drop, map, option_map};
+ghost use Rattle.std.specs.Prelude.{◌≡◌, ◌≤◌, IfOk, None, drop, map, option_map};
 ghost use Rattle.std.specs.String.{string_bytes};
 ghost use Rattle.std.specs.Vec.Iter.{into_iter_items};
-ghost use Rattle.flash_program.specs.Acting.{over_device};
-ghost use Rattle.flash_program.specs.Statuses.{status_of, IsReported};
-ghost use Rattle.flash_program.specs.declared.fault.ProgramFault.{ProgramFault as Fault};
-ghost use Rattle.flashsh.specs.Ending.{IsDone, IsDoneWith, EndsWith};
+ghost use Rattle.flash_program.specs.Sessions.{stream};
+ghost use Rattle.flashsh.specs.Ending.{IsDone, IsDoneBetween, IsDoneWith, EndsWith};
 ghost use Rattle.flashsh.specs.Opening.{options_of, path_of};
 ghost use Rattle.flash_program.specs.Choices.{AskForHelp};
 ghost use Rattle.flash_program.specs.declared.chosen.Chosen.TheVariants as choices;
 
 use flash_program::{Chosen, ProgramFault, act, choose, parse, report};
 use nand_image::ImageNand;
-use nand_model::{MemNand, TrustedNand};
-use page_store::FlashPages;
-use pages::Pages;
+use nand_model::{MemNand, Nand, TrustedNand};
 use std::alloc::{AllocError, Global};
 use std::env::{self, Args};
 use std::fs::{File, OpenOptions};
 use std::io::{BufRead, LineWriter, Read, Write};
 use std::process::ExitCode;
+
+/// A flash in memory.
+type Memory = TrustedNand<MemNand>;
+/// The flash of an image in a file.
+type Image = TrustedNand<ImageNand<File>>;
 
 /// The words after the program's name, which is the first of the arguments.
 fn words_after_name(alloc: Global, arguments: Args) -> Result<Vec<String>, AllocError>
@@ -71,32 +72,36 @@ fn open(rt: &HostRuntime, chosen: &Chosen) -> Option<File>
     options_of(chosen).open(rt, path_of(chosen)?).ok()
 }
 
-/// Does what was chosen, between these, gives the status of its end, and writes a fault in `err`.
-fn perform<R: BufRead, W: Write, E: Write>(
+/// Does what was chosen, between these.
+fn perform<R: BufRead, W: Write>(
     rt: &HostRuntime,
     chosen: &Chosen,
     input: &mut R,
     out: &mut W,
-    err: &mut E,
-) -> u8
-    ensures { (ended : Result (Unit {0}) Fault) × (result ≡ status_of ended) × IsReported (E.contents err.old) (E.contents err.new) ended
-        × IsDone ⟦<File as Read>⟧.remaining (over_device ⟦<FlashPages<TrustedNand<MemNand>> as Pages>⟧.state) (over_device ⟦<FlashPages<TrustedNand<ImageNand<File>>> as Pages>⟧.state)
-        chosen.now (R.remaining input.old) (R.remaining input.new) (W.contents out.old) (W.contents out.new) ended }
+) -> Result<(), ProgramFault>
+    ensures { IsDone ⟦<File as Read>⟧.remaining ⟦<Memory as Nand>⟧ ⟦<Image as Nand>⟧
+        chosen.now (stream R.remaining input.old input.new) (stream W.contents out.old out.new) result }
 {
-    act(rt.alloc(), chosen, open(rt, chosen), input, out, err)
+    act(rt.alloc(), chosen, open(rt, chosen), input, out)
 }
 
-/// Does what was chosen, between standard input, output and error, and gives the status of its end.
-fn perform_between_streams(rt: &HostRuntime, chosen: &Chosen) -> u8
-    ensures { IsDoneWith ⟦<File as Read>⟧.remaining (over_device ⟦<FlashPages<TrustedNand<MemNand>> as Pages>⟧.state) (over_device ⟦<FlashPages<TrustedNand<ImageNand<File>>> as Pages>⟧.state)
-        chosen.now result }
+/// Does what was chosen, between standard input and output.
+fn perform_between_streams(rt: &HostRuntime, chosen: &Chosen) -> Result<(), ProgramFault>
+    ensures { IsDoneBetween ⟦<File as Read>⟧.remaining ⟦<Memory as Nand>⟧ ⟦<Image as Nand>⟧ chosen.now result }
 {
     let mut input = rt.stdin().lock();
-    let mut err = rt.stderr();
-    match LineWriter::new(rt.alloc(), rt.stdout()) {
-        Ok(mut out) => perform(rt, chosen, &mut input, &mut out, &mut err),
-        Err(_) => report(&mut err, Err(ProgramFault::NoMemory)),
-    }
+    let Ok(mut out) = LineWriter::new(rt.alloc(), rt.stdout()) else {
+        return Err(ProgramFault::NoMemory);
+    };
+    perform(rt, chosen, &mut input, &mut out)
+}
+
+/// Does what was chosen, and returns the status of its end. A fault is reported on standard error.
+fn end(rt: &HostRuntime, chosen: &Chosen) -> u8
+    ensures { IsDoneWith ⟦<File as Read>⟧.remaining ⟦<Memory as Nand>⟧ ⟦<Image as Nand>⟧ chosen.now result }
+{
+    let ended = perform_between_streams(rt, chosen);
+    report(&mut rt.stderr(), ended)
 }
 
 /// Says why the words are not taken, or the help or version that they ask for.
@@ -115,11 +120,10 @@ fn explain(rt: &HostRuntime, words: &[String]) -> u8
 
 /// Does what the words choose, or says why they are not taken, and gives the status.
 fn answer(rt: &HostRuntime, words: &[String]) -> u8
-    ensures { EndsWith ⟦<File as Read>⟧.remaining (over_device ⟦<FlashPages<TrustedNand<MemNand>> as Pages>⟧.state) (over_device ⟦<FlashPages<TrustedNand<ImageNand<File>>> as Pages>⟧.state)
-        (map string_bytes words.now) result }
+    ensures { EndsWith ⟦<File as Read>⟧.remaining ⟦<Memory as Nand>⟧ ⟦<Image as Nand>⟧ (map string_bytes words.now) result }
 {
     match choose(rt.alloc(), words) {
-        Ok(chosen) => perform_between_streams(rt, &chosen),
+        Ok(chosen) => end(rt, &chosen),
         Err(_) => explain(rt, words),
     }
 }

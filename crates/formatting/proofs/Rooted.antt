@@ -97,14 +97,14 @@ module _ (flash : Flash) (bytes : List ℕ) (tag : Tag) (valid : IsTag tag) (alo
 -- ---- the tag of the root's page is one
 
 root_tag : (page : FreshPage) (d : ℕ) (head : DirectoryHead) (n : ℕ) → IsHeadPage page d root_number head → 1 ≤ n → n ≤ 4096 → IsTag (single_tag page.key n)
-root_tag page d head n is some few = record {
+root_tag page d head n is some within_limit = record {
   count = (omega arith, omega arith);
   index = omega arith;
   object = (omega (arith, is.object_is), omega (arith, is.object_is));
   chunk = omega (arith, is.chunk_is);
   version = (some, omega arith);
-  group = omega (arith, few);
-  seq = (some, omega (arith, few));
+  group = omega (arith, within_limit);
+  seq = (some, omega (arith, within_limit));
 }
 
 -- ---- the volume
@@ -120,7 +120,7 @@ none_listed : (i : ℕ) (e : Entry) → slice_get [] i ≡ Some e → ⊥
 none_listed i e is = cc
 
 module _ (g : Geometry) (flash : Flash) (spare : ℕ) (room : spare + 4 ≤ g.blocks) (few_bad : bad_blocks g flash ≤ spare) (page : FreshPage)
-    (is : IsHeadPage page g.bytes root_number (empty_root spare)) (n : ℕ) (some : 1 ≤ n) (few : n ≤ 4096)
+    (is : IsHeadPage page g.bytes root_number (empty_root spare)) (n : ℕ) (some : 1 ≤ n) (within_limit : n ≤ 4096)
     (alone : StandsAlone flash page.bytes.items (single_tag page.key n)) where
   abbrev z : Sizes
   z = sizes_of g spare
@@ -129,7 +129,7 @@ module _ (g : Geometry) (flash : Flash) (spare : ℕ) (room : spare + 4 ≤ g.bl
   head = empty_root spare
 
   valid : IsTag (single_tag page.key n)
-  valid = root_tag page g.bytes head n is some few
+  valid = root_tag page g.bytes head n is some within_limit
 
   newest : HasNewest flash root_number 0 page.bytes.items
   newest = subst (λ o. HasNewest flash o 0 page.bytes.items) is.object_is
@@ -157,7 +157,7 @@ module _ (g : Geometry) (flash : Flash) (spare : ℕ) (room : spare + 4 ≤ g.bl
   above : AreAbove flash (record { version = number_limit; group = number_limit; seq = number_limit })
   above b p t good has =
       let tag : t ≡ single_tag page.key n = only_tag flash page.bytes.items (single_tag page.key n) valid alone b p t good has in
-      let small : n ≤ number_limit = omega (arith, few) in (
+      let small : n ≤ number_limit = omega (arith, within_limit) in (
         subst (λ (u : Tag). u.version ≤ number_limit) (sym tag) small,
         subst (λ (u : Tag). u.group ≤ number_limit) (sym tag) small,
         subst (λ (u : Tag). u.seq ≤ number_limit) (sym tag) small,
@@ -182,7 +182,7 @@ module _ (g : Geometry) (flash : Flash) (spare : ℕ) (room : spare + 4 ≤ g.bl
   has_room : HasRoom g flash spare fresh.objects
   has_room = record {
     fits = leb-true (charge z fresh.objects) (capacity z) (fresh_fits z (sizes_are g spare room));
-    free = λ few. free_of_picked g flash z fresh.objects picks (1 + spare - bad_blocks g flash) free (omega (arith, enough_picked flash.bad alone.block g.blocks, room));
+    free = λ within_limit. free_of_picked g flash z fresh.objects picks (1 + spare - bad_blocks g flash) free (omega (arith, enough_picked flash.bad alone.block g.blocks, room));
   }
 
   pub sound : IsSoundFlash g flash spare fresh.objects
@@ -201,11 +201,11 @@ volume_of old new spare page honest room keeps few_bad is only =
     let same : old.geometry ≡ new.geometry = sym keeps.lasts.geometry in
     let some_room : spare + 4 ≤ new.geometry.blocks = subst (λ (g : Geometry). spare + 4 ≤ g.blocks) same room in
     let head = subst (λ (g : Geometry). IsHeadPage page g.bytes root_number (empty_root spare)) same is in
-    sound new.geometry new.flash spare some_room few_bad page head only.number only.some (omega (arith, only.few, new.geometry.most_blocks)) (only.alone (keeps.lasts.honest ∙ honest))
+    sound new.geometry new.flash spare some_room few_bad page head only.number only.some (omega (arith, only.within_limit, new.geometry.most_blocks)) (only.alone (keeps.lasts.honest ∙ honest))
 
 -- and the only page that it leaves
 pub root_alone : (old new : Device) (spare : ℕ) (page : FreshPage) → old.honest ≡ true → Keeps old new → IsHeadPage page old.geometry.bytes root_number (empty_root spare) → HoldsOnly new page → HoldsOnlyRoot spare new
-root_alone old new spare page honest keeps is only = record { number = only.number; some = only.some; few = only.few; alone = alone } where
+root_alone old new spare page honest keeps is only = record { number = only.number; some = only.some; within_limit = only.within_limit; alone = alone } where
   keyed : StandsAlone new.flash page.bytes.items (single_tag root_key only.number)
   keyed =
       subst (λ (c : ℕ). StandsAlone new.flash page.bytes.items (single_tag (record { object = root_number; chunk = c }) only.number)) is.chunk_is

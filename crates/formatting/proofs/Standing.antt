@@ -33,12 +33,12 @@ stands_alone d b bytes tag honest clean within has before after = record { block
 pub stands_first : (old mid new : Device) (b failed : ℕ) (page : FreshPage) → Keeps old mid → Keeps mid new → mid.failures ≡ old.failures + failed → failed ≤ b → b < old.geometry.blocks
     → ((k : ℕ) → k < b → mid.flash.bad k ≡ true) → AreClear mid b → OthersStay b mid.flash new.flash → Takes mid new b page.bytes.items (single_tag page.key (failed + 1)) attempts.Stands
     → (new.honest ≡ true → IsClean new.flash) → IsWithin new.geometry.pages new.geometry.blocks new.flash → StandsFirst old new page
-stands_first old mid new b failed page first then count few inside bad ready others takes clean within = record {
+stands_first old mid new b failed page first then count within_limit inside bad ready others takes clean within = record {
   alone = λ honest.
       let is : new.honest ≡ true = then.lasts.honest ∙ first.lasts.honest ∙ honest in
       let number : failed + 1 ≡ 1 + (new.failures - old.failures) = omega (arith, takes.1, count) in
       subst (λ n. StandsAlone new.flash page.bytes.items (single_tag page.key n)) number (stands_alone new b page.bytes.items (single_tag page.key (failed + 1)) is (clean is) within takes.0 before after);
-  few = omega (arith, takes.1, count, few, inside);
+  within_limit = omega (arith, takes.1, count, within_limit, inside);
   has_power = takes.2;
 } where
   before : (k : ℕ) → k < b → new.flash.bad k ≡ true

@@ -19,11 +19,11 @@ root_valid spare d only = record {
   object = (omega arith, omega arith);
   chunk = omega arith;
   version = (only.some, omega arith);
-  group = omega (arith, few);
-  seq = (only.some, omega (arith, few));
+  group = omega (arith, within_limit);
+  seq = (only.some, omega (arith, within_limit));
 } where
-  few : only.number ≤ 4096
-  few = omega (arith, only.few, d.geometry.most_blocks)
+  within_limit : only.number ≤ 4096
+  within_limit = omega (arith, only.within_limit, d.geometry.most_blocks)
 
 -- it is the only one, so there is no checkpoint
 pub root_true : (spare : ℕ) (d : Device) → HoldsOnlyRoot spare d → IsTrueFlash d.geometry d.flash

@@ -67,14 +67,14 @@ Takes old new b bytes tag attempts.Failed = (new.flash.bad b ≡ true) × (new.f
 -- the page is the only one, and its number is one more than the count of the blocks that failed before one took it
 pub record StandsFirst (old new : Device) (page : FreshPage) : Type 0 where
   pub alone : old.honest ≡ true → StandsAlone new.flash page.bytes.items (single_tag page.key (1 + (new.failures - old.failures)))
-  pub few : new.failures < old.failures + old.geometry.blocks
+  pub within_limit : new.failures < old.failures + old.geometry.blocks
   pub has_power : new.gone ≡ false
 
 -- the page is the only one of the device, with a number from 1 to the count of blocks
 pub record HoldsOnly (device : Device) (page : FreshPage) : Type 0 where
   pub number : ℕ
   pub some : 1 ≤ number
-  pub few : number ≤ device.geometry.blocks
+  pub within_limit : number ≤ device.geometry.blocks
   pub alone : device.honest ≡ true → StandsAlone device.flash page.bytes.items (single_tag page.key number)
   pub has_power : device.gone ≡ false
 
@@ -91,7 +91,7 @@ root_key = record { object = root_number; chunk = 0 }
 pub record HoldsOnlyRoot (spare : ℕ) (device : Device) : Type 0 where
   pub number : ℕ
   pub some : 1 ≤ number
-  pub few : number ≤ device.geometry.blocks
+  pub within_limit : number ≤ device.geometry.blocks
   pub alone : StandsAlone device.flash (header_bytes (fields_in device.geometry.bytes (empty_root spare))) (single_tag root_key number)
 
 -- Each whole checkpoint on the device is right, and a mount may go by the summaries there.

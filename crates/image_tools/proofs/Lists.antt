@@ -19,8 +19,8 @@ length_map f (x ∷ xs) = ap suc (length_map f xs)
 
 module _ {A : Type 0} (xs ys : List A) where
   pub same_more : (i : ℕ) (x y : A) → i < length xs → i < length ys → x ≡ get_or xs i x → y ≡ get_or ys i y → x ≡ y → take i xs ≡ take i ys → take (i + 1) xs ≡ take (i + 1) ys
-  same_more i x y less few is at same so_far =
-      ap (λ n. take n xs) (add-one i) ∙ take-suc xs i x less ∙ (λ j. so_far j ++ (sym is ∙ same ∙ at) j ∷ []) ∙ sym (take-suc ys i y few) ∙ ap (λ n. take n ys) (sym (add-one i))
+  same_more i x y less within_limit is at same so_far =
+      ap (λ n. take n xs) (add-one i) ∙ take-suc xs i x less ∙ (λ j. so_far j ++ (sym is ∙ same ∙ at) j ∷ []) ∙ sym (take-suc ys i y within_limit) ∙ ap (λ n. take n ys) (sym (add-one i))
 
   pub same_at : (i : ℕ) (x y : A) → i < length xs → x ≡ get_or xs i x → y ≡ get_or ys i y → xs ≡ ys → x ≡ y
   same_at i x y less is at same = is ∙ ap (λ k. get_or k i x) same ∙ any ys i x y (omega (arith, less, ap (λ k. length k) same)) ∙ sym at
@@ -31,7 +31,7 @@ module _ {A : Type 0} (xs ys : List A) where
       any (z ∷ zs) (suc i) d e lt = any zs i d e (omega (arith, lt))
 
   pub same_all : (n : ℕ) → length xs ≡ n → length ys ≡ n → take n xs ≡ take n ys → xs ≡ ys
-  same_all n many few same = sym (take-length xs) ∙ ap (λ k. take k xs) many ∙ same ∙ ap (λ k. take k ys) (sym few) ∙ take-length ys
+  same_all n many within_limit same = sym (take-length xs) ∙ ap (λ k. take k xs) many ∙ same ∙ ap (λ k. take k ys) (sym within_limit) ∙ take-length ys
 
 -- the first elements and the next, by a view of them
 map_suc : {A B : Type 0} (f : A → B) (xs : List A) (i : ℕ) (x : A) → i < length xs → x ≡ get_or xs i x → list_map f (take (suc i) xs) ≡ list_map f (take i xs) ++ f x ∷ []

@@ -127,11 +127,11 @@ module _ {V : Type 0} (serves : V → Stamped → Reply → V → Type 0) where
 
     -- the end of the input
     pub comes_to_end : (next : Option (List ℕ)) → count ≤ most_lines → IsEnded left next → Shell serves input next before after old now.volume (Ok tt)
-    comes_to_end next few end = record {
+    comes_to_end next within_limit end = record {
       answered = so_far.answered;
       reported = all_reported;
       short = so_far.short;
-      few = omega (arith, so_far.totaled);
+      within_limit = omega (arith, so_far.totaled);
       lines = lines_all input left so_far.answered so_far.lines end.0;
       read = ended_left input left next so_far.answered so_far.lines end;
     }
@@ -139,11 +139,11 @@ module _ {V : Type 0} (serves : V → Stamped → Reply → V → Type 0) where
     -- a fault, and which lines were answered before it
     stops : (next : Option (List ℕ)) (fault : ShellFault) → count ≤ most_lines → (fault ≡ faults.Write → ⊥) → IfSome input (λ bytes. AreAnswered bytes so_far.answered (Err fault))
         → Shell serves input next before after old now.volume (Err fault)
-    stops next fault few other lines = record {
+    stops next fault within_limit other lines = record {
       answered = so_far.answered;
       reported = at fault other;
       short = so_far.short;
-      few = omega (arith, so_far.totaled);
+      within_limit = omega (arith, so_far.totaled);
       lines = lines;
       read = tt;
     }
@@ -156,10 +156,10 @@ module _ {V : Type 0} (serves : V → Stamped → Reply → V → Type 0) where
 
     -- a line that was not read
     pub stops_reading : (next : Option (List ℕ)) (line : List ℕ) (fault : ShellFault) → count ≤ most_lines → ReadsLine left next line (Err fault) → Shell serves input next before after old now.volume (Err fault)
-    stops_reading next line faults.Read few read = stops next faults.Read few (λ e. cc) (lines_some input left so_far.answered so_far.lines)
-    stops_reading next line faults.NoMemory few read = stops next faults.NoMemory few (λ e. cc) (lines_some input left so_far.answered so_far.lines)
-    stops_reading next line faults.Write few read = absurd read
-    stops_reading next line faults.TooLong few read = stops next faults.TooLong few (λ e. cc) (at input left so_far.lines read)
+    stops_reading next line faults.Read within_limit read = stops next faults.Read within_limit (λ e. cc) (lines_some input left so_far.answered so_far.lines)
+    stops_reading next line faults.NoMemory within_limit read = stops next faults.NoMemory within_limit (λ e. cc) (lines_some input left so_far.answered so_far.lines)
+    stops_reading next line faults.Write within_limit read = absurd read
+    stops_reading next line faults.TooLong within_limit read = stops next faults.TooLong within_limit (λ e. cc) (at input left so_far.lines read)
       where
         at : (input left : Option (List ℕ)) → LinesLeft input left so_far.answered → IfSome left LineIsTooLong → IfSome input (λ bytes. AreAnswered bytes so_far.answered (Err faults.TooLong))
         at None left so read = tt
@@ -190,9 +190,9 @@ module _ {V : Type 0} (serves : V → Stamped → Reply → V → Type 0) where
     -- a line that was read, but not answered whole
     pub stops_answering : (next later : Option (List ℕ)) (line : List ℕ) (new : V) (fault : ShellFault) → count < most_lines → ReadsNext left next line
         → AnswersLine serves line now after later new (Err fault) → Shell serves input next before later old new (Err fault)
-    stops_answering next later line new faults.Read few read did = absurd did
-    stops_answering next later line new faults.TooLong few read did = absurd did
-    stops_answering next later line new faults.NoMemory few read did = record {
+    stops_answering next later line new faults.Read within_limit read did = absurd did
+    stops_answering next later line new faults.TooLong within_limit read did = absurd did
+    stops_answering next later line new faults.NoMemory within_limit read did = record {
       answered = so_far.answered;
       reported = record {
         text = so_far.text;
@@ -201,11 +201,11 @@ module _ {V : Type 0} (serves : V → Stamped → Reply → V → Type 0) where
         reported = Appends-kept before after later so_far.text so_far.reported did.1;
       };
       short = so_far.short;
-      few = omega (arith, so_far.totaled);
+      within_limit = omega (arith, so_far.totaled);
       lines = lines_some input left so_far.answered so_far.lines;
       read = tt;
     }
-    stops_answering next later line new faults.Write few read did =
+    stops_answering next later line new faults.Write within_limit read did =
         record {
           answered = so_far.answered ++ read.whole ∷ [];
           reported = record {
@@ -225,7 +225,7 @@ module _ {V : Type 0} (serves : V → Stamped → Reply → V → Type 0) where
             reported = Appends-trans before after later so_far.text did.3.part so_far.reported did.3.appended;
           };
           short = All-append (λ line. line_size line ≤ longest_line) so_far.answered (read.whole ∷ []) so_far.short (all_one (λ line. line_size line ≤ longest_line) read.whole read.short);
-          few = omega (arith, length-append so_far.answered (read.whole ∷ []), so_far.totaled);
+          within_limit = omega (arith, length-append so_far.answered (read.whole ∷ []), so_far.totaled);
           lines = lines_some input next (so_far.answered ++ read.whole ∷ []) (lines_more input left next so_far.answered read.whole so_far.lines read.next);
           read = tt;
         }

@@ -87,18 +87,18 @@ module _ (input left : Option (List ℕ)) (moment : ℕ) (script : List Stamped)
 
   -- the end of the input
   all_read : count ≤ most_lines → (bytes : List ℕ) → whole_lines bytes ≡ so_far.taken → IsScript bytes script
-  all_read few bytes same = record {
+  all_read within_limit bytes same = record {
     short = subst (λ l. All (λ line. line_size line ≤ longest_line) l) (sym same) so_far.short;
-    few = omega (arith, so_far.totaled, ap length same);
+    within_limit = omega (arith, so_far.totaled, ap length same);
     issued = ap (λ l. commands_of 0 (map without_end l)) same ∙ good;
   }
 
   pub comes_to_end : (next : Option (List ℕ)) → count ≤ most_lines → IsEnded left next → IfSome input (λ bytes. IsScript bytes script) × OnSome input (IsAtEnd next)
-  comes_to_end next few end = (at input (lines_all input left so_far.taken so_far.lines_are end.0), ended_left input left next so_far.taken so_far.lines_are end)
+  comes_to_end next within_limit end = (at input (lines_all input left so_far.taken so_far.lines_are end.0), ended_left input left next so_far.taken so_far.lines_are end)
     where
       at : (input : Option (List ℕ)) → IfSome input (λ bytes. whole_lines bytes ≡ so_far.taken) → IfSome input (λ bytes. IsScript bytes script)
       at None same = tt
-      at (Some bytes) same = all_read few bytes same
+      at (Some bytes) same = all_read within_limit bytes same
 
   too_long : IfSome left LineIsTooLong → IfSome input HasLongLine
   too_long read = at input left so_far.lines_are read
@@ -167,7 +167,7 @@ module _ (input left : Option (List ℕ)) (moment : ℕ) (script : List Stamped)
   -- a line that was read, but not taken
   pub stops_collecting : (next : Option (List ℕ)) (line : List ℕ) (longer : List Stamped) (fault : ScriptFault) → count < most_lines → ReadsNext left next line → Collects (line_of line) moment script longer (Err fault)
       → ReadsScript input next (Err fault)
-  stops_collecting next line longer fault few read did = record { reported = at fault did; read = tt }
+  stops_collecting next line longer fault within_limit read did = record { reported = at fault did; read = tt }
     where
       bad : (input left next : Option (List ℕ)) → LinesLeft input next (so_far.taken ++ read.whole ∷ []) → line_of line ≡ lines.Bad → IfSome input HasBadLine
       bad None left next so is = tt
@@ -179,7 +179,7 @@ module _ (input left : Option (List ℕ)) (moment : ℕ) (script : List Stamped)
         commands = script;
         lines_are = so ∙ append_assoc so_far.taken (read.whole ∷ []) (whole_lines ys);
         short = short_more read.whole read.short;
-        few = omega (arith, so_far.totaled);
+        within_limit = omega (arith, so_far.totaled);
         good = good;
         bad = ap line_of (sym read.text) ∙ is;
       }

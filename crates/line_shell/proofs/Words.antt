@@ -33,9 +33,9 @@ piece_plain (b ∷ bs) some ne = record { some = omega arith; within = omega ari
 
 pub none_alone : (word : List ℕ) → 0 < length word → length word < 2 → get_or word 0 0 ≡ backslash → unescaped word ≡ None
 unfolding unescaped
-none_alone [] some few is = absurd (omega arith)
-none_alone (b ∷ []) some few is = ap (λ x. unescaped (x ∷ [])) is
-none_alone (b ∷ c ∷ bs) some few is = absurd (omega arith)
+none_alone [] some within_limit is = absurd (omega arith)
+none_alone (b ∷ []) some within_limit is = ap (λ x. unescaped (x ∷ [])) is
+none_alone (b ∷ c ∷ bs) some within_limit is = absurd (omega arith)
 
 -- the word begins with a backslash and this letter
 escape_begins : (word : List ℕ) (letter : ℕ) → 2 ≤ length word → get_or word 0 0 ≡ backslash → get_or word 1 0 ≡ letter → word ≡ backslash ∷ letter ∷ drop 2 word
@@ -82,11 +82,11 @@ none_digits word some first second digits =
 
 pub none_short : (word : List ℕ) → 2 ≤ length word → length word < 4 → get_or word 0 0 ≡ backslash → get_or word 1 0 ≡ letter_x → unescaped word ≡ None
 unfolding unescaped
-none_short [] some few first second = absurd (omega arith)
-none_short (b ∷ []) some few first second = absurd (omega arith)
-none_short (b ∷ c ∷ []) some few first second = ap (λ x. unescaped (x ∷ c ∷ [])) first ∙ ap (λ x. unescaped (backslash ∷ x ∷ [])) second
-none_short (b ∷ c ∷ d ∷ []) some few first second = ap (λ x. unescaped (x ∷ c ∷ d ∷ [])) first ∙ ap (λ x. unescaped (backslash ∷ x ∷ d ∷ [])) second
-none_short (b ∷ c ∷ d ∷ e ∷ bs) some few first second = absurd (omega arith)
+none_short [] some within_limit first second = absurd (omega arith)
+none_short (b ∷ []) some within_limit first second = absurd (omega arith)
+none_short (b ∷ c ∷ []) some within_limit first second = ap (λ x. unescaped (x ∷ c ∷ [])) first ∙ ap (λ x. unescaped (backslash ∷ x ∷ [])) second
+none_short (b ∷ c ∷ d ∷ []) some within_limit first second = ap (λ x. unescaped (x ∷ c ∷ d ∷ [])) first ∙ ap (λ x. unescaped (backslash ∷ x ∷ d ∷ [])) second
+none_short (b ∷ c ∷ d ∷ e ∷ bs) some within_limit first second = absurd (omega arith)
 
 pub none_other : (word : List ℕ) → 2 ≤ length word → get_or word 0 0 ≡ backslash → get_or word 1 0 ≢ backslash → get_or word 1 0 ≢ letter_e → get_or word 1 0 ≢ letter_x
     → unescaped word ≡ None

@@ -102,6 +102,6 @@ pub record Shell {V : Type 0} (serves : V → Stamped → Reply → V → Type 0
   pub answered : List (List ℕ)
   pub reported : AreReported serves answered before after old new result
   pub short : All (λ line. line_size line ≤ longest_line) answered
-  pub few : length answered ≤ most_lines
+  pub within_limit : length answered ≤ most_lines
   pub lines : IfSome input (λ bytes. AreAnswered bytes answered result)
   pub read : IsRead input left result

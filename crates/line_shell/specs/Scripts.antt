@@ -51,7 +51,7 @@ Collects line moment old new (Err fault) = ⊥
 -- no line of the input is too long, there are not too many of them, and these are the commands that they ask for
 pub record IsScript (input : List ℕ) (commands : List Stamped) : Type 0 where
   pub short : All (λ line. line_size line ≤ longest_line) (whole_lines input)
-  pub few : length (whole_lines input) ≤ most_lines
+  pub within_limit : length (whole_lines input) ≤ most_lines
   pub issued : commands_of 0 (lines_of input) ≡ Some commands
 
 -- a line of the input is bad, and none before it; up to it no line is too long or one too many
@@ -62,7 +62,7 @@ pub record HasBadLine (input : List ℕ) : Type 0 where
   pub commands : List Stamped
   pub lines_are : whole_lines input ≡ before ++ (line ∷ rest)
   pub short : All (λ line. line_size line ≤ longest_line) (before ++ (line ∷ []))
-  pub few : length before < most_lines
+  pub within_limit : length before < most_lines
   pub good : commands_of 0 (map without_end before) ≡ Some commands
   pub bad : line_of (without_end line) ≡ lines.Bad
 

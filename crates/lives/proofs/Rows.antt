@@ -224,7 +224,7 @@ synced_tree = refl
 -- where the sync was done the directory is there
 synced_z : (names : List Name) (last : Objects) → IsLife small_sizes fresh.objects (row replies.Done names) last → names ≡ (122 ∷ []) ∷ []
 synced_z names last (t, first, rest) =
-    let whole : t ≡ tree_at replies.Done 2 = synced_whole small_sizes fresh.objects (first_session replies.Done) t 1 first (sync, replies.Done, refl, refl, refl) refl in
+    let whole : t ≡ tree_at replies.Done 2 = synced_whole small_sizes fresh.objects t (first_session replies.Done) first (record { at = 1; synced = (sync, replies.Done, refl, refl, refl); last = refl }) in
     let list : Objects → Reply = λ (o : Objects). (step small_sizes false (at_mount o) list_root).reply in
     let one : replies.Names names ≡ replies.Names ((122 ∷ []) ∷ []) = reported_of t last names rest ∙ ap list (whole ∙ synced_tree) ∙ lists_made in
     cc

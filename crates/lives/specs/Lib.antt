@@ -1,3 +1,4 @@
 pub mod Lives
 pub mod PlainLives
+pub mod LawTerms
 pub mod laws

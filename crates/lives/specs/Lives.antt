@@ -29,6 +29,10 @@ pub record SessionRecord : Type 0 where
   pub unmounted : Option Reply
   pub cut : Bool
 
+-- sessions in turn
+abbrev pub Sessions : Type 0
+Sessions = List SessionRecord
+
 -- the state that a session begins with: the tree, and no descriptor
 abbrev pub at_mount : Objects → State
 at_mount tree = record { objects = tree; handles = map.empty }
@@ -45,6 +49,10 @@ pub record FailsToMount (before : Objects) (session : SessionRecord) (after : Ob
 abbrev pub EndsStopped : List Reply → Type 0
 EndsStopped reported = (before : List Reply) × (reported ≡ before ++ replies.Error errors.EIO ∷ [])
 
+-- what a mount shows of the state after the first so many commands of a session
+abbrev pub tree_after : Sizes → Objects → SessionRecord → ℕ → Objects
+tree_after z before session count = settled_after z false (at_mount before) session.commands session.replies count
+
 -- The tree after the session is what a mount shows of the state after the first so many commands: at least those up to and with the
 -- last sync that is done, and all that were begun where the unmount is done.
 pub record KeepsPrefix (z : Sizes) (before : Objects) (session : SessionRecord) (after : Objects) : Type 0 where
@@ -52,7 +60,7 @@ pub record KeepsPrefix (z : Sizes) (before : Objects) (session : SessionRecord) 
   pub covers : Covers session.commands session.replies count
   pub within : count ≤ session.begun
   pub unmounted : session.unmounted ≡ Some replies.Done → count ≡ session.begun
-  pub tree : after ≡ settled_after z false (at_mount before) session.commands session.replies count
+  pub tree : after ≡ tree_after z before session count
 
 -- The mount was done. Each command that was begun has a reply, which is the profile's; all were begun, unless the volume was stopped;
 -- an unmount is done or stopped; and the tree after the session is that of some of its commands.
@@ -76,6 +84,6 @@ pub record IsSessionFrom (z : Sizes) (before : Objects) (session : SessionRecord
   pub cuts : StopsAtCuts session
 
 -- a life from one tree to another: sessions in turn, each from the tree that the one before it left
-abbrev pub IsLife : Sizes → Objects → List SessionRecord → Objects → Type 0
+abbrev pub IsLife : Sizes → Objects → Sessions → Objects → Type 0
 IsLife z first [] last = last ≡ first
 IsLife z first (session ∷ sessions) last = (between : Objects) × IsSessionFrom z first session between × IsLife z between sessions last

@@ -1,7 +1,7 @@
 -- Lives in which nothing goes wrong.
 -- From: this project.
 use Rattle.std.specs.Prelude.{◌≡◌, false, List, [], ◌∷◌, length, map as list_map, Some}
-use Rattle.std.specs.List.{list_any}
+use Rattle.std.specs.List.{All, list_any}
 use Rattle.volume_terms.specs.Sizes.{Sizes}
 use Rattle.posix_profile.specs.State.{Objects, State}
 use Rattle.posix_profile.specs.Names.{settle}
@@ -10,7 +10,7 @@ use Rattle.posix_profile.specs.Steps.{step}
 use Rattle.posix_profile.specs.declared.command.Stamped.{Stamped}
 use Rattle.posix_profile.specs.declared.reply.Reply.{Reply}
 use Rattle.posix_profile.specs.declared.reply.Reply.TheVariants as replies
-use Rattle.lives.specs.Lives.{Mounted, SessionRecord, at_mount}
+use Rattle.lives.specs.Lives.{Mounted, SessionRecord, Sessions, at_mount}
 
 -- the replies of the profile's steps, one after another
 abbrev pub step_replies : Sizes → State → List Stamped → List Reply
@@ -38,7 +38,7 @@ plain_session z before commands = record {
 }
 
 -- such sessions in turn, one for each list of commands, each from the tree after the one before it
-abbrev pub plain_sessions : Sizes → Objects → List (List Stamped) → List SessionRecord
+abbrev pub plain_sessions : Sizes → Objects → List (List Stamped) → Sessions
 plain_sessions z first [] = []
 plain_sessions z first (commands ∷ rest) = plain_session z first commands ∷ plain_sessions z (plain_tree z first commands) rest
 
@@ -48,8 +48,13 @@ plain_end z first [] = first
 plain_end z first (commands ∷ rest) = plain_end z (plain_tree z first commands) rest
 
 -- the commands of each session
-abbrev pub commands_of : List SessionRecord → List (List Stamped)
+abbrev pub commands_of : Sessions → List (List Stamped)
 commands_of sessions = list_map (λ (session : SessionRecord). session.commands) sessions
+
+-- these sessions and the last tree are those of the plain run of all their commands
+pub record IsPlainRun (z : Sizes) (first : Objects) (sessions : Sessions) (last : Objects) : Type 0 where
+  pub each : sessions ≡ plain_sessions z first (commands_of sessions)
+  pub left : last ≡ plain_end z first (commands_of sessions)
 
 -- The session was mounted, power was not lost in it, and memory was not refused.
 pub record IsUndisturbed (session : SessionRecord) : Type 0 where
@@ -60,3 +65,7 @@ pub record IsUndisturbed (session : SessionRecord) : Type 0 where
 -- nothing goes wrong in the session, and at its end it is unmounted
 abbrev pub IsWhole : SessionRecord → Type 0
 IsWhole session = IsUndisturbed session × (session.unmounted ≡ Some replies.Done)
+
+-- so of all these sessions
+abbrev pub AreWhole : Sessions → Type 0
+AreWhole sessions = All IsWhole sessions

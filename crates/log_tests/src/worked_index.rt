@@ -20,7 +20,7 @@ struct Store {
     index: Index,
     blocks: Blocks,
     ghost agree: { CountsAgree (table blocks) index },
-    ghost few: { (o c i : ℕ) → present index o c ≡ presents.InBuffer i → i < 8 },
+    ghost within_limit: { (o c i : ℕ) → present index o c ≡ presents.InBuffer i → i < 8 },
     ghost eight: { (table blocks).geometry.blocks ≡ 8 },
     ghost pages: { (table blocks).geometry.pages ≡ 32 },
 }

@@ -55,8 +55,8 @@ none_version d c other honest has x whole at = other (same_version d.geometry d.
 -- one that has no room in its block
 pub none_room : (d : Device) (c : Candidate) → IsWithin d.geometry.pages d.geometry.blocks d.flash → d.geometry.pages < c.tag.count → HasNoneAt d c
 none_room d c within more honest has x whole at =
-    let few = few_pages d.geometry d.flash c has x whole at d.geometry.pages d.geometry.blocks within in
-    absurd (omega (arith, few, more))
+    let within_limit = few_pages d.geometry d.flash c has x whole at d.geometry.pages d.geometry.blocks within in
+    absurd (omega (arith, within_limit, more))
 
 -- one whose pages are not all those of a checkpoint
 pub none_pages : (d : Device) (c : Candidate) → IsNone d c → HasNoneAt d c

@@ -37,10 +37,10 @@ takes_as n r s F G old new same to takes = record {
 
 -- entries that take few pages are few
 pub few_entries : (n d count : ℕ) → IsPageSize d → count ≤ 256 → count ≡ ceiling (32 * (1 + n)) d → n < 32768
-few_entries n d count size few is =
+few_entries n d count size within_limit is =
     let up : div_ceil (32 * (1 + n)) d ≡ ceiling (32 * (1 + n)) d = ceiling_is (32 * (1 + n)) d (omega (arith, size.least)) in
     let reach : 32 * (1 + n) ≤ count * d = parts_reach (32 * (1 + n)) d count (omega (arith, size.least)) (omega (arith, up, is)) in
-    let most : count * d ≤ 256 * 4096 = mul-le-mul few size.most in
+    let most : count * d ≤ 256 * 4096 = mul-le-mul within_limit size.most in
     omega (arith, reach, most)
 
 -- ---- a page as parts
@@ -76,7 +76,7 @@ length_head fs = length-slot fs 0
 
 -- a head says one number
 pub one_number : (n m : ℕ) → n < 2 ^ 64 → m < 2 ^ 64 → check_head_bytes n ≡ check_head_bytes m → n ≡ m
-one_number n m few less same = sym (number_read n few) ∙ ap (λ (bytes : List ℕ). little_number 8 (drop 8 bytes)) same ∙ number_read m less
+one_number n m within_limit less same = sym (number_read n within_limit) ∙ ap (λ (bytes : List ℕ). little_number 8 (drop 8 bytes)) same ∙ number_read m less
 
 module _ (page : List ℕ) (size : IsPageSize (length page)) where
   abbrev d : ℕ
@@ -133,18 +133,18 @@ module _ (page : List ℕ) (size : IsPageSize (length page)) where
   pub refuses_first :
       (n count : ℕ) (old : List CheckEntry) → old ≡ [] → n < 2 ^ 64 → count ≤ 256 → take 32 page ≡ check_head_bytes n
       → Refuses n (ArePartsFrom 0 behind) old → RefusesFirst count page
-  refuses_first n count old empty few most head not fs are is same =
+  refuses_first n count old empty within_limit most head not fs are is same =
       let both = (first_split fs).0 same in
       let less : length fs < 2 ^ 64 = omega (arith, few_entries (length fs) d count size most is) in
-      let number : length fs ≡ n = sym (one_number n (length fs) few less (sym head ∙ both.0)) in
+      let number : length fs ≡ n = sym (one_number n (length fs) within_limit less (sym head ∙ both.0)) in
       not fs (subst (λ k. AreEntries k fs) number are) (subst (λ es. BeginsWith es fs) (sym empty) (λ k e at. absurd cc)) both.1
 
   -- what has a page 0 that was taken has as many entries as its head says
   pub number_of_first : (n count : ℕ) (new : List CheckEntry) → count ≤ 256 → TakesFirst n count page new → (fs : List CheckEntry) → count ≡ ceiling (32 * (1 + length fs)) d → page ≡ check_page d fs 0 → length fs ≡ n
   number_of_first n count new most takes fs is same =
       let less : length fs < 2 ^ 64 = omega (arith, few_entries (length fs) d count size most is) in
-      let few : n < 2 ^ 64 = omega (arith, few_entries n d count size most takes.size) in
-      sym (one_number n (length fs) few less (sym takes.head ∙ ((first_split fs).0 same).0))
+      let within_limit : n < 2 ^ 64 = omega (arith, few_entries n d count size most takes.size) in
+      sym (one_number n (length fs) within_limit less (sym takes.head ∙ ((first_split fs).0 same).0))
 
   -- and so is a page whose head is refused
   pub refuses_head :

@@ -1,21 +1,24 @@
 -- How many pages of some blocks are read.
-use Rattle.std.specs.Prelude.{◌≡◌, ◌≢◌, ◌⊎◌, ◌↔◌, ◌<◌, ◌≤◌, ℕ, zero, suc, ◌+◌, ◌-◌, Bool, true, false, List, Some, length, slice_get}
-use Rattle.std.proofs.Common.{refl, sym, ◌∙◌, ap, inl, inr, arith, get_or}
+use Rattle.std.specs.Prelude.{◌≡◌, ◌≢◌, ◌⊎◌, ◌↔◌, ◌<◌, ◌≤◌, ℕ, zero, suc, ◌+◌, ◌-◌, Bool, true, false, List, Some, length, slice_get, if◌then◌else◌}
+use Rattle.std.proofs.Common.{refl, sym, ◌∙◌, ap, subst, inl, inr, arith, get_or}
 use Rattle.std.proofs.lemmas.Bool.{cases_Bool, false≢true}
 use Rattle.std.proofs.lemmas.List.FromFn.{sum_by-map-range_with_len_more}
 use Rattle.std.proofs.lemmas.Option.{slice_get-get_or}
 use Rattle.nand_model.specs.Flash.{Flash, Erased, IsWithin}
 use Rattle.nand_model.specs.Calls.{Device}
+use Rattle.nand_model.specs.Changes.{OnlyReads}
+use Rattle.nand_model.specs.declared.geometry.Geometry.{Geometry}
 use Rattle.page_tags.specs.declared.tag.Tag.{Tag}
 use Rattle.flash_tree.specs.Summaries.{summary_tag}
 use Rattle.flash_tree.specs.laws.Newest.{one_tag}
-use Rattle.flash_tree.specs.laws.Place.{no_tag, tag_placed}
-use Rattle.mount_scan.specs.FewReads.{AreAllDone, AreCosts, AreDoneBelow, IsOlder, IsOther, erased_pages, sum_below}
+use Rattle.flash_tree.specs.laws.Place.{no_tag, same_flash, tag_placed}
+use Rattle.mount_scan.specs.FewReads.{AreAllDone, AreCosts, AreDoneBelow, IsCost, IsOlder, IsOther, LacksSummary, erased_pages, sum_below}
 use Rattle.mount_scan.specs.FirstPages.{BeginsWithTag, FirstPagesBelow, IsFirstPage, IsOlderThan, first_tag}
 use Rattle.mount_scan.specs.SummaryScan.{IsLeft}
 use Rattle.mount_scan.specs.declared.first_page.FirstPage.{FirstPage}
 use Rattle.mount_scan.specs.declared.first_page.FirstPage.TheVariants as firsts
 use Rattle.mount_scan.specs.declared.first_page.FirstPages.{FirstPages}
+use Rattle.mount_scan.specs.declared.summary_pages.SummaryPages.{SummaryPages}
 use Rattle.mount_scan.proofs.SummaryFinds.{first_of_summary}
 
 -- one block more
@@ -35,19 +38,26 @@ sum_within each b n lt =
     let at : b + 1 + (n - (b + 1)) ≡ n = omega (arith, lt) in
     omega (arith, sum_more each b, sum_rise each (b + 1) (n - (b + 1)), ap (sum_below each) at)
 
--- x, y and z reads before the blocks, before a block and after it: e pages may be read of a block that begins erased, and then next
-pub others_more : (pages : ℕ) (costs : ℕ → ℕ) (b e next x y z : ℕ) → y + e ≤ x + (pages + sum_below costs b) → z + next ≤ y + (costs b + e) → z + next ≤ x + (pages + sum_below costs (b + 1))
-others_more pages costs b e next x y z were is = omega (arith, were, is, sum_more costs b)
+-- nor are lower ones
+pub sum_at_most : (each most : ℕ → ℕ) (n : ℕ) → ((k : ℕ) → each k ≤ most k) → sum_below each n ≤ sum_below most n
+sum_at_most each most zero le = omega arith
+sum_at_most each most (suc n) le =
+    let next : suc n ≡ n + 1 = omega arith in
+    omega (arith, sum_at_most each most n le, le n, sum_more each n, sum_more most n, ap (sum_below each) next, ap (sum_below most) next)
 
-pub others_end : (pages : ℕ) (costs : ℕ → ℕ) (b e n x y z : ℕ) → b < n → y + e ≤ x + (pages + sum_below costs b) → z ≤ y + (costs b + e) → z ≤ x + (pages + sum_below costs n)
-others_end pages costs b e n x y z lt were is = omega (arith, were, is, sum_within costs b n lt)
+-- x pages were read before the blocks, y were and may be before a block, and z after it
+pub others_more : (pages : ℕ) (costs : ℕ → ℕ) (b x y z : ℕ) → y ≤ x + (pages + sum_below costs b) → z ≤ y + costs b → z ≤ x + (pages + sum_below costs (b + 1))
+others_more pages costs b x y z were is = omega (arith, were, is, sum_more costs b)
+
+pub others_end : (pages : ℕ) (costs : ℕ → ℕ) (b n x y z : ℕ) → b < n → y ≤ x + (pages + sum_below costs b) → z ≤ y + costs b → z ≤ x + (pages + sum_below costs n)
+others_end pages costs b n x y z lt were is = omega (arith, were, is, sum_within costs b n lt)
 
 -- ---- the blocks with a summary are noted
 
-pub all_done : (d : Device) (done : List Bool) → d.honest ≡ true → IsWithin d.geometry.pages d.geometry.blocks d.flash → AreDoneBelow d d.geometry.blocks done → AreAllDone d.geometry d.flash done
-all_done d done honest within are b not s whole matches at =
+pub all_done : (d : Device) (summarized : SummaryPages) → d.honest ≡ true → IsWithin d.geometry.pages d.geometry.blocks d.flash → AreDoneBelow d d.geometry.blocks summarized → AreAllDone d.geometry d.flash summarized.done.items
+all_done d summarized honest within are b not s whole matches at =
     let lt = (tag_placed d.geometry.pages d.geometry.blocks d.flash s.block 0 (summary_tag s 0) within (first_of_summary d.geometry d.flash s whole)).0 in
-    let two : Some false ≡ Some true = sym not ∙ ap (slice_get done) (sym at) ∙ are honest s lt whole matches in
+    let two : Some false ≡ Some true = sym not ∙ ap (slice_get summarized.done.items) (sym at) ∙ are honest s lt whole matches in
     cc
 
 -- the block that comes next begins as is noted, is noted, and costs so much
@@ -61,6 +71,21 @@ other_here d costs b firsts done first summarized honest within below all are lt
   latest = λ k t begins own. below.latest honest k t (tag_placed d.geometry.pages d.geometry.blocks d.flash k 0 t within begins.1).0 begins own;
   cost_is = are b;
 }
+
+-- and so it is after more reads
+pub other_after : (d a : Device) (b : ℕ) (first : FirstPage) (summarized : Bool) (renewed cost : ℕ) → OnlyReads d a → IsOther d b first summarized renewed cost → IsOther a b first summarized renewed cost
+other_after d a b first summarized renewed cost only is = record {
+  honest = only.lasts.honest ∙ is.honest;
+  first_page = subst (λ f. IsFirstPage f b first) same is.first_page;
+  noted = subst (λ f. summarized ≡ false → LacksSummary a.geometry f b) same (subst (λ g. summarized ≡ false → LacksSummary g d.flash b) geometry is.noted);
+  latest = subst (λ (f : Flash). (k : ℕ) (t : Tag) → BeginsWithTag f k t → t.version ≡ t.group → t.seq ≤ renewed) same is.latest;
+  cost_is = subst (λ f. IsCost a.geometry f b cost) same (subst (λ g. IsCost g d.flash b cost) geometry is.cost_is);
+} where
+  same : d.flash ≡ a.flash
+  same = sym (same_flash d a only is.honest)
+
+  geometry : d.geometry ≡ a.geometry
+  geometry = sym only.lasts.geometry
 
 -- ---- one block
 
@@ -117,17 +142,17 @@ erased_or_other (firsts.Summary count number seq) = inr (λ same. cc)
 
 module _ (d : Device) (b : ℕ) (first : FirstPage) (summarized erased : Bool) (renewed cost x y : ℕ) (is : IsOther d b first summarized renewed cost) (left : IsLeft first summarized erased)
     (other : IsOlderThan renewed first → ⊥) (most : y ≤ x + d.geometry.pages) where
-  pub block_costs : y ≤ x + (cost + erased_pages d erased)
+  pub block_costs : y ≤ x + erased_pages d erased + cost
   block_costs = elim (erased_or_other first) [
     | inl same ↦ let all : erased_pages d erased ≡ d.geometry.pages = ap (erased_pages d) (left.written same) in omega (arith, most, all)
     | inr written ↦ let cost_is = other_costs d b first summarized renewed cost is left.other left.good written other in omega (arith, most, cost_is)
   ]
 
-  pub block_leaves : (next : Bool) → (next ≡ true) ↔ ((erased ≡ true) ⊎ (first ≡ firsts.Erased)) → y + erased_pages d next ≤ x + (cost + erased_pages d erased)
-  block_leaves next read = elim (erased_or_other first) [
+  pub block_leaves : (a : Device) (next : Bool) → OnlyReads d a → (next ≡ true) ↔ ((erased ≡ true) ⊎ (first ≡ firsts.Erased)) → y + erased_pages a next ≤ x + erased_pages d erased + cost
+  block_leaves a next only read = elim (erased_or_other first) [
     | inl same ↦
         let all : erased_pages d erased ≡ d.geometry.pages = ap (erased_pages d) (left.written same) in
-        let none : erased_pages d next ≡ 0 = ap (erased_pages d) (read.1 (inr same)) in
+        let none : erased_pages a next ≡ 0 = ap (erased_pages a) (read.1 (inr same)) in
         omega (arith, most, all, none)
     | inr written ↦
         let cost_is = other_costs d b first summarized renewed cost is left.other left.good written other in
@@ -138,5 +163,5 @@ module _ (d : Device) (b : ℕ) (first : FirstPage) (summarized erased : Bool) (
             | inl now ↦ elim (read.0 now) [ inl was ↦ absurd (false≢true (sym not ∙ was)) | inr it ↦ absurd (written it) ]
           ]
         ] in
-        omega (arith, most, cost_is, ap (erased_pages d) same)
+        omega (arith, most, cost_is, ap (erased_pages a) same, ap (λ (g : Geometry). if erased then 0 else g.pages) only.lasts.geometry)
   ]

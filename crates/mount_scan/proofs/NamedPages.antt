@@ -17,7 +17,7 @@ use Rattle.flash_tree.specs.declared.place.Found.{Found}
 use Rattle.mount_scan.specs.Copies.{FitsCopy, HasValidName, copy_of, spot_of_copy, page_named, pages_named}
 use Rattle.mount_scan.specs.Keys.{Thins, ThinsFound}
 use Rattle.mount_scan.specs.CheckpointCandidates.{IsGoodTag}
-use Rattle.mount_scan.specs.FirstPages.{BeginsWithTag, IsFirstPage, IsGoodFirst, AreFirstPages, AreGoodFirsts, AreNoted, HasSeqAt, first_tag, seq_of_first, tag_of_summary}
+use Rattle.mount_scan.specs.FirstPages.{BeginsWithTag, IsFirstPage, IsGoodFirst, AreFirstPages, AreAllNoted, AreGoodFirsts, HasSeqAt, first_tag, seq_of_first, tag_of_summary}
 use Rattle.mount_scan.specs.Listed.{listed}
 use Rattle.mount_scan.specs.SummaryScan.{HasKnown, HasAsNew, CoversSummary, IsSummarizedBlock, AreSummarized, AreSummaryPages, MayBeAdded}
 use Rattle.mount_scan.specs.declared.page_copy.PageCopy.{PageCopy}
@@ -155,7 +155,7 @@ module _ (d : Device) (s : Summary) (may : MayBeAdded d s) (matches : d.honest �
     set_there (x ∷ bs) (suc i) zero ne = refl
     set_there (x ∷ bs) (suc i) (suc k) ne = set_there bs i k (λ same. ne (ap suc same))
 
-pub summary_added : (d : Device) (pages : List FirstPage) (s : Summary) (old new : SummaryPages) → AreNoted d d.geometry.blocks pages → MayBeAdded d s → HasSeqAt pages s.head.block s.head.seq
+pub summary_added : (d : Device) (pages : List FirstPage) (s : Summary) (old new : SummaryPages) → AreAllNoted d pages → MayBeAdded d s → HasSeqAt pages s.head.block s.head.seq
     → ThinsFound (pages_named s.head.seq s.entries) (listed old.newest) (listed new.newest) → new.done.items ≡ slice_set old.done.items s.head.block true → AreSummaryPages d old → AreSummaryPages d new
 summary_added d pages s old new noted may seq thins done were = record {
   len = ap (λ (bs : List Bool). length bs) done ∙ length-set old.done.items s.head.block true ∙ were.len;

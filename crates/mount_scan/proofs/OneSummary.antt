@@ -1,5 +1,6 @@
 -- The whole summary that a block begins with.
-use Rattle.std.specs.Prelude.{◌≡◌, ◌<◌, ◌≤◌, ℕ, ◌+◌, ◌-◌, ◌*◌, Bool, true, List, ◌++◌, length, take, drop, replicate, flat_map, slice_get, Some, None}
+use Rattle.std.specs.Prelude.{◌≡◌, ◌<◌, ◌≤◌, ℕ, ◌+◌, ◌-◌, ◌*◌, true, List, Option, ◌++◌, length, take, drop, replicate, flat_map, slice_get, Some, None}
+use Rattle.std.specs.Option.{option_map_or}
 use Rattle.std.proofs.Common.{refl, sym, ◌∙◌, ap, subst, inl, inr, arith, get_or, append_assoc}
 use Rattle.std.proofs.lemmas.Bool.{cases_eq, false≢true}
 use Rattle.std.proofs.lemmas.List.{take_at, take-take}
@@ -16,15 +17,16 @@ use Rattle.page_tags.specs.declared.tag.Tag.{Tag}
 use Rattle.page_tags.specs.declared.check.CheckEntry.{CheckEntry}
 use Rattle.page_tags.specs.declared.summary_head.SummaryHead.{SummaryHead}
 use Rattle.flash_tree.specs.Groups.{HasTag}
-use Rattle.flash_tree.specs.Summaries.{Summary, IsWholeSummary, MatchesBlock, BeginsSummary, summary_tag, summary_page}
+use Rattle.flash_tree.specs.Summaries.{Summary, IsWholeSummary, MatchesBlock, summary_tag, summary_page}
 use Rattle.flash_tree.specs.laws.Newest.{one_tag}
 use Rattle.flash_tree.specs.laws.Place.{no_tag, same_flash, tag_placed}
 use Rattle.mount_scan.specs.FoundSummary.{summary_of, IsOf, IsWholeOn, HasNoSummary}
 use Rattle.mount_scan.specs.declared.block_summary.found_summary.FoundSummary.{FoundSummary}
-use Rattle.mount_scan.specs.FewReads.{AreSizes, AreDoneBelow}
-use Rattle.mount_scan.specs.FirstPages.{BeginsWithTag, IsNoSummaryTag, IsFirstPage, AreNoted, HasSeqAt, first_tag, seq_of_first, tag_of_summary}
+use Rattle.mount_scan.specs.FewReads.{AreSizes, AreDoneBelow, IsNoted, pages_of_summary, summary_size}
+use Rattle.mount_scan.specs.FirstPages.{AreAllNoted, AreFirstPages, BeginsWithTag, IsNoSummaryTag, IsFirstPage, HasSeqAt, first_tag, seq_of_first, tag_of_summary}
 use Rattle.mount_scan.specs.declared.first_page.FirstPage.{FirstPage}
 use Rattle.mount_scan.specs.declared.first_page.FirstPage.TheVariants as firsts
+use Rattle.mount_scan.specs.declared.summary_pages.SummaryPages.{SummaryPages}
 use Rattle.mount_scan.proofs.ReadCount.{back_honest}
 use Rattle.mount_scan.proofs.SummaryFinds.{summary_some, first_of_summary}
 
@@ -81,7 +83,7 @@ seq_with_tag flash b firsts.Untagged t is has = absurd (is.2 t has.1)
 seq_with_tag flash b (firsts.Tagged seq) t is has = ap Some (sym is.2 ∙ ap (λ (u : Tag). u.seq) (one_tag flash b 0 is.0 t is.1.1 has.1))
 seq_with_tag flash b (firsts.Summary count number seq) t is has = ap Some (ap (λ (u : Tag). u.seq) (one_tag flash b 0 (first_tag count number seq) t is.1 has.1))
 
-module _ (d : Device) (within : IsWithin d.geometry.pages d.geometry.blocks d.flash) (pages : List FirstPage) (noted : AreNoted d d.geometry.blocks pages) (honest : d.honest ≡ true) where
+module _ (d : Device) (within : IsWithin d.geometry.pages d.geometry.blocks d.flash) (pages : List FirstPage) (noted : AreAllNoted d pages) (honest : d.honest ≡ true) where
   at_block : (b : ℕ) (d' : FirstPage) → b < d.geometry.blocks → IsFirstPage d.flash b (get_or pages b d')
   at_block b d' lt = noted.noted honest b (get_or pages b d') (slice_get-get_or pages b d' (omega (arith, lt, noted.len)))
 
@@ -113,8 +115,8 @@ module _ (d : Device) (within : IsWithin d.geometry.pages d.geometry.blocks d.fl
 
 -- ---- the blocks whose summaries were read
 
-done_more : (d : Device) (b : ℕ) (old new : List Bool) → ((k : ℕ) → slice_get old k ≡ Some true → slice_get new k ≡ Some true)
-    → (d.honest ≡ true → (s : Summary) → s.block ≡ b → IsWholeSummary d.geometry d.flash s → MatchesBlock d.flash s → slice_get new s.head.block ≡ Some true) → AreDoneBelow d b old → AreDoneBelow d (b + 1) new
+done_more : (d : Device) (b : ℕ) (old new : SummaryPages) → ((k : ℕ) → IsNoted old k → IsNoted new k)
+    → (d.honest ≡ true → (s : Summary) → s.block ≡ b → IsWholeSummary d.geometry d.flash s → MatchesBlock d.flash s → IsNoted new s.head.block) → AreDoneBelow d b old → AreDoneBelow d (b + 1) new
 done_more d b old new keeps here were honest s lt whole matches = elim (cases_eq s.block b) [
   | inl same ↦ here honest s same whole matches
   | inr ne ↦ keeps s.head.block (were honest s (omega (arith, lt, ne)) whole matches)
@@ -123,40 +125,56 @@ done_more d b old new keeps here were honest s lt whole matches = elim (cases_eq
 within_on : (d a : Device) → OnlyReads d a → IsWithin a.geometry.pages a.geometry.blocks a.flash → a.flash ≡ d.flash → IsWithin d.geometry.pages d.geometry.blocks d.flash
 within_on d a only within same = subst (λ f. IsWithin d.geometry.pages d.geometry.blocks f) same (subst (λ (g : Geometry). IsWithin g.pages g.blocks a.flash) only.lasts.geometry within)
 
-module _ (d a : Device) (only : OnlyReads d a) (within : IsWithin a.geometry.pages a.geometry.blocks a.flash) (b : ℕ) (pages : List FirstPage) (noted : AreNoted d d.geometry.blocks pages) (first : FirstPage)
+module _ (d a : Device) (only : OnlyReads d a) (within : IsWithin a.geometry.pages a.geometry.blocks a.flash) (b : ℕ) (pages : List FirstPage) (noted : AreAllNoted d pages) (first : FirstPage)
     (at : slice_get pages b ≡ Some first) where
   within_here : d.honest ≡ true → IsWithin d.geometry.pages d.geometry.blocks d.flash
   within_here honest = within_on d a only within (same_flash d a only honest)
 
   -- no summary may begin there
-  pub done_none : (done : List Bool) → tag_of_summary first ≡ None → AreDoneBelow d b done → AreDoneBelow d (b + 1) done
+  pub done_none : (done : SummaryPages) → tag_of_summary first ≡ None → AreDoneBelow d b done → AreDoneBelow d (b + 1) done
   done_none done none were = done_more d b done done (λ k is. is) (λ honest s here whole matches. absurd (none_noted d (within_here honest) pages noted honest b first at none s here whole)) were
 
-  pub done_long : (done : List Bool) (tag : Tag) → tag_of_summary first ≡ Some tag → a.geometry.pages < tag.count → AreDoneBelow d b done → AreDoneBelow d (b + 1) done
+  pub done_long : (done : SummaryPages) (tag : Tag) → tag_of_summary first ≡ Some tag → a.geometry.pages < tag.count → AreDoneBelow d b done → AreDoneBelow d (b + 1) done
   done_long done tag is long were = done_more d b done done (λ k was. was)
       (λ honest s here whole matches. absurd (none_long d (within_here honest) pages noted honest b first at tag is (omega (arith, long, ap (λ (g : Geometry). g.pages) only.lasts.geometry)) s here whole)) were
 
   -- none was found
-  pub done_unfound : (done : List Bool) (tag : Tag) → tag_of_summary first ≡ Some tag → HasNoSummary a b tag → AreDoneBelow d b done → AreDoneBelow d (b + 1) done
+  pub done_unfound : (done : SummaryPages) (tag : Tag) → tag_of_summary first ≡ Some tag → HasNoSummary a b tag → AreDoneBelow d b done → AreDoneBelow d (b + 1) done
   done_unfound done tag is none were = done_more d b done done (λ k was. was) (λ honest s here whole matches.
       absurd (none (only.lasts.honest ∙ honest)
       (subst (λ f. HasTag f b 0 tag) (sym (same_flash d a only honest)) (first_has d.flash b first tag (noted.noted honest b first at) is).1) s
       (subst (λ g. IsWholeSummary g a.flash s) (sym only.lasts.geometry) (subst (λ f. IsWholeSummary d.geometry f s) (sym (same_flash d a only honest)) whole)) here)) were
 
   -- one was
-  pub done_found : (old new : List Bool) (f : FoundSummary) (tag : Tag) → IsWholeOn a f → IsOf b tag f → ((k : ℕ) → slice_get old k ≡ Some true → slice_get new k ≡ Some true)
-      → (HasSeqAt pages f.head.block f.head.seq → slice_get new f.head.block ≡ Some true) → AreDoneBelow d b old → AreDoneBelow d (b + 1) new
+  pub done_found : (old new : SummaryPages) (f : FoundSummary) (tag : Tag) → IsWholeOn a f → IsOf b tag f → ((k : ℕ) → IsNoted old k → IsNoted new k)
+      → (HasSeqAt pages f.head.block f.head.seq → IsNoted new f.head.block) → AreDoneBelow d b old → AreDoneBelow d (b + 1) new
   done_found old new f tag found of keeps notes were = done_more d b old new keeps (λ honest s here whole matches.
       let there : IsWholeSummary d.geometry d.flash (summary_of f) = back_honest (λ g flash. IsWholeSummary g flash (summary_of f)) d a only found honest in
       let head : f.head ≡ s.head = same_head d.geometry d.flash (summary_of f) s there whole (of.block ∙ sym here) in
-      subst (λ (h : SummaryHead). slice_get new h.block ≡ Some true) head (notes (subst (λ (h : SummaryHead). HasSeqAt pages h.block h.seq) (sym head) (seq_noted d (within_here honest) pages noted honest s first matches)))) were
+      subst (λ (h : SummaryHead). IsNoted new h.block) head (notes (subst (λ (h : SummaryHead). HasSeqAt pages h.block h.seq) (sym head) (seq_noted d (within_here honest) pages noted honest s first matches)))) were
 
-  -- and no more pages were read than may be
-  pub few_read : (sizes : ℕ → ℕ) (tag : Tag) → d.honest ≡ true → tag_of_summary first ≡ Some tag → AreSizes d.flash sizes → tag.count ≤ sizes b
-  few_read sizes tag honest is fits = fits b tag (first_has d.flash b first tag (noted.noted honest b first at) is) (begins first tag is) where
-    begins : (first : FirstPage) (tag : Tag) → tag_of_summary first ≡ Some tag → BeginsSummary tag
-    begins firsts.Bad tag same = absurd cc
-    begins firsts.Erased tag same = absurd cc
-    begins firsts.Untagged tag same = absurd cc
-    begins (firsts.Tagged seq) tag same = absurd cc
-    begins (firsts.Summary count number seq) tag same = let one : first_tag count number seq ≡ tag = cc in subst BeginsSummary one (refl, refl, refl)
+-- ---- how many pages it has
+
+-- as many as the tag counts
+pub size_of_tag : (pages : List FirstPage) (b : ℕ) (first : FirstPage) (tag : Tag) → slice_get pages b ≡ Some first → tag_of_summary first ≡ Some tag → summary_size pages b ≡ tag.count
+size_of_tag pages b first tag at is = ap (λ read. option_map_or pages_of_summary read 0) at ∙ counted first tag is where
+  counted : (first : FirstPage) (tag : Tag) → tag_of_summary first ≡ Some tag → pages_of_summary first ≡ tag.count
+  counted firsts.Bad tag same = absurd cc
+  counted firsts.Erased tag same = absurd cc
+  counted firsts.Untagged tag same = absurd cc
+  counted (firsts.Tagged seq) tag same = absurd cc
+  counted (firsts.Summary count number seq) tag same = let one : first_tag count number seq ≡ tag = cc in ap (λ (t : Tag). t.count) one
+
+-- and no more than it may have
+pub size_fits : (flash : Flash) (pages : List FirstPage) (sizes : ℕ → ℕ) → AreFirstPages flash pages → AreSizes flash sizes → (b : ℕ) → summary_size pages b ≤ sizes b
+size_fits flash pages sizes are fits b = at (slice_get pages b) refl where
+  one : (first : FirstPage) → IsFirstPage flash b first → pages_of_summary first ≤ sizes b
+  one firsts.Bad is = omega arith
+  one firsts.Erased is = omega arith
+  one firsts.Untagged is = omega arith
+  one (firsts.Tagged seq) is = omega arith
+  one (firsts.Summary count number seq) is = fits b (first_tag count number seq) is (refl, refl, refl)
+
+  at : (read : Option FirstPage) → slice_get pages b ≡ read → option_map_or pages_of_summary read 0 ≤ sizes b
+  at None same = omega arith
+  at (Some first) same = one first (are b first same)

@@ -195,12 +195,12 @@ all_taken d c n es is =
     subst (λ k. AreEntries k es) all is.so_far
 
 pub form_all : (d : Device) (c : Candidate) (n : ℕ) (es : List CheckEntry) → IsCandidate d c → c.tag.count ≤ d.geometry.pages → IsBegun d c n c.tag.count es → HasForm d (begun c es)
-form_all d c n es candidate few is =
+form_all d c n es candidate within_limit is =
     let are = all_taken d c n es is in
     record {
       block = candidate.block;
       good = candidate.good;
-      room = few;
+      room = within_limit;
       tag = page_tag_valid c 0 candidate.tag (omega (arith, candidate.tag.count));
       size = is.size ∙ ap (λ k. ceiling (32 * (1 + k)) d.geometry.bytes) (sym are.count);
       entries = are.each;

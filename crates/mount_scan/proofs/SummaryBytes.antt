@@ -109,7 +109,7 @@ module _ (g : Geometry) (count : ℕ) (bytes : List ℕ) (len : length bytes ≡
     valid = says.valid;
     said = ap (take 32) says.is ∙ head_of_bytes (length bytes) head es;
     block = says.block;
-    few = omega (arith, says.number, few_listed g head es says.listed);
+    within_limit = omega (arith, says.number, few_listed g head es says.listed);
     size = says.size ∙ ap (λ n. ceiling (32 * (1 + n)) g.bytes) (sym says.number);
   }
 

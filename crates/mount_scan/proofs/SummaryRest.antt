@@ -100,7 +100,7 @@ module _ (d : Device) (b : ℕ) (lt : b < d.geometry.blocks) (old new : List Pag
 pub rest_read :
     (d a : Device) (b : ℕ) (done : List Bool) (first : FirstPage) (summarized : Bool) (old new : Rest) → OnlyReads d a → IsNextBlock d b done first summarized → AddsBlock a b (listed old.newest) (listed new.newest)
     → (a.honest ≡ true → RaisesBy a.flash b (numbers_of old.seen.numbers) (numbers_of new.seen.numbers)) → (new.erased ≡ true → (old.erased ≡ true) ⊎ (first ≡ firsts.Erased)) → new.renewed ≡ old.renewed
-    → IsRestBelow d b done old → IsRestBelow d (b + 1) done new
+    → IsRestBelow d done b old → IsRestBelow d done (b + 1) new
 rest_read d a b done first summarized old new only next there raised erased same were = record {
   below = record {
     known = known_block d b next.block (listed old.newest) (listed new.newest) adds were.below.known;
@@ -148,7 +148,7 @@ written_back d a b old new only adds = record {
 pub rest_older :
     (d a : Device) (b : ℕ) (done : List Bool) (first : FirstPage) (summarized : Bool) (old new : Rest) → OnlyReads d a → IsNextBlock d b done first summarized → IsOlderThan old.renewed first
     → AddsWritten a b (listed old.newest) (listed new.newest) → (a.honest ≡ true → RaisesWithin a.flash b (numbers_of old.seen.numbers) (numbers_of new.seen.numbers)) → new.erased ≡ old.erased → new.renewed ≡ old.renewed
-    → IsRestBelow d b done old → IsRestBelow d (b + 1) done new
+    → IsRestBelow d done b old → IsRestBelow d done (b + 1) new
 rest_older d a b done first summarized old new only next older there raised erased same were = record {
   below = record {
     known = known_added d b adds.pages (listed old.newest) (listed new.newest) next.block adds.placed (λ honest. adds.held honest (begins honest).1.0) adds.thins were.below.known;
@@ -207,8 +207,8 @@ not_left flash b firsts.Untagged false erased is good not = absurd (not (record 
 not_left flash b (firsts.Tagged seq) false erased is good not = absurd (not (record { good = λ same. absurd cc; other = refl; written = λ same. absurd cc }))
 not_left flash b (firsts.Summary count number seq) false erased is good not = absurd (not (record { good = λ same. absurd cc; other = refl; written = λ same. absurd cc }))
 
-pub rest_skip : (d : Device) (b : ℕ) (done : List Bool) (first : FirstPage) (summarized : Bool) (rest : Rest) → (IsLeft first summarized rest.erased → ⊥) → IsNextBlock d b done first summarized → IsRestBelow d b done rest
-    → IsRestBelow d (b + 1) done rest
+pub rest_skip : (d : Device) (b : ℕ) (done : List Bool) (first : FirstPage) (summarized : Bool) (rest : Rest) → (IsLeft first summarized rest.erased → ⊥) → IsNextBlock d b done first summarized → IsRestBelow d done b rest
+    → IsRestBelow d done (b + 1) rest
 rest_skip d b done first summarized rest not next were = record {
   below = record {
     known = were.below.known;
@@ -230,7 +230,7 @@ rest_skip d b done first summarized rest not next were = record {
 -- ---- the first block
 
 pub rest_none : (d : Device) (first : FirstPages) (summarized : SummaryPages) (rest : Rest) → rest.newest ≡ summarized.newest → rest.seen.numbers ≡ first.numbers → rest.erased ≡ false → rest.renewed ≡ first.renewed
-    → FirstPagesBelow d d.geometry.blocks first → AreSummaryPages d summarized → IsRestBelow d 0 summarized.done.items rest
+    → FirstPagesBelow d d.geometry.blocks first → AreSummaryPages d summarized → IsRestBelow d summarized.done.items 0 rest
 rest_none d first summarized rest newest numbers erased same firsts is = record {
   below = record {
     known = subst (λ pages. HasKnown d (listed pages)) (sym newest) is.known;

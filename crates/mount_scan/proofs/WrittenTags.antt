@@ -1,5 +1,5 @@
 -- The tags of a block up to its first erased page, and the pages that they list.
-use Rattle.std.specs.Prelude.{◌≡◌, ◌≢◌, ◌<◌, ◌≤◌, ℕ, ◌+◌, ◌-◌, ◌++◌, ◌∷◌, [], Bool, true, false, List, Option, Some, None, Ok, Err, length, slice_get, Contains}
+use Rattle.std.specs.Prelude.{◌≡◌, ◌≢◌, ◌<◌, ◌≤◌, ℕ, ◌+◌, ◌-◌, ◌++◌, ◌∷◌, [], Bool, true, false, List, Option, Some, None, Ok, length, slice_get, Contains}
 use Rattle.std.proofs.Common.{refl, sym, ◌∙◌, ap, subst, inl, inr, arith, get_or, length-append}
 use Rattle.std.proofs.lemmas.Bool.{cases_Bool, cases_eq, cases_lt}
 use Rattle.std.proofs.lemmas.Option.{slice_get-get_or}
@@ -18,7 +18,6 @@ use Rattle.mount_scan.specs.FoundCheckpoint.{ReadsAtMost}
 use Rattle.mount_scan.specs.Keys.{ThinsFound}
 use Rattle.mount_scan.specs.Runs.{AddsCounted, IsCountedIn}
 use Rattle.mount_scan.specs.WrittenBlocks.{AddsWritten, AreWrittenTags, IsWrittenUpTo, PushesTag, RaisesWithin, ReadsUpToErased}
-use Rattle.mount_scan.specs.declared.fault.ScanFault.{ScanFault}
 use Rattle.mount_scan.specs.declared.page_copy.PageCopy.{PageCopy}
 use Rattle.mount_scan.proofs.Latest.{none_in}
 use Rattle.mount_scan.proofs.ReadCount.{HasRead, back_honest, read_none, read_on}

@@ -1,15 +1,21 @@
 -- How many pages a scan by summaries reads.
 use Rattle.std.specs.Prelude.{◌≡◌, ◌≢◌, ◌⊎◌, ◌<◌, ◌≤◌, ℕ, ◌+◌, ◌*◌, Bool, true, false, List, Some, Result, map, sum, slice_get, if◌then◌else◌}
 use Rattle.std.specs.List.{range_with_len}
+use Rattle.std.specs.Option.{option_map_or}
 use Rattle.nand_model.specs.Flash.{Flash, Erased}
 use Rattle.nand_model.specs.Calls.{Device}
+use Rattle.nand_model.specs.Changes.{OnlyReads}
 use Rattle.nand_model.specs.declared.geometry.Geometry.{Geometry}
 use Rattle.page_tags.specs.declared.tag.Tag.{Tag}
 use Rattle.flash_tree.specs.Summaries.{Summary, IsWholeSummary, MatchesBlock, BeginsSummary}
-use Rattle.mount_scan.specs.FirstPages.{BeginsWithTag, IsFirstPage, IsRenewedBelow}
+use Rattle.mount_scan.specs.FirstPages.{AreFirstsOf, BeginsWithTag, IsFirstPage}
 use Rattle.mount_scan.specs.FoundCheckpoint.{ReadsAtMost}
 use Rattle.mount_scan.specs.declared.fault.ScanFault.{ScanFault}
 use Rattle.mount_scan.specs.declared.first_page.FirstPage.{FirstPage}
+use Rattle.mount_scan.specs.declared.first_page.FirstPage.TheVariants as firsts
+use Rattle.mount_scan.specs.declared.first_page.FirstPages.{FirstPages}
+use Rattle.mount_scan.specs.declared.summary_pages.SummaryPages.{SummaryPages}
+use Rattle.mount_scan.specs.declared.summary_scan.Rest.{Rest}
 
 -- the sum of these numbers of the blocks below b
 abbrev pub sum_below : (ℕ → ℕ) → ℕ → ℕ
@@ -47,17 +53,49 @@ abbrev pub ReadsByNeed : Device → Device → Type 0
 ReadsByNeed old new = old.honest ≡ true → (sizes costs : ℕ → ℕ) → AreSizes old.flash sizes → AreCosts old.geometry old.flash costs
     → new.reads ≤ old.reads + sum_below sizes old.geometry.blocks + (old.geometry.pages + sum_below costs old.geometry.blocks)
 
--- each whole summary in a block below b that matches its block is noted
-abbrev pub AreDoneBelow : Device → ℕ → List Bool → Type 0
-AreDoneBelow device b done = device.honest ≡ true → (s : Summary) → s.block < b → IsWholeSummary device.geometry device.flash s → MatchesBlock device.flash s → slice_get done s.head.block ≡ Some true
+-- Of an honest device so many pages are read at most of the blocks that have no summary: all of one that begins erased, and of the others
+-- as many as each costs.
+abbrev pub ReadsByCost : Device → (old new : Device) → Type 0
+ReadsByCost device old new =
+    device.honest ≡ true → (costs : ℕ → ℕ) → AreCosts device.geometry device.flash costs → new.reads ≤ old.reads + (device.geometry.pages + sum_below costs device.geometry.blocks)
+
+-- how many pages the summary has that a block begins with, by the block's first page, and none if it begins with none
+abbrev pub pages_of_summary : FirstPage → ℕ
+pages_of_summary firsts.Bad = 0
+pages_of_summary firsts.Erased = 0
+pages_of_summary firsts.Untagged = 0
+pages_of_summary (firsts.Tagged seq) = 0
+pages_of_summary (firsts.Summary count number seq) = count
+
+-- and of a block among those whose first pages are these
+abbrev pub summary_size : List FirstPage → ℕ → ℕ
+summary_size pages b = option_map_or pages_of_summary (slice_get pages b) 0
+
+-- the pages of a summary of this block were added
+abbrev pub IsNoted : SummaryPages → ℕ → Type 0
+IsNoted summarized b = slice_get summarized.done.items b ≡ Some true
+
+-- of an honest device: each whole summary in a block below b that matches its block is noted
+abbrev pub AreDoneBelow : Device → ℕ → SummaryPages → Type 0
+AreDoneBelow device b summarized = device.honest ≡ true → (s : Summary) → s.block < b → IsWholeSummary device.geometry device.flash s → MatchesBlock device.flash s → IsNoted summarized s.head.block
 
 -- each block that has a summary is noted
 abbrev pub AreAllDone : Geometry → Flash → List Bool → Type 0
 AreAllDone g flash done = (b : ℕ) → slice_get done b ≡ Some false → LacksSummary g flash b
 
+-- The first pages of a device were read, each of its blocks that has a summary is noted, and since then it was only read.
+pub record NotesSummaries (d now : Device) (pages : FirstPages) (summarized : SummaryPages) : Type 0 where
+  pub only : OnlyReads d now
+  pub firsts_are : AreFirstsOf d pages
+  pub done : AreAllDone d.geometry d.flash summarized.done.items
+
 -- all pages of a block while none was read that begins erased, then none
 abbrev pub erased_pages : Device → Bool → ℕ
 erased_pages device erased = if erased then 0 else device.geometry.pages
+
+-- the pages that were read, and those that may be read yet of a block that begins erased
+abbrev pub reads_ahead : Device → Rest → ℕ
+reads_ahead device rest = device.reads + erased_pages device rest.erased
 
 -- of an honest device: the block begins so, is noted if it has a summary, and costs so much; and no block begins with a page of its own
 -- group's number and a greater seq than this one

@@ -2,6 +2,7 @@
 use Rattle.std.specs.Prelude.{◌≡◌, ◌≢◌, ◌<◌, ◌≤◌, ℕ, max, true, false, List, Option, Some, None, IfSome, length, slice_get}
 use Rattle.nand_model.specs.Flash.{Flash, Erased}
 use Rattle.nand_model.specs.Calls.{Device}
+use Rattle.nand_model.specs.Changes.{OnlyReads}
 use Rattle.page_tags.specs.declared.tag.Tag.{Tag}
 use Rattle.flash_tree.specs.Groups.{HasTag}
 use Rattle.flash_tree.specs.Newest.{Numbers, AreAbove}
@@ -129,6 +130,15 @@ pub record AreNoted (device : Device) (b : ℕ) (pages : List FirstPage) : Type 
   pub len : length pages ≡ b
   pub good : AreGoodFirsts device pages
   pub noted : device.honest ≡ true → AreFirstPages device.flash pages
+
+-- what was noted of all blocks of a device
+abbrev pub AreAllNoted : Device → List FirstPage → Type 0
+AreAllNoted device pages = AreNoted device device.geometry.blocks pages
+
+-- That was noted of a device, and since then it was only read.
+pub record KeepsNoted (d now : Device) (pages : List FirstPage) : Type 0 where
+  pub only : OnlyReads d now
+  pub noted : AreAllNoted d pages
 
 -- no tag of the first page of a good block below b has a number above these
 abbrev pub AreAboveFirsts : Flash → ℕ → Numbers → Type 0

@@ -14,6 +14,10 @@ rank_of f = (f.object, f.chunk, f.version, f.seq, f.page, f.block)
 abbrev pub HaveOneKey : PageCopy → PageCopy → Type 0
 HaveOneKey f g = (f.object ≡ g.object) × (f.chunk ≡ g.chunk)
 
+-- no key stands at two places of the list
+abbrev pub HasEachKeyOnce : List PageCopy → Type 0
+HasEachKeyOnce list = (i j : ℕ) (x y : PageCopy) → slice_get list i ≡ Some x → slice_get list j ≡ Some y → HaveOneKey x y → i ≡ j
+
 -- the pages are of two keys
 abbrev pub HaveOtherKeys : PageCopy → PageCopy → Type 0
 HaveOtherKeys f g = HaveOneKey f g → ⊥

@@ -1,6 +1,7 @@
 pub mod Scanned
 pub mod laws
 pub mod Runs
+pub mod Steps
 pub mod Blocks
 pub mod Latest
 pub mod NewestMap

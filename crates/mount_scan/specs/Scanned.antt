@@ -1,7 +1,7 @@
 -- What a scan reports on a flash.
 use Rattle.std.specs.Prelude.{◌≡◌, ◌⊎◌, ◌↔◌, ◌<◌, ◌≤◌, ◌^◌, ℕ, ◌+◌, true, false, List, map, sum, Result, Ok, Err, OnOk, All, Contains, if◌then◌else◌}
 use Rattle.std.specs.List.{AllPairs, range_with_len}
-use Rattle.nand_model.specs.Flash.{Flash}
+use Rattle.nand_model.specs.Flash.{Flash, Written}
 use Rattle.nand_model.specs.Calls.{Device}
 use Rattle.nand_model.specs.Changes.{OnlyReads}
 use Rattle.flash_tree.specs.Newest.{Spot, Holds, IsNewest}
@@ -27,6 +27,14 @@ pub record IsNewestCopy (flash : Flash) (x : PageCopy) : Type 0 where
   pub spot : Spot
   pub newest : IsNewest flash x.object x.chunk spot
   pub copied : copy_at spot ≡ x
+
+-- the list has a copy of a page of chunk c of object o
+abbrev pub HasCopyOf : List PageCopy → (o c : ℕ) → Type 0
+HasCopyOf list o c = (x : PageCopy) × Contains list x × (x.object ≡ o) × (x.chunk ≡ c)
+
+-- and the page has these data
+abbrev pub HasCopyWith : Flash → List PageCopy → (o c : ℕ) → List ℕ → Type 0
+HasCopyWith flash list o c bytes = (x : PageCopy) × Contains list x × (x.object ≡ o) × (x.chunk ≡ c) × (spare : List ℕ) × (flash.page x.block x.page ≡ Written bytes spare)
 
 -- exactly the copies of the newest pages of all keys of chunks that a tree may look up, in which each key stands once
 pub record AreNewest (flash : Flash) (list : List PageCopy) : Type 0 where

@@ -38,7 +38,7 @@ pub record BeginsWith (g : Geometry) (count : ℕ) (bytes : List ℕ) (head : Su
   pub valid : IsHead head
   pub said : take 32 bytes ≡ head_bytes head
   pub block : head.block < g.blocks
-  pub few : head.entries ≤ g.pages
+  pub within_limit : head.entries ≤ g.pages
   pub size : count ≡ ceiling (32 * (1 + head.entries)) g.bytes
 
 -- The bytes, of so many pages, are those of a summary with this head and these entries.

@@ -122,7 +122,7 @@ abbrev pub IsScannedAll : Device → NewestScan → Type 0
 IsScannedAll device scan = IsScannedBelow device device.geometry.blocks (listed scan.newest) (numbers_of scan.numbers)
 
 -- And what is known for the blocks to come: the pages of the summaries are still there, and whether a block was read that begins erased.
-pub record IsRestBelow (device : Device) (b : ℕ) (done : List Bool) (rest : Rest) : Type 0 where
+pub record IsRestBelow (device : Device) (done : List Bool) (b : ℕ) (rest : Rest) : Type 0 where
   pub below : IsScannedBelow device b (listed rest.newest) (numbers_of rest.seen.numbers)
   pub summarized : device.honest ≡ true → AreSummarized device.geometry device.flash done (listed rest.newest)
   pub erased : device.honest ≡ true → rest.erased ≡ true → (j : ℕ) × (j < b) × BeginsErased device.flash j

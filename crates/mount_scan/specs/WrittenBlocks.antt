@@ -1,5 +1,5 @@
 -- The tags of a block up to its first erased page.
-use Rattle.std.specs.Prelude.{◌≡◌, ◌≢◌, ◌<◌, ◌≤◌, ℕ, ◌+◌, ◌++◌, ◌∷◌, [], Bool, true, false, List, Option, Some, None, slice_get, Contains}
+use Rattle.std.specs.Prelude.{◌≡◌, ◌≢◌, ◌<◌, ◌≤◌, ℕ, ◌+◌, ◌++◌, ◌∷◌, [], Bool, true, false, List, Option, Some, None, slice_get, Contains, Result, OnOk}
 use Rattle.nand_model.specs.Flash.{Flash, Erased}
 use Rattle.nand_model.specs.Calls.{Device}
 use Rattle.page_tags.specs.declared.tag.Tag.{Tag}
@@ -30,6 +30,10 @@ pub record AreWrittenTags (flash : Flash) (b count : ℕ) (tags : List (Option T
   pub reported : (p : ℕ) (reported : Option Tag) → p < end → slice_get tags p ≡ Some reported → TagIs flash b p reported
   pub none : (p : ℕ) (reported : Option Tag) → end ≤ p → slice_get tags p ≡ Some reported → reported ≡ None
 
+-- of an honest device, once the call is done: this is listed of the pages of the block
+abbrev pub ReadsWritten : {T E : Type 0} → Device → ℕ → List (Option Tag) → Result T E → Type 0
+ReadsWritten d b tags result = d.honest ≡ true → OnOk result (AreWrittenTags d.flash b d.geometry.pages tags)
+
 -- where a page of the block is erased, no more pages were read than those up to it
 abbrev pub ReadsUpToErased : (b : ℕ) → Device → Device → Type 0
 ReadsUpToErased b old new = (q : ℕ) → old.flash.page b q ≡ Erased → new.reads ≤ old.reads + (q + 1)
@@ -55,3 +59,7 @@ pub record AddsWritten (device : Device) (b : ℕ) (old new : List PageCopy) : T
 pub record RaisesWithin (flash : Flash) (b : ℕ) (old new : Numbers) : Type 0 where
   pub keeps : AreAtMost old new
   pub least : flash.bad b ≡ false → (m : Numbers) → AreAtMost old m → ((l : ℕ) (t : Tag) → HasTag flash b l t → AreAtMost (numbers_in t) m) → AreAtMost new m
+
+-- of an honest device, once the call is done: they are
+abbrev pub RaisesNumbersWithin : {T E : Type 0} → Device → ℕ → (old new : Numbers) → Result T E → Type 0
+RaisesNumbersWithin d b old new result = d.honest ≡ true → OnOk result (RaisesWithin d.flash b old new)

@@ -17,7 +17,7 @@ pub(crate) fn read_tags<N: Nand>(
     requires { block < (N.state device.old).geometry.blocks }
     ensures reads { ReadsEach (N.state device.old).geometry.pages (N.state device.old) (N.state device.new) result }
     ensures len { OnOk result (length tags.new.items ≡ (N.state device.old).geometry.pages) }
-    ensures few { OnOk result (length tags.new.items ≤ 256) }
+    ensures within_limit { OnOk result (length tags.new.items ≤ 256) }
     ensures tags { (N.state device.old).honest ≡ true → OnOk result (AreTags (N.state device.old).flash block tags.new.items) }
 {
     tags.clear();

@@ -66,7 +66,7 @@ pub(crate) fn take_next(
 ) -> Result<bool, AllocError>
     requires size { IsPageSize (length page.now) }
     requires later { 1 ≤ i }
-    requires few { i < 256 }
+    requires within_limit { i < 256 }
     requires so_far { AreEntries (min n (entries_below (length page.now) i)) entries.old.items }
     ensures yes { IfOk result (λ taken. IsTrue taken → Takes n (entries_below (length page.now) (i + 1)) (IsPage page.now i) entries.old.items entries.new.items) }
     ensures no { IfOk result (λ taken. taken ≡ false → Refuses n (IsPage page.now i) entries.old.items) }

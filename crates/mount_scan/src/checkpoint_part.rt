@@ -56,7 +56,7 @@ pub(crate) fn take_parts(
     entries: &mut Vec<CheckEntry>,
 ) -> Result<bool, AllocError>
     requires size { 32 * (length parts.now / 32) ≡ length parts.now }
-    requires few { first + length parts.now / 32 < 2 ^ 64 }
+    requires within_limit { first + length parts.now / 32 < 2 ^ 64 }
     requires so_far { AreEntries (min n first) entries.old.items }
     ensures yes { IfOk result (λ taken. IsTrue taken → Takes n (first + length parts.now / 32) (ArePartsFrom first parts.now) entries.old.items entries.new.items) }
     ensures no { IfOk result (λ taken. taken ≡ false → Refuses n (ArePartsFrom first parts.now) entries.old.items) }

@@ -21,7 +21,7 @@ fn read_candidate<N: Nand>(
 ) -> Result<Option<FoundCheckpoint>, ScanFault>
     requires { IsCandidate (N.state device.old) candidate }
     ensures reads { ReadsAtMost (N.state device.old).geometry.pages (N.state device.old) (N.state device.new) result }
-    ensures few { (N.state device.new).reads ≤ (N.state device.old).reads + candidate.tag.count }
+    ensures reads_bounded { (N.state device.new).reads ≤ (N.state device.old).reads + candidate.tag.count }
     ensures form { IfOk result (λ found. IfSome found (λ c. HasForm (N.state device.old) (checkpoint_of c))) }
     ensures found { IfOk result (λ found. IfSome found (λ c. IsWholeOn (N.state device.old) (checkpoint_of c))) }
     ensures none { IfOk result (λ found. IfNone found (HasNoneAt (N.state device.old) candidate)) }
@@ -54,7 +54,7 @@ fn read_best<N: Nand>(
 ) -> Result<Option<FoundCheckpoint>, ScanFault>
     requires { IfSome best (IsCandidate (N.state device.old)) }
     ensures reads { ReadsAtMost (N.state device.old).geometry.pages (N.state device.old) (N.state device.new) result }
-    ensures few { (N.state device.new).reads ≤ (N.state device.old).reads + pages_of best }
+    ensures reads_bounded { (N.state device.new).reads ≤ (N.state device.old).reads + pages_of best }
     ensures form { IfOk result (λ found. IfSome found (λ c. HasForm (N.state device.old) (checkpoint_of c))) }
     ensures found { IfOk result (λ found. IfSome found (λ c. IsWholeOn (N.state device.old) (checkpoint_of c))) }
     ensures none { IfSome best (λ candidate. IfOk result (λ found. IfNone found (HasNoneAt (N.state device.old) candidate))) }
@@ -74,7 +74,7 @@ pub fn find_checkpoint<N: Nand>(
     device: &mut N,
 ) -> Result<CheckpointSearch, ScanFault>
     ensures reads { ReadsAtMost ((N.state device.old).geometry.blocks + (N.state device.old).geometry.pages) (N.state device.old) (N.state device.new) result }
-    ensures few { ReadsFew (N.state device.old) (N.state device.new) }
+    ensures reads_bounded { ReadsFew (N.state device.old) (N.state device.new) }
     ensures form { IfOk result (λ search. IfSome search.checkpoint (λ c. HasForm (N.state device.old) (checkpoint_of c))) }
     ensures found { IfOk result (λ search. IfSome search.checkpoint (λ c. IsWholeOn (N.state device.old) (checkpoint_of c))) }
     ensures none { IfOk result (λ search. IfNone search.checkpoint (HasNoneWhole (N.state device.old))) }

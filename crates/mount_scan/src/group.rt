@@ -1,5 +1,6 @@
 // The whole groups in the tags of a block.
 ghost use Rattle.std.specs.Prelude.{◌≡◌, ◌+◌, ◌<◌, ◌≤◌, ◌↔◌, ℕ, List, Some, IsTrue, IfOk, OnOk, length, slice_get};
+ghost use Rattle.mount_scan.specs.Steps.{Extends};
 ghost use Rattle.mount_scan.specs.Runs.{IsPartOf, IsRun, IsWithinRun, Reaches, AddsPage, AddsCounted};
 
 use flash_tree::Found;
@@ -55,7 +56,7 @@ fn add_found(
     page: usize,
     valid_pages: &mut Vec<Found>,
 ) -> Result<(), AllocError>
-    requires few { length tags.now ≤ 256 }
+    requires within_limit { length tags.now ≤ 256 }
     requires page { page < length tags.now }
     ensures { OnOk result (AddsPage block tags.now page valid_pages.old.items valid_pages.new.items) }
 {
@@ -75,12 +76,11 @@ fn add_page(
     end: usize,
     valid_pages: &mut Vec<Found>,
 ) -> Result<usize, AllocError>
-    requires few { length tags.now ≤ 256 }
+    requires within_limit { length tags.now ≤ 256 }
     requires page { page < length tags.now }
     requires reach { Reaches tags.now page page end }
     ensures reach { IfOk result (Reaches tags.now (page + 1) (page + 1)) }
-    ensures added { OnOk result ((first : List Found) → AddsCounted block tags.now page first valid_pages.old.items
-        → AddsCounted block tags.now (page + 1) first valid_pages.new.items) }
+    ensures added { (first : List Found) → Extends (λ p. AddsCounted block tags.now p first) page valid_pages.old.items valid_pages.new.items result }
 {
     let end = end.max(run_end(tags, page));
     if page < end {

@@ -1,11 +1,11 @@
 // The pages that summaries list.
-ghost use Rattle.std.specs.Prelude.{◌≡◌, ◌<◌, ◌≤◌, ◌+◌, ◌*◌, ℕ, true, Some, IfOk, OnOk, length, slice_get};
+ghost use Rattle.std.specs.Prelude.{◌≡◌, ◌<◌, ◌≤◌, ◌+◌, ◌*◌, ℕ, IfOk, OnOk, length};
 ghost use Rattle.nand_model.specs.Calls.{Device};
-ghost use Rattle.nand_model.specs.Changes.{OnlyReads};
 ghost use Rattle.mount_scan.specs.FoundSummary.{summary_of};
 ghost use Rattle.mount_scan.specs.FoundCheckpoint.{ReadsAtMost};
-ghost use Rattle.mount_scan.specs.FirstPages.{HasSeqAt, AreNoted, AreGoodFirsts};
-ghost use Rattle.mount_scan.specs.FewReads.{AreSizes, AreDoneBelow, sum_below};
+ghost use Rattle.mount_scan.specs.FirstPages.{HasSeqAt, AreAllNoted, AreGoodFirsts, KeepsNoted};
+ghost use Rattle.mount_scan.specs.FewReads.{AreDoneBelow, IsNoted, sum_below, summary_size};
+ghost use Rattle.mount_scan.specs.Steps.{Extends, Keeps};
 ghost use Rattle.mount_scan.specs.SummaryScan.{AreSummaryPages, MayBeAdded};
 
 use crate::block_summary::{FoundSummary, read_summary};
@@ -38,11 +38,10 @@ impl SummaryPages {
     fn add(&mut self, pages: &[FirstPage], summary: &FoundSummary) -> Result<(), AllocError>
         requires { length self.old.done.items ≡ length pages.now }
         ensures len { length self.new.done.items ≡ length self.old.done.items }
-        ensures keeps { (k : ℕ) → slice_get self.old.done.items k ≡ Some true → OnOk result (slice_get self.new.done.items k ≡ Some true) }
-        ensures notes { HasSeqAt pages.now summary.now.head.block summary.now.head.seq
-            → OnOk result (slice_get self.new.done.items summary.now.head.block ≡ Some true) }
-        ensures summarized { (d : Device) → AreNoted d d.geometry.blocks pages.now → MayBeAdded d (summary_of summary.now) → AreSummaryPages d self.old
-            → OnOk result (AreSummaryPages d self.new) }
+        ensures keeps { (k : ℕ) → IsNoted self.old k → OnOk result (IsNoted self.new k) }
+        ensures notes { HasSeqAt pages.now summary.now.head.block summary.now.head.seq → OnOk result (IsNoted self.new summary.now.head.block) }
+        ensures summarized { (d : Device) → AreAllNoted d pages.now → MayBeAdded d (summary_of summary.now)
+            → Keeps (AreSummaryPages d) self.old self.new result }
     {
         let head = summary.head;
         if !has_seq(pages, head.block, head.seq) {
@@ -68,12 +67,9 @@ fn add_summary<N: Nand>(
     requires len { length summarized.old.done.items ≡ length pages.now }
     ensures reads { ReadsAtMost (N.state device.old).geometry.pages (N.state device.old) (N.state device.new) result }
     ensures len { length summarized.new.done.items ≡ length summarized.old.done.items }
-    ensures few { (d : Device) (sizes : ℕ → ℕ) → OnlyReads d (N.state device.old) → d.honest ≡ true → AreNoted d d.geometry.blocks pages.now
-        → AreSizes d.flash sizes → (N.state device.new).reads ≤ (N.state device.old).reads + sizes block }
-    ensures done { (d : Device) → OnlyReads d (N.state device.old) → AreNoted d d.geometry.blocks pages.now
-        → AreDoneBelow d block summarized.old.done.items → OnOk result (AreDoneBelow d (block + 1) summarized.new.done.items) }
-    ensures summarized { (d : Device) → OnlyReads d (N.state device.old) → AreNoted d d.geometry.blocks pages.now → AreSummaryPages d summarized.old
-        → OnOk result (AreSummaryPages d summarized.new) }
+    ensures reads_bounded { (N.state device.new).reads ≤ (N.state device.old).reads + summary_size pages.now block }
+    ensures done { (d : Device) → KeepsNoted d (N.state device.old) pages.now → Extends (AreDoneBelow d) block summarized.old summarized.new result }
+    ensures summarized { (d : Device) → KeepsNoted d (N.state device.old) pages.now → Keeps (AreSummaryPages d) summarized.old summarized.new result }
 {
     let Some(first) = tag_of_summary(pages[block as usize]) else {
         return Ok(());
@@ -97,11 +93,9 @@ pub(crate) fn read_summaries<N: Nand>(
     requires len { length pages.now ≡ (N.state device.old).geometry.blocks }
     ensures reads { ReadsAtMost ((N.state device.old).geometry.pages * (N.state device.old).geometry.blocks) (N.state device.old) (N.state device.new) result }
     ensures len { IfOk result (λ summarized. length summarized.done.items ≡ (N.state device.old).geometry.blocks) }
-    ensures few { (d : Device) (sizes : ℕ → ℕ) → OnlyReads d (N.state device.old) → d.honest ≡ true → AreNoted d d.geometry.blocks pages.now
-        → AreSizes d.flash sizes → (N.state device.new).reads ≤ (N.state device.old).reads + sum_below sizes d.geometry.blocks }
-    ensures done { (d : Device) → OnlyReads d (N.state device.old) → AreNoted d d.geometry.blocks pages.now
-        → IfOk result (λ summarized. AreDoneBelow d d.geometry.blocks summarized.done.items) }
-    ensures summarized { (d : Device) → OnlyReads d (N.state device.old) → AreNoted d d.geometry.blocks pages.now → IfOk result (AreSummaryPages d) }
+    ensures reads_bounded { (N.state device.new).reads ≤ (N.state device.old).reads + sum_below (summary_size pages.now) (N.state device.old).geometry.blocks }
+    ensures done { (d : Device) → KeepsNoted d (N.state device.old) pages.now → IfOk result (AreDoneBelow d d.geometry.blocks) }
+    ensures summarized { (d : Device) → KeepsNoted d (N.state device.old) pages.now → IfOk result (AreSummaryPages d) }
 {
     let blocks = device.geometry().blocks();
     let mut summarized = SummaryPages::new(alloc, blocks)?;

@@ -5,9 +5,10 @@ ghost use Rattle.nand_model.specs.Changes.{OnlyReads};
 ghost use Rattle.flash_tree.specs.Newest.{AreGreatest};
 ghost use Rattle.flash_tree.specs.Places.{numbers_of};
 ghost use Rattle.mount_scan.specs.FoundCheckpoint.{ReadsAtMost};
-ghost use Rattle.mount_scan.specs.FewReads.{IsOther, AreAllDone, AreCosts, ReadsTwice, ReadsByNeed, erased_pages, sum_below};
+ghost use Rattle.mount_scan.specs.FewReads.{IsOther, NotesSummaries, ReadsTwice, ReadsByCost, ReadsByNeed, reads_ahead};
 ghost use Rattle.mount_scan.specs.FirstPages.{AreFirstsOf, AreNoneAbove};
 ghost use Rattle.mount_scan.specs.Listed.{listed};
+ghost use Rattle.mount_scan.specs.Steps.{Extends};
 ghost use Rattle.mount_scan.specs.Summarized.{HasSummarizedFlash, FindsNeeded};
 ghost use Rattle.mount_scan.specs.SummaryScan.{AreSummaryPages, IsLeft, IsNextBlock, IsRestBelow, IsScannedAll};
 ghost use Rattle.mount_scan.specs.declared.first_page.FirstPage.TheVariants as firsts;
@@ -72,12 +73,12 @@ fn find_left<N: Nand>(
     requires { block < (N.state device.old).geometry.blocks }
     ensures reads { ReadsAtMost (N.state device.old).geometry.pages (N.state device.old) (N.state device.new) result }
     ensures scans { (d : Device) (done : List Bool) → OnlyReads d (N.state device.old) → IsNextBlock d block done first summarized
-        → IsRestBelow d block done rest.old → OnOk result (IsRestBelow d (block + 1) done rest.new) }
+        → Extends (IsRestBelow d done) block rest.old rest.new result }
     ensures renewed { rest.new.renewed ≡ rest.old.renewed }
-    ensures few { (d : Device) (cost : ℕ) → OnlyReads d (N.state device.old) → IsOther d block first summarized rest.old.renewed cost
-        → (N.state device.new).reads ≤ (N.state device.old).reads + (cost + erased_pages d rest.old.erased) }
-    ensures left { (d : Device) (cost : ℕ) → OnlyReads d (N.state device.old) → IsOther d block first summarized rest.old.renewed cost
-        → OnOk result ((N.state device.new).reads + erased_pages d rest.new.erased ≤ (N.state device.old).reads + (cost + erased_pages d rest.old.erased)) }
+    ensures reads_bounded { (cost : ℕ) → IsOther (N.state device.old) block first summarized rest.old.renewed cost
+        → (N.state device.new).reads ≤ reads_ahead (N.state device.old) rest.old + cost }
+    ensures left { (cost : ℕ) → IsOther (N.state device.old) block first summarized rest.old.renewed cost
+        → OnOk result (reads_ahead (N.state device.new) rest.new ≤ reads_ahead (N.state device.old) rest.old + cost) }
 {
     if !is_left(first, summarized, rest.erased) {
         return Ok(());
@@ -113,9 +114,8 @@ fn find_rest<N: Nand>(
     requires pages { length firsts.now.pages.items ≡ (N.state device.old).geometry.blocks }
     requires done { length summarized.done.items ≡ (N.state device.old).geometry.blocks }
     ensures reads { ReadsAtMost ((N.state device.old).geometry.pages * (N.state device.old).geometry.blocks) (N.state device.old) (N.state device.new) result }
-    ensures few { (d : Device) (costs : ℕ → ℕ) → OnlyReads d (N.state device.old) → d.honest ≡ true → AreFirstsOf d firsts.now
-        → AreAllDone d.geometry d.flash summarized.done.items → AreCosts d.geometry d.flash costs
-        → (N.state device.new).reads ≤ (N.state device.old).reads + (d.geometry.pages + sum_below costs d.geometry.blocks) }
+    ensures reads_bounded { (d : Device) → NotesSummaries d (N.state device.old) firsts.now summarized
+        → ReadsByCost d (N.state device.old) (N.state device.new) }
     ensures scanned { (d : Device) → OnlyReads d (N.state device.old) → AreFirstsOf d firsts.now → AreSummaryPages d summarized
         → IfOk result (IsScannedAll d) }
 {
@@ -148,7 +148,7 @@ pub fn scan_summaries<N: Nand>(
 ) -> Result<NewestScan, ScanFault>
     requires { AreFirstsOf (N.state device.old) firsts.now }
     ensures reads { ReadsTwice (N.state device.old) (N.state device.new) result }
-    ensures few { ReadsByNeed (N.state device.old) (N.state device.new) }
+    ensures reads_bounded { ReadsByNeed (N.state device.old) (N.state device.new) }
     ensures newest { IfOk result (λ scan. FindsNeeded (N.state device.old) (listed scan.newest)) }
     ensures numbers { HasSummarizedFlash (N.state device.old) → IfOk result (λ scan. AreGreatest (N.state device.old).flash (numbers_of scan.numbers)) }
     ensures least { (N.state device.old).honest ≡ true → IfOk result (λ scan. AreNoneAbove (N.state device.old).flash (numbers_of scan.numbers)) }

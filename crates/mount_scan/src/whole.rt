@@ -1,8 +1,9 @@
 // A scan of all blocks.
-ghost use Rattle.std.specs.Prelude.{◌≡◌, ◌+◌, ◌<◌, [], true, IfOk, OnOk};
+ghost use Rattle.std.specs.Prelude.{◌≡◌, ◌<◌, [], true, IfOk, OnOk};
 ghost use Rattle.flash_tree.specs.Newest.{AreGreatest};
 ghost use Rattle.flash_tree.specs.Places.{numbers_of};
 ghost use Rattle.mount_scan.specs.Scanned.{ReportsCounted, ListsNewest, ReadsBlock, ReadsBlocks};
+ghost use Rattle.mount_scan.specs.Steps.{Extends};
 ghost use Rattle.mount_scan.specs.Blocks.{ReportsBelow, KeepsGreatest, RaisesNumbers};
 ghost use Rattle.mount_scan.specs.Latest.{ReportsBlock, AddsBlock, HasLatestBelow};
 ghost use Rattle.mount_scan.specs.NewestMap.{ReportsNewest};
@@ -64,8 +65,7 @@ fn scan_block<N: Nand>(
 ) -> Result<(), ScanFault>
     requires { block < (N.state device.old).geometry.blocks }
     ensures reads { ReadsBlock block (N.state device.old) (N.state device.new) result }
-    ensures valid_pages { ReportsBelow (N.state device.old) block seen.old.valid_pages.items
-        → OnOk result (ReportsBelow (N.state device.old) (block + 1) seen.new.valid_pages.items) }
+    ensures valid_pages { Extends (ReportsBelow (N.state device.old)) block seen.old.valid_pages.items seen.new.valid_pages.items result }
     ensures alone { seen.old.valid_pages.items ≡ [] → OnOk result (ReportsBlock (N.state device.old) block seen.new.valid_pages.items) }
     ensures numbers { KeepsGreatest (N.state device.old) block (numbers_of seen.old.numbers) (numbers_of seen.new.numbers) result }
     ensures raised { RaisesNumbers (N.state device.old) block (numbers_of seen.old.numbers) (numbers_of seen.new.numbers) result }
@@ -103,8 +103,7 @@ pub(crate) fn find_block<N: Nand>(
 ) -> Result<(), ScanFault>
     requires { block < (N.state device.old).geometry.blocks }
     ensures reads { ReadsBlock block (N.state device.old) (N.state device.new) result }
-    ensures found { HasLatestBelow (N.state device.old) block (listed found.old)
-        → OnOk result (HasLatestBelow (N.state device.old) (block + 1) (listed found.new)) }
+    ensures found { Extends (HasLatestBelow (N.state device.old)) block (listed found.old) (listed found.new) result }
     ensures numbers { KeepsGreatest (N.state device.old) block (numbers_of seen.old.numbers) (numbers_of seen.new.numbers) result }
     ensures adds { OnOk result (AddsBlock (N.state device.old) block (listed found.old) (listed found.new)) }
     ensures raised { RaisesNumbers (N.state device.old) block (numbers_of seen.old.numbers) (numbers_of seen.new.numbers) result }

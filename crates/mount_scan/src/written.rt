@@ -4,7 +4,7 @@ ghost use Rattle.nand_model.specs.Changes.{OnlyReads};
 ghost use Rattle.flash_tree.specs.Places.{numbers_of};
 ghost use Rattle.mount_scan.specs.FoundCheckpoint.{ReadsAtMost};
 ghost use Rattle.mount_scan.specs.Listed.{listed};
-ghost use Rattle.mount_scan.specs.WrittenBlocks.{AddsWritten, AreWrittenTags, IsTagRead, PushesTag, RaisesWithin, ReadsUpToErased};
+ghost use Rattle.mount_scan.specs.WrittenBlocks.{AddsWritten, IsTagRead, PushesTag, RaisesNumbersWithin, ReadsUpToErased, ReadsWritten};
 
 use crate::FoundPages;
 use crate::fault::ScanFault;
@@ -76,9 +76,8 @@ pub(crate) fn read_written_tags<N: Nand>(
     ensures reads { ReadsAtMost (N.state device.old).geometry.pages (N.state device.old) (N.state device.new) result }
     ensures written { (N.state device.old).honest ≡ true → ReadsUpToErased block (N.state device.old) (N.state device.new) }
     ensures len { OnOk result (length tags.new.items ≡ (N.state device.old).geometry.pages) }
-    ensures few { OnOk result (length tags.new.items ≤ 256) }
-    ensures tags { (N.state device.old).honest ≡ true
-        → OnOk result (AreWrittenTags (N.state device.old).flash block (N.state device.old).geometry.pages tags.new.items) }
+    ensures within_limit { OnOk result (length tags.new.items ≤ 256) }
+    ensures tags { ReadsWritten (N.state device.old) block tags.new.items result }
 {
     tags.clear();
     let mut end = false;
@@ -105,7 +104,7 @@ pub(crate) fn find_written<N: Nand>(
     ensures reads { ReadsAtMost (N.state device.old).geometry.pages (N.state device.old) (N.state device.new) result }
     ensures written { (N.state device.old).honest ≡ true → ReadsUpToErased block (N.state device.old) (N.state device.new) }
     ensures adds { OnOk result (AddsWritten (N.state device.old) block (listed found.old) (listed found.new)) }
-    ensures raised { (N.state device.old).honest ≡ true → OnOk result (RaisesWithin (N.state device.old).flash block (numbers_of seen.old.numbers) (numbers_of seen.new.numbers)) }
+    ensures raised { RaisesNumbersWithin (N.state device.old) block (numbers_of seen.old.numbers) (numbers_of seen.new.numbers) result }
 {
     seen.valid_pages.clear();
     read_written_tags(device, block, tags)?;

@@ -178,12 +178,12 @@ module _ (reported : Bool) (a b : Device) (opened : Opened) (u : Table) (y : Ind
 pub sure_committed : ListsKeys → KeysLaw → FootLaw → (a b : Device) (opened : Opened) (y : Index) (spare : ℕ) (tree : Tree) → OnlyReads a b → HasTrueFlash a → FindsItsTree a opened
     → IsWithin b.geometry.pages b.geometry.blocks b.flash → KeepsOnly (keeps_key tree) opened.index y → IsGoneThrough a.geometry (has (candidate_pages opened.index a)) spare tree
     → IsAsCommitted b.flash b.geometry.blocks y (numbers_of opened.numbers)
-sure_committed lists keys feet a b opened y spare tree reads is finds within only gone =
+sure_committed lists keys feet a b opened y spare tree reads is lookups within only gone =
     let same : b.flash ≡ a.flash = same_flash a b reads is.0 in
     let here : IsWithin a.geometry.pages a.geometry.blocks a.flash =
     subst (λ (g : Geometry). IsWithin g.pages g.blocks a.flash) reads.lasts.geometry (subst (λ (f : Flash). IsWithin b.geometry.pages b.geometry.blocks f) same within) in
     subst (λ (f : Flash). IsAsCommitted f b.geometry.blocks y (numbers_of opened.numbers)) (sym same)
-    (as_committed lists a.flash b.geometry.blocks y (numbers_of opened.numbers) (committed_of_tree a opened finds keys feet here y spare tree only gone) finds.numbers.above)
+    (as_committed lists a.flash b.geometry.blocks y (numbers_of opened.numbers) (committed_of_tree a opened lookups keys feet here y spare tree only gone) lookups.numbers.above)
 
 -- ---- what is said of a result
 

@@ -70,9 +70,9 @@ module _ (d : Device) (x : Index) (n : Numbers) (spare : ℕ) (p : PagesState) (
       let spares : p.spare ≡ spare = pages.spare_is in
       elim (cases_lt n.group (2 ^ 62)) [
         | inr many ↦ inr (inl (omega (arith, group, many)))
-        | inl few ↦ elim (cases_lt n.seq (2 ^ 62)) [
+        | inl within_limit ↦ elim (cases_lt n.seq (2 ^ 62)) [
           | inr many ↦ inr (inr (omega (arith, seq, many)))
-          | inl some ↦ let over : spare < bad_on d = worn few some in inl (omega (arith, bad, spares, over))
+          | inl some ↦ let over : spare < bad_on d = worn within_limit some in inl (omega (arith, bad, spares, over))
         ]
       ]
 
@@ -84,9 +84,9 @@ module _ (d : Device) (x : Index) (n : Numbers) (spare : ℕ) (p : PagesState) (
       let spares : p.spare ≡ spare = pages.spare_is in
       let groups_left = can.0.0 in
       let seqs_left = can.0.1 in
-      let few = can.1 in
+      let within_limit = can.1 in
       elim only [
-        | inl over ↦ absurd (omega (arith, bad, spares, over, few))
+        | inl over ↦ absurd (omega (arith, bad, spares, over, within_limit))
         | inr (inl over) ↦ absurd (omega (arith, group, over, groups_left))
         | inr (inr over) ↦ absurd (omega (arith, seq, over, seqs_left))
       ]

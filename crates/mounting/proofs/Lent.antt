@@ -110,8 +110,8 @@ pub few_lent : (reported reported' : Bool) (d a b back : Device) (g : Geometry) 
 few_lent reported reported' d a b back g spare tree same trusted geometry given issued both =
     let here : (a.honest && reported') ≡ true = ap (λ t. a.honest && t) trusted ∙ ap (λ (k : Device). k.honest && reported) same ∙ both in
     let sizes : g.bytes ≡ a.geometry.bytes = ap (λ (k : Geometry). k.bytes) geometry ∙ sym (ap (λ (k : Device). k.geometry.bytes) same) in
-    let few = issued here sizes in
+    let within_limit = issued here sizes in
     let pages : tree_pages (sizes_of g spare) tree ≡ tree_pages (sizes_of d.geometry spare) tree = ap (λ (k : Geometry). tree_pages (sizes_of k spare) tree) geometry in
     let before : a.reads ≡ d.reads = ap (λ (k : Device). k.reads) same in
     let after : back.reads ≡ b.reads = ap (λ (k : Device). k.reads) given in
-    omega (arith, few, pages, before, after)
+    omega (arith, within_limit, pages, before, after)

@@ -56,7 +56,7 @@ module _ (z : Sizes) (m : NewestMap) where
   FirstThere list n = (i o : ℕ) → i < n → slice_get list i ≡ Some o → IsThereOn list o
 
   first_more : (list named : List ℕ) (n o : ℕ) → slice_get list n ≡ Some o → Finds z m o (Leads named) → FirstThere list n → FirstThere (with_new list named) (n + 1)
-  first_more list named n o at finds there i x lt is = elim (cases_lt i n) [
+  first_more list named n o at lookups there i x lt is = elim (cases_lt i n) [
     | inl before ↦
         let y = slice_get_there list i (let within = slice_get_within list n o at in omega arith) in
         let same : Some y.0 ≡ Some x = sym (stays_with_new list named i y.0 y.1) ∙ is in
@@ -67,7 +67,7 @@ module _ (z : Sizes) (m : NewestMap) where
         let here : i ≡ n = omega arith in
         let same : Some o ≡ Some x = sym (stays_with_new list named n o at) ∙ ap (slice_get (with_new list named)) (sym here) ∙ is in
         let one : o ≡ x = cc in
-        subst (IsThereOn (with_new list named)) one (named, finds, named_on list named)
+        subst (IsThereOn (with_new list named)) one (named, lookups, named_on list named)
   ]
 
   abbrev EndsThere : ℕ → ListEnd → Type 0
@@ -76,9 +76,9 @@ module _ (z : Sizes) (m : NewestMap) where
 
   ends_there : (first : ℕ) (list : List ℕ) (n : ℕ) (end : ListEnd) → FirstThere list n → slice_get list 0 ≡ Some first → GoesThrough z m list n end → EndsThere first end
   ends_there first list n end there begins (ends len) = (λ i o is. there i o (let within = slice_get_within list i o is in omega arith) is, begins)
-  ends_there first list n end there begins (stops o wrong is finds) = tt
-  ends_there first list n end there begins (goes o named is finds on) =
-      ends_there first (with_new list named) (n + 1) end (first_more list named n o is finds there) (stays_with_new list named 0 first begins) on
+  ends_there first list n end there begins (stops o wrong is lookups) = tt
+  ends_there first list n end there begins (goes o named is lookups on) =
+      ends_there first (with_new list named) (n + 1) end (first_more list named n o is lookups there) (stays_with_new list named 0 first begins) on
 
   -- what each object of the list names is on the list, which begins with the first
   pub whole_there : (first : ℕ) (list : List ℕ) → GoesThrough z m (first ∷ []) 0 (Wholly list) → Each (IsThereOn list) list × (slice_get list 0 ≡ Some first)

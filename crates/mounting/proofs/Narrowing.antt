@@ -58,16 +58,16 @@ module _ (z : Sizes) (m p : PageMap) (tree : Tree) (to : (o c : ℕ) (xs : List 
   -- what stands on a list stands on the whole one
   stays : (l : List ℕ) (k : ℕ) (whole : List ℕ) → GoesThrough z (has m) l k (Wholly whole) → (i o : ℕ) → slice_get l i ≡ Some o → slice_get whole i ≡ Some o
   stays l k whole (ends len) i o is = is
-  stays l k whole (goes x named at finds on) i o is = stays (with_new l named) (k + 1) whole on i o (stays_with_new l named i o is)
+  stays l k whole (goes x named at lookups on) i o is = stays (with_new l named) (k + 1) whole on i o (stays_with_new l named i o is)
 
   through_in : (l : List ℕ) (k : ℕ) (whole : List ℕ) → ((i o : ℕ) → slice_get whole i ≡ Some o → IsListed o) → GoesThrough z (has m) l k (Wholly whole) → GoesThrough z (has p) l k (Wholly whole)
   through_in l k whole all (ends len) = ends len
-  through_in l k whole all (goes o named is finds on) =
-      goes o named is (finds_in o named (all k o (stays (with_new l named) (k + 1) whole on k o (stays_with_new l named k o is))) finds) (through_in (with_new l named) (k + 1) whole all on)
+  through_in l k whole all (goes o named is lookups on) =
+      goes o named is (finds_in o named (all k o (stays (with_new l named) (k + 1) whole on k o (stays_with_new l named k o is))) lookups) (through_in (with_new l named) (k + 1) whole all on)
 
   names_in : (k : ℕ) (names : List NamedObject) → AreNamesOf z (has m) (objects_listed tree) k names → AreNamesOf z (has p) (objects_listed tree) k names
   names_in zero names is = is
-  names_in (suc k) names (o, named, before, at, finds, rest, is) = (o, named, before, at, finds_in o named (k, at) finds, names_in k before rest, is)
+  names_in (suc k) names (o, named, before, at, lookups, rest, is) = (o, named, before, at, finds_in o named (k, at) lookups, names_in k before rest, is)
 
   heads_in : ReportsHeads z (has m) tree → ReportsHeads z (has p) tree
   heads_in heads = record {

@@ -60,8 +60,8 @@ module _ (keeps : ℕ → ℕ → Bool) (d : Device) (t : Table) (x : Index) (n 
     pub ready : IsReady d t
     ready = pruned.tables.ready can.0
 
-    pub few : bad_count t ≤ spare
-    few = let same : bad_on d ≡ bad_count t = same_bad_blocks d t ready in let le = can.1 in omega (arith, same, le)
+    pub within_limit : bad_count t ≤ spare
+    within_limit = let same : bad_on d ≡ bad_count t = same_bad_blocks d t ready in let le = can.1 in omega (arith, same, le)
 
     counts : SameCounts t (marked d.flash t)
     counts = record { bad = λ b. sym (ready.marks b); committed = λ b. refl; geometry = refl }
@@ -69,10 +69,10 @@ module _ (keeps : ℕ → ℕ → Bool) (d : Device) (t : Table) (x : Index) (n 
     pub free : HasFreeBlocks t spare
     free =
         let same : bad_on d ≡ bad_count t = same_bad_blocks d t ready in
-        let enough : 1 + spare ≤ uncommitted_count (marked d.flash t) + bad_on d = room can.1 in
+        let sufficient : 1 + spare ≤ uncommitted_count (marked d.flash t) + bad_on d = room can.1 in
         let uncommitted : uncommitted_count (marked d.flash t) ≡ uncommitted_count t = same_uncommitted_count t (marked d.flash t) counts in
         let closed : free_count t ≡ uncommitted_count t = free_where_closed t pruned.tables.closed in
-        omega (arith, same, enough, uncommitted, closed)
+        omega (arith, same, sufficient, uncommitted, closed)
 
     tables : TablesAgree spare t x
     tables = tables_pruned keeps spare d t x n pruned can.0 fits free
@@ -99,7 +99,7 @@ module _ (keeps : ℕ → ℕ → Bool) (d : Device) (t : Table) (x : Index) (n 
       pub store_pages : (a : StoreState) (lent : List ℕ) → a.log.device ≡ d → (a.log.table ≡ t) × (a.spare ≡ spare) → a.broken ≡ false → most_pages a.buffer ≡ d.geometry.pages / 4
           → ((o c : ℕ) → committed_in a o c ≡ committed_data_map d x o c) → ((o c : ℕ) → present_data a.index (buffered a.buffer) d.flash o c ≡ present_data x [] d.flash o c)
           → FindsSince (seen_of a lent) (committed_data x d.flash) → Remembers d (seen_of a lent) → ArePagesOn d x n spare (seen_of a lent)
-      store_pages a lent device same whole most committed pages finds remembers = record {
+      store_pages a lent device same whole most committed pages lookups remembers = record {
         device_is = device;
         spare_is = same.1;
         page_bytes = ap (λ (k : Device). k.geometry.bytes) device;
@@ -112,7 +112,7 @@ module _ (keeps : ℕ → ℕ → Bool) (d : Device) (t : Table) (x : Index) (n 
         committed = λ honest. record {
           carried = λ is. carried_as (seen_of a lent) d spare (committed_data x d.flash) device same.1 (carried honest);
           committed = λ sound o c. committed o c ∙ ap (λ h. known_pages h (committed_data x d.flash) o c) honest;
-          found = finds;
+          found = lookups;
         };
         remembers = remembers;
       }
@@ -122,7 +122,7 @@ module _ (keeps : ℕ → ℕ → Bool) (d : Device) (t : Table) (x : Index) (n 
     none_free : (keys : ℕ → ℕ → Type 0) → spare < bad_on d → LeavesFree d.geometry d.flash spare keys
     none_free keys bad = record {
       free = λ b. false;
-      enough = let none = count_by (λ (b : ℕ). false) (range_with_len 0 d.geometry.blocks) in omega (arith, bad);
+      sufficient = let none = count_by (λ (b : ℕ). false) (range_with_len 0 d.geometry.blocks) in omega (arith, bad);
       each = λ b within is. absurd cc;
     }
 

@@ -85,7 +85,7 @@ module _ (m n : PageMap) (to : (o c : ℕ) (xs : List ℕ) → m o c ≡ Some xs
 
   names_to : (z : Sizes) (list : List ℕ) (k : ℕ) (names : List NamedObject) → AreNamesOf z (has m) list k names → AreNamesOf z (has n) list k names
   names_to z list zero names is = is
-  names_to z list (suc k) names (o, named, before, at, finds, rest, is) = (o, named, before, at, finds_to z o named finds, names_to z list k before rest, is)
+  names_to z list (suc k) names (o, named, before, at, lookups, rest, is) = (o, named, before, at, finds_to z o named lookups, names_to z list k before rest, is)
 
   heads_to : (z : Sizes) (tree : Tree) → ReportsHeads z (has m) tree → ReportsHeads z (has n) tree
   heads_to z tree heads = record {

@@ -191,5 +191,5 @@ module _ (lists : ListsAreWhole) (pages : ℕ) (flash : Flash) (x : Index) (comm
 
 pub fitting : (lists : ListsAreWhole) (keeps : ℕ → ℕ → Bool) (d : Device) (t : Table) (x : Index) (n : Numbers) → IsPruned keeps d t x n → d.honest ≡ true → AreFitting t
 fitting lists keeps d t x n pruned honest b =
-    let few = few_committed lists t.geometry.pages d.flash x (pruned.tables.newest honest) (λ o c p is. subst (λ (g : Geometry). p.page < g.pages) (sym pruned.tables.geometry) (pruned.tables.within o c p is).1) b in
-    omega (arith, few, pruned.tables.counts.counts b)
+    let within_limit = few_committed lists t.geometry.pages d.flash x (pruned.tables.newest honest) (λ o c p is. subst (λ (g : Geometry). p.page < g.pages) (sym pruned.tables.geometry) (pruned.tables.within o c p is).1) b in
+    omega (arith, within_limit, pruned.tables.counts.counts b)

@@ -73,14 +73,14 @@ module _ (a b seen : Device) (since : IsTrustedSince a b seen) (is : HasTrueFlas
   -- at most the pages that are looked up to see its tree were read
   pub reads_tree : ReadLaws → (x : Index) (spare : ℕ) (tree : Tree) (objects : Objects) → ReadsThrough a b spare tree → Answers seen.geometry seen.flash (IsTreeOf spare objects)
       → IsTreeShown seen x spare tree objects → ReadsTree a b
-  reads_tree laws x spare tree objects few answers shown s other sound = let looked = looked_as a seen geometry flash laws x spare tree objects answers shown s other sound in omega (arith, few, looked)
+  reads_tree laws x spare tree objects within_limit answers shown s other sound = let looked = looked_as a seen geometry flash laws x spare tree objects answers shown s other sound in omega (arith, within_limit, looked)
 
 -- the same of a device that was scanned
 pub reads_all : (a b : Device) → OnlyReads a b → a.honest ≡ true → ReadLaws → (x : Index) (spare : ℕ) (tree : Tree) (objects : Objects) → ReadsScanned a b spare tree → Answers b.geometry b.flash (IsTreeOf spare objects)
     → IsTreeShown b x spare tree objects → ReadsAll a b
-reads_all a b reads honest laws x spare tree objects few answers shown s other sound =
+reads_all a b reads honest laws x spare tree objects within_limit answers shown s other sound =
     let looked = looked_as a b reads.lasts.geometry (same_flash a b reads honest) laws x spare tree objects answers shown s other sound in
-    omega (arith, few, looked)
+    omega (arith, within_limit, looked)
 
 -- a flash that is only read stays sound
 sound_after : (a b : Device) (spare : ℕ) (objects : Objects) → OnlyReads a b → a.honest ≡ true → IsSoundFlash a.geometry a.flash spare objects → IsSoundFlash b.geometry b.flash spare objects
@@ -89,9 +89,9 @@ sound_after a b spare objects reads honest sound =
 
 -- after the search for the checkpoint
 pub reads_by : (a b new : Device) → OnlyReads a b → ReadsFew a b → (HasTrueFlash b → ReadsTree b new) → ReadsByCheckpoint a new
-reads_by a b new reads few tree is c whole spare objects sound =
+reads_by a b new reads within_limit tree is c whole spare objects sound =
     let here = sound_after a b spare objects reads is.0 sound in
-    let first = few is.0 is.1.truth c whole in
+    let first = within_limit is.0 is.1.truth c whole in
     let then = tree (true_after a b reads is) spare objects here in
     let same : looked_pages (sizes_of b.geometry spare) objects ≡ looked_pages (sizes_of a.geometry spare) objects = ap (λ (g : Geometry). looked_pages (sizes_of g spare) objects) reads.lasts.geometry in
     omega (arith, first, then, same)
@@ -103,9 +103,9 @@ reads_none a b e new fault reads ends not is c whole spare objects sound = absur
 
 -- a device that is trusted is read as it is
 pub reads_seen : (a b seen : Device) → IsTrustedSince a b seen → ReadsByCheckpoint a b → ReadsByCheckpoint a seen
-reads_seen a b seen since few is c whole spare objects sound =
+reads_seen a b seen since within_limit is c whole spare objects sound =
     let same : seen.reads ≡ b.reads = ap (λ (d : Device). d.reads) since.read.seen_is in
-    let less = few is c whole spare objects sound in
+    let less = within_limit is c whole spare objects sound in
     omega (arith, less, same)
 
 -- what is said of a result that cannot be
@@ -136,9 +136,9 @@ tags_after a b new reads first all honest spare objects sound =
 
 -- a device that is trusted is read as it is
 pub tags_seen : (a b seen : Device) → IsReadAs true a b seen → ReadsAllTags a b → ReadsAllTags a seen
-tags_seen a b seen read few honest spare objects sound =
+tags_seen a b seen read within_limit honest spare objects sound =
     let same : seen.reads ≡ b.reads = ap (λ (d : Device). d.reads) read.seen_is in
-    let less = few honest spare objects sound in
+    let less = within_limit honest spare objects sound in
     omega (arith, less, same)
 
 -- ---- by summaries
@@ -164,9 +164,9 @@ reads_needed a b c spare tree reads honest need then sizes costs (are, cost) =
 -- of a flash that is sound
 pub reads_summaries : (a b seen : Device) → (since : IsTrustedSince a b seen) → (is : HasTrueFlash a) → ReadLaws → (x : Index) (spare : ℕ) (tree : Tree) (objects : Objects) → ReadsNeeded a b spare tree
     → Answers seen.geometry seen.flash (IsTreeOf spare objects) → IsTreeShown seen x spare tree objects → ReadsBySummaries a b
-reads_summaries a b seen since is laws x spare tree objects few answers shown s other sound sizes costs are =
+reads_summaries a b seen since is laws x spare tree objects within_limit answers shown s other sound sizes costs are =
     let looked = looked_as a seen (geometry a b seen since is) (flash a b seen since is) laws x spare tree objects answers shown s other sound in
-    let read = few sizes costs are in
+    let read = within_limit sizes costs are in
     omega (arith, read, looked)
 
 -- where a scan would follow, the flash was not sound
@@ -175,8 +175,8 @@ summaries_not a e new fault ends not spare objects sound sizes costs are = absur
 
 -- after the search, which found no checkpoint
 pub without_after : (a b new : Device) → OnlyReads a b → b.reads ≤ a.reads + (a.geometry.blocks + a.geometry.pages) → (HasTrueFlash b → ReadsBySummaries b new) → ReadsWithoutCheckpoint a new
-without_after a b new reads first few is none spare objects sound sizes costs are =
-    let then = few (true_after a b reads is) spare objects (sound_after a b spare objects reads is.0 sound) sizes costs (priced_after a b sizes costs reads is.0 are) in
+without_after a b new reads first within_limit is none spare objects sound sizes costs are =
+    let then = within_limit (true_after a b reads is) spare objects (sound_after a b spare objects reads is.0 sound) sizes costs (priced_after a b sizes costs reads is.0 are) in
     let need = needed_same a b sizes costs reads in
     let looked : looked_pages (sizes_of b.geometry spare) objects ≡ looked_pages (sizes_of a.geometry spare) objects = ap (λ (g : Geometry). looked_pages (sizes_of g spare) objects) reads.lasts.geometry in
     omega (arith, first, then, need, looked)
@@ -187,9 +187,9 @@ without_not a new c whole is none = absurd (none c (whole is.0))
 
 -- a device that is trusted is read as it is
 pub without_seen : (a b seen : Device) → IsTrustedSince a b seen → ReadsWithoutCheckpoint a b → ReadsWithoutCheckpoint a seen
-without_seen a b seen since few is none spare objects sound sizes costs are =
+without_seen a b seen since within_limit is none spare objects sound sizes costs are =
     let same : seen.reads ≡ b.reads = ap (λ (d : Device). d.reads) since.read.seen_is in
-    let less = few is none spare objects sound sizes costs are in
+    let less = within_limit is none spare objects sound sizes costs are in
     omega (arith, less, same)
 
 -- what is said of each result

@@ -79,33 +79,33 @@ module _ (flash : Flash) (m : PageMap) (is : IsNewestMap flash m) (spare : ℕ) 
     -- so no more blocks are free than are uncommitted
     pub few_free : ((b : ℕ) → HoldsNone (committed_pages x) b → count_committed_in x b ≡ 0) → (count : ℕ) → HasFree t.geometry flash z objects count → count ≤ uncommitted_count t
     few_free zero_where_none count free =
-        let few = few_picked (is_uncommitted t) t.geometry.blocks free.blocks free.once (λ i b at. let f = free.each i b at in (f.within, free_uncommitted zero_where_none b f)) in
-        omega (arith, few, free.size)
+        let within_limit = few_picked (is_uncommitted t) t.geometry.blocks free.blocks free.once (λ i b at. let f = free.each i b at in (f.within, free_uncommitted zero_where_none b f)) in
+        omega (arith, within_limit, free.size)
 
     -- where too few blocks are uncommitted, too few are free
     scarce_here : ((b : ℕ) → HoldsNone (committed_pages x) b → count_committed_in x b ≡ 0) → bad_count t ≡ bad_blocks t.geometry flash → bad_count t ≤ spare → uncommitted_count t + bad_count t < 1 + spare
         → IsVolume t.geometry (has m) spare → Shows z (has m) objects → Answers t.geometry flash (IsWrong IsDamaged)
-    scarce_here zero_where_none same few scarce volume shown = inr (inr (inr (
+    scarce_here zero_where_none same within_limit scarce volume shown = inr (inr (inr (
       spare,
       is_volume t.geometry flash m spare is volume,
       refl,
       objects,
       shown_on_flash flash m is z objects (is_page_size t.geometry) shown,
       λ room.
-          let enough = few_free zero_where_none (1 + spare - bad_blocks t.geometry flash) (room.free (omega (arith, few, same))) in
-          omega (arith, enough, scarce, few, same),
+          let sufficient = few_free zero_where_none (1 + spare - bad_blocks t.geometry flash) (room.free (omega (arith, within_limit, same))) in
+          omega (arith, sufficient, scarce, within_limit, same),
     )))
 
     -- where enough are, there is room
     room_here : ((count : ℕ) → count ≤ uncommitted_count t → HasFree t.geometry flash z objects count) → bad_count t ≡ bad_blocks t.geometry flash
         → (bad_count t ≤ spare → 1 + spare ≤ uncommitted_count t + bad_count t) → charge z objects ≤ capacity z
         → IsVolume t.geometry (has m) spare → Shows z (has m) objects → Answers t.geometry flash (IsTreeOf spare objects)
-    room_here free same enough fits volume shown = (
+    room_here free same sufficient fits volume shown = (
       is_volume t.geometry flash m spare is volume,
       shown_on_flash flash m is z objects (is_page_size t.geometry) shown,
       record {
         fits = fits;
-        free = λ few. let more = enough (omega (arith, few, same)) in free (1 + spare - bad_blocks t.geometry flash) (omega (arith, more, same));
+        free = λ within_limit. let more = sufficient (omega (arith, within_limit, same)) in free (1 + spare - bad_blocks t.geometry flash) (omega (arith, more, same));
       },
     )
 
@@ -113,15 +113,15 @@ module _ (g : Geometry) (flash : Flash) (m : PageMap) (spare : ℕ) (objects : O
     (shown : Shows (sizes_of g spare) (has m) objects) (at : t.geometry ≡ g) (agree : CountsAgree t x) (marks : HasMarks flash t) (keeps : KeepsOnlyTree flash (sizes_of g spare) m objects (committed_pages x)) where
   pub scarce : ((b : ℕ) → HoldsNone (committed_pages x) b → count_committed_in x b ≡ 0) → bad_count t ≡ bad_blocks t.geometry flash → bad_count t ≤ spare → uncommitted_count t + bad_count t < 1 + spare
       → Answers g flash (IsWrong IsDamaged)
-  scarce zero_where_none same few less =
+  scarce zero_where_none same within_limit less =
       subst (λ g. KeepsOnlyTree flash (sizes_of g spare) m objects (committed_pages x) → IsVolume g (has m) spare → Shows (sizes_of g spare) (has m) objects → Answers g flash (IsWrong IsDamaged)) at
-      (λ k. scarce_here flash m is spare objects x t agree marks k zero_where_none same few less) keeps volume shown
+      (λ k. scarce_here flash m is spare objects x t agree marks k zero_where_none same within_limit less) keeps volume shown
 
   pub with_room : ((count : ℕ) → KeepsTree flash (sizes_of t.geometry spare) objects (committed_pages x) → count ≤ uncommitted_count t → HasFree t.geometry flash (sizes_of t.geometry spare) objects count)
       → bad_count t ≡ bad_blocks t.geometry flash → charge (sizes_of g spare) objects ≤ capacity (sizes_of g spare) → (bad_count t ≤ spare → 1 + spare ≤ uncommitted_count t + bad_count t)
       → Answers g flash (IsTreeOf spare objects)
-  with_room free same fits enough =
+  with_room free same fits sufficient =
       subst (λ g. KeepsOnlyTree flash (sizes_of g spare) m objects (committed_pages x) → charge (sizes_of g spare) objects ≤ capacity (sizes_of g spare)
       → IsVolume g (has m) spare → Shows (sizes_of g spare) (has m) objects → Answers g flash (IsTreeOf spare objects)) at
       (λ k fits. room_here flash m is spare objects x t agree marks k
-      (λ count. free count (keeps_tree flash m is spare objects x t agree marks k)) same enough fits) keeps fits volume shown
+      (λ count. free count (keeps_tree flash m is spare objects x t agree marks k)) same sufficient fits) keeps fits volume shown

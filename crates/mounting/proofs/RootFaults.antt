@@ -25,8 +25,8 @@ root_fails roots.Damaged old new why = tt
 
 -- a device that has failed has failed after a look-up
 pub fails_still : (fault : RootFault) (old new : PagesState) → OnlyFinds old new → FailsTree old fault → FailsTree new fault
-fails_still roots.NoMemory old new finds why = tt
-fails_still roots.Device old new finds why = finds.failed why
-fails_still roots.NotAVolume old new finds why = tt
-fails_still (roots.Newer format) old new finds why = tt
-fails_still roots.Damaged old new finds why = tt
+fails_still roots.NoMemory old new lookups why = tt
+fails_still roots.Device old new lookups why = lookups.failed why
+fails_still roots.NotAVolume old new lookups why = tt
+fails_still (roots.Newer format) old new lookups why = tt
+fails_still roots.Damaged old new lookups why = tt

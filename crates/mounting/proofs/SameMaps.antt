@@ -26,12 +26,12 @@ looks_low : (z : Sizes) (f : Fields) (c : ℕ) → IsPageSize z.page_bytes → I
 looks_low z f c size valid (inl zero_is) = subst (λ k. k < 2 ^ 32) (sym zero_is) first_low
 looks_low z f c size valid (inr (inl (kind, from, present))) = present_low z.page_bytes size f c valid from present
 looks_low z f c size valid (inr (inr (kind, (i, lt, chunk)))) =
-    let few = slots_few z.page_bytes f valid kind in
-    subst (λ k. k < 2 ^ 32) (sym chunk) (place_low i (page_slots z) (omega (arith, lt, few)))
+    let within_limit = slots_few z.page_bytes f valid kind in
+    subst (λ k. k < 2 ^ 32) (sym chunk) (place_low i (page_slots z) (omega (arith, lt, within_limit)))
 
 -- so is one whose slots break a rule
 slot_low : (z : Sizes) (count chunk place i : ℕ) → count ≤ 2 ^ 32 - 1 → IsSlotAt z count chunk place i → chunk < 2 ^ 32
-slot_low z count chunk place i few at = subst (λ c. c < 2 ^ 32) (sym at.in_chunk) (place_low i (page_slots z) (let lt = at.within in omega (arith, lt, few)))
+slot_low z count chunk place i within_limit at = subst (λ c. c < 2 ^ 32) (sym at.in_chunk) (place_low i (page_slots z) (let lt = at.within in omega (arith, lt, within_limit)))
 
 -- and one that breaks any rule
 pub breaks_low : (z : Sizes) → IsPageSize z.page_bytes → (m : NewestMap) (key : Key) (rule : Rule) → Breaks z m key rule → key.chunk < 2 ^ 32
@@ -67,16 +67,16 @@ module _ (m n : NewestMap) (to : HasAll m n) (back : HasAll n m) where
   slot_back z o i entry lt (page, there, valid, bytes) = (page, back o _ page (place_low i (page_slots z) lt) there, valid, bytes)
 
   slots_too : (z : Sizes) (o count : ℕ) (slots : List Entry) → count ≤ 2 ^ 32 - 1 → AreSlots z m o count slots → AreSlots z n o count slots
-  slots_too z o count slots few are = record {
+  slots_too z o count slots within_limit are = record {
     size = are.size;
-    each = λ i entry is. slot_too z o i entry (let within = slice_get_within slots i entry is in omega (arith, within, few, are.size)) (are.each i entry is);
+    each = λ i entry is. slot_too z o i entry (let within = slice_get_within slots i entry is in omega (arith, within, within_limit, are.size)) (are.each i entry is);
     once = are.once;
   }
 
   lacks_slots_too : (z : Sizes) (o count : ℕ) → count ≤ 2 ^ 32 - 1 → LacksSlots z m o count → LacksSlots z n o count
-  lacks_slots_too z o count few (inl (i, lt, none)) = inl (i, lt, λ entry is. none entry (slot_back z o i entry (omega (arith, lt, few)) is))
-  lacks_slots_too z o count few (inr (i, j, before, lt, a, b, first, second, same)) =
-      inr (i, j, before, lt, a, b, slot_too z o i a (omega (arith, before, lt, few)) first, slot_too z o j b (omega (arith, lt, few)) second, same)
+  lacks_slots_too z o count within_limit (inl (i, lt, none)) = inl (i, lt, λ entry is. none entry (slot_back z o i entry (omega (arith, lt, within_limit)) is))
+  lacks_slots_too z o count within_limit (inr (i, j, before, lt, a, b, first, second, same)) =
+      inr (i, j, before, lt, a, b, slot_too z o i a (omega (arith, before, lt, within_limit)) first, slot_too z o j b (omega (arith, lt, within_limit)) second, same)
 
   lacks_content_too : (z : Sizes) (o : ℕ) → IsPageSize z.page_bytes → LacksContent z m o → LacksContent z n o
   lacks_content_too z o size (f, there, inl (kind, lacks)) = (f, header_too z o f there, inl (kind, lacks_chunk_too z o f size there.1 lacks))
@@ -94,8 +94,8 @@ module _ (m n : NewestMap) (to : HasAll m n) (back : HasAll n m) where
   -- going through a list
   pub through_too : (z : Sizes) (list : List ℕ) (k : ℕ) (end : ListEnd) → IsPageSize z.page_bytes → GoesThrough z m list k end → GoesThrough z n list k end
   through_too z list k end size (ends len) = ends len
-  through_too z list k end size (stops o wrong is finds) = stops o wrong is (finds_too z o (Stops wrong) size finds)
-  through_too z list k end size (goes o named is finds on) = goes o named is (finds_too z o (Leads named) size finds) (through_too z (with_new list named) (k + 1) end size on)
+  through_too z list k end size (stops o wrong is lookups) = stops o wrong is (finds_too z o (Stops wrong) size lookups)
+  through_too z list k end size (goes o named is lookups on) = goes o named is (finds_too z o (Leads named) size lookups) (through_too z (with_new list named) (k + 1) end size on)
 
   slot_in_too : (z : Sizes) (list : List ℕ) (directory i : ℕ) (entry : Entry) → IsSlotIn z m list directory i entry → IsSlotIn z n list directory i entry
   slot_in_too z list directory i entry s = record {
@@ -105,7 +105,7 @@ module _ (m n : NewestMap) (to : HasAll m n) (back : HasAll n m) where
     has = header_too z directory s.fields s.has;
     kind = s.kind;
     within = s.within;
-    slot = slot_too z directory i entry (let few = slots_few z.page_bytes s.fields s.has.1 s.kind in let within = s.within in omega (arith, within, few)) s.slot;
+    slot = slot_too z directory i entry (let within_limit = slots_few z.page_bytes s.fields s.has.1 s.kind in let within = s.within in omega (arith, within, within_limit)) s.slot;
   }
 
   pub twice_too : (z : Sizes) (list : List ℕ) → NamesTwice z m list → NamesTwice z n list
@@ -129,18 +129,18 @@ module _ (m n : NewestMap) (to : HasAll m n) (back : HasAll n m) where
 
   -- a rule that is broken
   breaks_slots_too : (z : Sizes) (count : ℕ) (key : Key) (rule : Rule) → count ≤ 2 ^ 32 - 1 → BreaksSlots z m count key rule → BreaksSlots z n count key rule
-  breaks_slots_too z count key rules.ChunkMissing few (none, (i, lt, chunk)) =
-      (none_too key.object key.chunk (subst (λ c. c < 2 ^ 32) (sym chunk) (place_low i (page_slots z) (omega (arith, lt, few)))) none, (i, lt, chunk))
-  breaks_slots_too z count key (rules.NoSlot place) few (i, at, lacks) = (
+  breaks_slots_too z count key rules.ChunkMissing within_limit (none, (i, lt, chunk)) =
+      (none_too key.object key.chunk (subst (λ c. c < 2 ^ 32) (sym chunk) (place_low i (page_slots z) (omega (arith, lt, within_limit)))) none, (i, lt, chunk))
+  breaks_slots_too z count key (rules.NoSlot place) within_limit (i, at, lacks) = (
     i,
     at,
     record {
       page = lacks.page;
-      there = to key.object key.chunk lacks.page (subst (λ c. c < 2 ^ 32) (sym at.in_chunk) (place_low i (page_slots z) (let lt = at.within in omega (arith, lt, few)))) lacks.there;
-      none = λ entry is. lacks.none entry (slot_back z key.object i entry (let lt = at.within in omega (arith, lt, few)) is);
+      there = to key.object key.chunk lacks.page (subst (λ c. c < 2 ^ 32) (sym at.in_chunk) (place_low i (page_slots z) (let lt = at.within in omega (arith, lt, within_limit)))) lacks.there;
+      none = λ entry is. lacks.none entry (slot_back z key.object i entry (let lt = at.within in omega (arith, lt, within_limit)) is);
     },
   )
-  breaks_slots_too z count key (rules.NameTwice place) few (i, at, e) = (
+  breaks_slots_too z count key (rules.NameTwice place) within_limit (i, at, e) = (
     i,
     at,
     record {
@@ -148,23 +148,23 @@ module _ (m n : NewestMap) (to : HasAll m n) (back : HasAll n m) where
       earlier = e.earlier;
       first = e.first;
       second = e.second;
-      first_is = slot_too z key.object e.j e.first (let lt = at.within in let before = e.earlier in omega (arith, lt, before, few)) e.first_is;
-      second_is = slot_too z key.object i e.second (let lt = at.within in omega (arith, lt, few)) e.second_is;
+      first_is = slot_too z key.object e.j e.first (let lt = at.within in let before = e.earlier in omega (arith, lt, before, within_limit)) e.first_is;
+      second_is = slot_too z key.object i e.second (let lt = at.within in omega (arith, lt, within_limit)) e.second_is;
       same = e.same;
     },
   )
-  breaks_slots_too z count key rules.HeaderMissing few b = absurd b
-  breaks_slots_too z count key (rules.NoHeader fault) few b = absurd b
-  breaks_slots_too z count key rules.RootIsFile few b = absurd b
-  breaks_slots_too z count key (rules.TooManySpare spare) few b = absurd b
-  breaks_slots_too z count key rules.DirectoryTwice few b = absurd b
+  breaks_slots_too z count key rules.HeaderMissing within_limit b = absurd b
+  breaks_slots_too z count key (rules.NoHeader fault) within_limit b = absurd b
+  breaks_slots_too z count key rules.RootIsFile within_limit b = absurd b
+  breaks_slots_too z count key (rules.TooManySpare spare) within_limit b = absurd b
+  breaks_slots_too z count key rules.DirectoryTwice within_limit b = absurd b
 
   pub breaks_too : (z : Sizes) → IsPageSize z.page_bytes → (key : Key) (rule : Rule) → Breaks z m key rule → Breaks z n key rule
   unfolding twice_too
   breaks_too z size key rules.HeaderMissing (chunk, none) = (chunk, none_too key.object 0 first_low none)
   breaks_too z size key (rules.NoHeader fault) (chunk, faulty) = (chunk, fault_too key.object fault faulty)
   breaks_too z size key rules.RootIsFile (root, (f, there, kind)) = (root, (f, header_too z root_number f there, kind))
-  breaks_too z size key (rules.TooManySpare spare) (root, (f, there, kind, is, few)) = (root, (f, header_too z root_number f there, kind, is, few))
+  breaks_too z size key (rules.TooManySpare spare) (root, (f, there, kind, is, within_limit)) = (root, (f, header_too z root_number f there, kind, is, within_limit))
   breaks_too z size key rules.ChunkMissing (none, (f, there, looks)) =
       (none_too key.object key.chunk (looks_low z f key.chunk size there.1 looks) none, (f, header_too z key.object f there, looks))
   breaks_too z size key (rules.NoSlot place) (f, there, kind, breaks) =
@@ -183,8 +183,8 @@ module _ (m n : NewestMap) (to : HasAll m n) (back : HasAll n m) where
 
   comes_too : (z : Sizes) → IsPageSize z.page_bytes → (list : List ℕ) (k o : ℕ) → ComesTo z m list k o → ComesTo z n list k o
   comes_too z size list k o (comes_here is) = comes_here is
-  comes_too z size list k o (comes_after before named is finds after) =
-      comes_after before named is (finds_too z before (Leads named) size finds) (comes_too z size (with_new list named) (k + 1) o after)
+  comes_too z size list k o (comes_after before named is lookups after) =
+      comes_after before named is (finds_too z before (Leads named) size lookups) (comes_too z size (with_new list named) (k + 1) o after)
 
   pub first_too : (z : Sizes) → IsPageSize z.page_bytes → (broken : Broken) → IsFirstBroken z m broken → IsFirstBroken z n broken
   first_too z size broken (breaks, inl twice) = (breaks_too z size broken.key broken.rule breaks, inl twice)

@@ -157,7 +157,7 @@ module _ (laws : TreeLaws) (d : Device) (t : Table) (x : Index) (n : Numbers) (s
 
     pub answers_room : charge z objects ≤ capacity z → HasRoomOn d t spare → Answers d.geometry d.flash (IsTreeOf spare objects)
     answers_room fits room = laws.room d.geometry d.flash m spare objects x (marked d.flash t) on.newest on.through.volume shown pruned.tables.geometry counts marks only fits
-        (λ few. let enough = room (omega (arith, few, bad_is)) in omega (arith, enough, bad_is))
+        (λ within_limit. let sufficient = room (omega (arith, within_limit, bad_is)) in omega (arith, sufficient, bad_is))
 
     pub answers_full : (charge z objects ≤ capacity z → ⊥) → Answers d.geometry d.flash (IsWrong IsDamaged)
     answers_full over = laws.full d.geometry d.flash m spare objects on.newest on.through.volume shown (elim (cases_lt (capacity z) (charge z objects)) [
@@ -167,9 +167,9 @@ module _ (laws : TreeLaws) (d : Device) (t : Table) (x : Index) (n : Numbers) (s
 
     pub answers_scarce : (HasRoomOn d t spare → ⊥) → Answers d.geometry d.flash (IsWrong IsDamaged)
     answers_scarce none = elim (cases_lt spare (bad_count (marked d.flash t))) [
-      | inl many ↦ absurd (none (λ few. absurd (omega (arith, few, many, bad_is))))
-      | inr few ↦ elim (cases_lt (uncommitted_count (marked d.flash t) + bad_count (marked d.flash t)) (1 + spare)) [
-        | inl lt ↦ laws.scarce d.geometry d.flash m spare objects x (marked d.flash t) on.newest on.through.volume shown pruned.tables.geometry counts marks only few lt
+      | inl many ↦ absurd (none (λ within_limit. absurd (omega (arith, within_limit, many, bad_is))))
+      | inr within_limit ↦ elim (cases_lt (uncommitted_count (marked d.flash t) + bad_count (marked d.flash t)) (1 + spare)) [
+        | inl lt ↦ laws.scarce d.geometry d.flash m spare objects x (marked d.flash t) on.newest on.through.volume shown pruned.tables.geometry counts marks only within_limit lt
         | inr ge ↦ absurd (none (λ f. omega (arith, ge, bad_is)))
       ]
     ]

@@ -38,7 +38,7 @@ module _ (g : Geometry) (m : NewestMap) (single : IsSingle m) where
   a_right_root : (wrong : Wrong) (s : ℕ) → IsVolume g m s → HasWrongRoot g m wrong → ⊥
   a_right_root wrong s v (inl (fault, faulty, ne, is)) = header_no_fault (z 0) (is_page_size g) m single root_number v.fields fault v.has faulty
   a_right_root wrong s v (inr (is, f, there, inl file)) = kinds_apart (z 0) (is_page_size g) m single root_number f v.fields there v.has file v.kind
-  a_right_root wrong s v (inr (is, f, there, inr few)) =
+  a_right_root wrong s v (inr (is, f, there, inr within_limit)) =
       let same : f ≡ v.fields = same_header (z 0) (is_page_size g) m single root_number f v.fields there v.has in
       let spare : f.spare ≡ s = ap (λ (x : Fields). x.spare) same ∙ v.spare_is in
       let room = v.room in

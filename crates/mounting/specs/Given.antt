@@ -31,7 +31,7 @@ pub record IsGiven {N : Type 0} {nand : Ghosts N} (state : FlashPages N nand →
   pub since : IsTrustedSince device now (state m.pages).device
   pub made : IsMade state m
   pub checked : HasTrueFlash device → IsChecked device.geometry device.flash (state m.pages).checkpoint
-  pub few : ReadsAtMost device (state m.pages).device
+  pub within_limit : ReadsAtMost device (state m.pages).device
   pub remembers : device.honest ≡ true → Remembers device (state m.pages)
 
 -- What a mount by all tags gives of a device is made of it: it was only read, by so many pages, and is trusted whatever its flash is; and where
@@ -40,5 +40,5 @@ pub record IsGivenByScan {N : Type 0} {nand : Ghosts N} (state : FlashPages N na
   pub since : IsReadAs true device now (state m.pages).device
   pub made : IsMade state m
   pub checked : device.honest ≡ true → IsTrueFlash device.geometry device.flash → IsChecked device.geometry device.flash (state m.pages).checkpoint
-  pub few : ReadsAllTags device (state m.pages).device
+  pub within_limit : ReadsAllTags device (state m.pages).device
   pub remembers : device.honest ≡ true → Remembers device (state m.pages)

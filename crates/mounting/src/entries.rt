@@ -36,7 +36,7 @@ fn go_by<N: Nand>(
     ensures named { IfOk result (λ named. IsNamedTree (seen_on N.state named.on) named) }
     ensures noted { IfOk result (λ named. (table named.on.blocks).checkpoint ≡ Some found.now.block) }
     ensures firsts { KnowsFirstsIn (trusted_as reported (N.state bounded.device)) opened → IfOk result (λ named. KnowsFirstsOn (seen_on N.state named.on) named.on) }
-    ensures few { OfTrusted (N.state bounded.device) reported (IfOk result (λ named. ReadsOn N.state (N.state bounded.device) named.on)) }
+    ensures within_limit { OfTrusted (N.state bounded.device) reported (IfOk result (λ named. ReadsOn N.state (N.state bounded.device) named.on)) }
     ensures back { IfErr result (λ failed. OnlyReads (N.state bounded.device) (N.state failed.0)) }
     ensures fault { OfTrusted (N.state bounded.device) reported (IfErr result (λ failed. WhyNotThrough opened.index (N.state bounded.device) (N.state failed.0) failed.1)) }
 {
@@ -83,7 +83,7 @@ pub(crate) fn open_entries<N: Nand>(
         KnowsBlocksOn (seen_on N.state named.on) named.on) }
     ensures checked { HasTrueFlash (N.state device)
         → IfOk result (λ named. IsCheckedOn (N.state device) named.on) }
-    ensures few { HasTrueFlash (N.state device)
+    ensures within_limit { HasTrueFlash (N.state device)
         → IfOk result (λ named. ReadsOn N.state (N.state device) named.on) }
     ensures back { IfErr result (λ failed. OnlyReads (N.state device) (N.state failed.0)) }
     ensures fault { HasTrueFlash (N.state device) → IfErr result (λ failed. EndsMount (N.state failed.0) failed.1) }

@@ -58,7 +58,7 @@ fn by_entries<N: Nand>(
     ensures going { IfOk result (λ going. IsGoing (seen_on N.state going.named.on) going) }
     ensures checked { HasTrueFlash (N.state device)
         → IfOk result (λ going. IsCheckedOn (N.state device) going.named.on) }
-    ensures few { HasTrueFlash (N.state device) → IfOk result (λ going. ReadsTree (N.state device) (own_on N.state going.named.on)) }
+    ensures within_limit { HasTrueFlash (N.state device) → IfOk result (λ going. ReadsTree (N.state device) (own_on N.state going.named.on)) }
     ensures back { IfErr result (λ failed. OnlyReads (N.state device) (N.state failed.0)) }
     ensures fault { HasTrueFlash (N.state device) → OfSoundFlash (N.state device) (IfErr result (λ failed. EndsMount (N.state failed.0) failed.1)) }
 {
@@ -84,7 +84,7 @@ fn by_summaries<N: Nand>(
     ensures going { IfOk result (λ going. IsGoing (seen_on N.state going.named.on) going) }
     ensures checked { HasTrueFlash (N.state device)
         → IfOk result (λ going. IsCheckedOn (N.state device) going.named.on) }
-    ensures few { HasTrueFlash (N.state device) → IfOk result (λ going. ReadsBySummaries (N.state device) (own_on N.state going.named.on)) }
+    ensures within_limit { HasTrueFlash (N.state device) → IfOk result (λ going. ReadsBySummaries (N.state device) (own_on N.state going.named.on)) }
     ensures back { IfErr result (λ failed. OnlyReads (N.state device) (N.state failed.0)) }
     ensures fault { HasTrueFlash (N.state device) → OfSoundFlash (N.state device) (IfErr result (λ failed. EndsMount (N.state failed.0) failed.1)) }
 {
@@ -187,7 +187,7 @@ fn without_checkpoint<N: Nand>(
     ensures going { IfOk result (λ going. IsGoing (seen_on N.state going.named.on) going) }
     ensures checked { HasTrueFlash (N.state device)
         → IfOk result (λ going. IsCheckedOn (N.state device) going.named.on) }
-    ensures few { HasTrueFlash (N.state device) → IfOk result (λ going. ReadsBySummaries (N.state device) (own_on N.state going.named.on)) }
+    ensures within_limit { HasTrueFlash (N.state device) → IfOk result (λ going. ReadsBySummaries (N.state device) (own_on N.state going.named.on)) }
     ensures back { IfErr result (λ failed. OnlyReads (N.state device) (N.state failed.0)) }
     ensures fault { IfErr result (λ failed. WhyNotMounted (N.state failed.0) failed.1) }
 {
@@ -207,7 +207,7 @@ pub(crate) fn open_volume<N: Nand>(
     ensures going { IfOk result (λ going. IsGoing (seen_on N.state going.named.on) going) }
     ensures checked { HasTrueFlash (N.state device)
         → IfOk result (λ going. IsCheckedOn (N.state device) going.named.on) }
-    ensures few { IfOk result (λ going. ReadsByCheckpoint (N.state device) (own_on N.state going.named.on)) }
+    ensures within_limit { IfOk result (λ going. ReadsByCheckpoint (N.state device) (own_on N.state going.named.on)) }
     ensures without { IfOk result (λ going. ReadsWithoutCheckpoint (N.state device) (own_on N.state going.named.on)) }
     ensures back { IfErr result (λ failed. OnlyReads (N.state device) (N.state failed.0)) }
     ensures fault { IfErr result (λ failed. WhyNotMounted (N.state failed.0) failed.1) }
@@ -237,7 +237,7 @@ pub(crate) fn open_scanned<N: Nand>(
     ensures read { IfOk result (λ going. IsOnAs N.state true (N.state device) going.named.on) }
     ensures going { IfOk result (λ going. IsGoing (seen_on N.state going.named.on) going) }
     ensures checked { OfTrueFlash (N.state device) (IfOk result (λ going. IsCheckedOn (N.state device) going.named.on)) }
-    ensures few { IfOk result (λ going. ReadsAllTags (N.state device) (own_on N.state going.named.on)) }
+    ensures within_limit { IfOk result (λ going. ReadsAllTags (N.state device) (own_on N.state going.named.on)) }
     ensures back { IfErr result (λ failed. OnlyReads (N.state device) (N.state failed.0)) }
     ensures fault { IfErr result (λ failed. WhyNotMounted (N.state failed.0) failed.1) }
 {

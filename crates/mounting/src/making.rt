@@ -10,6 +10,7 @@ ghost use Rattle.mounting.specs.Made.{ArePagesOn, CanBeWritten, MayWrite};
 ghost use Rattle.mounting.specs.Marked.{AreFitting};
 ghost use Rattle.mounting.specs.Mounted.{IsTreeRead, HasRoomOn};
 ghost use Rattle.mounting.specs.Places.{HasTables};
+ghost use Rattle.page_store.specs.PagesOf.{mounted_pages, read_only_pages, store_pages};
 
 use crate::tree_on::TreeOn;
 use chunk_index::the_counts_are_of_the_keys;
@@ -17,7 +18,6 @@ use flash_log::Log;
 use flash_tree::count_bad;
 use nand_model::Nand;
 use page_store::{FlashPages, NewestPages, ReadOnlyPages, Store, the_opened_pages_are_the_newest};
-use pages::Pages;
 use std::alloc::{AllocError, Global};
 use std::num::NonZeroUsize;
 use volume_terms::{BUFFERS_IN_BLOCK, NUMBER_END};
@@ -43,10 +43,10 @@ fn store_pages<N: Nand>(
     requires room { HasRoomOn (N.state on.device) (table on.blocks) on.spare }
     requires ordinary { (N.state on.device).honest ≡ true → KeepsOrdinary on.index }
     requires can { MayWrite (N.state on.device) (table on.blocks) on.index (numbers_of on.numbers) on.spare }
-    ensures made { IfOk result (λ store. ArePagesOn (N.state on.device) on.index (numbers_of on.numbers) on.spare (⟦<Store<N> as Pages>⟧.state store)) }
-    ensures worn { IfOk result (λ store. (⟦<Store<N> as Pages>⟧.state store).worn ≡ false) }
+    ensures made { IfOk result (λ store. ArePagesOn (N.state on.device) on.index (numbers_of on.numbers) on.spare (store_pages store)) }
+    ensures worn { IfOk result (λ store. (store_pages store).worn ≡ false) }
     ensures device { IfOk result (λ store. store.log.device ≡ on.device) }
-    ensures checkpoint { IfOk result (λ store. (⟦<Store<N> as Pages>⟧.state store).checkpoint ≡ (table on.blocks).checkpoint) }
+    ensures checkpoint { IfOk result (λ store. (store_pages store).checkpoint ≡ (table on.blocks).checkpoint) }
     ensures tables { IfOk result (λ store. (store.log.index ≡ on.index) × (table store.log.blocks ≡ table on.blocks)) }
     ensures given_back { IfErr result (λ back. back.0 ≡ on.device) }
 {
@@ -72,10 +72,10 @@ fn store_pages<N: Nand>(
 fn read_pages<N: Nand>(alloc: Global, on: TreeOn<N>) -> Result<ReadOnlyPages<N>, (N, AllocError)>
     requires read { IsTreeRead (N.state on.device) (table on.blocks) on.index (numbers_of on.numbers) on.spare on.tree }
     requires worn { IsWorn (N.state on.device) (numbers_of on.numbers) on.spare }
-    ensures made { IfOk result (λ pages. ArePagesOn (N.state on.device) on.index (numbers_of on.numbers) on.spare (⟦<ReadOnlyPages<N> as Pages>⟧.state pages)) }
-    ensures worn { IfOk result (λ pages. (⟦<ReadOnlyPages<N> as Pages>⟧.state pages).worn ≡ true) }
+    ensures made { IfOk result (λ pages. ArePagesOn (N.state on.device) on.index (numbers_of on.numbers) on.spare (read_only_pages pages)) }
+    ensures worn { IfOk result (λ pages. (read_only_pages pages).worn ≡ true) }
     ensures device { IfOk result (λ pages. device_of pages.pages ≡ on.device) }
-    ensures checkpoint { IfOk result (λ pages. (⟦<ReadOnlyPages<N> as Pages>⟧.state pages).checkpoint ≡ (table on.blocks).checkpoint) }
+    ensures checkpoint { IfOk result (λ pages. (read_only_pages pages).checkpoint ≡ (table on.blocks).checkpoint) }
     ensures index { IfOk result (λ pages. index_of pages.pages ≡ on.index) }
     ensures given_back { IfErr result (λ back. back.0 ≡ on.device) }
 {
@@ -107,10 +107,10 @@ pub(crate) fn make_pages<N: Nand>(
     requires worn { worn ≡ true → IsWorn (N.state on.device) (numbers_of on.numbers) on.spare }
     requires ordinary { (N.state on.device).honest ≡ true → KeepsOrdinary on.index }
     requires can { worn ≡ false → MayWrite (N.state on.device) (table on.blocks) on.index (numbers_of on.numbers) on.spare }
-    ensures made { IfOk result (λ pages. ArePagesOn (N.state on.device) on.index (numbers_of on.numbers) on.spare (⟦<FlashPages<N> as Pages>⟧.state pages)) }
-    ensures worn { IfOk result (λ pages. (⟦<FlashPages<N> as Pages>⟧.state pages).worn ≡ worn) }
+    ensures made { IfOk result (λ pages. ArePagesOn (N.state on.device) on.index (numbers_of on.numbers) on.spare (mounted_pages pages)) }
+    ensures worn { IfOk result (λ pages. (mounted_pages pages).worn ≡ worn) }
     ensures device { IfOk result (λ pages. device_in pages ≡ on.device) }
-    ensures checkpoint { IfOk result (λ pages. (⟦<FlashPages<N> as Pages>⟧.state pages).checkpoint ≡ (table on.blocks).checkpoint) }
+    ensures checkpoint { IfOk result (λ pages. (mounted_pages pages).checkpoint ≡ (table on.blocks).checkpoint) }
     ensures tables { IfOk result (HasTables (N.state on.device).flash on.index) }
     ensures given_back { IfErr result (λ back. back.0 ≡ on.device) }
 {

@@ -5,6 +5,7 @@ ghost use Rattle.page_store.specs.FlashParts.{device_in};
 ghost use Rattle.mounting.specs.Going.{IsGoing};
 ghost use Rattle.mounting.specs.Given.{IsMade};
 ghost use Rattle.mounting.specs.Made.{Remembers};
+ghost use Rattle.page_store.specs.PagesOf.{mounted_pages};
 
 use crate::making::{is_worn, make_pages};
 use crate::tree_on::{Going, NamedTree};
@@ -14,7 +15,6 @@ use name_index::NameIndex;
 use nand_model::Nand;
 use object_store::ObjectTable;
 use page_store::{FlashPages, a_table_of_first_pages_knows_erased_blocks};
-use pages::Pages;
 use std::alloc::Global;
 use std::num::NonZeroUsize;
 use tree_walk::{table, the_names_of_a_tree_are_those_of_its_objects};
@@ -36,11 +36,11 @@ pub(crate) fn make_mounted<N: Nand>(
     capacity: NonZeroUsize,
 ) -> Result<Mounted<N>, N>
     requires { IsGoing (N.state going.named.on.device) going }
-    ensures device { IfOk result (λ mounted. (⟦<FlashPages<N> as Pages>⟧.state mounted.pages).device ≡ N.state going.named.on.device) }
+    ensures device { IfOk result (λ mounted. (mounted_pages mounted.pages).device ≡ N.state going.named.on.device) }
     ensures same { IfOk result (λ mounted. device_in mounted.pages ≡ going.named.on.device) }
-    ensures checkpoint { IfOk result (λ mounted. (⟦<FlashPages<N> as Pages>⟧.state mounted.pages).checkpoint ≡ (table going.named.on.blocks).checkpoint) }
-    ensures made { IfOk result (IsMade ⟦<FlashPages<N> as Pages>⟧.state) }
-    ensures remembers { IfOk result (λ mounted. Remembers (N.state going.named.on.device) (⟦<FlashPages<N> as Pages>⟧.state mounted.pages)) }
+    ensures checkpoint { IfOk result (λ mounted. (mounted_pages mounted.pages).checkpoint ≡ (table going.named.on.blocks).checkpoint) }
+    ensures made { IfOk result (IsMade mounted_pages) }
+    ensures remembers { IfOk result (λ mounted. Remembers (N.state going.named.on.device) (mounted_pages mounted.pages)) }
     ensures back { IfErr result (λ device. device ≡ going.named.on.device) }
 {
     a_volume_has_sizes();

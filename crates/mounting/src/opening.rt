@@ -5,14 +5,13 @@ ghost use Rattle.page_store.specs.FlashParts.{device_in};
 ghost use Rattle.nand_model.specs.TrustedParts.{inner_of};
 ghost use Rattle.mounting.specs.Faults.{WhyNotMounted};
 ghost use Rattle.mounting.specs.Given.{IsGiven, IsGivenByScan};
+ghost use Rattle.page_store.specs.PagesOf.{mounted_pages};
 
 use crate::fault::MountFault;
 use crate::going::{open_scanned, open_volume};
 use crate::mounted::{Mounted, make_mounted};
 use crate::naming::unmounted;
 use nand_model::{Nand, TrustedNand};
-use page_store::FlashPages;
-use pages::Pages;
 use std::alloc::Global;
 use std::num::NonZeroUsize;
 
@@ -24,7 +23,7 @@ pub fn mount<N: Nand>(
     device: N,
     capacity: NonZeroUsize,
 ) -> Result<Mounted<TrustedNand<N>>, (N, MountFault)>
-    ensures given { IfOk result (λ m. IsGiven ⟦<FlashPages<TrustedNand<N>> as Pages>⟧.state (N.state device) (N.state (inner_of (device_in m.pages))) m) }
+    ensures given { IfOk result (λ m. IsGiven mounted_pages (N.state device) (N.state (inner_of (device_in m.pages))) m) }
     ensures back { IfErr result (λ failed. OnlyReads (N.state device) (N.state failed.0)) }
     ensures fault { IfErr result (λ failed. WhyNotMounted (N.state failed.0) failed.1) }
 {
@@ -41,7 +40,7 @@ pub fn mount_scanned<N: Nand>(
     device: N,
     capacity: NonZeroUsize,
 ) -> Result<Mounted<TrustedNand<N>>, (N, MountFault)>
-    ensures given { IfOk result (λ m. IsGivenByScan ⟦<FlashPages<TrustedNand<N>> as Pages>⟧.state (N.state device) (N.state (inner_of (device_in m.pages))) m) }
+    ensures given { IfOk result (λ m. IsGivenByScan mounted_pages (N.state device) (N.state (inner_of (device_in m.pages))) m) }
     ensures back { IfErr result (λ failed. OnlyReads (N.state device) (N.state failed.0)) }
     ensures fault { IfErr result (λ failed. WhyNotMounted (N.state failed.0) failed.1) }
 {

@@ -35,7 +35,7 @@ pub(crate) fn go_through<N: Nand>(
     requires lie { LieWithin (N.state device) index.now }
     requires committed { TrustsCommitted (N.state device) reported index.now }
     ensures reads { IfOk result (λ read. OnlyReads (N.state device) (N.state read.0)) }
-    ensures few { OfTrusted (N.state device) reported (IfOk result (λ read. ReadsThrough (N.state device) (N.state read.0) read.1.spare read.1.tree)) }
+    ensures within_limit { OfTrusted (N.state device) reported (IfOk result (λ read. ReadsThrough (N.state device) (N.state read.0) read.1.spare read.1.tree)) }
     ensures power { (N.state device).gone ≡ false → IfOk result (λ read. (N.state read.0).gone ≡ false) }
     ensures tree { OfTrusted (N.state device) reported (IfOk result (λ read. IsFoundIn (N.state device).geometry (committed_on (N.state device) index.now) read.1)) }
     ensures names { OfTrusted (N.state device) reported (IfOk result (λ read. HasNamesIn (N.state device).geometry (committed_on (N.state device) index.now) read.1)) }
@@ -64,7 +64,7 @@ pub(crate) fn go_through_candidates<N: Nand>(
 ) -> Result<(N, FoundTree), (N, RootFault)>
     requires { LieWithin (N.state device) index.now }
     ensures reads { IfOk result (λ read. OnlyReads (N.state device) (N.state read.0)) }
-    ensures few { (N.state device).honest ≡ true → IfOk result (λ read. ReadsThrough (N.state device) (N.state read.0) read.1.spare read.1.tree) }
+    ensures within_limit { (N.state device).honest ≡ true → IfOk result (λ read. ReadsThrough (N.state device) (N.state read.0) read.1.spare read.1.tree) }
     ensures power { (N.state device).gone ≡ false → IfOk result (λ read. (N.state read.0).gone ≡ false) }
     ensures tree { (N.state device).honest ≡ true
         → IfOk result (λ read. IsFoundIn (N.state device).geometry (candidate_pages index.now (N.state device)) read.1) }
@@ -97,7 +97,7 @@ pub(crate) fn read_tree<N: Nand>(
 ) -> Result<(N, FoundTree), (N, MountFault)>
     requires { (t : Table) × (n : Numbers) × IsOpened (N.state device) t index.now n }
     ensures reads { IfOk result (λ read. OnlyReads (N.state device) (N.state read.0)) }
-    ensures few { (N.state device).honest ≡ true → IfOk result (λ read. ReadsThrough (N.state device) (N.state read.0) read.1.spare read.1.tree) }
+    ensures within_limit { (N.state device).honest ≡ true → IfOk result (λ read. ReadsThrough (N.state device) (N.state read.0) read.1.spare read.1.tree) }
     ensures power { (N.state device).gone ≡ false → IfOk result (λ read. (N.state read.0).gone ≡ false) }
     ensures tree { (N.state device).honest ≡ true
         → IfOk result (λ read. IsFoundIn (N.state device).geometry (committed_on (N.state device) index.now) read.1) }

@@ -25,7 +25,7 @@ fn root_fault(fault: WalkFault) -> RootFault
 /// The first fault of a tree that a walk did not go through: that of the root's header, which is read again, or else the one that
 /// the walk found below it.
 pub fn first_fault<P: Pages>(pages: &mut P, geometry: Geometry, below: WalkFault) -> RootFault
-    ensures finds { OnlyFinds (P.state pages.old) (P.state pages.new) }
+    ensures lookups { OnlyFinds (P.state pages.old) (P.state pages.new) }
     ensures reason { let m = (P.state pages.old).present in
         OfSized geometry (P.state pages.old) (IsWhyBelow geometry m (of_walk below) → WhyNoneIn geometry m result) }
     ensures device { FailsTree (P.state pages.old) (of_walk below) → FailsTree (P.state pages.new) result }

@@ -30,7 +30,7 @@ fn open_tree<N: Nand>(
 ) -> Result<NamedTree<N>, (N, MountFault)>
     requires { AreFirstsOf (N.state device) firsts.now }
     ensures reads { IfOk result (λ named. OnlyReads (N.state device) (N.state named.on.device)) }
-    ensures few { (N.state device).honest ≡ true → IfOk result (λ named. ReadsScannedOn N.state (N.state device) named.on) }
+    ensures within_limit { (N.state device).honest ≡ true → IfOk result (λ named. ReadsScannedOn N.state (N.state device) named.on) }
     ensures power { (N.state device).gone ≡ false → IfOk result (λ named. (N.state named.on.device).gone ≡ false) }
     ensures read { IfOk result (λ named. IsReadOn (N.state named.on.device) named.on) }
     ensures firsts { IfOk result (λ named. KnowsScanned (N.state named.on.device) (table named.on.blocks) (numbers_of named.on.numbers)) }
@@ -72,7 +72,7 @@ pub(crate) fn scan_going<N: Nand>(
 ) -> Result<Going<N>, (N, MountFault)>
     requires { AreFirstsOf (N.state device) firsts.now }
     ensures reads { IfOk result (λ going. OnlyReads (N.state device) (N.state going.named.on.device)) }
-    ensures few { (N.state device).honest ≡ true
+    ensures within_limit { (N.state device).honest ≡ true
         → IfOk result (λ going. ReadsScannedOn N.state (N.state device) going.named.on) }
     ensures power { (N.state device).gone ≡ false → IfOk result (λ going. (N.state going.named.on.device).gone ≡ false) }
     ensures going { IfOk result (λ going. IsGoing (N.state going.named.on.device) going) }

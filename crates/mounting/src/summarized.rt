@@ -83,7 +83,7 @@ fn go_by_summaries<N: Nand>(
     ensures blocks { IfOk result (λ named.
         KnowsBlocksOn (seen_on N.state named.on) named.on) }
     ensures none { IfOk result (λ named. (table named.on.blocks).checkpoint ≡ None) }
-    ensures few { (N.state device).honest ≡ true
+    ensures within_limit { (N.state device).honest ≡ true
         → IfOk result (λ named. ReadsOn N.state (N.state device) named.on) }
     ensures back { IfErr result (λ failed. OnlyReads (N.state device) (N.state failed.0)) }
     ensures fault { HasTrueFlash (N.state device) → IfErr result (λ failed. EndsMount (N.state failed.0) failed.1) }
@@ -122,7 +122,7 @@ pub(crate) fn open_by_summaries<N: Nand>(
     ensures blocks { IfOk result (λ named.
         KnowsBlocksOn (seen_on N.state named.on) named.on) }
     ensures none { IfOk result (λ named. (table named.on.blocks).checkpoint ≡ None) }
-    ensures few { HasTrueFlash (N.state device)
+    ensures within_limit { HasTrueFlash (N.state device)
         → IfOk result (λ named. ReadsNeededOn N.state (N.state device) named.on) }
     ensures back { IfErr result (λ failed. OnlyReads (N.state device) (N.state failed.0)) }
     ensures fault { HasTrueFlash (N.state device) → IfErr result (λ failed. EndsMount (N.state failed.0) failed.1) }

@@ -26,7 +26,7 @@ pub(crate) fn find_tree<P: KnownPages>(
     pages: &mut P,
     geometry: Geometry,
 ) -> Result<FoundTree, RootFault>
-    ensures finds { OnlyFinds (P.state pages.old) (P.state pages.new) }
+    ensures lookups { OnlyFinds (P.state pages.old) (P.state pages.new) }
     ensures power { OnOk result (KeepsPower (P.state pages.old) (P.state pages.new)) }
     ensures issued { OfSized geometry (P.state pages.old) (IfOk result (IssuesForTree geometry (P.state pages.old) (P.state pages.new))) }
     ensures tree { OfSized geometry (P.state pages.old) (IfOk result (λ found. IsFoundIn geometry (P.state pages.old).present found)) }

@@ -31,11 +31,11 @@ module _ (g : Geometry) (old mid new : Option (List ℕ)) (marks : List ℕ) (wi
         size = omega (arith, end, wide, m.within, p.within, length-drop (g.blocks * g.pages * w) behind, length-drop (length marks) left);
         good = λ k less zero. ap (λ f. f k) puts.bad ∙ put.zero_marks k (mark k less ∙ zero) ∙ blank.good k;
         bad = λ k less not. ap (λ f. f k) puts.bad ∙ put.other_marks k (omega (arith, less, wide)) (λ zero. not (sym (mark k less) ∙ zero));
-        pages = λ k l less few.
+        pages = λ k l less within_limit.
             let place : ℕ = k * g.pages + l in
-            let row : place / g.pages ≡ k = div-mul-add k g.pages l few in
-            let column : place % g.pages ≡ l = mod-mul-add k g.pages l few in
-            let inside : place < g.blocks * g.pages = omega (arith, mul-add-lt k g.pages l g.blocks less few, mul_comm g.pages g.blocks) in
+            let row : place / g.pages ≡ k = div-mul-add k g.pages l within_limit in
+            let column : place % g.pages ≡ l = mod-mul-add k g.pages l within_limit in
+            let inside : place < g.blocks * g.pages = omega (arith, mul-add-lt k g.pages l g.blocks less within_limit, mul_comm g.pages g.blocks) in
             let reported : page (place / g.pages) (place % g.pages) ≡ page_in g.bytes (drop (place * w) behind) = p.each place inside in
             ap (λ f. f k l) same ∙ sym (ap (λ n. page n l) row) ∙ sym (ap (page (place / g.pages)) column) ∙ reported
             ∙ ap (page_in g.bytes) (drop-drop (place * w) (length marks) left ∙ ap (λ n. drop (n + place * w) left) wide);
@@ -50,8 +50,8 @@ module _ (g : Geometry) (old mid new : Option (List ℕ)) (marks : List ℕ) (wi
   pages_fault faults.NoMemory short = tt
   pages_fault faults.Size short = λ left is size.
       let m = whole left is in
-      let few = short (drop (length marks) left) m.rest in
-      absurd (omega (arith, few, size, wide, length-drop (length marks) left))
+      let within_limit = short (drop (length marks) left) m.rest in
+      absurd (omega (arith, within_limit, size, wide, length-drop (length marks) left))
 
   -- bytes behind the pages
   pub end_fault : (fault : ImageFault) (page : ℕ → ℕ → Page) → TakesPages mid new g.bytes g.pages (g.blocks * g.pages) page → IsLong new fault → IsOfOtherSize old (body_size g) fault

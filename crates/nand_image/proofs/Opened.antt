@@ -63,14 +63,14 @@ module _ (image head : List ℕ) (now : Option (List ℕ)) (is_head : IsHead hea
         good = λ b less zero. body.good b (omega (arith, less, blocks)) (get_or-drop 32 image b 0 ∙ zero);
         bad = λ b less not. body.bad b (omega (arith, less, blocks)) (λ zero. not (sym (get_or-drop 32 image b 0) ∙ zero));
         nexts = nexts;
-        pages = λ b p less few. subst (λ x. d.flash.page b p ≡ page_in x.bytes (drop (32 + x.blocks + (b * x.pages + p) * slot_size x) image)) geometry (at b p (omega (arith, less, blocks)) (omega (arith, few, pages)));
+        pages = λ b p less within_limit. subst (λ x. d.flash.page b p ≡ page_in x.bytes (drop (32 + x.blocks + (b * x.pages + p) * slot_size x) image)) geometry (at b p (omega (arith, less, blocks)) (omega (arith, within_limit, pages)));
       }
     where
       at : (b p : ℕ) → b < g.blocks → p < g.pages → d.flash.page b p ≡ page_in g.bytes (drop (32 + g.blocks + (b * g.pages + p) * slot_size g) image)
-      at b p less few =
+      at b p less within_limit =
           let place : ℕ = (b * g.pages + p) * slot_size g in
           let joined : 32 + (g.blocks + place) ≡ 32 + g.blocks + place = omega arith in
-          body.pages b p less few ∙ ap (page_in g.bytes) (drop-drop (g.blocks + place) 32 image ∙ ap (λ n. drop n image) joined)
+          body.pages b p less within_limit ∙ ap (page_in g.bytes) (drop-drop (g.blocks + place) 32 image ∙ ap (λ n. drop n image) joined)
 
 -- sizes that no device has
 pub explains_bad : (fault : ImageFault) (old now : Option (List ℕ)) (head : List ℕ) → TakesHead old now head → (fault ≡ faults.BadGeometry) × (¬ ReportsSize head) → Explains old fault

@@ -70,6 +70,6 @@ pages_short faults.NoMemory size per n count wide old mid page less is first sho
 pages_short faults.Size size per n count wide old mid page less is first short = λ left at.
     let w : ℕ = 49 + size in
     let so_far = first left at in
-    let few : length (drop (n * w) left) < wide = short (drop (n * w) left) so_far.rest in
+    let within_limit : length (drop (n * w) left) < wide = short (drop (n * w) left) so_far.rest in
     let all : (n + 1) * w ≤ count * w = mul-le-mul_right w (omega (arith, less)) in
-    omega (arith, next_times n w, all, few, is, length-drop (n * w) left)
+    omega (arith, next_times n w, all, within_limit, is, length-drop (n * w) left)

@@ -1,7 +1,8 @@
 -- What becomes of a flash, however its calls end.
-use Rattle.std.specs.Prelude.{◌≡◌, ◌≢◌, ◌⊎◌, ℕ, true, false, None}
-use Rattle.nand_model.specs.Flash.{Flash, Erased, Uncorrectable}
-use Rattle.nand_model.specs.Calls.{Device, Lasts}
+use Rattle.std.specs.Prelude.{◌≡◌, ◌≢◌, ◌⊎◌, ℕ, true, false, List, Some, None, Result}
+use Rattle.nand_model.specs.Flash.{Flash, Erased, Uncorrectable, IsClean}
+use Rattle.nand_model.specs.Calls.{Device, Lasts, Programs}
+use Rattle.nand_model.specs.declared.nand.ProgramFault.{ProgramFault}
 
 -- all pages erased, no block bad, none with a next page
 pub record IsBlank (flash : Flash) : Type 0 where
@@ -29,6 +30,16 @@ pub record PowersUp (old new : Device) : Type 0 where
   pub failures : new.failures ≡ old.failures
   pub changes : new.changes ≡ old.changes
   pub reads : new.reads ≡ old.reads
+
+-- Page p is the next of block b of an honest device, and the pages of each block from its next page on are erased.
+pub record IsNextPage (d : Device) (b p : ℕ) : Type 0 where
+  pub honest : d.honest ≡ true
+  pub clean : IsClean d.flash
+  pub next : d.flash.next b ≡ Some p
+
+-- page p of block b was programmed, with whatever data and tag, and however that ended
+abbrev pub ProgramsPage : ℕ → ℕ → Device → Device → Type 0
+ProgramsPage b p old new = (bytes : List ℕ) × (tag : List ℕ) × (result : Result (Unit {0}) ProgramFault) × Programs b p bytes tag old new result
 
 -- only erased pages are other than they were
 abbrev pub Grows : Flash → Flash → Type 0

@@ -1,11 +1,9 @@
 // What follows from what single calls do.
-ghost use Rattle.std.specs.Prelude.{◌≡◌, ℕ, List, true, Result, Some};
-ghost use Rattle.nand_model.specs.Flash.{IsClean};
-ghost use Rattle.nand_model.specs.Calls.{Device, Lasts, Reads, Programs, Erases};
-ghost use Rattle.nand_model.specs.Changes.{Grows, Shrinks, OnlyReads};
+ghost use Rattle.std.specs.Prelude.{◌≡◌, ℕ, true, Result};
+ghost use Rattle.nand_model.specs.Calls.{Device, Lasts, Reads, Erases};
+ghost use Rattle.nand_model.specs.Changes.{IsNextPage, ProgramsPage, Grows, Shrinks, OnlyReads};
 ghost use Rattle.nand_model.specs.declared.nand.PageKind.{PageKind};
 ghost use Rattle.nand_model.specs.declared.nand.Gone.{Gone};
-ghost use Rattle.nand_model.specs.declared.nand.ProgramFault.{ProgramFault};
 ghost use Rattle.nand_model.specs.declared.nand.EraseFault.{EraseFault};
 
 /// What each of two calls in turn keeps both keep.
@@ -16,8 +14,7 @@ pub fn calls_in_turn()
 
 /// However a program ends, it changes no page of an honest device but one that was erased.
 pub fn a_program_changes_an_erased_page()
-    ensures { (b p : ℕ) (bytes tag : List ℕ) (old new : Device) (result : Result (Unit {0}) ProgramFault) → old.honest ≡ true
-        → IsClean old.flash → old.flash.next b ≡ Some p → Programs b p bytes tag old new result → Grows old.flash new.flash }
+    ensures { (b p : ℕ) (old new : Device) → IsNextPage old b p → ProgramsPage b p old new → Grows old.flash new.flash }
 {}
 
 /// However an erase ends, it changes no page of an honest device but those of its block, and writes none.

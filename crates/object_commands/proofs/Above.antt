@@ -25,12 +25,12 @@ pub record Up (objects : Objects) (x directory here steps : ℕ) : Type 0 where
   pub on : Below objects x directory → Below objects x here
   pub depth : ℕ
   pub deep : Deep objects here depth
-  pub few : depth + steps < map.len objects
+  pub within_limit : depth + steps < map.len objects
 
 pub up_start : (z : Sizes) (objects : Objects) (x directory : ℕ) → IsForest z objects → IsDirectory objects directory → Reached objects directory → Up objects x directory directory 0
 up_start z objects x directory forest dir up =
     let d = depth_of objects directory up in
-    record { dir = dir; back = λ b. b; on = λ b. b; depth = d.0; deep = d.1; few = omega (arith, depth_few z objects forest directory d.0 dir d.1) }
+    record { dir = dir; back = λ b. b; on = λ b. b; depth = d.0; deep = d.1; within_limit = omega (arith, depth_few z objects forest directory d.0 dir d.1) }
 
 -- what is below an object, and is not it, lies so by the directory that names it
 below_above : (z : Sizes) (objects : Objects) (x here above : ℕ) (name : Name) → IsForest z objects → IsDirectory objects here → Names objects above name here → here ≢ x → Below objects x here → Below objects x above
@@ -52,7 +52,7 @@ up_more z objects x directory here above steps forest ne named up =
       on = λ b. below_above z objects x here above named.0 forest up.dir named.1 ne (up.on b);
       depth = d.0;
       deep = d.1;
-      few = omega (arith, d.2, up.few);
+      within_limit = omega (arith, d.2, up.within_limit);
     }
 
 module _ (z : Sizes) (objects : Objects) (x directory : ℕ) (forest : IsForest z objects) (dir : IsDirectory objects directory) (reached : Reached objects directory) where
@@ -72,4 +72,4 @@ module _ (z : Sizes) (objects : Objects) (x directory : ℕ) (forest : IsForest 
 
   -- the way is no longer than there are objects, which cost a unit each
   pub up_end : (here steps : ℕ) → charge z objects ≤ steps → Up objects x directory here steps → false ≡ is_below objects x directory
-  up_end here steps far up = absurd (omega (arith, far, up.few, objects_le z objects))
+  up_end here steps far up = absurd (omega (arith, far, up.within_limit, objects_le z objects))

@@ -77,7 +77,7 @@ module _ (z : Sizes) (s : State) (sound : IsWellFormed z s) (left : Objects) (di
       uncommitted : IsCommittedKey after o → ⊥
       uncommitted (inl top) = sound.forest.root_unnamed directory name (subst (λ k. Names s.objects directory name k) top lost.was)
       uncommitted (inr (inl named)) =
-          let few : length (link_pairs s.objects o) < 2 = leb-false 2 (length (link_pairs s.objects o)) one in
+          let within_limit : length (link_pairs s.objects o) < 2 = leb-false 2 (length (link_pairs s.objects o)) one in
           no_other (link_pairs s.objects o) (link_pairs_list s.objects o) (omega arith) named
       uncommitted (inr (inr open')) = closed open'
 

@@ -45,8 +45,8 @@ read_plan z s fd count d read bytes moved opened is small size reported goes = r
       let h : Handle = handle_of d in
       let rest : List ℕ = drop d.offset (bytes_of (map.get s.objects d.object)) in
       let far : d.offset ≤ offset_limit = opened.offset in
-      let few : read ≤ count = omega (arith, size, length-take count rest) in
-      let end : min (d.offset + read) (2 ^ 64 - 1) ≡ d.offset + length bytes = omega (arith, far, few, small, size, ap length reported) in
+      let within_limit : read ≤ count = omega (arith, size, length-take count rest) in
+      let end : min (d.offset + read) (2 ^ 64 - 1) ≡ d.offset + length bytes = omega (arith, far, within_limit, small, size, ap length reported) in
       ap (λ (m : OpenDescription). answer (record s { handles = map.insert s.handles fd (handle_of m) }) (replies.Data bytes)) goes
       ∙ ap (λ n. answer (with_offset s fd h n) (replies.Data bytes)) end ∙ ap (read_reported s fd h) reported ∙ is.means count;
   can = tt;

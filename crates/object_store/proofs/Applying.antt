@@ -32,14 +32,14 @@ use Rattle.object_store.proofs.Edits.{fresh_facts_are, larger_from}
 
 -- what a volume has room for can be in the count
 pub fits_countable : (z : Sizes) (objects : Objects) → IsSizes z → fits z objects ≡ true → IsCountable z objects
-fits_countable z objects sizes fit = record { sizes = sizes; few = (let le = leb-true (charge z objects) (capacity z) fit in omega (arith, le, capacity_few z sizes)) }
+fits_countable z objects sizes fit = record { sizes = sizes; within_limit = (let le = leb-true (charge z objects) (capacity z) fit in omega (arith, le, capacity_few z sizes)) }
 
 pub can_count : (z : Sizes) (objects : Objects) → CanHave z objects → IsCountable z objects
 can_count z objects can = fits_countable z objects can.numbers can.fit
 
 -- and what costs no more
 less_countable : (z : Sizes) (old new : Objects) → IsCountable z old → charge z new ≤ charge z old → IsCountable z new
-less_countable z old new old-is le = record { sizes = old-is.sizes; few = (let few = old-is.few in omega (arith, few, le)) }
+less_countable z old new old-is le = record { sizes = old-is.sizes; within_limit = (let within_limit = old-is.within_limit in omega (arith, within_limit, le)) }
 
 page_some : (z : Sizes) → IsSizes z → 0 < z.page_bytes
 page_some z sizes = elim sizes.page_bytes [ inl a ↦ omega arith | inr b ↦ elim b [ inl c ↦ omega arith | inr d ↦ elim d [ inl e ↦ omega arith | inr f ↦ omega arith ] ] ]
@@ -75,9 +75,9 @@ module _ (z : Sizes) (objects : Objects) (can : CanHave z objects) (n moment d :
         facts = both.1;
         countable = record {
           sizes = can.numbers;
-          few =
+          within_limit =
               (let more = total_insert nat_cmp_total map.nat_cmp-IsAntisymmetric (cost z) objects n (empty_object kind moment) free in
-              let few = (can_count z objects can).few in
+              let within_limit = (can_count z objects can).within_limit in
               let le = leb-true (charge z objects) (capacity z) can.fit in
               omega (arith, more, le, capacity_few z can.numbers, empty_few z kind moment can.numbers));
         };

@@ -65,12 +65,12 @@ removed_cost z kinds.Directory f = refl
 puts_charge : (old new : CountedFacts) (objects : Objects) (o : ℕ) (x y : Object) (f g : ObjectFacts) → Puts old new o g → reported_at old o ≡ Some f → charge_in old ≡ charge (sizes_in old) objects → map.get objects o ≡ Some x
     → facts_cost (sizes_in old) f ≡ cost (sizes_in old) x → facts_cost (sizes_in old) g ≡ cost (sizes_in old) y → charge (sizes_in old) objects < 2 ^ 48 → charge (sizes_in old) (map.insert objects o y) < 2 ^ 48
     → charge_in new ≡ charge (sizes_in new) (map.insert objects o y)
-puts_charge old new objects o x y f g puts was is there cost_f cost_g small few =
+puts_charge old new objects o x y f g puts was is there cost_f cost_g small within_limit =
     let z = sizes_in old in
     let before = total_without nat_cmp_total map.nat_cmp-IsAntisymmetric (cost (sizes_in old)) objects o x there in
     let after = total_replace nat_cmp_total map.nat_cmp-IsAntisymmetric (cost (sizes_in old)) objects o y in
     let units : units_of (sizes_in old) (reported_at old o) ≡ min (facts_cost (sizes_in old) f) (2 ^ 64 - 1) = ap (units_of (sizes_in old)) was in
-    let now : charge_in new ≡ charge (sizes_in old) (map.insert objects o y) = omega (arith, puts.charge, is, before, after, units, cost_f, cost_g, small, few) in
+    let now : charge_in new ≡ charge (sizes_in old) (map.insert objects o y) = omega (arith, puts.charge, is, before, after, units, cost_f, cost_g, small, within_limit) in
     now ∙ ap (λ (z : Sizes). charge z (map.insert objects o y)) (sym puts.sizes)
 
 -- the facts of one object change, and its units do not
@@ -167,7 +167,7 @@ module _ (old mid new : CountedFacts) (objects : Objects) (moment d o : ℕ) (na
   of_o = reported_there objects o (reported_at old o) gets.there.0 f gets.there.1 reported (counts.each o)
 
   fits_size : map.len dir.1 + 1 < 2 ^ 64
-  fits_size = let few = entries_few (sizes_in old) objects gets.before d dir.0 dir.1 dir.2 in omega arith
+  fits_size = let within_limit = entries_few (sizes_in old) objects gets.before d dir.0 dir.1 dir.2 in omega arith
 
   sized : one_more df.0.size ≡ map.len es
   sized = let size = df.2.size in let fit = fits_size in let l = long in omega arith
@@ -177,17 +177,17 @@ module _ (old mid new : CountedFacts) (objects : Objects) (moment d o : ℕ) (na
 
   totaled : charge_in mid ≡ charge (sizes_in mid) grown
   totaled = puts_charge old mid objects d (Dir dir.0 dir.1) (Dir moment es) df.0 (entry_added f.kind moment df.0) put df.1 counts.charge dir.2
-      (facts_cost_is (sizes_in old) objects d (Dir dir.0 dir.1) df.0 df.2) paid gets.before.few gets.after.few
+      (facts_cost_is (sizes_in old) objects d (Dir dir.0 dir.1) df.0 df.2) paid gets.before.within_limit gets.after.within_limit
 
   small : charge (sizes_in mid) grown < 2 ^ 48
-  small = subst (λ (z : Sizes). charge z grown < 2 ^ 48) (sym put.sizes) gets.after.few
+  small = subst (λ (z : Sizes). charge z grown < 2 ^ 48) (sym put.sizes) gets.after.within_limit
 
   -- the directory, with the parent that it has then
   facts_d : (parent : Option ℕ) → NamedBy grown d parent → AreFactsOf grown d (Dir moment es) (record { kind = df.0.kind; moment = moment; links = (entry_added f.kind moment df.0).links; size = one_more df.0.size; parent = parent })
   facts_d parent named =
       subst (λ n. IsDirectoryFacts grown d moment n (record { kind = df.0.kind; moment = moment; links = (entry_added f.kind moment df.0).links; size = one_more df.0.size; parent = parent })) (sym long)
       (entry_more objects grown d o name one gets.unnamed moment dir.0 (map.len dir.1) parent df.0 f.kind (kind_is objects o gets.there.0 f gets.there.1 of_o) df.2 named fits_size
-      (λ children lists. let few = children_few (sizes_in old) objects gets.before d dir.0 dir.1 dir.2 children lists in omega arith))
+      (λ children lists. let within_limit = children_few (sizes_in old) objects gets.before d dir.0 dir.1 dir.2 children lists in omega arith))
 
   others_mid : (k : ℕ) → k ≢ o → IsStated grown k (map.get grown k) (reported_at mid k)
   others_mid k ne = elim (cases_eq k d) [
@@ -202,7 +202,7 @@ module _ (old mid new : CountedFacts) (objects : Objects) (moment d o : ℕ) (na
   add_counts = elim (cases_eq o d) [
     | inr ne ↦ finish mid new grown o (λ f. name_added f.kind d f) second totaled small (λ f. added_cost (sizes_in mid) f.kind d f) f gets.there.0 (put.others o ne ∙ reported) (there o ne ∙ gets.there.1)
         (subst (λ (z : Sizes). facts_cost z f ≡ cost z gets.there.0) (sym put.sizes) (facts_cost_is (sizes_in old) objects o gets.there.0 f of_o))
-        (name_more objects grown d o name one gets.unnamed gets.there.0 f of_o ne (λ pairs lists. let few = names_listed_few (sizes_in old) objects gets.before o pairs lists in omega arith)) others_mid
+        (name_more objects grown d o name one gets.unnamed gets.there.0 f of_o ne (λ pairs lists. let within_limit = names_listed_few (sizes_in old) objects gets.before o pairs lists in omega arith)) others_mid
     | inl is ↦ finish mid new grown o (λ f. name_added f.kind d f) second totaled small (λ f. added_cost (sizes_in mid) f.kind d f) grown_facts (Dir moment es) (ap (reported_at mid) is ∙ put.here) (ap (map.get grown) is ∙ here)
         (subst (λ (z : Sizes). facts_cost z grown_facts ≡ cost z (Dir moment es)) (sym put.sizes) paid)
         (subst (λ k. AreFactsOf grown k (Dir moment es) (name_added grown_facts.kind d grown_facts)) (sym is)
@@ -260,11 +260,11 @@ module _ (old mid new : CountedFacts) (objects : Objects) (moment d o : ℕ) (na
   less_paid = λ i. 1 + ceiling (less_sized i) (unit_of (sizes_in old) (less_df.2.kind i))
 
   less_fewer : charge (sizes_in old) shrunk < 2 ^ 48
-  less_fewer = let less = without_less (sizes_in old) objects moment d name less_dir in let few = loses.countable.few in omega arith
+  less_fewer = let less = without_less (sizes_in old) objects moment d name less_dir in let within_limit = loses.countable.within_limit in omega arith
 
   less_counted : charge_in mid ≡ charge (sizes_in mid) shrunk
   less_counted = puts_charge old mid objects d (Dir less_dir.0 less_dir.1) (Dir moment less_rest) less_df.0 (entry_removed f.kind moment less_df.0) less_put less_df.1 counts.charge less_dir.2
-      (facts_cost_is (sizes_in old) objects d (Dir less_dir.0 less_dir.1) less_df.0 less_df.2) less_paid loses.countable.few less_fewer
+      (facts_cost_is (sizes_in old) objects d (Dir less_dir.0 less_dir.1) less_df.0 less_df.2) less_paid loses.countable.within_limit less_fewer
 
   less_small : charge (sizes_in mid) shrunk < 2 ^ 48
   less_small = subst (λ (z : Sizes). charge z shrunk < 2 ^ 48) (sym less_put.sizes) less_fewer
@@ -319,7 +319,7 @@ bytes_counts old new objects o moment size bytes f counts file is before after r
             (get_there nat_cmp_total map.nat_cmp-IsAntisymmetric objects o (File moment bytes) k ne) (puts.others k ne) (counts.each k)
       ];
       charge = puts_charge old new objects o (File file.0 file.1) (File moment bytes) f (resized_facts size moment f) puts reported counts.charge file.2
-          (facts_cost_is (sizes_in old) objects o (File file.0 file.1) f was) (λ i. 1 + ceiling (sym is i) (unit_of (sizes_in old) (was.kind i))) before.few after.few;
+          (facts_cost_is (sizes_in old) objects o (File file.0 file.1) f was) (λ i. 1 + ceiling (sym is i) (unit_of (sizes_in old) (was.kind i))) before.within_limit after.within_limit;
     }
 
 -- An object comes that is not there.
@@ -360,14 +360,14 @@ module _ (objects : Objects) (o : ℕ) (x : Object) (free : map.get objects o �
   }
 
   pub fresh_counts : (old new : CountedFacts) (f : ObjectFacts) → Counts old objects → AreFactsOf larger o x f → charge (sizes_in old) larger < 2 ^ 48 → Puts old new o f → Counts new larger
-  fresh_counts old new f counts facts few puts =
+  fresh_counts old new f counts facts within_limit puts =
       let now : map.get larger o ≡ Some x = get_here nat_cmp_total map.nat_cmp-IsAntisymmetric objects o x in
       let missing : reported_at old o ≡ None = unreported (reported_at old o) (subst (λ (v : Option Object). IsStated objects o v (reported_at old o)) free (counts.each o)) in
       let units : units_of (sizes_in old) (reported_at old o) ≡ 0 = ap (units_of (sizes_in old)) missing in
       let more = total_insert nat_cmp_total map.nat_cmp-IsAntisymmetric (cost (sizes_in old)) objects o x free in
       let paid = facts_cost_is (sizes_in old) larger o x f facts in
       let is = counts.charge in
-      let sum' : charge_in new ≡ charge (sizes_in old) larger = omega (arith, puts.charge, units, more, paid, is, few) in
+      let sum' : charge_in new ≡ charge (sizes_in old) larger = omega (arith, puts.charge, units, more, paid, is, within_limit) in
       record {
         each = λ k. elim (cases_eq k o) [
           | inl same ↦ subst (λ j. IsStated larger j (map.get larger j) (reported_at new j)) (sym same) (reported_is larger o (reported_at new o) x f now puts.here facts)
@@ -417,23 +417,23 @@ module _ (objects : Objects) (o : ℕ) (blank : NamesNothing objects o) (unnamed
       gone c k n is dir names = unnamed (subst (IsDirectory objects) is dir) (k, n, subst (λ q. Names objects k n q) is names)
 
   paid_for : (z : Sizes) (v : Option Object) (g : Option ObjectFacts) → map.get objects o ≡ v → IsStated objects o v g → charge z objects < 2 ^ 48 → charge z objects - units_of z g ≡ charge z smaller
-  paid_for z None None is t few =
+  paid_for z None None is t within_limit =
       let same : smaller ≡ objects = map.same_map nat_cmp_total map.nat_cmp-IsAntisymmetric smaller objects (λ q. elim (cases_eq q o) [
         | inl e ↦ ap (map.get smaller) e ∙ smaller_none ∙ sym is ∙ ap (map.get objects) (sym e)
         | inr ne ↦ smaller_there q ne
       ]) in
       omega (arith, ap (charge z) same)
-  paid_for z None (Some f) is t few = absurd t
-  paid_for z (Some x) None is t few = absurd t
-  paid_for z (Some x) (Some f) is t few =
+  paid_for z None (Some f) is t within_limit = absurd t
+  paid_for z (Some x) None is t within_limit = absurd t
+  paid_for z (Some x) (Some f) is t within_limit =
       let all = total_without nat_cmp_total map.nat_cmp-IsAntisymmetric (cost z) objects o x is in
       let paid = facts_cost_is z objects o x f t in
-      omega (arith, all, paid, few)
+      omega (arith, all, paid, within_limit)
 
   pub gone_counts : (old new : CountedFacts) → Counts old objects → charge (sizes_in old) objects < 2 ^ 48 → Drops old new o → Counts new smaller
-  gone_counts old new counts few drops =
+  gone_counts old new counts within_limit drops =
       let sum' : charge_in new ≡ charge (sizes_in old) smaller =
-      drops.charge ∙ ap (λ n. n - units_of (sizes_in old) (reported_at old o)) counts.charge ∙ paid_for (sizes_in old) (map.get objects o) (reported_at old o) refl (counts.each o) few in
+      drops.charge ∙ ap (λ n. n - units_of (sizes_in old) (reported_at old o)) counts.charge ∙ paid_for (sizes_in old) (map.get objects o) (reported_at old o) refl (counts.each o) within_limit in
       record {
         each = λ k. elim (cases_eq k o) [
           | inl same ↦ subst (λ j. IsStated smaller j (map.get smaller j) (reported_at new j)) (sym same)

@@ -65,7 +65,7 @@ slots_few z sizes = omega (arith, page_few z sizes)
 
 module _ (z : Sizes) (objects : Objects) (countable : IsCountable z objects) where
   slots_charge : page_slots z * charge z objects ≤ 4096 * 2 ^ 48
-  slots_charge = mul-le (page_slots z) (charge z objects) 4096 (2 ^ 48) (slots_few z countable.sizes) (omega (arith, countable.few))
+  slots_charge = mul-le (page_slots z) (charge z objects) 4096 (2 ^ 48) (slots_few z countable.sizes) (omega (arith, countable.within_limit))
 
   -- a directory has at most so many entries
   pub entries_few : (d moment : ℕ) (entries : Entries) → map.get objects d ≡ Some (Dir moment entries) → map.len entries ≤ 4096 * 2 ^ 48

@@ -109,9 +109,9 @@ pub took_given : (before after : ℕ → Bool) (low : ℕ) (r : Reverse ℕ) (ol
 took_given before after low r old new knows takes less n = elim (cases_eq n r.0) [
   | inl is ↦
       let one' : once (nat_eq n r.0) ≡ 1 = ap once (eq-eqb n r.0 is) in
-      let few : once (was_given_back before low n) ≤ 1 = at_most_one (was_given_back before low n) in
+      let within_limit : once (was_given_back before low n) ≤ 1 = at_most_one (was_given_back before low n) in
       let none = not_counted after low n (ap after is ∙ takes.here) in
-      omega (arith, less n, knows n, one', few, none)
+      omega (arith, less n, knows n, one', within_limit, none)
   | inr ne ↦
       let other : once (nat_eq n r.0) ≡ 0 = ap once (ne_eqb n r.0 ne) in
       let same = counted_once before after low n (takes.others n ne) in

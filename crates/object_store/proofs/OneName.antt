@@ -104,18 +104,18 @@ module _ (less more : Objects) (d o : ℕ) (name : Name) (one : HasOneMore less 
 
     -- the object that gets a name
     pub name_more : (x : Object) (f : ObjectFacts) → AreFactsOf less o x f → o ≢ d → ((pairs : List (ℕ × Name)) → Lists (λ pair. Names less pair.0 pair.1 o) pairs → length pairs + 1 < 2 ^ 64) → AreFactsOf more o x (name_added f.kind d f)
-    name_more (File moment bytes) f facts ne few =
+    name_more (File moment bytes) f facts ne within_limit =
         subst (λ (k : Kind). IsFileFacts more o moment (length bytes) (name_added k d f)) (sym facts.kind)
         (record {
           kind = facts.kind;
           moment = facts.moment;
           size = facts.size;
-          links = ((d, name) ∷ facts.links.0, pairs_up facts.links.0 facts.links.1, links_are f.links (length facts.links.0) facts.links.2 (few facts.links.0 facts.links.1));
+          links = ((d, name) ∷ facts.links.0, pairs_up facts.links.0 facts.links.1, links_are f.links (length facts.links.0) facts.links.2 (within_limit facts.links.0 facts.links.1));
         })
       where
         links_are : (n m : ℕ) → n ≡ m → m + 1 < 2 ^ 64 → one_more n ≡ suc m
         links_are n m is lt = omega arith
-    name_more (Dir moment entries) f facts ne few =
+    name_more (Dir moment entries) f facts ne within_limit =
         subst (λ (k : Kind). IsDirectoryFacts more o moment (map.len entries) (name_added k d f)) (sym facts.kind)
         (record {
           kind = facts.kind;
@@ -145,18 +145,18 @@ module _ (less more : Objects) (d o : ℕ) (name : Name) (one : HasOneMore less 
     pub entry_more : (moment was n : ℕ) (parent : Option ℕ) (f : ObjectFacts) (kind : Kind) → IsOfKind less o kind → IsDirectoryFacts less d was n f → NamedBy more d parent → n + 1 < 2 ^ 64
         → ((children : List ℕ) → Lists (IsSubdirectory less d) children → 2 + length children + 1 < 2 ^ 64)
         → IsDirectoryFacts more d moment (n + 1) (record { kind = f.kind; moment = moment; links = links_with kind f.links; size = one_more f.size; parent = parent })
-    entry_more moment was n parent f kinds.File no' facts named fits few = record {
+    entry_more moment was n parent f kinds.File no' facts named fits within_limit = record {
       kind = facts.kind;
       moment = refl;
       size = (let size = facts.size in let is : one_more f.size ≡ n + 1 = omega arith in is);
       links = (facts.links.0, children_up d (λ _. no') facts.links.0 facts.links.1, facts.links.2);
       parent = named;
     }
-    entry_more moment was n parent f kinds.Directory dir facts named fits few = record {
+    entry_more moment was n parent f kinds.Directory dir facts named fits within_limit = record {
       kind = facts.kind;
       moment = refl;
       size = (let size = facts.size in let is : one_more f.size ≡ n + 1 = omega arith in is);
-      links = (o ∷ facts.links.0, child_more dir facts.links.0 facts.links.1, links_are f.links (length facts.links.0) facts.links.2 (few facts.links.0 facts.links.1));
+      links = (o ∷ facts.links.0, child_more dir facts.links.0 facts.links.1, links_are f.links (length facts.links.0) facts.links.2 (within_limit facts.links.0 facts.links.1));
       parent = named;
     }
       where

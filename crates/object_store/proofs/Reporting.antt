@@ -18,7 +18,7 @@ use Rattle.posix_profile.specs.laws.Name.{not_both, namer_directory}
 use Rattle.posix_profile.specs.laws.Number.{new_number_is}
 use Rattle.posix_profile.specs.NameSteps.{reported_size}
 use Rattle.object_store.specs.Facts.{info_of, NamedBy}
-use Rattle.object_store.specs.TableFacts.{facts_cost, reported_info, unit_of, IsFileFacts, IsDirectoryFacts, AreFactsOf, IsStated}
+use Rattle.object_store.specs.TableFacts.{facts_cost, reported_info, unit_of, IsDirectoryFacts, AreFactsOf, IsStated}
 use Rattle.object_store.specs.declared.table_facts.ObjectFacts.{ObjectFacts}
 use Rattle.object_store.proofs.Counting.{same_length, list_other}
 
@@ -26,11 +26,12 @@ use Rattle.object_store.proofs.Counting.{same_length, list_other}
 facts_info : (z : Sizes) (objects : Objects) (o : ℕ) (x : Object) (f : ObjectFacts) → IsForest z objects → map.get objects o ≡ Some x → AreFactsOf objects o x f → reported_info o f ≡ info objects o x
 facts_info z objects o (File moment bytes) f forest is facts =
     let all = file_links objects o moment bytes in
-    let links' : f.links ≡ links objects o (File moment bytes) = facts.links.2 ∙ same_length (λ pair. Names objects pair.0 pair.1 o) facts.links.0 all.0 facts.links.1 all.1 ∙ sym all.2 in
+    let links' : f.links ≡ links objects o (File moment bytes) = facts.links.2 ∙ same_length (λ pair. Names objects pair.0 pair.1 o) facts.links.0 all.list facts.links.1 all.lists ∙ sym all.count_is in
     λ i. record { kind = facts.kind i; object = o; links = links' i; size = reported_size (facts.kind i) (facts.size i); moment = facts.moment i }
 facts_info z objects o (Dir moment entries) f forest is facts =
-    let all = directory_links z objects o moment entries forest is in
-    let links' : f.links ≡ links objects o (Dir moment entries) = facts.links.2 ∙ ap (λ n. 2 + n) (same_length (IsSubdirectory objects o) facts.links.0 all.0 facts.links.1 all.1) ∙ sym all.2 in
+    let all = directory_links z objects o (moment, entries, is) forest in
+    let children : length facts.links.0 ≡ all.0 = same_length (IsSubdirectory objects o) facts.links.0 all.1.list facts.links.1 all.1.lists ∙ sym all.1.count_is in
+    let links' : f.links ≡ links objects o (Dir moment entries) = facts.links.2 ∙ ap (λ n. 2 + n) children ∙ sym all.2 in
     λ i. record { kind = facts.kind i; object = o; links = links' i; size = reported_size (facts.kind i) (facts.size i); moment = facts.moment i }
 
 pub info_is : (z : Sizes) (objects : Objects) (o : ℕ) (x : Option Object) (f : Option ObjectFacts) → IsForest z objects → map.get objects o ≡ x → IsStated objects o x f

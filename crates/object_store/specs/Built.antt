@@ -2,11 +2,12 @@
 use Rattle.std.specs.Prelude.{◌≡◌, ℕ, length, None}
 use Rattle.std.specs.FinMap as map
 use Rattle.volume_terms.specs.Sizes.{Sizes}
-use Rattle.posix_profile.specs.State.{Object, File, Dir, Objects}
+use Rattle.posix_profile.specs.State.{Name, Object, File, Dir, Objects}
+use Rattle.posix_profile.specs.Changes.{with_name}
 use Rattle.posix_profile.specs.WellFormed.{IsNamed}
 use Rattle.posix_profile.specs.declared.reply.Kind.{Kind}
 use Rattle.posix_profile.specs.declared.reply.Kind.TheVariants as kinds
-use Rattle.object_store.specs.Totaled.{sizes_in, Counts, IsCountable}
+use Rattle.object_store.specs.Totaled.{sizes_in, Counts, GetsName, IsCountable}
 use Rattle.object_store.specs.declared.table_builder.TableBuilder.{TableBuilder}
 
 -- the numbers of the volume
@@ -29,3 +30,11 @@ pub record CanCome (z : Sizes) (objects : Objects) (o : ℕ) (x : Object) : Type
   pub free : map.get objects o ≡ None
   pub unnamed : IsNamed objects o → ⊥
   pub countable : IsCountable z (map.insert objects o x)
+
+-- what is true of whatever objects came, and of whatever object is to come
+abbrev pub OfBuilt : TableBuilder → (Objects → Object → Type 0) → Type 0
+OfBuilt builder A = (objects : Objects) (x : Object) → Builds builder objects → A objects x
+
+-- where a directory may get a name of the object, the objects have it now
+abbrev pub BuildsNamed : TableBuilder → TableBuilder → ℕ → ℕ → ℕ → Type 0
+BuildsNamed old new moment d number = (objects : Objects) (name : Name) → Builds old objects → GetsName (sizes_built old) objects moment d name number → Builds new (with_name objects moment d name number)

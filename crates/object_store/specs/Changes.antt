@@ -1,8 +1,8 @@
 -- How a store is changed.
-use Rattle.std.specs.Prelude.{◌≡◌, ◌≢◌, ◌⊎◌, ◌≤◌, ℕ, ◌+◌, Bool, true, false, [], length, Option, Some, None}
+use Rattle.std.specs.Prelude.{◌≡◌, ◌≢◌, ◌⊎◌, ◌≤◌, ℕ, ◌+◌, Bool, true, false, List, [], length, Option, Some, None}
 use Rattle.std.specs.FinMap as map
 use Rattle.volume_terms.specs.Sizes.{Sizes, greatest_length, most_written, root_number}
-use Rattle.posix_profile.specs.State.{Name, Object, File, Dir, Objects, IsFile, IsDirectory, entries_of}
+use Rattle.posix_profile.specs.State.{Name, Object, File, Dir, Objects, IsFile, IsDirectory}
 use Rattle.posix_profile.specs.Names.{Names}
 use Rattle.posix_profile.specs.Charge.{fits}
 use Rattle.posix_profile.specs.Changes.{with_object, with_name, without_name, with_bytes, written, resized}
@@ -10,7 +10,7 @@ use Rattle.posix_profile.specs.WellFormed.{IsNamed}
 use Rattle.volume_terms.specs.Names.{IsName}
 use Rattle.posix_profile.specs.declared.reply.Kind.{Kind}
 use Rattle.posix_profile.specs.declared.reply.Kind.TheVariants as kinds
-use Rattle.object_store.specs.Facts.{bytes_of}
+use Rattle.object_store.specs.Facts.{entry_of, bytes_of}
 use Rattle.object_store.specs.declared.change.DirectoryEntry.{DirectoryEntry}
 use Rattle.object_store.specs.declared.change.ObjectChange.{ObjectChange}
 use Rattle.object_store.specs.declared.change.ObjectChange.TheVariants as changes
@@ -25,22 +25,33 @@ abbrev pub without : Option ℕ → Objects → Objects
 without None objects = objects
 without (Some o) objects = map.remove objects o
 
+-- the objects after these bytes are written to a file, from an offset on
+abbrev pub with_written : Objects → ℕ → ℕ → ℕ → List ℕ → Objects
+with_written objects moment file offset bytes = with_bytes objects moment file (written (bytes_of (map.get objects file)) offset bytes)
+
+-- the objects after a file gets this length
+abbrev pub with_length : Objects → ℕ → ℕ → ℕ → Objects
+with_length objects moment file length = with_bytes objects moment file (resized (bytes_of (map.get objects file)) length)
+
+-- the objects after a name of the object goes, and another one comes
+abbrev pub with_moved : Objects → ℕ → DirectoryEntry → DirectoryEntry → ℕ → Objects
+with_moved objects moment from to number = with_name (without_name objects moment from.directory from.name.now) moment to.directory to.name.now number
+
 -- the objects after a change
 abbrev pub made : Objects → ObjectChange → Objects
 made objects (changes.Create entry kind moment) = with_object objects moment entry.directory entry.name.now (empty_object kind moment)
 made objects (changes.Name entry number moment) = with_name objects moment entry.directory entry.name.now number
 made objects (changes.Remove entry dropped moment) = without dropped (without_name objects moment entry.directory entry.name.now)
-made objects (changes.Move from to number dropped moment) =
-    without dropped (with_name (without_name objects moment from.directory from.name.now) moment to.directory to.name.now number)
-made objects (changes.Write number offset bytes moment) = with_bytes objects moment number (written (bytes_of (map.get objects number)) offset bytes.now)
-made objects (changes.Resize number length moment) = with_bytes objects moment number (resized (bytes_of (map.get objects number)) length)
+made objects (changes.Move from to number dropped moment) = without dropped (with_moved objects moment from to number)
+made objects (changes.Write number offset bytes moment) = with_written objects moment number offset bytes.now
+made objects (changes.Resize number length moment) = with_length objects moment number length
 made objects (changes.Forget number) = map.remove objects number
 
 -- the directory has not the name
 pub record IsAbsent (objects : Objects) (entry : DirectoryEntry) : Type 0 where
   pub directory : IsDirectory objects entry.directory
   pub name : IsName entry.name.now
-  pub absent : map.get (entries_of (map.get objects entry.directory)) entry.name.now ≡ None
+  pub absent : entry_of objects entry.directory entry.name.now ≡ None
 
 -- the name leads to the object
 abbrev pub LeadsTo : Objects → DirectoryEntry → ℕ → Type 0

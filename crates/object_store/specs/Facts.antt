@@ -1,7 +1,7 @@
 -- Questions on an object.
 use Rattle.std.specs.Prelude.{ℕ, List, [], take, drop, Option, Some, None, Result, Ok, Err}
 use Rattle.std.specs.FinMap as map
-use Rattle.posix_profile.specs.State.{Name, Object, File, Dir, Objects}
+use Rattle.posix_profile.specs.State.{Name, Object, File, Dir, Objects, entries_of}
 use Rattle.posix_profile.specs.Names.{Names}
 use Rattle.posix_profile.specs.NameSteps.{info}
 use Rattle.posix_profile.specs.WellFormed.{IsNamed}
@@ -11,6 +11,14 @@ use Rattle.posix_profile.specs.declared.reply.Info.{Info}
 abbrev pub info_of : Objects → ℕ → Option Object → Option Info
 info_of objects o None = None
 info_of objects o (Some object) = Some (info objects o object)
+
+-- the object to which a name of a directory leads, if it leads anywhere
+abbrev pub entry_of : Objects → ℕ → Name → Option ℕ
+entry_of objects directory name = map.get (entries_of (map.get objects directory)) name
+
+-- the names of a directory, in the order of their bytes
+abbrev pub names_of : Objects → ℕ → List Name
+names_of objects directory = map.keys (entries_of (map.get objects directory))
 
 -- the bytes of a file; nothing else has any
 abbrev pub bytes_of : Option Object → List ℕ

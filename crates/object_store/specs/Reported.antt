@@ -1,14 +1,15 @@
 -- What a table of objects stands for.
-use Rattle.std.specs.Prelude.{◌≡◌, ℕ, true, Option, None, ◌<◌, ◌+◌, List, Some}
-use Rattle.std.specs.FinMap as map
+use Rattle.std.specs.Prelude.{◌≡◌, ℕ, true, Option, None, ◌<◌, ◌+◌, ◌^◌, List, length, Some}
 use Rattle.volume_terms.specs.Sizes.{Sizes}
-use Rattle.posix_profile.specs.State.{Name, Object, Objects, IsDirectory, entries_of, IsFile}
+use Rattle.posix_profile.specs.State.{Name, Object, Objects, IsDirectory, IsFile}
 use Rattle.posix_profile.specs.Charge.{fits}
-use Rattle.posix_profile.specs.Changes.{with_object, with_name, without_name}
+use Rattle.posix_profile.specs.Changes.{with_object, with_name, without_name, with_bytes}
+use Rattle.object_store.specs.Changes.{CanMake, with_written, made}
+use Rattle.object_store.specs.Facts.{entry_of}
 use Rattle.object_store.specs.declared.change.ObjectChange.{ObjectChange}
 use Rattle.object_store.specs.declared.change.ObjectChange.TheVariants as changes
 use Rattle.object_store.specs.Numbers.{next_number}
-use Rattle.object_store.specs.Totaled.{reported_at, sizes_in, charge_in, HasRoomIn, Counts, GetsName, LosesName, IsCountable}
+use Rattle.object_store.specs.Totaled.{reported_at, sizes_in, charge_in, HasRoomIn, Counts, CanGo, GetsName, LosesName, IsCountable}
 use Rattle.object_store.specs.declared.table_facts.ObjectFacts.{ObjectFacts}
 use Rattle.object_store.specs.declared.table.ObjectTable.{ObjectTable}
 use Rattle.object_store.specs.Stores.{CanHave}
@@ -51,14 +52,14 @@ IsReadyFor table change = Unit {0}
 
 -- what the name led to that a removal takes away, or that a move gives, if it led anywhere
 abbrev pub LedBefore : Objects → ObjectChange → Option ℕ → Type 0
-LedBefore objects (changes.Remove entry dropped moment) replaced = replaced ≡ map.get (entries_of (map.get objects entry.directory)) entry.name.now
-LedBefore objects (changes.Move from to number dropped moment) replaced = replaced ≡ map.get (entries_of (map.get objects to.directory)) to.name.now
+LedBefore objects (changes.Remove entry dropped moment) replaced = replaced ≡ entry_of objects entry.directory entry.name.now
+LedBefore objects (changes.Move from to number dropped moment) replaced = replaced ≡ entry_of objects to.directory to.name.now
 LedBefore objects change replaced = Unit {0}
 
 -- A directory may get a new object, by a name that it has not, and there is room.
 pub record GetsObject (z : Sizes) (objects : Objects) (moment directory : ℕ) (name : Name) (x : Object) : Type 0 where
   pub directory_is : IsDirectory objects directory
-  pub absent : map.get (entries_of (map.get objects directory)) name ≡ None
+  pub absent : entry_of objects directory name ≡ None
   pub fits : fits z (with_object objects moment directory name x) ≡ true
 
 -- what is true of whatever objects the table reports
@@ -72,6 +73,24 @@ OfReportedFile table file A = (objects : Objects) (bytes : List ℕ) → Reports
 -- where the old objects and the new ones are countable, the table reports the new ones
 abbrev pub ReportsCountable : ObjectTable → ObjectTable → Objects → Objects → Type 0
 ReportsCountable old new before after = IsCountable (table_sizes old) before → IsCountable (table_sizes old) after → Reports new after
+
+-- where a file gets so many bytes at an offset, the table reports the objects with them
+abbrev pub ReportsWritten : ObjectTable → ObjectTable → ℕ → ℕ → ℕ → ℕ → Type 0
+ReportsWritten old new moment file offset count =
+    OfReportedFile old file (λ objects bytes. length bytes ≡ count → offset + count < 2 ^ 64 → ReportsCountable old new objects (with_written objects moment file offset bytes))
+
+-- where a file gets bytes of this length, the table reports the objects with them
+abbrev pub ReportsResized : ObjectTable → ObjectTable → ℕ → ℕ → ℕ → Type 0
+ReportsResized old new moment file size = OfReportedFile old file (λ objects bytes. length bytes ≡ size → ReportsCountable old new objects (with_bytes objects moment file bytes))
+
+-- where the change can be made, and its name led where that says, the table reports the objects after it
+abbrev pub ReportsChanged : ObjectTable → ObjectTable → ObjectChange → Option ℕ → Type 0
+ReportsChanged old new change replaced =
+    OfReported old (λ objects. CanHave (table_sizes old) objects → CanMake (table_sizes old) objects change → LedBefore objects change replaced → Reports new (made objects change))
+
+-- what goes, if anything does, is an object that may go
+abbrev pub CanDrop : Sizes → Objects → Option ℕ → Type 0
+CanDrop z objects dropped = (o : ℕ) → dropped ≡ Some o → CanGo z objects o
 
 -- where a directory may get the new object under a name, the table reports the objects with it
 abbrev pub ReportsCreated : ObjectTable → ObjectTable → ℕ → ℕ → Object → Type 0

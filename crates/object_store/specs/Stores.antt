@@ -9,6 +9,8 @@ use Rattle.posix_profile.specs.WellFormed.{IsForest}
 use Rattle.posix_profile.specs.declared.reply.Errno.{Errno}
 use Rattle.volume_terms.specs.declared.fault.StoreFault.{StoreFault}
 use Rattle.volume_terms.specs.declared.fault.StoreFault.TheVariants as faults
+use Rattle.object_store.specs.Changes.{made}
+use Rattle.object_store.specs.declared.change.ObjectChange.{ObjectChange}
 use Rattle.object_store.specs.declared.refusal.Refusal.{Refusal}
 use Rattle.object_store.specs.declared.refusal.Refusal.TheVariants as refusals
 
@@ -96,6 +98,10 @@ Finds m meant a b (Err fault) = ReadFaults m a b fault
 abbrev pub Applies : {S : Type 0} (m : Meaning S) → Objects → Objects → S → S → Result (Unit {0}) StoreFault → Type 0
 Applies m old new a b (Ok done) = m.stands b new × m.changes old new a b
 Applies m old new a b (Err fault) = Faults m old new a b fault
+
+-- the end of this change
+abbrev pub Makes : {S : Type 0} (m : Meaning S) → Objects → ObjectChange → S → S → Result (Unit {0}) StoreFault → Type 0
+Makes m objects change a b result = Applies m objects (made objects change) a b result
 
 -- the end of a commit
 abbrev pub Commits : {S : Type 0} (m : Meaning S) → Objects → S → S → Result (Unit {0}) StoreFault → Type 0

@@ -1,16 +1,17 @@
 -- What facts in totals stand for.
-use Rattle.std.specs.Prelude.{◌≡◌, ◌≢◌, ◌<◌, ◌-◌, ◌+◌, ◌^◌, min, ℕ, Option, Some, None, IsSome, is_some, List}
+use Rattle.std.specs.Prelude.{◌≡◌, ◌≢◌, ◌<◌, ◌-◌, ◌+◌, ◌^◌, min, ℕ, Option, Some, None, IsSome, is_some, List, length}
 use Rattle.std.specs.FinMap as map
 use Rattle.std.specs.Ordering.{nat_cmp}
 use Rattle.std.specs.BTreeMap.{get}
 use Rattle.volume_terms.specs.Sizes.{Sizes, IsSizes}
 use Rattle.volume_terms.specs.VolumeSizes as volume
-use Rattle.posix_profile.specs.State.{Name, Object, Objects, IsDirectory, entries_of, IsFile}
+use Rattle.posix_profile.specs.State.{Name, Object, Objects, IsDirectory, IsFile}
 use Rattle.posix_profile.specs.Names.{Names}
 use Rattle.posix_profile.specs.Charge.{charge}
-use Rattle.posix_profile.specs.Changes.{with_name}
+use Rattle.posix_profile.specs.Changes.{with_name, without_name, with_bytes}
 use Rattle.posix_profile.specs.WellFormed.{IsNamed}
 use Rattle.object_store.specs.Changes.{NamesNothing}
+use Rattle.object_store.specs.Facts.{entry_of}
 use Rattle.object_store.specs.TableFacts.{facts_cost, IsStated, AreFactsOf}
 use Rattle.object_store.specs.Taken.{facts_in}
 use Rattle.object_store.specs.declared.table_facts.ObjectFacts.{ObjectFacts}
@@ -75,7 +76,7 @@ pub record Edits (old new : CountedFacts) (o : ℕ) (change : ObjectFacts → Ob
 -- what the objects cost is a number of 64 bits, and so are their entries and links
 pub record IsCountable (z : Sizes) (objects : Objects) : Type 0 where
   pub sizes : IsSizes z
-  pub few : charge z objects < 2 ^ 48
+  pub within_limit : charge z objects < 2 ^ 48
 
 -- An object that is not there comes, to which no name leads, and which names nothing.
 pub record FreshObject (z : Sizes) (objects : Objects) (o : ℕ) (x : Object) (f : ObjectFacts) : Type 0 where
@@ -94,7 +95,7 @@ pub record CanGo (z : Sizes) (objects : Objects) (o : ℕ) : Type 0 where
 -- A directory may name an object that is there, by a name that it has not: a directory only where it has no name.
 pub record GetsName (z : Sizes) (objects : Objects) (moment directory : ℕ) (name : Name) (o : ℕ) : Type 0 where
   pub directory_is : IsDirectory objects directory
-  pub absent : map.get (entries_of (map.get objects directory)) name ≡ None
+  pub absent : entry_of objects directory name ≡ None
   pub there : (x : Object) × (map.get objects o ≡ Some x)
   pub unnamed : IsDirectory objects o → IsNamed objects o → ⊥
   pub before : IsCountable z objects
@@ -115,3 +116,23 @@ OfCountedFile totaled file A = (objects : Objects) (bytes : List ℕ) → Counts
 -- where the old objects and the new ones are countable, the facts are of the new ones
 abbrev pub CountsCountable : CountedFacts → CountedFacts → Objects → Objects → Type 0
 CountsCountable old new before after = IsCountable (sizes_in old) before → IsCountable (sizes_in old) after → Counts new after
+
+-- where a file gets bytes of this length, the facts are of the objects with them
+abbrev pub CountsResized : CountedFacts → CountedFacts → ℕ → ℕ → ℕ → Type 0
+CountsResized old new moment file size = OfCountedFile old file (λ objects bytes. length bytes ≡ size → CountsCountable old new objects (with_bytes objects moment file bytes))
+
+-- where a new object of these facts comes at the number, the facts are of the objects with it
+abbrev pub CountsAdded : CountedFacts → CountedFacts → ℕ → ObjectFacts → Type 0
+CountsAdded old new number facts = (objects : Objects) (x : Object) → Counts old objects → FreshObject (sizes_in old) objects number x facts → Counts new (map.insert objects number x)
+
+-- where the object may go, the facts are of the objects without it
+abbrev pub CountsRemoved : CountedFacts → CountedFacts → ℕ → Type 0
+CountsRemoved old new number = (objects : Objects) → Counts old objects → CanGo (sizes_in old) objects number → Counts new (map.remove objects number)
+
+-- where a directory may get a name of the object, the facts are of the objects with it
+abbrev pub CountsNamed : CountedFacts → CountedFacts → ℕ → ℕ → ℕ → Type 0
+CountsNamed old new moment d number = (objects : Objects) (name : Name) → Counts old objects → GetsName (sizes_in old) objects moment d name number → Counts new (with_name objects moment d name number)
+
+-- where a directory may lose a name of the object, the facts are of the objects without it
+abbrev pub CountsUnnamed : CountedFacts → CountedFacts → ℕ → ℕ → ℕ → Type 0
+CountsUnnamed old new moment d number = (objects : Objects) (name : Name) → Counts old objects → LosesName (sizes_in old) objects d name number → Counts new (without_name objects moment d name)

@@ -1,14 +1,12 @@
 // The facts of objects, and what the objects cost.
-ghost use Rattle.std.specs.Prelude.{◌≡◌, ◌≢◌, ◌<◌, ◌+◌, ℕ, Some, None, IsSome, OnOk, List, length, true};
+ghost use Rattle.std.specs.Prelude.{◌≡◌, ◌≢◌, ◌<◌, ◌+◌, ℕ, Some, None, IsSome, OnOk, true};
 ghost use Rattle.std.specs.FinMap as map;
 ghost use Rattle.std.specs.Ordering.{nat_cmp};
 ghost use Rattle.std.specs.BTreeMap.{get};
 ghost use Rattle.volume_terms.specs.VolumeSizes as volume;
-ghost use Rattle.posix_profile.specs.State.{Objects, Object};
-ghost use Rattle.posix_profile.specs.Changes.{with_bytes, with_name, without_name};
 ghost use Rattle.object_store.specs.TableFacts.{entry_added, entry_removed, name_added, name_removed};
 ghost use Rattle.object_store.specs.Taken.{facts_in};
-ghost use Rattle.object_store.specs.Totaled.{reported_at, sizes_in, HasRoomIn, units_of, Counts, CountsTheSame, Puts, Drops, KeepsNumbers, GetsName, LosesName, Edits, FreshObject, CanGo, OfCountedFile, CountsCountable};
+ghost use Rattle.object_store.specs.Totaled.{reported_at, sizes_in, HasRoomIn, units_of, Counts, CountsTheSame, Puts, Drops, KeepsNumbers, Edits, CountsAdded, CountsRemoved, CountsNamed, CountsUnnamed, CountsResized};
 
 use crate::packed_facts::PackedFacts;
 use crate::table_facts::ObjectFacts;
@@ -146,7 +144,7 @@ impl CountedFacts {
     pub(crate) fn add(&mut self, number: u64, facts: ObjectFacts)
         requires { HasRoomIn self.old number }
         ensures puts { Puts self.old self.new number facts }
-        ensures counts { (objects : Objects) (x : Object) → Counts self.old objects → FreshObject (sizes_in self.old) objects number x facts → Counts self.new (map.insert objects number x) }
+        ensures counts { CountsAdded self.old self.new number facts }
     {
         self.put(number, facts);
     }
@@ -167,7 +165,7 @@ impl CountedFacts {
     /// An object goes.
     pub(crate) fn remove(&mut self, number: u64)
         ensures drops { Drops self.old self.new number }
-        ensures counts { (objects : Objects) → Counts self.old objects → CanGo (sizes_in self.old) objects number → Counts self.new (map.remove objects number) }
+        ensures counts { CountsRemoved self.old self.new number }
     {
         self.take_out(number);
     }
@@ -215,8 +213,7 @@ impl CountedFacts {
     /// A name of a directory leads to an object.
     pub(crate) fn add_name(&mut self, directory: u64, number: u64, moment: u64)
         ensures keeps { KeepsNumbers self.old self.new }
-        ensures counts { (objects : Objects) (name : List ℕ) → Counts self.old objects → GetsName (sizes_in self.old) objects moment directory name number
-            → Counts self.new (with_name objects moment directory name number) }
+        ensures counts { CountsNamed self.old self.new moment directory number }
     {
         match self.at(number) {
             Some(facts) => {
@@ -230,8 +227,7 @@ impl CountedFacts {
     /// A name of a directory, which led to an object, goes.
     pub(crate) fn remove_name(&mut self, directory: u64, number: u64, moment: u64)
         ensures keeps { KeepsNumbers self.old self.new }
-        ensures counts { (objects : Objects) (name : List ℕ) → Counts self.old objects → LosesName (sizes_in self.old) objects directory name number
-            → Counts self.new (without_name objects moment directory name) }
+        ensures counts { CountsUnnamed self.old self.new moment directory number }
     {
         match self.at(number) {
             Some(facts) => {
@@ -245,8 +241,7 @@ impl CountedFacts {
     /// A file has so many bytes now.
     pub(crate) fn set_length(&mut self, number: u64, size: u64, moment: u64)
         ensures keeps { KeepsNumbers self.old self.new }
-        ensures counts { OfCountedFile self.old number (λ objects bytes. length bytes ≡ size
-            → CountsCountable self.old self.new objects (with_bytes objects moment number bytes)) }
+        ensures counts { CountsResized self.old self.new moment number size }
     {
         match self.at(number) {
             Some(facts) => self.put(number, facts.with_size(size, moment)),

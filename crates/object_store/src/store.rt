@@ -5,9 +5,9 @@ ghost use Rattle.posix_profile.specs.State.{Objects, entries_of};
 ghost use Rattle.posix_profile.specs.Charge.{charge};
 ghost use Rattle.posix_profile.specs.Changes.{new_number};
 ghost use Rattle.volume_terms.specs.VolumeSizes.{sizes_of};
-ghost use Rattle.object_store.specs.Stores.{Meaning, IsLawful, Finds, Applies, Commits, OfDirectory, OfFile, OfTree};
-ghost use Rattle.object_store.specs.Changes.{made, CanMake, takes_none};
-ghost use Rattle.object_store.specs.Facts.{info_of, bytes_from, front, NamedBy};
+ghost use Rattle.object_store.specs.Stores.{Meaning, IsLawful, Finds, Makes, Commits, OfDirectory, OfFile, OfTree};
+ghost use Rattle.object_store.specs.Changes.{CanMake, takes_none};
+ghost use Rattle.object_store.specs.Facts.{info_of, entry_of, names_of, bytes_from, front, NamedBy};
 ghost use Rattle.volume_terms.specs.declared.fault.StoreFault.TheVariants as faults;
 
 use crate::change::ObjectChange;
@@ -56,13 +56,13 @@ pub trait ObjectStore {
     fn find(&mut self, directory: u64, name: &[u8]) -> Result<Option<u64>, StoreFault>
         ensures reads { meaning.reads self.old self.new }
         ensures power { OnOk result (meaning.has_power self.new ≡ meaning.has_power self.old) }
-        ensures finds { OfDirectory meaning self.old directory (λ z objects. Finds meaning (map.get (entries_of (map.get objects directory)) name.now) self.old self.new result) };
+        ensures lookups { OfDirectory meaning self.old directory (λ z objects. Finds meaning (entry_of objects directory name.now) self.old self.new result) };
 
     /// The names of a directory, in the order of their bytes.
     fn names(&mut self, alloc: Global, directory: u64) -> Result<NameList, StoreFault>
         ensures reads { meaning.reads self.old self.new }
         ensures power { OnOk result (meaning.has_power self.new ≡ meaning.has_power self.old) }
-        ensures finds { OfDirectory meaning self.old directory (λ z objects. Finds meaning (map.keys (entries_of (map.get objects directory))) self.old self.new result) };
+        ensures lookups { OfDirectory meaning self.old directory (λ z objects. Finds meaning (names_of objects directory) self.old self.new result) };
 
     /// Reads the bytes of a file from the offset into a buffer, as many as there are and the buffer has room for, and returns how
     /// many. What lies past them in the buffer stays; after a fault it may hold anything.
@@ -72,15 +72,14 @@ pub trait ObjectStore {
         ensures size { length buffer.new ≡ length buffer.old }
         ensures count { IfOk result (λ count. count ≤ length buffer.old) }
         ensures rest { IfOk result (λ count. drop count buffer.new ≡ drop count buffer.old) }
-        ensures finds { OfFile meaning self.old file (λ z objects. Finds meaning (bytes_from objects file offset (length buffer.old)) self.old self.new (front result buffer.new)) };
+        ensures lookups { OfFile meaning self.old file (λ z objects. Finds meaning (bytes_from objects file offset (length buffer.old)) self.old self.new (front result buffer.new)) };
 
     /// Makes a change. One that only forgets an object takes no memory and leaves the device as it is.
     fn apply(&mut self, change: &ObjectChange<'_>) -> Result<(), StoreFault>
         ensures lasts { meaning.lasts self.old self.new }
         ensures power { OnOk result (meaning.has_power self.new ≡ meaning.has_power self.old) }
         ensures leaves { takes_none change.now ≡ true → meaning.leaves self.old self.new }
-        ensures applies { OfTree meaning self.old (λ z objects. CanMake z objects change.now
-            → Applies meaning objects (made objects change.now) self.old self.new result) }
+        ensures applies { OfTree meaning self.old (λ z objects. CanMake z objects change.now → Makes meaning objects change.now self.old self.new result) }
         // A change that is refused memory is none, of any store.
         ensures refused { result ≡ Err faults.NoMemory → meaning.reads self.old self.new }
         ensures memory { takes_none change.now ≡ true → result ≡ Err faults.NoMemory → ⊥ };

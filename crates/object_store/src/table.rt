@@ -1,16 +1,16 @@
 // The table of objects.
-ghost use Rattle.std.specs.Prelude.{◌≡◌, ◌<◌, ◌+◌, ◌^◌, ℕ, Option, Some, None, OnOk, IfOk, length};
+ghost use Rattle.std.specs.Prelude.{◌≡◌, None, OnOk, IfOk};
 ghost use Rattle.std.specs.FinMap as map;
 ghost use Rattle.volume_terms.specs.VolumeSizes as volume;
 ghost use Rattle.posix_profile.specs.State.{Objects, IsDirectory, entries_of};
 ghost use Rattle.posix_profile.specs.Charge.{charge};
-ghost use Rattle.posix_profile.specs.Changes.{new_number, with_bytes, written};
+ghost use Rattle.posix_profile.specs.Changes.{new_number};
 ghost use Rattle.posix_profile.specs.WellFormed.{IsForest};
-ghost use Rattle.object_store.specs.Facts.{info_of, bytes_of, NamedBy};
-ghost use Rattle.object_store.specs.Changes.{made, without, empty_object, CanMake};
+ghost use Rattle.object_store.specs.Facts.{info_of, NamedBy};
+ghost use Rattle.object_store.specs.Changes.{without, empty_object};
 ghost use Rattle.object_store.specs.Numbers.{KnowsFree};
 ghost use Rattle.object_store.specs.Taken.{taken_in};
-ghost use Rattle.object_store.specs.Totaled.{sizes_in, Counts, CanGo};
+ghost use Rattle.object_store.specs.Totaled.{sizes_in, Counts};
 
 use crate::ObjectChange;
 use crate::counted_facts::CountedFacts;
@@ -32,8 +32,7 @@ pub struct ObjectTable {
 }
 
 impl ObjectTable {
-    ghost use Rattle.object_store.specs.Reported.{table_sizes, next_of, HasRoomAt, IsReadyFor, LedBefore, Reports, ReportsTheSame, OfReported, OfReportedFile, ReportsCountable, ReportsCreated, ReportsNamed, ReportsUnnamed};
-    ghost use Rattle.object_store.specs.Stores.{CanHave};
+    ghost use Rattle.object_store.specs.Reported.{table_sizes, next_of, HasRoomAt, IsReadyFor, CanDrop, Reports, ReportsTheSame, OfReported, ReportsChanged, ReportsCreated, ReportsNamed, ReportsResized, ReportsUnnamed, ReportsWritten};
 
     /// A table that reports no objects.
     pub fn new(alloc: Global, sizes: VolumeSizes) -> ObjectTable
@@ -119,8 +118,7 @@ impl ObjectTable {
     pub fn apply(&mut self, change: &ObjectChange<'_>, replaced: Option<u64>)
         requires { IsReadyFor self.old change.now }
         ensures size { table_sizes self.new ≡ table_sizes self.old }
-        ensures reports { OfReported self.old (λ objects. CanHave (table_sizes self.old) objects → CanMake (table_sizes self.old) objects change.now
-            → LedBefore objects change.now replaced → Reports self.new (made objects change.now)) }
+        ensures reports { ReportsChanged self.old self.new change.now replaced }
     {
         match *change {
             ObjectChange::Create {
@@ -202,7 +200,7 @@ impl ObjectTable {
     /// An object goes, if there is one to go.
     fn forget(&mut self, dropped: Option<u64>)
         ensures size { table_sizes self.new ≡ table_sizes self.old }
-        ensures reports { (objects : Objects) → Reports self.old objects → ((o : ℕ) → dropped ≡ Some o → CanGo (table_sizes self.old) objects o) → Reports self.new (without dropped objects) }
+        ensures reports { OfReported self.old (λ objects. CanDrop (table_sizes self.old) objects dropped → Reports self.new (without dropped objects)) }
     {
         match dropped {
             Some(number) => drop_object(&mut self.totaled, &mut self.numbers, number),
@@ -213,8 +211,7 @@ impl ObjectTable {
     /// So many bytes of a file are written at an offset.
     fn write(&mut self, number: u64, offset: u64, count: u64, moment: u64)
         ensures size { table_sizes self.new ≡ table_sizes self.old }
-        ensures reports { OfReportedFile self.old number (λ objects bytes. length bytes ≡ count → offset + count < 2 ^ 64
-            → ReportsCountable self.old self.new objects (with_bytes objects moment number (written (bytes_of (map.get objects number)) offset bytes))) }
+        ensures reports { ReportsWritten self.old self.new moment number offset count }
     {
         match self.totaled.at(number) {
             Some(facts) => {
@@ -228,8 +225,7 @@ impl ObjectTable {
     /// A file has so many bytes now.
     fn set_length(&mut self, number: u64, size: u64, moment: u64)
         ensures size { table_sizes self.new ≡ table_sizes self.old }
-        ensures reports { OfReportedFile self.old number (λ objects bytes. length bytes ≡ size
-            → ReportsCountable self.old self.new objects (with_bytes objects moment number bytes)) }
+        ensures reports { ReportsResized self.old self.new moment number size }
     {
         self.totaled.set_length(number, size, moment);
     }

@@ -1,10 +1,8 @@
 // A table that is made object by object.
-ghost use Rattle.std.specs.Prelude.{◌≡◌, ℕ, IfOk, OnOk, OnErr, List};
+ghost use Rattle.std.specs.Prelude.{◌≡◌, IfOk, OnOk, OnErr};
 ghost use Rattle.std.specs.FinMap as map;
 ghost use Rattle.volume_terms.specs.VolumeSizes as volume;
-ghost use Rattle.posix_profile.specs.State.{Object, Objects};
-ghost use Rattle.posix_profile.specs.Changes.{with_name};
-ghost use Rattle.object_store.specs.Totaled.{GetsName};
+ghost use Rattle.posix_profile.specs.State.{Objects};
 ghost use Rattle.object_store.specs.Reported.{table_sizes, Reports};
 
 use crate::counted_facts::CountedFacts;
@@ -21,7 +19,7 @@ pub struct TableBuilder {
 }
 
 impl TableBuilder {
-    ghost use Rattle.object_store.specs.Built.{sizes_built, Builds, IsBare, CanCome};
+    ghost use Rattle.object_store.specs.Built.{sizes_built, Builds, BuildsNamed, IsBare, CanCome, OfBuilt};
 
     /// No objects so far.
     pub fn new(alloc: Global, sizes: VolumeSizes) -> TableBuilder
@@ -50,8 +48,8 @@ impl TableBuilder {
         length: u64,
     ) -> Result<(), AllocError>
         ensures size { sizes_built self.new ≡ sizes_built self.old }
-        ensures inserts { (objects : Objects) (x : Object) → Builds self.old objects → IsBare kind moment length x → CanCome (sizes_built self.old) objects number x
-            → OnOk result (Builds self.new (map.insert objects number x)) }
+        ensures inserts { OfBuilt self.old (λ objects x. IsBare kind moment length x → CanCome (sizes_built self.old) objects number x
+            → OnOk result (Builds self.new (map.insert objects number x))) }
         ensures same { (objects : Objects) → Builds self.old objects → OnErr result (Builds self.new objects) }
     {
         self.totaled.make_room(number)?;
@@ -63,8 +61,7 @@ impl TableBuilder {
     /// A name of a directory of this moment leads to an object.
     pub fn name(&mut self, directory: u64, number: u64, moment: u64)
         ensures size { sizes_built self.new ≡ sizes_built self.old }
-        ensures names { (objects : Objects) (name : List ℕ) → Builds self.old objects → GetsName (sizes_built self.old) objects moment directory name number
-            → Builds self.new (with_name objects moment directory name number) }
+        ensures names { BuildsNamed self.old self.new moment directory number }
     {
         self.totaled.add_name(directory, number, moment);
     }

@@ -1,10 +1,8 @@
 // What is done with the facts and the free numbers of a table at once.
-ghost use Rattle.std.specs.Prelude.{◌≡◌, ◌≤◌, ◌+◌, ℕ, Bool, OnOk};
-ghost use Rattle.std.specs.FinMap as map;
-ghost use Rattle.posix_profile.specs.State.{Object, Objects};
+ghost use Rattle.std.specs.Prelude.{◌≡◌, ℕ, Bool};
 ghost use Rattle.object_store.specs.Taken.{IsLeastFree, taken_in};
 ghost use Rattle.object_store.specs.Numbers.{KnowsFree, next_number};
-ghost use Rattle.object_store.specs.Totaled.{sizes_in, HasRoomIn, Counts, CountsTheSame, FreshObject, CanGo, Drops};
+ghost use Rattle.object_store.specs.Totaled.{sizes_in, HasRoomIn, CountsAdded, CountsRemoved};
 
 use crate::counted_facts::CountedFacts;
 use crate::free_numbers::FreeNumbers;
@@ -21,7 +19,7 @@ pub(crate) fn add_object(
     ensures least { (taken : ℕ → Bool) → KnowsFree numbers.old taken → IsLeastFree taken result }
     ensures size { sizes_in totaled.new ≡ sizes_in totaled.old }
     ensures free { KnowsFree numbers.old (taken_in totaled.old.facts) → KnowsFree numbers.new (taken_in totaled.new.facts) }
-    ensures counts { (objects : Objects) (x : Object) → Counts totaled.old objects → FreshObject (sizes_in totaled.old) objects result x facts → Counts totaled.new (map.insert objects result x) }
+    ensures counts { CountsAdded totaled.old totaled.new result facts }
 {
     let number = numbers.next();
     totaled.add(number, facts);
@@ -33,7 +31,7 @@ pub(crate) fn add_object(
 pub(crate) fn drop_object(totaled: &mut CountedFacts, numbers: &mut FreeNumbers, number: u64)
     ensures size { sizes_in totaled.new ≡ sizes_in totaled.old }
     ensures free { KnowsFree numbers.old (taken_in totaled.old.facts) → KnowsFree numbers.new (taken_in totaled.new.facts) }
-    ensures counts { (objects : Objects) → Counts totaled.old objects → CanGo (sizes_in totaled.old) objects number → Counts totaled.new (map.remove objects number) }
+    ensures counts { CountsRemoved totaled.old totaled.new number }
 {
     match totaled.at(number) {
         Some(_) => {

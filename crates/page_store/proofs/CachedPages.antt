@@ -95,7 +95,7 @@ module _ (old new : PageCache) (o c : ℕ) (size : new.page_bytes ≡ old.page_b
     where
       entry_room : IsSome (held old o c) ⊎ (held_count old < capacity_of old) → IsSome (lookup (key_eq (o, c)) old.slots.entries) ⊎ (length old.slots.entries < old.slots.cap)
       entry_room (inl there) = inl (some_held (lookup (is_key o c) old.slots.entries) there)
-      entry_room (inr few) = inr few
+      entry_room (inr within_limit) = inr within_limit
 
   pub puts : (slot : Slot) → held_count old ≤ capacity_of old → new.slots ≡ lru_cache (put_entries key_eq old.slots (o, c) slot) old.slots.cap → Puts o c (held_in slot) old new
   puts slot fits is = record {

@@ -33,14 +33,14 @@ pays_here count spare a result = record { pays = pays_none (count + a.device.geo
 -- a commit is one at most
 pub pays_commit : {T E : Type 0} (count spare : ℕ) (a b : LogState) (result : Result T E) → PaysCommit count spare a b result → PaysUpTo count spare a b result
 pays_commit count spare a b result pays = record {
-  pays = record { costs = pays.costs; marks = pays.marks; answers = pays.answers; reads = few result pays.reads };
+  pays = record { costs = pays.costs; marks = pays.marks; answers = pays.answers; reads = within_limit result pays.reads };
   takes_none = pays.takes_none;
   takes_one = pays.takes_one;
 }
   where
-    few : {T E : Type 0} (r : Result T E) → ReadsFor count a.device b.device r → ReadsFew (unfinished r) a.device b.device
-    few (Ok done) reads = omega (arith, reads)
-    few (Err fault) reads = reads
+    within_limit : {T E : Type 0} (r : Result T E) → ReadsFor count a.device b.device r → ReadsFew (unfinished r) a.device b.device
+    within_limit (Ok done) reads = omega (arith, reads)
+    within_limit (Err fault) reads = reads
 
 -- the same cost, by how a call ended
 pub pays_done : {S T E F : Type 0} (count spare : ℕ) (a b : LogState) (s : S) (t : T) → PaysUpTo {E = E} count spare a b (Ok s) → PaysUpTo {E = F} count spare a b (Ok t)

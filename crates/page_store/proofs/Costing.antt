@@ -23,24 +23,24 @@ use Rattle.page_store.specs.declared.group_writing.Attempt.{Attempt}
 
 -- what each failure costs more
 each_more : (k m a b : ℕ) → k ≤ m → a ≤ b → k * b + m * a ≤ m * b + k * a
-each_more k m a b few le =
+each_more k m a b within_limit le =
     let more : b ≡ a + (b - a) = omega (arith, le) in
-    let times : k * (b - a) ≤ m * (b - a) = mul-le-mul_right (b - a) few in
+    let times : k * (b - a) ≤ m * (b - a) = mul-le-mul_right (b - a) within_limit in
     let left : k * b ≡ k * a + k * (b - a) = ap (λ n. k * n) more ∙ (omega arith) in
     let right : m * b ≡ m * a + m * (b - a) = ap (λ n. m * n) more ∙ (omega arith) in
     omega (arith, times, left, right)
 
 -- more may be in the count for each failure
 pub costs_each : (n k m : ℕ) (d e : Device) → k ≤ m → Lasts d e → Costs n k 0 d e → Costs n m 0 d e
-costs_each n k m d e few lasts costs =
-    let more = each_more k m d.failures e.failures few lasts.failures in
+costs_each n k m d e within_limit lasts costs =
+    let more = each_more k m d.failures e.failures within_limit lasts.failures in
     let one : k * (d.failures + 0) ≡ k * d.failures = omega arith in
     let two : m * (d.failures + 0) ≡ m * d.failures = omega arith in
     omega (arith, costs, more, one, two)
 
 -- and more besides
 pub costs_more : (m n k : ℕ) (d e : Device) → m ≤ n → Costs m k 0 d e → Costs n k 0 d e
-costs_more m n k d e few costs = omega (arith, few, costs)
+costs_more m n k d e within_limit costs = omega (arith, within_limit, costs)
 
 pub costs_on : (m n k : ℕ) (a b c : Device) → Costs m k 0 a b → Costs n k 0 b c → Costs (m + n) k 0 a c
 costs_on m n k a b c first then =
@@ -53,11 +53,11 @@ costs_none k d = let one : k * (d.failures + 0) ≡ k * d.failures = omega arith
 
 -- a failure pays for all that its turn did besides
 pub costs_again : (n k m : ℕ) (d e : Device) → n + k ≤ m → d.failures < e.failures → Costs n k 0 d e → Costs 0 m 0 d e
-costs_again n k m d e few failed costs =
+costs_again n k m d e within_limit failed costs =
     let g : ℕ = e.failures - d.failures in
     let rise : e.failures ≡ d.failures + g = omega (arith, failed) in
     let some : 1 ≤ g = omega (arith, failed) in
-    let all : (n + k) * g ≤ m * g = mul-le-mul_right g few in
+    let all : (n + k) * g ≤ m * g = mul-le-mul_right g within_limit in
     let one : n * 1 ≤ n * g = mul-le-mul_left n some in
     let split : (n + k) * g ≡ n * g + k * g = omega arith in
     let of_k : k * e.failures ≡ k * d.failures + k * g = ap (λ f. k * f) rise ∙ (omega arith) in
@@ -85,9 +85,9 @@ fits_block count a b ready same fits =
 -- what an attempt costs
 pub attempt_done : (count : ℕ) (a b : LogState) (attempt : Attempt) → bad_count b.table ≡ bad_count a.table → b.device.failures ≡ a.device.failures + unanswered (Ok attempt) → b.device.changes ≤ a.device.changes + count
     → ReadsFew 0 a.device b.device → QuietAttempt count a.device b.device (Ok attempt) → PaysAttempt count a b (Ok attempt)
-attempt_done count a b attempt bad rise few reads quiet = record {
+attempt_done count a b attempt bad rise within_limit reads quiet = record {
   pays = record {
-    costs = let more : (a.device.geometry.pages + 2) * (a.device.failures + unanswered (Ok attempt)) ≡ (a.device.geometry.pages + 2) * b.device.failures = ap (λ n. (a.device.geometry.pages + 2) * n) (sym rise) in omega (arith, few, more);
+    costs = let more : (a.device.geometry.pages + 2) * (a.device.failures + unanswered (Ok attempt)) ≡ (a.device.geometry.pages + 2) * b.device.failures = ap (λ n. (a.device.geometry.pages + 2) * n) (sym rise) in omega (arith, within_limit, more);
     marks = omega (arith, bad, rise);
     answers = omega (arith, bad, rise);
     reads = reads;
@@ -97,12 +97,12 @@ attempt_done count a b attempt bad rise few reads quiet = record {
 
 pub attempt_short : (count : ℕ) (a b : LogState) (fault : RoomFault) → bad_count b.table ≡ bad_count a.table → a.device.failures ≤ b.device.failures → b.device.changes ≤ a.device.changes + count
     → ReadsFew 1 a.device b.device → PaysAttempt count a b (Err fault)
-attempt_short count a b fault bad rise few reads = record {
+attempt_short count a b fault bad rise within_limit reads = record {
   pays = record {
     costs =
         let more : (a.device.geometry.pages + 2) * a.device.failures ≤ (a.device.geometry.pages + 2) * b.device.failures = mul-le-mul_left (a.device.geometry.pages + 2) rise in
         let none : (a.device.geometry.pages + 2) * (a.device.failures + 0) ≡ (a.device.geometry.pages + 2) * a.device.failures = omega arith in
-        omega (arith, few, more, none);
+        omega (arith, within_limit, more, none);
     marks = omega (arith, bad, rise);
     answers = tt;
     reads = reads;
@@ -153,7 +153,7 @@ none_with_room n d t ready some fits = go t.open_block refl where
 -- pages that can be written can be it still
 pub writable_on : (a b : Device) (pages : List FreshPage) → Lasts a b → AreWritable a pages → AreWritable b pages
 writable_on a b pages lasts w = record {
-  few = w.few;
+  within_limit = w.within_limit;
   numbered = λ i p is. ((w.numbered i p is).0, λ honest. (w.numbered i p is).1 (sym lasts.honest ∙ honest));
   size = λ i p is. w.size i p is ∙ ap (λ (g : Geometry). g.bytes) (sym lasts.geometry);
 }

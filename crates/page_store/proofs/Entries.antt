@@ -126,13 +126,13 @@ module _ (d : Device) (c : Checkpoint) (x : Index) (form : HasForm d c) (placed 
       let object : e.object ≡ o = ap (λ (y : CommittedKey). y.key.object) same in
       let chunk : e.chunk ≡ k = ap (λ (y : CommittedKey). y.key.chunk) same in
       let version : e.version ≡ p.version = ap (λ (y : CommittedKey). y.at.version) same in
-      let few = few_chunk i e at in
+      let within_limit = few_chunk i e at in
       record {
         block = subst (λ (g : Geometry). p.block < g.blocks) (sym geometry) within.0;
         page = subst (λ (g : Geometry). p.page < g.pages) (sym geometry) within.1;
         name = record {
           object = (omega (arith, may.object.0, object), omega (arith, may.object.1, object));
-          chunk = omega (arith, few, chunk);
+          chunk = omega (arith, within_limit, chunk);
           version = (omega (arith, may.version.0, version), omega (arith, may.version.1, version, next));
         };
       }

@@ -268,11 +268,11 @@ module _ (d e : Device) (t u : Table) (x : Index) (pages : List FreshPage) (o : 
       none b begins zero_committed = elim (cases_eq b w.block) [
         | inl is ↦ absurd (begun honest (subst (BeginsErased e.flash) (is ∙ there) begins))
         | inr ne ↦
-            let few = settled_elsewhere lists w x y pages settles buffers b ne in
+            let within_limit = settled_elsewhere lists w x y pages settles buffers b ne in
             let now = agree.counts b in
             let then = before.counts b in
             let same = (same_ends (length pages) t u (Ok placed) table).committed b in
-            omega (arith, few, now, then, same, zero_committed)
+            omega (arith, within_limit, now, then, same, zero_committed)
       ]
 
 -- nothing is buffered: what was dropped is not committed any more
@@ -285,8 +285,8 @@ mountable_empty lists w d t v x y pages none buffers settles before agree counts
 } where
   fewer : (b : ℕ) → BeginsErased d.flash b → (t.entry b).committed ≡ 0 → (v.entry b).committed ≡ 0
   fewer b begins zero_committed =
-      let few = settled_most lists w x y pages settles buffers b in
+      let within_limit = settled_most lists w x y pages settles buffers b in
       let now = agree.counts b in
       let then = before.counts b in
       let zero_long : length pages ≡ 0 = ap length none in
-      omega (arith, few, now, then, zero_long, zero_committed)
+      omega (arith, within_limit, now, then, zero_long, zero_committed)

@@ -17,6 +17,6 @@ sealed_reading p n spare most refused_change device worn greatest carrying first
   ends_on = ends_going (only_read p n spare most refused_change) (only_read p n spare most refused_change) (goes_on p n spare most refused_change refused_change);
   checked = λ _ honest was. was;
   committed = λ sound. keeps_all p n spare most refused_change worn greatest carrying first;
-  few = λ was. was;
+  within_limit = λ was. was;
   ends = inl (λ due. due, record { present = λ o c. refl; committed = λ o c. refl; sound = refl; device = refl; next = refl; checkpoint = refl; first = refl });
 }

@@ -62,4 +62,4 @@ module _ (t u : Table) (geometry : u.geometry ≡ t.geometry) (bad : (b : ℕ) �
       omega (arith, more, size, same, free)
 
   pub has_uncommitted : (spare : ℕ) → HasFreeBlocks t spare → 1 + spare ≤ uncommitted_count u + bad_count u
-  has_uncommitted spare free = let still = has_free spare free in let few = free_uncommitted u in omega (arith, still, few)
+  has_uncommitted spare free = let still = has_free spare free in let within_limit = free_uncommitted u in omega (arith, still, within_limit)

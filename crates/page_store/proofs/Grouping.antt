@@ -228,7 +228,7 @@ module _ (t : Table) (x : Index) (pages : List FreshPage) (o : ℕ) (buffers : B
     pub free_present : (spare : ℕ) (z : Geometry) → z ≡ t.geometry → ((b : ℕ) → g.bad b ≡ (t.entry b).bad) → t.open_block ≡ Some o → AreHeld t x → HasFreeBlocks t spare → LeavesFree z g spare (HasPage (present_data x pages f))
     free_present spare z size bad opened held free = record {
       free = is_free t;
-      enough =
+      sufficient =
           let bads : bad_blocks z g ≡ bad_count t = ap (λ (y : Geometry). how_many g.bad y.blocks) size ∙ counts_same g.bad (is_bad t) t.geometry.blocks (λ b lt. bad b) in
           let many : how_many (is_free t) z.blocks ≡ free_count t = ap (λ (y : Geometry). how_many (is_free t) y.blocks) size in
           omega (arith, bads, many, free);

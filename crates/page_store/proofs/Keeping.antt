@@ -25,7 +25,7 @@ use Rattle.page_store.specs.ReadOnly.{IsWorn, HasGreatest, IsCarrying, only_read
 none_free : (g : Geometry) (flash : Flash) (spare : ℕ) (keys : ℕ → ℕ → Type 0) → spare < bad_blocks g flash → LeavesFree g flash spare keys
 none_free g flash spare keys bad = record {
   free = λ b. false;
-  enough = let none = count_by (λ (b : ℕ). false) (range_with_len 0 g.blocks) in omega (arith, bad);
+  sufficient = let none = count_by (λ (b : ℕ). false) (range_with_len 0 g.blocks) in omega (arith, bad);
   each = λ b within is. absurd cc;
 }
 

@@ -9,10 +9,10 @@ use Rattle.lru.proofs.CallerLemmas.{Contains-lookup_entry}
 
 -- a list that is taken whole
 take_all : {X : Type 0} (n : ℕ) (xs : List X) → length xs ≤ n → take n xs ≡ xs
-take_all zero [] few = refl
-take_all zero (x ∷ xs) few = absurd (omega (arith, few))
-take_all (suc n) [] few = refl
-take_all (suc n) (x ∷ xs) few = ap (λ l. x ∷ l) (take_all n xs (omega (arith, few)))
+take_all zero [] within_limit = refl
+take_all zero (x ∷ xs) within_limit = absurd (omega (arith, within_limit))
+take_all (suc n) [] within_limit = refl
+take_all (suc n) (x ∷ xs) within_limit = ap (λ l. x ∷ l) (take_all n xs (omega (arith, within_limit)))
 
 -- a first part is no longer than the list, and no more than one shorter where all but one are taken
 take_no_longer : {X : Type 0} (n : ℕ) (xs : List X) → length (take n xs) ≤ length xs
@@ -21,9 +21,9 @@ take_no_longer (suc n) [] = omega arith
 take_no_longer (suc n) (x ∷ xs) = omega (arith, take_no_longer n xs)
 
 take_all_but_one : {X : Type 0} (n : ℕ) (xs : List X) → length xs ≤ n + 1 → length xs ≤ length (take n xs) + 1
-take_all_but_one zero xs few = omega (arith, few)
-take_all_but_one (suc n) [] few = omega arith
-take_all_but_one (suc n) (x ∷ xs) few = let rest = take_all_but_one n xs (omega (arith, few)) in omega (arith, rest)
+take_all_but_one zero xs within_limit = omega (arith, within_limit)
+take_all_but_one (suc n) [] within_limit = omega arith
+take_all_but_one (suc n) (x ∷ xs) within_limit = let rest = take_all_but_one n xs (omega (arith, within_limit)) in omega (arith, rest)
 
 module _ {K V : Type 0} (test : K → Bool) where
   -- what a first part of a list has of a key

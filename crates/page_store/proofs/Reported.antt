@@ -292,7 +292,7 @@ unchanged change (Err faults.Worn) a b ends is = absurd cc
 
 -- Of a sound store, before a call and after it.
 module _ (a b : StoreState) (lent lent' : List ℕ) (table_is : a.log.table.geometry ≡ a.log.device.geometry) (sizes : b.log.device.geometry ≡ a.log.device.geometry) (spare : b.spare ≡ a.spare)
-    (ready : IsReady b.log.device b.log.table) (fits : most_pages a.buffer ≤ a.log.device.geometry.pages) (few_pages : waiting a ≤ most_pages a.buffer) (few : bad_count a.log.table ≤ a.spare)
+    (ready : IsReady b.log.device b.log.table) (fits : most_pages a.buffer ≤ a.log.device.geometry.pages) (few_pages : waiting a ≤ most_pages a.buffer) (within_limit : bad_count a.log.table ≤ a.spare)
     (listed : HasCommitted (committed_pages a.index) (committed_count a.log.table)) (pages : (o c : ℕ) (k : CommittedPage) → committed_pages a.index o c ≡ Some k → HasPage (committed_in a) o c) where
   worn_reported : HasNothingLeft a.spare (waiting a) b.log.device a.log.table b.log.table → stores.HasNothingLeft (seen_of a lent) (seen_of b lent')
   worn_reported (inl (inl seq)) = inr (inl seq)
@@ -315,7 +315,7 @@ module _ (a b : StoreState) (lent lent' : List ℕ) (table_is : a.log.table.geom
             omega (arith, fits, few_pages, each),
             record {
               blocks = omega (arith, large, spare, blocks, later);
-              bad = few;
+              bad = within_limit;
               committed = subst (λ n. committed_count a.log.table ≤ (n - a.spare - 1) * most) (sym blocks) room;
             },
           ))

@@ -130,7 +130,7 @@ module _ (a : StoreState) (lent : List ℕ) where
     };
     checked = λ _ honest was. was;
     committed = λ sound. absurd (let two : false ≡ true = sym (not_sound d.honest broken is) ∙ sound in cc);
-    few = λ _. tt;
+    within_limit = λ _. tt;
     ends = inr (not_sound d.honest broken is);
   }
 
@@ -210,14 +210,14 @@ module _ (a : StoreState) (lent : List ℕ) where
 
     -- no more blocks are bad than there are to spare
     few_sealed : (bad_count t ≤ spare → bad_count u ≤ spare) → bad_on d ≤ spare → bad_on e ≤ spare
-    few_sealed few was =
+    few_sealed within_limit was =
         let old = same_bad_blocks d t before in
         let new = same_bad_blocks e u seals.keeps.ready in
-        let is : bad_count u ≤ spare = few (omega (arith, was, old)) in
+        let is : bad_count u ≤ spare = within_limit (omega (arith, was, old)) in
         omega (arith, is, new)
 
     pub sealed_done : (bad_count t ≤ spare → bad_count u ≤ spare) → endings.SealEnds spare x (log_of d t) (log_of e u) (Ok tt) → IsSealed (IsDue spare t) seen e (Ok tt)
-    sealed_done few ends = record { pages = left_by seen e u; device_is = refl; ends_on = left_on; checked = left_right; committed = left_committed; few = few_sealed few; ends = ends_done ends }
+    sealed_done within_limit ends = record { pages = left_by seen e u; device_is = refl; ends_on = left_on; checked = left_right; committed = left_committed; within_limit = few_sealed within_limit; ends = ends_done ends }
 
     pub sealed_failed : (fault : SealFault) (reported : StoreFault) → reported ≡ seal_fault_of fault → endings.SealEnds spare x (log_of d t) (log_of e u) (Err fault) → IsSealed (IsDue spare t) seen e (Err reported)
     sealed_failed fault reported same ends = record {
@@ -226,6 +226,6 @@ module _ (a : StoreState) (lent : List ℕ) where
       ends_on = left_on;
       checked = left_right;
       committed = left_committed;
-      few = λ _. tt;
+      within_limit = λ _. tt;
       ends = subst (λ (f : StoreFault). SealEnds (IsDue spare t) seen (left_by seen e u) (Err f)) (sym same) (ends_failed fault ends);
     }

@@ -95,15 +95,15 @@ module _ (spare : ℕ) (lists : ListsAreWhole) (w : WrittenGroup) (t u v : Table
   most b =
       let now = agree.counts b in
       let was = tables.counts.counts b in
-      let few = settled_most lists w x y pages settles buffers b in
-      omega (arith, now, was, few)
+      let within_limit = settled_most lists w x y pages settles buffers b in
+      omega (arith, now, was, within_limit)
 
   elsewhere : (b : ℕ) → b ≢ w.block → (v.entry b).committed ≤ (t.entry b).committed
   elsewhere b ne =
       let now = agree.counts b in
       let was = tables.counts.counts b in
-      let few = settled_elsewhere lists w x y pages settles buffers b ne in
-      omega (arith, now, was, few)
+      let within_limit = settled_elsewhere lists w x y pages settles buffers b ne in
+      omega (arith, now, was, within_limit)
 
   geometry : v.geometry ≡ t.geometry
   geometry = counts.geometry ∙ same.geometry
@@ -113,8 +113,8 @@ module _ (spare : ℕ) (lists : ListsAreWhole) (w : WrittenGroup) (t u v : Table
     | inr ne ↦ elsewhere b ne
     | inl e ↦
         let none : length pages ≡ 0 = not_free (sym (ap (is_free t) e) ∙ is) in
-        let few = most b in
-        omega (arith, none, few)
+        let within_limit = most b in
+        omega (arith, none, within_limit)
   ]
 
   marks : (b : ℕ) → (v.entry b).bad ≡ (t.entry b).bad
@@ -135,21 +135,21 @@ module _ (spare : ℕ) (lists : ListsAreWhole) (w : WrittenGroup) (t u v : Table
     within = λ q c p is. within q c p is (present x q c) refl;
     fits = λ b. subst (λ (z : Geometry). (v.entry b).committed ≤ z.pages) (sym geometry) (fits b);
     written = λ o is.
-        let few = most o in
+        let within_limit = most o in
         let next = counts.next o in
         let fit = opened o (sym counts.open_block ∙ is) in
-        omega (arith, few, next, fit);
+        omega (arith, within_limit, next, fit);
     uncommitted = has_uncommitted t v geometry marks less closes spare free;
     apart = λ c is.
         let was = noted c (sym counts.checkpoint ∙ is) in
-        let few = most c in
+        let within_limit = most c in
         let none = tables.apart c was.0 in
-        omega (arith, few, none, was.1);
+        omega (arith, within_limit, none, was.1);
   } where
     fits : (b : ℕ) → (v.entry b).committed ≤ t.geometry.pages
     fits b = elim (cases_eq b w.block) [
-      | inr ne ↦ let few = elsewhere b ne in let fit = tables.fits b in omega (arith, few, fit)
-      | inl e ↦ let few = most b in let there : (t.entry b).committed ≡ (t.entry w.block).committed = ap (λ k. (t.entry k).committed) e in omega (arith, few, there, fills)
+      | inr ne ↦ let within_limit = elsewhere b ne in let fit = tables.fits b in omega (arith, within_limit, fit)
+      | inl e ↦ let within_limit = most b in let there : (t.entry b).committed ≡ (t.entry w.block).committed = ap (λ k. (t.entry k).committed) e in omega (arith, within_limit, there, fills)
     ]
 
     within : (q c : ℕ) (p : CommittedPage) → committed_pages y q c ≡ Some p → (r : Present) → present x q c ≡ r → MayLie v q c p
@@ -241,7 +241,7 @@ module _ (spare : ℕ) (lists : ListsAreWhole) (d e : Device) (t u v : Table) (x
       }
 
   fills : (t.entry o).committed + length pages ≤ t.geometry.pages
-  fills = let few = stands.tables.written o is in let fits = pages_fit in omega (arith, few, fits)
+  fills = let within_limit = stands.tables.written o is in let fits = pages_fit in omega (arith, within_limit, fits)
 
   opened : (b : ℕ) → u.open_block ≡ Some b → (t.entry b).committed + length pages ≤ (u.entry b).next
   opened b at = elim after [
@@ -249,8 +249,8 @@ module _ (spare : ℕ) (lists : ListsAreWhole) (d e : Device) (t u v : Table) (x
     | inl (still, next) ↦
         let both : Some o ≡ Some b = sym is ∙ sym still ∙ at in
         let one : o ≡ b = cc in
-        let few = stands.tables.written o is in
-        let here : (t.entry o).committed + length pages ≤ (u.entry o).next = omega (arith, few, next) in
+        let within_limit = stands.tables.written o is in
+        let here : (t.entry o).committed + length pages ≤ (u.entry o).next = omega (arith, within_limit, next) in
         subst (λ k. (t.entry k).committed + length pages ≤ (u.entry k).next) one here
   ]
 

@@ -193,7 +193,7 @@ few_new x (p ∷ ps) = omega (arith, one (present x p.key.object p.key.chunk), f
     one (presents.InBuffer i) = omega arith
 
 pub room_after : (x : Index) (buffer pages : List FreshPage) (most : ℕ) → buffer ≡ [] → length pages ≤ most → with_new x buffer pages ≤ most
-room_after x buffer pages most empty few = let none : length buffer ≡ 0 = ap length empty in omega (arith, none, few_new x pages, few)
+room_after x buffer pages most empty within_limit = let none : length buffer ≡ 0 = ap length empty in omega (arith, none, few_new x pages, within_limit)
 
 -- a key that is ready is prepared
 pub ready_prepared : (x : Index) (o c : ℕ) → IsReadyKey x o c → IsPrepared x o c
@@ -229,7 +229,7 @@ commit_fails a b causes.Gone why = inl why
 -- the pages of a buffer can be written
 pub writable : (d : Device) (b : Buffer) → AreNumbered d (buffered b) → bytes_of_page b ≡ d.geometry.bytes → AreWritable d (buffered b)
 writable d b objects size = record {
-  few = let few : length (buffered b) ≤ b.most = b.few in let small : b.most ≤ 64 = b.small in omega (arith, few, small);
+  within_limit = let within_limit : length (buffered b) ≤ b.most = b.within_limit in let small : b.most ≤ 64 = b.small in omega (arith, within_limit, small);
   numbered = objects;
   size = λ i p is. b.sized i p is ∙ size;
 }

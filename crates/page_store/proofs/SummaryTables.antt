@@ -49,15 +49,15 @@ module _ (a b : Device) (reads : OnlyReads a b) where
 
   -- and what is known of it is known still
   pub finds_read : (list : List PageCopy) → FindsNeeded a list → FindsNeeded b list
-  finds_read list finds = record {
-    placed = subst (λ (g : Geometry). AreCopiesPlaced g.blocks g.pages list) (sym reads.lasts.geometry) finds.placed;
-    low = finds.low;
-    named = finds.named;
-    order = finds.order;
+  finds_read list lookups = record {
+    placed = subst (λ (g : Geometry). AreCopiesPlaced g.blocks g.pages list) (sym reads.lasts.geometry) lookups.placed;
+    low = lookups.low;
+    named = lookups.named;
+    order = lookups.order;
     found = λ summarized o c. on_read (λ g f. IsSummarized g f → AreFindable g f (IsKey o c) → FindsEach f (IsKey o c) list) summarized.0
-        (λ is. finds.found (sym reads.lasts.honest ∙ summarized.0, is) o c) summarized.1;
+        (λ is. lookups.found (sym reads.lasts.honest ∙ summarized.0, is) o c) summarized.1;
     versions = λ summarized. on_read (λ g f. IsSummarized g f → (n : Numbers) → AreAbove f n → All (λ (p : PageCopy). p.version ≤ n.group) list) summarized.0
-        (λ is. finds.versions (sym reads.lasts.honest ∙ summarized.0, is)) summarized.1;
+        (λ is. lookups.versions (sym reads.lasts.honest ∙ summarized.0, is)) summarized.1;
   }
 
   pub summarized_read : (n : Numbers) → (HasSummarizedFlash a → AreGreatest a.flash n) → HasSummarizedFlash b → AreGreatest b.flash n
@@ -99,10 +99,10 @@ knows_firsts a b reads found t0 t1 least is unwritten knows after recounts hones
 
 -- of a device that is not trusted nothing is said but where pages lie
 reports_untrusted : (d : Device) (list : List PageCopy) → FindsNeeded d list → ListsNewest (trusted_as false d) list
-reports_untrusted d list finds = record {
-  placed = finds.placed;
-  low = finds.low;
-  order = finds.order;
+reports_untrusted d list lookups = record {
+  placed = lookups.placed;
+  low = lookups.low;
+  order = lookups.order;
   exact = λ honest. absurd (let no : false ≡ true = trusted_of d.honest false honest in cc);
 }
 
@@ -122,22 +122,22 @@ table_noted d n t t' is only = record {
 pub opened_untrusted :
     (d : Device) (list : List PageCopy) (x : Index) (t0 t1 t2 : Table) (n : Numbers) → FindsNeeded d list → HaveNames n.group list → IsTableOf d n t0 → OnlySeqs t0 t1
     → Indexes list (length list) x → CountsAgree t2 x → Recounts (λ b. 0) (count_committed_in x) t1 t2 → IsOpenedBy None (trusted_as false d) t2 x n
-opened_untrusted d list x t0 t1 t2 n finds names is only indexes counts recounts =
-    (opened (trusted_as false d) list x t1 t2 n (reports_untrusted d list finds) (λ honest. absurd (let no : false ≡ true = trusted_of d.honest false honest in cc)) names (table_noted d n t0 t1 is only) indexes counts recounts).tables
+opened_untrusted d list x t0 t1 t2 n lookups names is only indexes counts recounts =
+    (opened (trusted_as false d) list x t1 t2 n (reports_untrusted d list lookups) (λ honest. absurd (let no : false ≡ true = trusted_of d.honest false honest in cc)) names (table_noted d n t0 t1 is only) indexes counts recounts).tables
 
 -- ---- those of a true flash
 
 greatest_prop : (f : Flash) (n : Numbers) → IsProp (AreGreatest f n)
 greatest_prop f n = Prim.hlevel props
 
-module _ (d : Device) (list : List PageCopy) (n : Numbers) (finds : FindsNeeded d list) (greatest : HasSummarizedFlash d → AreGreatest d.flash n) where
+module _ (d : Device) (list : List PageCopy) (n : Numbers) (lookups : FindsNeeded d list) (greatest : HasSummarizedFlash d → AreGreatest d.flash n) where
   -- what is found may be named in a group of the greatest number
   names_there : HasSummarizedFlash d → HaveNames n.group list
   names_there summarized i f at =
       let has = contains_at list i f at in
-      let named : HasValidName f = All-contains HasValidName list f finds.named has in
-      let low : f.chunk < 2 ^ 32 = All-contains (λ (p : PageCopy). p.chunk < 2 ^ 32) list f finds.low has in
-      let version : f.version ≤ n.group = All-contains (λ (p : PageCopy). p.version ≤ n.group) list f (finds.versions summarized n (greatest summarized).above) has in
+      let named : HasValidName f = All-contains HasValidName list f lookups.named has in
+      let low : f.chunk < 2 ^ 32 = All-contains (λ (p : PageCopy). p.chunk < 2 ^ 32) list f lookups.low has in
+      let version : f.version ≤ n.group = All-contains (λ (p : PageCopy). p.version ≤ n.group) list f (lookups.versions summarized n (greatest summarized).above) has in
       record { object = (named.0, named.1); chunk = omega (arith, low); version = (named.2, version) }
 
   -- so where it may not the flash is not true
@@ -151,17 +151,17 @@ module _ (d : Device) (list : List PageCopy) (n : Numbers) (finds : FindsNeeded 
     looked_up m o c s foot newest =
         let low : c < 2 ^ 32 =
         looked_low (sizes_of d.geometry is.spare) (record { least = let least = d.geometry.least_bytes in omega (arith, least); most = d.geometry.most_bytes }) foot.fields c foot.has.1 foot.looks in
-        listed_committed list x indexes o c s newest.holds.object newest.holds.chunk (finds.found (honest, m.summarized) o c (m.found is.spare is.objects is.volume is.shows o c foot) o c s (refl, refl) low newest)
+        listed_committed list x indexes o c s newest.holds.object newest.holds.chunk (lookups.found (honest, m.summarized) o c (m.found is.spare is.objects is.volume is.shows o c foot) o c s (refl, refl) low newest)
 
 pub finds_tree : (d : Device) (list : List PageCopy) (found : Opened) → FindsNeeded d list → (HasSummarizedFlash d → AreGreatest d.flash (numbers_of found.numbers)) → Indexes list (length list) found.index
     → HasTrueFlash d → FindsItsTree d found
-finds_tree d list found finds greatest indexes (honest, is) = record {
+finds_tree d list found lookups greatest indexes (honest, is) = record {
   spare = is.spare;
   objects = is.objects;
   volume = is.volume;
   shows = is.shows;
   all = λ o c s foot newest.
       ∥∥₁_elim is.mountable (let p : IsProp (committed_pages found.index o c ≡ Some (committed_at s)) = Prim.hlevel props in p)
-      (λ (m : IsMountableFlash d.geometry d.flash). looked_up d list (numbers_of found.numbers) finds greatest found.index indexes honest is m o c s foot newest);
+      (λ (m : IsMountableFlash d.geometry d.flash). looked_up d list (numbers_of found.numbers) lookups greatest found.index indexes honest is m o c s foot newest);
   numbers = ∥∥₁_elim is.mountable (greatest_prop d.flash (numbers_of found.numbers)) (λ (m : IsMountableFlash d.geometry d.flash). greatest (honest, m.summarized));
 }

@@ -121,14 +121,14 @@ no_page o c zero f at of = absurd cc
 no_page o c (suc i) f at of = absurd cc
 
 -- a page of the key was found, or none was
-finds : (list : List PageCopy) (o c : ℕ) → FindsOne list o c ⊎ FindsNone list o c
-finds [] o c = inr (no_page o c)
-finds (f ∷ list) o c = elim (cases_eq f.object o) [
+lookups : (list : List PageCopy) (o c : ℕ) → FindsOne list o c ⊎ FindsNone list o c
+lookups [] o c = inr (no_page o c)
+lookups (f ∷ list) o c = elim (cases_eq f.object o) [
   | inl object ↦ elim (cases_eq f.chunk c) [
     | inl chunk ↦ inl (0, f, refl, (object, chunk))
-    | inr ne ↦ later f list o c (λ of. ne of.1) (finds list o c)
+    | inr ne ↦ later f list o c (λ of. ne of.1) (lookups list o c)
   ]
-  | inr ne ↦ later f list o c (λ of. ne of.0) (finds list o c)
+  | inr ne ↦ later f list o c (λ of. ne of.0) (lookups list o c)
 ]
 
 module _ (list : List PageCopy) (x : Index) (indexes : Indexes list (length list) x) where
@@ -143,7 +143,7 @@ module _ (list : List PageCopy) (x : Index) (indexes : Indexes list (length list
 
   -- a page that is committed was found
   pub was_found : (o c : ℕ) (p : CommittedPage) → committed_pages x o c ≡ Some p → (i : ℕ) × (f : PageCopy) × (slice_get list i ≡ Some f) × IsFoundOf o c f × (page_of f ≡ p)
-  was_found o c p committed = elim (finds list o c) [
+  was_found o c p committed = elim (lookups list o c) [
     | inl one ↦
         let f : PageCopy = one.1 in
         let here = committed_found one.0 f one.2 in
@@ -157,7 +157,7 @@ module _ (list : List PageCopy) (x : Index) (indexes : Indexes list (length list
 
   -- what is committed is present
   pub is_shown : (o c : ℕ) → present x o c ≡ as_committed (committed_pages x o c)
-  is_shown o c = elim (finds list o c) [
+  is_shown o c = elim (lookups list o c) [
     | inl one ↦
         let f : PageCopy = one.1 in
         let here : present x o c ≡ presents.OnFlash (page_of f) =
@@ -170,7 +170,7 @@ module _ (list : List PageCopy) (x : Index) (indexes : Indexes list (length list
   ]
 
   pub not_buffered : IsUnbuffered x
-  not_buffered o c j is = elim (finds list o c) [
+  not_buffered o c j is = elim (lookups list o c) [
     | inl one ↦
         let f : PageCopy = one.1 in
         let here = present_found one.0 f one.2 in

@@ -251,12 +251,12 @@ waiting_then spare a b c first then same power = record { step = step_on spare a
 
 -- what leaves room does so still, where as much is committed and no more blocks are bad than there are to spare
 pub leaves_room : (t u : Table) (spare count : ℕ) → u.geometry ≡ t.geometry → committed_count u ≡ committed_count t → bad_count u ≤ spare → LeavesRoom t spare count → LeavesRoom u spare count
-leaves_room t u spare count geometry committed few (most, fits, has) = (
+leaves_room t u spare count geometry committed within_limit (most, fits, has) = (
   most,
   subst (λ (g : Geometry). most + count ≤ g.pages) (sym geometry) fits,
   record {
     blocks = subst (λ (g : Geometry). spare + 2 ≤ g.blocks) (sym geometry) has.blocks;
-    bad = few;
+    bad = within_limit;
     committed = subst (λ (g : Geometry). committed_count u ≤ (g.blocks - spare - 1) * most) (sym geometry) (subst (λ n. n ≤ (t.geometry.blocks - spare - 1) * most) (sym committed) has.committed);
   },
 )
@@ -264,20 +264,20 @@ leaves_room t u spare count geometry committed few (most, fits, has) = (
 -- and so no room is made for the reason that none is made now
 pub why_before : (count spare : ℕ) (d : Device) (t u v : Table) (fault : RoomFault) → u.geometry ≡ t.geometry → committed_count u ≡ committed_count t → bad_count u ≤ spare
     → WhyNoRoom count spare d u v fault → WhyNoRoom count spare d t v fault
-why_before count spare d t u v faults.Full geometry committed few why = λ leaves. why (leaves_room t u spare count geometry committed few leaves)
-why_before count spare d t u v faults.Worn geometry committed few why = why
-why_before count spare d t u v faults.Lost geometry committed few why = why
-why_before count spare d t u v faults.Gone geometry committed few why = why
+why_before count spare d t u v faults.Full geometry committed within_limit why = λ leaves. why (leaves_room t u spare count geometry committed within_limit leaves)
+why_before count spare d t u v faults.Worn geometry committed within_limit why = why
+why_before count spare d t u v faults.Lost geometry committed within_limit why = why
+why_before count spare d t u v faults.Gone geometry committed within_limit why = why
 
 -- how a turn ends after a step that made room for it
 pub turn_after : (spare : ℕ) (a b c : BufferedLog) (result : Result Turn RoomFault) → Stands spare a.log.device a.log.table a.index → (first : Step spare a.log b.log a.index b.index) → b.pages ≡ a.pages
     → bad_count b.log.table ≤ spare → TurnEnds spare b c result → TurnEnds spare a c result
-turn_after spare a b c (Ok turns.Written) stands first same few (whole, fits, answered) = (whole_after spare a b c stands first same whole, fits, answered_after spare a b c first answered)
-turn_after spare a b c (Ok turns.Again) stands first same few (waits, free, more, fits, long) =
+turn_after spare a b c (Ok turns.Written) stands first same within_limit (whole, fits, answered) = (whole_after spare a b c stands first same whole, fits, answered_after spare a b c first answered)
+turn_after spare a b c (Ok turns.Again) stands first same within_limit (waits, free, more, fits, long) =
     let rises : bad_count a.log.table ≤ bad_count b.log.table = bad_rises a.log.table b.log.table first.geometry first.marks in
     (waiting_after spare a b c stands first same waits, free, omega (arith, rises, more), fits, subst (λ (ps : List FreshPage). length ps ≤ c.log.device.geometry.pages) same long)
-turn_after spare a b c (Err fault) stands first same few why =
-    why_before (length a.pages) spare c.log.device a.log.table b.log.table c.log.table fault first.geometry first.committed_count few
+turn_after spare a b c (Err fault) stands first same within_limit why =
+    why_before (length a.pages) spare c.log.device a.log.table b.log.table c.log.table fault first.geometry first.committed_count within_limit
     (subst (λ (ps : List FreshPage). WhyNoRoom (length ps) spare c.log.device b.log.table c.log.table fault) same why)
 
 -- how the writing of the group ends short
@@ -330,14 +330,14 @@ shown_committed y f rest same o c = ap (data_by f rest) (same o c) ∙ as_commit
 -- the buffered pages were written, and nothing else is to be done
 pub whole_committed : (spare : ℕ) (a b : BufferedLog) (result : Result (Unit {0}) RoomFault) → WholeEnds spare a b result → CommitEnds spare a b result
 whole_committed spare a b (Err fault) why = why
-whole_committed spare a b (Ok done) (whole, few, answered) = record {
+whole_committed spare a b (Ok done) (whole, within_limit, answered) = record {
   unbuffered = unbuffered b.index whole.commits.settled;
   empty = whole.empty;
   last = whole.last;
   committed = λ honest. whole.commits.committed honest whole.power;
   present = λ honest o c. shown_committed b.index b.log.device.flash b.pages whole.commits.settled o c ∙ whole.commits.committed honest whole.power o c;
   newest = λ honest _. carried b.log.device spare (current a) (whole.commits.newest honest).carries;
-  few = few;
+  within_limit = within_limit;
   free = whole.free;
   power = λ _. whole.power;
   answered = λ _. answered;

@@ -7,10 +7,11 @@ use Rattle.flash_tree.specs.declared.place.FreshPage.{FreshPage}
 use Rattle.pages.specs.Maps.{IsPageOf, changed}
 use Rattle.pages.specs.declared.change.Cut.{Cut}
 use Rattle.pages.specs.declared.change.Change.{Change}
+use Rattle.chunk_index.specs.declared.form.CommittedPage.{CommittedPage}
 use Rattle.chunk_index.specs.declared.form.Present.{Present}
 use Rattle.chunk_index.specs.declared.form.Present.TheVariants as presents
 use Rattle.chunk_index.specs.declared.index.Index.{Index}
-use Rattle.chunk_index.specs.Maps.{present, IsReadyKey, IsPrepared}
+use Rattle.chunk_index.specs.Maps.{present, IsReadyKey, IsPrepared, Settles}
 use Rattle.chunk_index.specs.Entries.{written_page}
 use Rattle.chunk_index.specs.declared.form.WrittenGroup.{WrittenGroup}
 use Rattle.page_store.specs.Shown.{data_at, data_in, present_data}
@@ -98,6 +99,24 @@ ChangesPages change x y old new = (flash : Flash) (o c : ℕ) → present_data y
 -- The pages were written as this group: page i has its data where the group says.
 abbrev pub HasWritten : WrittenGroup → List FreshPage → Flash → Type 0
 HasWritten g pages flash = (i : ℕ) → i < length pages → data_at flash (written_page g i) ≡ data_in pages i
+
+-- the present pages that lie on the flash have the data there that they had
+abbrev pub KeepsPresent : Index → Flash → Flash → Type 0
+KeepsPresent x old new = (o c : ℕ) (k : CommittedPage) → present x o c ≡ presents.OnFlash k → data_at new k ≡ data_at old k
+
+-- A commit of a buffer: its pages were written as a group, by which the index was settled, and present pages that lay on the flash have the
+-- data that they had.
+pub record BufferCommit : Type 0 where
+  pub before : Index
+  pub after : Index
+  pub pages : List FreshPage
+  pub old : Flash
+  pub new : Flash
+  pub group : WrittenGroup
+  pub settles : Settles group before after
+  pub buffers : Buffers before pages
+  pub written : HasWritten group pages new
+  pub same : KeepsPresent before old new
 
 -- The pages of a change can be put in the buffer: there is room in the index for each, each has so many bytes, and no two have one key.
 pub record CanPut (x : Index) (bytes : ℕ) (pages : List FreshPage) : Type 0 where

@@ -59,7 +59,7 @@ AreNumbered device pages = (i : ℕ) (p : FreshPage) → slice_get pages i ≡ S
 
 -- fewer than 2^32 pages, each of the size of the device's pages and of a number that an object may have
 pub record AreWritable (device : Device) (pages : List FreshPage) : Type 0 where
-  pub few : length pages < 2 ^ 32
+  pub within_limit : length pages < 2 ^ 32
   pub numbered : AreNumbered device pages
   pub size : (i : ℕ) (p : FreshPage) → slice_get pages i ≡ Some p → length p.bytes.items ≡ device.geometry.bytes
 

@@ -169,7 +169,7 @@ pub record IsChanged (change : Change) (old new : StoreState) : Type 0 where
   pub committed_map : CommitsEither old new
   pub current : old.log.device.honest ≡ true → SamePages (current_in new) (changed change (current_in old))
   pub buffered : AreBuffered change.pages.items new.index
-  pub few : waiting new ≤ waiting old + length change.pages.items
+  pub within_limit : waiting new ≤ waiting old + length change.pages.items
   pub places : held_count old.cache + length change.pages.items ≤ capacity_of old.cache → HaveUncutPlaces change.pages.items change.cuts.items new.cache
   pub keeps_open : StaysOrKeepsOpen old new
 

@@ -29,7 +29,7 @@ pub record IsCommitted (spare : ℕ) (old new : BufferedLog) : Type 0 where
   pub committed : old.log.device.honest ≡ true → SamePages (committed_map new) (current old)
   pub present : old.log.device.honest ≡ true → SamePages (current new) (current old)
   pub newest : old.log.device.honest ≡ true → IsCarried old.log.device spare (committed_map old) → IsCarried new.log.device spare (current old)
-  pub few : bad_count new.log.table ≤ spare
+  pub within_limit : bad_count new.log.table ≤ spare
   pub free : HasFreeBlocks new.log.table spare
   pub power : 1 ≤ length old.pages → new.log.device.gone ≡ false
   pub answered : 1 ≤ length old.pages → IsAnswered spare old new

@@ -28,5 +28,6 @@ pub mod FoundTables
 pub mod NewestParts
 pub mod Newest
 pub mod ReadOnly
+pub mod PagesOf
 pub mod FlashParts
 pub mod FlashSealing

@@ -74,7 +74,7 @@ pub record IsSealed (due : Type 0) (old : PagesState) (device : Device) (result 
   pub ends_on : EndsOn old pages
   pub checked : IsExact old → StaysRight old pages
   pub committed : old.sound ≡ true → CommittedAs pages old.committed
-  pub few : bad_on old.device ≤ old.spare → OnOk result (bad_on pages.device ≤ pages.spare)
+  pub within_limit : bad_on old.device ≤ old.spare → OnOk result (bad_on pages.device ≤ pages.spare)
   pub ends : SealEnds due old pages result
 
 -- what a fault of the writing is to those above

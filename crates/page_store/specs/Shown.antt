@@ -1,5 +1,5 @@
 -- The data that keys have: of the committed pages, and of the present ones.
-use Rattle.std.specs.Prelude.{ℕ, List, Option, Some, None, slice_get}
+use Rattle.std.specs.Prelude.{◌≡◌, ℕ, List, Option, Some, None, IsSome, slice_get}
 use Rattle.std.specs.Option.{option_map, option_and_then}
 use Rattle.nand_model.specs.Flash.{Flash, Page, Erased, Written, Uncorrectable}
 use Rattle.flash_tree.specs.declared.place.FreshPage.{FreshPage}
@@ -8,7 +8,7 @@ use Rattle.chunk_index.specs.declared.form.CommittedPage.{CommittedPage}
 use Rattle.chunk_index.specs.declared.form.Present.{Present}
 use Rattle.chunk_index.specs.declared.form.Present.TheVariants as presents
 use Rattle.chunk_index.specs.declared.index.Index.{Index}
-use Rattle.chunk_index.specs.Maps.{committed_pages, present}
+use Rattle.chunk_index.specs.Maps.{CommittedMap, committed_pages, present}
 
 -- the data of a page that is written; no other page has any
 abbrev pub data_of : Page → Option (List ℕ)
@@ -19,6 +19,10 @@ data_of Uncorrectable = None
 -- the data of the page that is committed there
 abbrev pub data_at : Flash → CommittedPage → Option (List ℕ)
 data_at flash k = data_of (flash.page k.block k.page)
+
+-- each committed page has data
+abbrev pub HaveData : Flash → CommittedMap → Type 0
+HaveData flash m = (o c : ℕ) (k : CommittedPage) → m o c ≡ Some k → IsSome (data_at flash k)
 
 -- the data of page i of the buffer
 abbrev pub data_in : List FreshPage → ℕ → Option (List ℕ)

@@ -21,7 +21,7 @@ pub struct Buffer {
     most: u32,
     page_bytes: u32,
     ghost small: { most ≤ 64 },
-    ghost few: { length pages.items ≤ most },
+    ghost within_limit: { length pages.items ≤ most },
     ghost room: { most ≤ vec_capacity pages },
     ghost next_room: { most ≤ vec_capacity written },
     ghost sized: { AreSized pages.items page_bytes },

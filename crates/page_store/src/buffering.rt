@@ -32,7 +32,7 @@ pub fn prepare(index: &mut Index, pages: &[FreshPage]) -> Result<(), AllocError>
 /// How many pages the buffer lacks of a key: none where it is present there, and else one.
 fn lacking(index: &Index, key: Key) -> usize
     ensures value { result ≡ lacks (present index.now key.object key.chunk) }
-    ensures few { result ≤ 1 }
+    ensures within_limit { result ≤ 1 }
 {
     match index.present(key) {
         Present::InBuffer(_) => 0,
@@ -44,7 +44,7 @@ fn lacking(index: &Index, key: Key) -> usize
 /// How many of the pages are of keys that are not present in the buffer.
 fn count_new(index: &Index, pages: &[FreshPage]) -> usize
     ensures count { result ≡ new_keys index.now pages.now }
-    ensures few { result ≤ length pages.now }
+    ensures within_limit { result ≤ length pages.now }
 {
     let mut count: usize = 0;
     for page in pages {
@@ -116,7 +116,7 @@ impl Buffer {
         ensures committed { SameCommitted index.old index.new }
         ensures prepared { StaysPrepared index.old index.new }
         ensures puts { (flash : Flash) (o c : ℕ) → present_data index.new (buffered self.new) flash o c ≡ with_pages pages.items (present_data index.old (buffered self.old) flash) o c }
-        ensures few { length (buffered self.new) ≤ with_new index.old (buffered self.old) pages.items }
+        ensures within_limit { length (buffered self.new) ≤ with_new index.old (buffered self.old) pages.items }
         ensures sizes { (most_pages self.new ≡ most_pages self.old) × (bytes_of_page self.new ≡ bytes_of_page self.old) }
     {
         for page in pages {
@@ -134,7 +134,7 @@ impl Buffer {
         ensures prepared { StaysPrepared index.old index.new }
         ensures changes { ChangesPages change index.old index.new (buffered self.old) (buffered self.new) }
         ensures buffered { AreBuffered change.pages.items index.new }
-        ensures few { length (buffered self.new) ≤ with_new index.old (buffered self.old) change.pages.items }
+        ensures within_limit { length (buffered self.new) ≤ with_new index.old (buffered self.old) change.pages.items }
         ensures sizes { (most_pages self.new ≡ most_pages self.old) × (bytes_of_page self.new ≡ bytes_of_page self.old) }
     {
         let Change { pages, cuts } = change;

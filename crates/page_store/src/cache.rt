@@ -61,7 +61,7 @@ impl PageCache {
     /// Of how many keys there is a page or a place.
     pub fn held_count(&self) -> usize
         ensures count { result ≡ held_count self.now }
-        ensures few { result ≤ capacity_of self.now }
+        ensures within_limit { result ≤ capacity_of self.now }
     {
         self.slots.len()
     }

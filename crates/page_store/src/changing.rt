@@ -37,7 +37,7 @@ impl<N: Nand> Store<N> {
     pub fn change(&mut self, change: Change) -> Result<(), StoreFault>
         requires apart { AreApart change.pages.items }
         requires size { AreSized change.pages.items (N.state self.old.log.device).geometry.bytes }
-        requires few { length change.pages.items ≤ (N.state self.old.log.device).geometry.pages / 4 }
+        requires within_limit { length change.pages.items ≤ (N.state self.old.log.device).geometry.pages / 4 }
         requires trees { AreOfTrees change.pages.items }
         ensures lasts { StoreLasts (state_of self.old) (state_of self.new) }
         ensures pays { PaysUpTo (waiting (state_of self.old)) self.old.log.spare (state_of self.old).log (state_of self.new).log result }
@@ -77,11 +77,11 @@ impl<N: Nand> Store<N> {
     /// Commits what is buffered, where the buffer has no room for the pages besides, and returns whether it did.
     fn make_room(&mut self, pages: &[FreshPage]) -> Result<bool, StoreFault>
         requires whole { self.old.broken ≡ false }
-        requires few { length pages.now ≤ (N.state self.old.log.device).geometry.pages / 4 }
+        requires within_limit { length pages.now ≤ (N.state self.old.log.device).geometry.pages / 4 }
         ensures keeps { CommitKeeps (state_of self.old) (state_of self.new) }
         ensures pays { PaysUpTo (waiting (state_of self.old)) self.old.log.spare (state_of self.old).log (state_of self.new).log result }
         ensures carried { StaysCarried (state_of self.old) (state_of self.new) }
-        ensures enough { FitsBuffer pages.now (state_of self.old) → SamePlaces (state_of self.old) (state_of self.new) }
+        ensures sufficient { FitsBuffer pages.now (state_of self.old) → SamePlaces (state_of self.old) (state_of self.new) }
         ensures ends { RoomEnds pages.now (state_of self.old) (state_of self.new) result }
     {
         the_counts_are_of_the_keys();
@@ -106,7 +106,7 @@ impl<N: Nand> Store<N> {
         ensures committed_map { SamePages (committed_in (state_of self.new)) (committed_in (state_of self.old)) }
         ensures current { (N.state self.old.log.device).honest ≡ true → SamePages (current_in (state_of self.new)) (changed change (current_in (state_of self.old))) }
         ensures buffered { AreBuffered change.pages.items self.new.log.index }
-        ensures few { length (buffered self.new.buffer) ≤ with_new self.old.log.index (buffered self.old.buffer) change.pages.items }
+        ensures within_limit { length (buffered self.new.buffer) ≤ with_new self.old.log.index (buffered self.old.buffer) change.pages.items }
         ensures places { KeepsUncutKeys change.cuts.items self.old.cache self.new.cache }
     {
         self.found = Found::Nowhere;

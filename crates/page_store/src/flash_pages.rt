@@ -3,6 +3,7 @@ ghost use Rattle.std.specs.Prelude.{◌≡◌, ◌≤◌, ◌+◌, true, Ok};
 ghost use Rattle.nand_model.specs.Counts.{Costs};
 ghost use Rattle.page_store.specs.Sealing.{IsSealed};
 ghost use Rattle.page_store.specs.declared.flash_pages.FlashPages.TheVariants as kinds;
+ghost use Rattle.page_store.specs.PagesOf.{mounted_pages, read_only_pages, store_pages};
 
 use crate::Store;
 use crate::read_only::ReadOnlyPages;
@@ -24,7 +25,7 @@ impl<N: Nand> FlashPages<N> {
 
     /// The device, as it is.
     pub fn into_device(self) -> N
-        ensures state { N.state result ≡ (⟦<FlashPages<N> as Pages>⟧.state self).device }
+        ensures state { N.state result ≡ (mounted_pages self).device }
         ensures device { result ≡ device_in self }
     {
         match self {
@@ -36,12 +37,12 @@ impl<N: Nand> FlashPages<N> {
     /// Writes a checkpoint of the pages that are committed, where one is due, and gives the device back. Of pages that are only
     /// read it makes no call.
     pub fn seal(self) -> (N, Result<(), StoreFault>)
-        ensures seals { IsSealed (IsDueOf self) (⟦<FlashPages<N> as Pages>⟧.state self) (N.state result.0) result.1 }
+        ensures seals { IsSealed (IsDueOf self) (mounted_pages self) (N.state result.0) result.1 }
         // The erase of a block and the pages of the checkpoint, and for each failure an erase or a mark, and what failed.
-        ensures costs { let d = (⟦<FlashPages<N> as Pages>⟧.state self).device in Costs (check_pages_of self + 1) 2 0 d (N.state result.0) }
+        ensures costs { let d = (mounted_pages self).device in Costs (check_pages_of self + 1) 2 0 d (N.state result.0) }
         // No page is read but one whose program is said to have failed.
-        ensures reads { let d = (⟦<FlashPages<N> as Pages>⟧.state self).device in (N.state result.0).reads + d.failures ≤ d.reads + (N.state result.0).failures }
-        ensures worn { (⟦<FlashPages<N> as Pages>⟧.state self).worn ≡ true → (N.state result.0 ≡ (⟦<FlashPages<N> as Pages>⟧.state self).device) × (result.1 ≡ Ok tt) }
+        ensures reads { let d = (mounted_pages self).device in (N.state result.0).reads + d.failures ≤ d.reads + (N.state result.0).failures }
+        ensures worn { (mounted_pages self).worn ≡ true → (N.state result.0 ≡ (mounted_pages self).device) × (result.1 ≡ Ok tt) }
     {
         match self {
             FlashPages::Store(store) => store.seal(),
@@ -51,11 +52,11 @@ impl<N: Nand> FlashPages<N> {
 }
 
 impl<N: Nand> Pages for FlashPages<N> {
-    ghost state = { elim [ kinds.Store store ↦ ⟦<Store<N> as Pages>⟧.state store | kinds.ReadOnly pages ↦ ⟦<ReadOnlyPages<N> as Pages>⟧.state pages ] };
+    ghost state = { mounted_pages };
 
     ghost sized = { elim [
-      | kinds.Store s ↦ ((⟦<Store<N> as Pages>⟧.state s).device.geometry.least_bytes, (⟦<Store<N> as Pages>⟧.state s).device.geometry.most_bytes)
-      | kinds.ReadOnly s ↦ ((⟦<ReadOnlyPages<N> as Pages>⟧.state s).device.geometry.least_bytes, (⟦<ReadOnlyPages<N> as Pages>⟧.state s).device.geometry.most_bytes)
+      | kinds.Store s ↦ ((store_pages s).device.geometry.least_bytes, (store_pages s).device.geometry.most_bytes)
+      | kinds.ReadOnly s ↦ ((read_only_pages s).device.geometry.least_bytes, (read_only_pages s).device.geometry.most_bytes)
     ] };
 
     fn page_bytes(&self) -> u32 {
@@ -107,12 +108,12 @@ impl<N: Nand> PageStore for FlashPages<N> {
     ghost use Rattle.page_store.specs.laws.ReadOnlySound.{lost_reading, only_worn};
 
     ghost lost = { elim [
-      | kinds.Store s ↦ λ sound failed. lost_alone (⟦<Store<N> as Pages>⟧.state s).device.gone (⟦<Store<N> as Pages>⟧.state s).device.honest s.broken sound failed
-      | kinds.ReadOnly s ↦ λ sound failed. lost_reading (⟦<ReadOnlyPages<N> as Pages>⟧.state s).device.gone (⟦<ReadOnlyPages<N> as Pages>⟧.state s).device.honest s.refused_change sound failed
+      | kinds.Store s ↦ λ sound failed. lost_alone (store_pages s).device.gone (store_pages s).device.honest s.broken sound failed
+      | kinds.ReadOnly s ↦ λ sound failed. lost_reading (read_only_pages s).device.gone (read_only_pages s).device.honest s.refused_change sound failed
     ] };
 
-    ghost few = { elim [
-      | kinds.Store s ↦ λ sound fresh. few_bad (⟦<Store<N> as Pages>⟧.state s).device (table s.log.blocks) s.log.spare s.broken s.log.ready s.few sound
+    ghost within_limit = { elim [
+      | kinds.Store s ↦ λ sound fresh. few_bad (store_pages s).device (table s.log.blocks) s.log.spare s.broken s.log.ready s.within_limit sound
       | kinds.ReadOnly s ↦ λ sound fresh. only_worn _ _ fresh
     ] };
 

@@ -5,7 +5,6 @@ ghost use Rattle.block_state.specs.TableOf.{table};
 ghost use Rattle.chunk_index.specs.Maps.{committed_pages};
 ghost use Rattle.chunk_index.specs.declared.form.CommittedPage.{CommittedPage};
 ghost use Rattle.page_store.specs.Shown.{data_at};
-ghost use Rattle.page_store.specs.Newest.{seen};
 
 use crate::read_committed;
 use chunk_index::{CommittedPage, Index};
@@ -74,7 +73,9 @@ impl<N: Nand> NewestPages<N> {
 }
 
 impl<N: Nand> Pages for NewestPages<N> {
-    ghost state = { λ s. seen (N.state s.device) s.index s.page.items };
+    ghost use Rattle.page_store.specs.PagesOf.{newest_pages};
+
+    ghost state = { newest_pages };
 
     ghost sized = { λ s. ((N.state s.device).geometry.least_bytes, (N.state s.device).geometry.most_bytes) };
 

@@ -114,7 +114,7 @@ impl<N: Nand> PageStore for ReadOnlyPages<N> {
 
     ghost lost = { λ s sound failed. lost_reading (⟦<NewestPages<N> as Pages>⟧.state s.pages).device.gone (⟦<NewestPages<N> as Pages>⟧.state s.pages).device.honest s.refused_change sound failed };
 
-    ghost few = { λ s sound fresh. only_worn _ _ fresh };
+    ghost within_limit = { λ s sound fresh. only_worn _ _ fresh };
 
     fn most_pages(&self) -> u32 {
         self.most

@@ -58,7 +58,7 @@ pub struct Store<N: Nand> {
     ghost buffer_size: { bytes_of_page buffer ≡ (N.state log.device).geometry.bytes },
     ghost cache_size: { page_bytes_of cache ≡ (N.state log.device).geometry.bytes },
     ghost place: { IsFound (buffered buffer) found },
-    ghost few: { broken ≡ false → HasReserve log },
+    ghost within_limit: { broken ≡ false → HasReserve log },
     ghost free: { broken ≡ false → HasFreeBlocks (table log.blocks) log.spare },
     // Each committed page is the newest of its key, also where the device has gone in a read.
     ghost newest: { broken ≡ false → (N.state log.device).honest ≡ true → AreCommitted (N.state log.device).flash (committed_pages log.index) } by { newest_committed_prop broken (N.state log.device).honest (N.state log.device).flash (committed_pages log.index) },
@@ -102,7 +102,7 @@ impl<N: Nand> Store<N> {
         capacity: NonZeroUsize,
     ) -> Result<Store<N>, (N, AllocError)>
         requires committed { (N.state log.device).honest ≡ true → AreCommitted (N.state log.device).flash (committed_pages log.index) }
-        requires few { HasReserve log }
+        requires within_limit { HasReserve log }
         requires free { HasFreeBlocks (table log.blocks) log.spare }
         requires none { IsUnbuffered log.index }
         ensures log { IfOk result (λ store. store.log ≡ log) }
@@ -170,10 +170,9 @@ impl<N: Nand> Store<N> {
 }
 
 impl<N: Nand> Pages for Store<N> {
-    ghost use Rattle.page_store.specs.StateOf.{lent_by, state_of};
-    ghost use Rattle.page_store.specs.StoreState.{seen_of};
+    ghost use Rattle.page_store.specs.PagesOf.{store_pages};
 
-    ghost state = { λ s. seen_of (state_of s) (lent_by s) };
+    ghost state = { store_pages };
 
     ghost sized = { λ s. ((N.state s.log.device).geometry.least_bytes, (N.state s.log.device).geometry.most_bytes) };
 

@@ -29,7 +29,7 @@ pub fn open_summarized<N: Nand>(
 ) -> Result<Opened, OpenFault>
     requires { AreFirstsOf (N.state device.old) firsts.now }
     ensures reads { OnlyReads (N.state device.old) (N.state device.new) }
-    ensures few { ReadsByNeed (N.state device.old) (N.state device.new) }
+    ensures within_limit { ReadsByNeed (N.state device.old) (N.state device.new) }
     ensures power { (N.state device.old).gone ≡ false → OnOk result ((N.state device.new).gone ≡ false) }
     ensures opened { IfOk result (λ opened. IsOpenedBy None (trusted_as false (N.state device.new)) (table opened.blocks) opened.index (numbers_of opened.numbers)) }
     ensures tree { HasTrueFlash (N.state device.new) → IfOk result (FindsItsTree (N.state device.new)) }

@@ -30,7 +30,7 @@ pub(crate) enum Turn {
 
 /// Writes the buffered pages as one group into the open block, which has room for them, and retires it where a program failed.
 fn write_in_room<N: Nand>(log: &mut Log<N>, buffer: &mut Buffer) -> Result<Turn, RoomFault>
-    requires few { HasReserve log.old }
+    requires within_limit { HasReserve log.old }
     requires free { HasFreeBlocks (table log.old.blocks) log.old.spare }
     requires buffers { Buffers log.old.index (buffered buffer.old) }
     requires some { 1 ≤ length (buffered buffer.old) }
@@ -65,7 +65,7 @@ fn write_in_room<N: Nand>(log: &mut Log<N>, buffer: &mut Buffer) -> Result<Turn,
 
 /// Makes room in the open block, writes the buffered pages into it as one group, and retires it where a program failed.
 fn take_turn<N: Nand>(log: &mut Log<N>, buffer: &mut Buffer) -> Result<Turn, RoomFault>
-    requires few { HasReserve log.old }
+    requires within_limit { HasReserve log.old }
     requires free { HasFreeBlocks (table log.old.blocks) log.old.spare }
     requires buffers { Buffers log.old.index (buffered buffer.old) }
     requires some { 1 ≤ length (buffered buffer.old) }
@@ -89,7 +89,7 @@ fn take_turn<N: Nand>(log: &mut Log<N>, buffer: &mut Buffer) -> Result<Turn, Roo
 /// Writes the buffered pages, of which there are some, as one group. A block where that fails is retired, and they are
 /// written again, while there are blocks to spare.
 pub(crate) fn write_whole<N: Nand>(log: &mut Log<N>, buffer: &mut Buffer) -> Result<(), RoomFault>
-    requires few { HasReserve log.old }
+    requires within_limit { HasReserve log.old }
     requires free { HasFreeBlocks (table log.old.blocks) log.old.spare }
     requires buffers { Buffers log.old.index (buffered buffer.old) }
     requires some { 1 ≤ length (buffered buffer.old) }

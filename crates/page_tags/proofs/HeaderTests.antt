@@ -67,7 +67,7 @@ not_magical page reported is not_reported first =
 
 -- a page with a first fault is no header
 pub no_header : (page : List ℕ) (fault : HeaderFault) → length page ≤ 4096 → IsFirstFault page fault → (f : Fields) → IsHeaderOf page f → ⊥
-no_header page fault few first f h = header_or_fault page f fault few h first.here
+no_header page fault within_limit first f h = header_or_fault page f fault within_limit h first.here
 
 -- what was read, part by part
 pub header_from_reads :

@@ -15,7 +15,7 @@ module _ (s : Entry) (old head name zeros : List ℕ) where
       → zeros ≡ replicate (length (take (length named - (10 + length s.name)) (drop (10 + length s.name) named))) 0
       → put_mid (10 + length s.name) (length named - (10 + length s.name)) named zeros ≡ slot_bytes s
   unfolding slot_bytes
-  slot_written size few head_is name_is zeros_are =
+  slot_written size within_limit head_is name_is zeros_are =
       let ten : length head ≡ 10 = ap length head_is in
       let all : length (head ++ drop 10 old) ≡ 272 = omega (arith, length-append head (drop 10 old), length-drop 10 old) in
       let name_len : length name ≡ length s.name = ap length name_is in

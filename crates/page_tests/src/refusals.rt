@@ -135,7 +135,7 @@ fn refuse_each(
             (Lack::Memory, PageFault::NoMemory),
             (Lack::Device, PageFault::Device),
         ] {
-            let number = store.pages.finds().saturating_add(number);
+            let number = store.pages.lookups().saturating_add(number);
             store.pages.refuse(Refusal { number, lack });
             assert_eq!(rt;
                 ask(alloc, store, call, &slot).err(),
@@ -146,11 +146,11 @@ fn refuse_each(
             assert_eq!(rt; answer, returned, "{call:?}");
         }
     }
-    let before = store.pages.finds();
+    let before = store.pages.lookups();
     let answer = ask(alloc, store, call, &slot).expect(rt, "an answer");
     assert_eq!(rt; answer, returned, "{call:?}");
     assert_eq!(rt;
-        store.pages.finds().saturating_sub(before),
+        store.pages.lookups().saturating_sub(before),
         lookups,
         "{call:?}"
     );

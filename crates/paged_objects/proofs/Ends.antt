@@ -39,12 +39,12 @@ read_fault q page_faults.Full lost why = absurd why
 
 -- objects that are there after look-ups
 pub has_after : (z : Sizes) (p q : PagesState) (objects : Objects) → OnlyFinds p q → HasPages z p objects → HasPages z q objects
-has_after z p q objects finds has = record { stands = stays_stands z p q objects (finds_stay p q finds) has.stands; can = has.can }
+has_after z p q objects lookups has = record { stands = stays_stands z p q objects (finds_stay p q lookups) has.stands; can = has.can }
 
 pub named_after : (names : NameIndex) (z : Sizes) (p q : PagesState) (objects : Objects) → OnlyFinds p q → HasNamed names z p objects → HasNamed names z q objects
-named_after names z p q objects finds has = record {
-  pages = has_after z p q objects finds has.pages;
-  named = subst (λ (m : PageMap). HasNames names z m objects) (sym finds.present) has.named;
+named_after names z p q objects lookups has = record {
+  pages = has_after z p q objects lookups has.pages;
+  named = subst (λ (m : PageMap). HasNames names z m objects) (sym lookups.present) has.named;
 }
 
 -- a change of pages that was taken or not
@@ -67,9 +67,9 @@ ends_after z p q r old new (Err faults.Worn) stays ends = fails_after z p q r ol
 
 -- a change that is not made for want of what it reads
 pub read_ends : (z : Sizes) (p q : PagesState) (old new : Objects) (fault : StoreFault) → OnlyFinds p q → ReadFailsBy q fault → EndsPages z p q old new (Err fault)
-read_ends z p q old new faults.NoMemory finds why = finds_stay p q finds
-read_ends z p q old new faults.Device finds why = read_fails z p q old (finds_stay p q finds) why
-read_ends z p q old new faults.Worn finds why = absurd why
+read_ends z p q old new faults.NoMemory lookups why = finds_stay p q lookups
+read_ends z p q old new faults.Device lookups why = read_fails z p q old (finds_stay p q lookups) why
+read_ends z p q old new faults.Worn lookups why = absurd why
 
 -- a change of the pages that is not made leaves what is in memory
 pub not_made : (a b : ObjectsState) (old new : Objects) (fault : StoreFault) → ReportsTheSame a.table b.table → HoldsMore a.names b.names → EndsPages (sizes_in a) a.pages b.pages old new (Err fault) → ChangeEnds a b old new (Err fault)

@@ -46,12 +46,12 @@ few_entries z objects can o dir = few_fitting z objects can.numbers can.fit o di
 pub few_left : (z : Sizes) (objects : Objects) → CanHave z objects → (o : ℕ) (dir : IsDirectory objects o) (name : Name) → map.len (map.remove dir.1 name) < 4294967295
 few_left z objects can o dir name = go (map.contains_key dir.1 name) (map.len-remove nat_list_cmp_total dir.1 name)
   where
-    few : map.len dir.1 < 4294967295
-    few = few_entries z objects can o dir
+    within_limit : map.len dir.1 < 4294967295
+    within_limit = few_entries z objects can o dir
 
     go : (b : Bool) → map.len (map.remove dir.1 name) ≡ cond b (map.len dir.1 - 1) (map.len dir.1) → map.len (map.remove dir.1 name) < 4294967295
-    go true e = omega (arith, few, e)
-    go false e = omega (arith, few, e)
+    go true e = omega (arith, within_limit, e)
+    go false e = omega (arith, within_limit, e)
 
 -- a slot may lead to what an entry leads to
 pub named_number : (z : Sizes) (objects : Objects) → CanHave z objects → (d o : ℕ) (name : Name) → Names objects d name o → IsSlotNumber o

@@ -43,12 +43,12 @@ pub writes_slots : (z : Sizes) (m : PageMap) (change : Change) (old new : Object
     → WritesNewSlots z m change d (map.len (entries_of (map.get old d))) (map.len dir.1)
 writes_slots z m change old new holds numbers fit writes d dir =
     let here : HoldsDirectory z (changed change m) d dir.0 dir.1 = subst (HoldsObject z (changed change m) d) dir.2 (holds.each d) in
-    let few : map.len dir.1 < 4294967295 = few_fitting z new numbers fit d dir in
+    let within_limit : map.len dir.1 < 4294967295 = few_fitting z new numbers fit d dir in
     record {
       fields = here.reads.fields;
       has_header = here.reads.has;
       kind = here.reads.kind;
-      few = omega (arith, few);
+      within_limit = omega (arith, within_limit);
       written = subst (λ (x : Option Object). WritesPast z change d (map.len (entries_of (map.get old d))) (map.len (entries_of x))) dir.2 (writes d);
     }
 

@@ -36,7 +36,7 @@ some_slots z sizes = elim sizes.page_bytes [
 -- no more pages than slots
 ceil_few : (n k : ℕ) → 1 ≤ k → div_ceil n k ≤ n
 ceil_few n k some = elim (cases_lt n (div_ceil n k)) [
-  | inr few ↦ few
+  | inr within_limit ↦ within_limit
   | inl over ↦
       let high : (n + 1) * k ≤ (n / k + min 1 (n % k)) * k = mul-le-mul_right k (omega (arith, over)) in
       let base : 1 * n ≤ k * n = mul-le-mul_right n some in
@@ -60,14 +60,14 @@ module _ (z : Sizes) (sizes : IsSizes z) (m : PageMap) (o c : ℕ) (xs : List �
   directory_low : (moment : ℕ) (entries : Entries) → HoldsDirectory z m o moment entries → c < 2 ^ 32
   directory_low moment entries held =
       let r = held.reads in
-      let few = slots_few z.page_bytes r.fields r.has.1 r.kind in
+      let within_limit = slots_few z.page_bytes r.fields r.has.1 r.kind in
       let count : map.len entries ≡ r.fields.length = ap map.len r.entries_are ∙ entries_len r.slots r.once ∙ sym r.size in
       elim (cases_lt (div_ceil (map.len entries) (page_slots z)) c) [
         | inl behind ↦ absent (held.only c behind)
-        | inr within ↦ let most = ceil_few (map.len entries) (page_slots z) (some_slots z sizes) in low_end (map.len entries) (div_ceil (map.len entries) (page_slots z)) within most (omega (arith, few, count))
+        | inr within ↦ let most = ceil_few (map.len entries) (page_slots z) (some_slots z sizes) in low_end (map.len entries) (div_ceil (map.len entries) (page_slots z)) within most (omega (arith, within_limit, count))
       ] where
         low_end : (n pages : ℕ) → c ≤ pages → pages ≤ n → n ≤ 2 ^ 32 - 1 → c < 2 ^ 32
-        low_end n pages within most few = omega (arith, within, most, few)
+        low_end n pages within most within_limit = omega (arith, within, most, within_limit)
 
   pub held_low : (x : Option Object) → HoldsObject z m o x → c < 2 ^ 32
   held_low None none = absent (none c)

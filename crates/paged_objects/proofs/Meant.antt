@@ -57,8 +57,8 @@ can_make z y objects change is make = subst (λ (k : Sizes). CanMake k objects c
 
 -- the same, after look-ups alone
 found_in : (a b : ObjectsState) → OnlyFinds a.pages b.pages → b.table ≡ a.table → b.names ≡ a.names → StaysIn a b
-found_in a b finds table names = record {
-  pages = finds_stay a.pages b.pages finds;
+found_in a b lookups table names = record {
+  pages = finds_stay a.pages b.pages lookups;
   table = subst (ReportsTheSame a.table) (sym table) (same_here a.table);
   names = λ d h t is. subst (λ (x : NameIndex). Holds x d h t) (sym names) is;
 }
@@ -67,9 +67,9 @@ module _ {S : Type 0} (state : S → ObjectsState) where
   -- a fault of a read
   pub read_faults : (a b : S) (fault : StoreFault) → OnlyFinds (state a).pages (state b).pages → (state b).table ≡ (state a).table → (state b).names ≡ (state a).names → ReadFailsBy (state b).pages fault
       → ReadFaults (paged_meaning state) a b fault
-  read_faults a b faults.NoMemory finds table names why = found_in (state a) (state b) finds table names
-  read_faults a b faults.Device finds table names why = (found_in (state a) (state b) finds table names, why)
-  read_faults a b faults.Worn finds table names why = absurd why
+  read_faults a b faults.NoMemory lookups table names why = found_in (state a) (state b) lookups table names
+  read_faults a b faults.Device lookups table names why = (found_in (state a) (state b) lookups table names, why)
+  read_faults a b faults.Worn lookups table names why = absurd why
 
   -- the end of a commit, which leaves what is in memory
   pub commits : (a b : S) (objects : Objects) (result : Result (Unit {0}) StoreFault) → HasObjects (state a) objects → (state b).table ≡ (state a).table → (state b).names ≡ (state a).names → GoesOn (state a).pages (state b).pages

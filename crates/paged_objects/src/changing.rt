@@ -56,7 +56,7 @@ fn find_object<P: PageStore>(
     directory: u64,
     name: &[u8],
 ) -> Result<Option<u64>, StoreFault>
-    ensures finds { OnlyFinds (P.state pages.old) (P.state pages.new) }
+    ensures lookups { OnlyFinds (P.state pages.old) (P.state pages.new) }
     ensures power { OnOk result (KeepsPower (P.state pages.old) (P.state pages.new)) }
     ensures found { OfReported names.now table.now (P.state pages.old) (λ a. IsDirectory a.objects directory → IfOk result (IsFoundIn a directory name.now)) }
     ensures fault { OfReported names.now table.now (P.state pages.old) (λ a. IsDirectory a.objects directory → IfErr result (ReadFailsBy (P.state pages.new))) }
@@ -74,7 +74,7 @@ fn find_replaced<P: PageStore>(
     pages: &mut P,
     change: &ObjectChange<'_>,
 ) -> Result<Option<u64>, StoreFault>
-    ensures finds { OnlyFinds (P.state pages.old) (P.state pages.new) }
+    ensures lookups { OnlyFinds (P.state pages.old) (P.state pages.new) }
     ensures power { OnOk result (KeepsPower (P.state pages.old) (P.state pages.new)) }
     ensures found { OfReported names.now table.now (P.state pages.old) (λ a.
         CanMake a.sizes a.objects change.now → IfOk result (LedBefore a.objects change.now)) }
@@ -119,7 +119,7 @@ fn plan_named<P: PageStore>(
     change: &ObjectChange<'_>,
     new: u64,
 ) -> Result<Change, StoreFault>
-    ensures finds { OnlyFinds (P.state pages.old) (P.state pages.new) }
+    ensures lookups { OnlyFinds (P.state pages.old) (P.state pages.new) }
     ensures power { OnOk result (KeepsPower (P.state pages.old) (P.state pages.new)) }
     ensures committed { HoldsMore names.old names.new }
     ensures change { IfOk result (IsChangeIn (P.state pages.old) (most_pages (P.state pages.old).page_bytes change.now)) }

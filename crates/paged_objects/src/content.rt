@@ -28,7 +28,7 @@ pub fn write<P: Pages>(
     bytes: &[u8],
     moment: u64,
 ) -> Result<Change, PageFault>
-    ensures finds { OnlyFinds (P.state pages.old) (P.state pages.new) }
+    ensures lookups { OnlyFinds (P.state pages.old) (P.state pages.new) }
     ensures power { OnOk result (KeepsPower (P.state pages.old) (P.state pages.new)) }
     ensures change { (chunks : ℕ) → length bytes.now ≤ chunks * (P.state pages.old).page_bytes
         → IfOk result (IsChangeIn (P.state pages.old) (chunks + 3)) }
@@ -56,7 +56,7 @@ fn touch<P: Pages>(
     offset: u64,
     moment: u64,
 ) -> Result<Change, PageFault>
-    ensures finds { OnlyFinds (P.state pages.old) (P.state pages.new) }
+    ensures lookups { OnlyFinds (P.state pages.old) (P.state pages.new) }
     ensures power { OnOk result (KeepsPower (P.state pages.old) (P.state pages.new)) }
     ensures change { IfOk result (IsChangeIn (P.state pages.old) 2) }
     ensures only { IfOk result (λ change. IsOnlyOf change number) }
@@ -79,7 +79,7 @@ pub fn resize<P: Pages>(
     length: u64,
     moment: u64,
 ) -> Result<Change, PageFault>
-    ensures finds { OnlyFinds (P.state pages.old) (P.state pages.new) }
+    ensures lookups { OnlyFinds (P.state pages.old) (P.state pages.new) }
     ensures power { OnOk result (KeepsPower (P.state pages.old) (P.state pages.new)) }
     ensures change { IfOk result (IsChangeIn (P.state pages.old) 2) }
     ensures only { IfOk result (λ change. IsOnlyOf change number) }

@@ -32,7 +32,7 @@ pub fn move_name<P: Pages>(
     dropped: Option<u64>,
     moment: u64,
 ) -> Result<Change, PageFault>
-    ensures finds { OnlyFinds (P.state pages.old) (P.state pages.new) }
+    ensures lookups { OnlyFinds (P.state pages.old) (P.state pages.new) }
     ensures power { OnOk result (KeepsPower (P.state pages.old) (P.state pages.new)) }
     ensures change { IfOk result (IsChangeIn (P.state pages.old) 4) }
     ensures moves { OfMoved names.now (P.state pages.old) (changes.Move from.entry to.entry number dropped moment) (λ a move.
@@ -62,7 +62,7 @@ fn rename<P: Pages>(
     moment: u64,
 ) -> Result<Option<Change>, PageFault>
     requires { IsTreeSlot (entry_of slot.now) }
-    ensures finds { OnlyFinds (P.state pages.old) (P.state pages.new) }
+    ensures lookups { OnlyFinds (P.state pages.old) (P.state pages.new) }
     ensures power { OnOk result (KeepsPower (P.state pages.old) (P.state pages.new)) }
     ensures change { IfOk result (λ made. IfSome made (IsChangeIn (P.state pages.old) 4)) }
     ensures named { OfNamed names.now (P.state pages.old) (λ a. IsDirectory a.objects from.entry.directory → IfOk result (IsNamedIn a from.entry)) }

@@ -46,7 +46,7 @@ pub fn create<P: Pages>(
     kind: Kind,
     moment: u64,
 ) -> Result<Change, PageFault>
-    ensures finds { OnlyFinds (P.state pages.old) (P.state pages.new) }
+    ensures lookups { OnlyFinds (P.state pages.old) (P.state pages.new) }
     ensures power { OnOk result (KeepsPower (P.state pages.old) (P.state pages.new)) }
     ensures change { IfOk result (IsChangeIn (P.state pages.old) 3) }
     ensures creates { OfHeld (P.state pages.old) (λ a. IfNew a number at.entry (IfOk result (MakesBy a (changes.Create at.entry kind moment)))) }
@@ -71,7 +71,7 @@ pub fn name<P: Pages>(
     number: u64,
     moment: u64,
 ) -> Result<Change, PageFault>
-    ensures finds { OnlyFinds (P.state pages.old) (P.state pages.new) }
+    ensures lookups { OnlyFinds (P.state pages.old) (P.state pages.new) }
     ensures power { OnOk result (KeepsPower (P.state pages.old) (P.state pages.new)) }
     ensures change { IfOk result (IsChangeIn (P.state pages.old) 2) }
     ensures only { IfOk result (λ change. IsOnlyOf change at.entry.directory) }

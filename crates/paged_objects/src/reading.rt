@@ -22,7 +22,7 @@ pub fn find<P: Pages>(
     count: u64,
     name: &[u8],
 ) -> Result<Option<u64>, PageFault>
-    ensures finds { OnlyFinds (P.state pages.old) (P.state pages.new) }
+    ensures lookups { OnlyFinds (P.state pages.old) (P.state pages.new) }
     ensures issued { IssuesHeld names.now directory name.now (P.state pages.old).issued (P.state pages.new).issued }
     ensures power { OnOk result (KeepsPower (P.state pages.old) (P.state pages.new)) }
     ensures found { OfNamed names.now (P.state pages.old) (λ a. IfCounted a directory count (IfOk result (IsFoundIn a directory name.now))) }
@@ -35,7 +35,7 @@ pub fn find<P: Pages>(
 
 /// The names of a directory, in the order of their bytes.
 pub fn names<P: Pages>(pages: &mut P, alloc: Global, directory: u64) -> Result<NameList, PageFault>
-    ensures finds { OnlyFinds (P.state pages.old) (P.state pages.new) }
+    ensures lookups { OnlyFinds (P.state pages.old) (P.state pages.new) }
     ensures power { OnOk result (KeepsPower (P.state pages.old) (P.state pages.new)) }
     ensures found { OfHeld (P.state pages.old) (λ a. IsDirectory a.objects directory → IfOk result (AreNamesIn a directory)) }
     ensures why { IfErr result (SaysWhyMaking (P.state pages.new)) }
@@ -53,7 +53,7 @@ pub fn read_into<P: Pages>(
     offset: u64,
     buffer: &mut [u8],
 ) -> Result<usize, PageFault>
-    ensures finds { OnlyFinds (P.state pages.old) (P.state pages.new) }
+    ensures lookups { OnlyFinds (P.state pages.old) (P.state pages.new) }
     ensures power { OnOk result (KeepsPower (P.state pages.old) (P.state pages.new)) }
     ensures size { length buffer.new ≡ length buffer.old }
     ensures count { IfOk result (λ count. count ≤ length buffer.old) }

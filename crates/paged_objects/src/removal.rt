@@ -65,7 +65,7 @@ pub fn remove<P: Pages>(
     dropped: Option<u64>,
     moment: u64,
 ) -> Result<Change, PageFault>
-    ensures finds { OnlyFinds (P.state pages.old) (P.state pages.new) }
+    ensures lookups { OnlyFinds (P.state pages.old) (P.state pages.new) }
     ensures power { OnOk result (KeepsPower (P.state pages.old) (P.state pages.new)) }
     ensures change { IfOk result (IsChangeIn (P.state pages.old) 2) }
     ensures removes { OfLed names.now (P.state pages.old) at.entry (λ a. IfOk result (MakesBy a (changes.Remove at.entry dropped moment))) }

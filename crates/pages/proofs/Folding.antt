@@ -114,7 +114,7 @@ pub record Folding (cuts : List Cut) (first all now rest : List FreshPage) : Typ
   pub shows : (m : PageMap) (o c : ℕ) → with_pages now (without_cuts cuts (with_pages rest m)) o c ≡ with_pages first (without_cuts cuts (with_pages all m)) o c
   pub apart : AreApart first → AreApart now
   pub size : (bytes : ℕ) → AreSized all bytes → AreSized first bytes → AreSized rest bytes × AreSized now bytes
-  pub few : length now + length rest ≤ length all + length first
+  pub within_limit : length now + length rest ≤ length all + length first
   pub shared : (o c i j : ℕ) → IsPageOf all o c i → IsPageOf first o c j → (((k : ℕ) × IsPageOf rest o c k) × IsPageOf now o c j) ⊎ (length now + length rest + 1 ≤ length all + length first)
 
 pub folding_starts : (cuts : List Cut) (first all : List FreshPage) → Folding cuts first all first all
@@ -122,7 +122,7 @@ folding_starts cuts first all = record {
   shows = λ m o c. refl;
   apart = λ is. is;
   size = λ bytes a b. (a, b);
-  few = omega arith;
+  within_limit = omega arith;
   shared = λ o c i j a b. inl ((i, a), b);
 }
 
@@ -132,7 +132,7 @@ folding_goes cuts first all now now' p rest f put = record {
   shows = λ m o c. put_shows now now' rest cuts p m o c put ∙ f.shows m o c;
   apart = λ is. put_apart now now' cuts p put (f.apart is);
   size = λ bytes a b. let s = f.size bytes a b in (λ i q at. s.0 (suc i) q at, put_size now now' cuts p bytes put (s.0 0 p refl) s.1);
-  few = omega (arith, f.few, put_len now now' cuts p put);
+  within_limit = omega (arith, f.within_limit, put_len now now' cuts p put);
   shared = λ o c i j a b. elim (f.shared o c i j a b) [
     | inr less ↦ inr (omega (arith, less, put_len now now' cuts p put))
     | inl both ↦ go o c both.0.0 j both.0.1 both.1
@@ -145,7 +145,7 @@ folding_goes cuts first all now now' p rest f put = record {
       let object : p.key.object ≡ o = ap (λ (q : FreshPage). q.key.object) one ∙ a.object in
       let chunk : p.key.chunk ≡ c = ap (λ (q : FreshPage). q.key.chunk) one ∙ a.chunk in
       let none = put_none now now' cuts p j put (record { page = b.page; there = b.there; object = b.object ∙ sym object; chunk = b.chunk ∙ sym chunk }) in
-      inr (omega (arith, ap length none, f.few))
+      inr (omega (arith, ap length none, f.within_limit))
   go o c (suc k) j a b = inl ((k, record { page = a.page; there = a.there; object = a.object; chunk = a.chunk }), put_keeps now now' cuts p o c j put b)
 
 -- where none is left, the pages are those of the later change after the earlier

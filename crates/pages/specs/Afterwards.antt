@@ -1,9 +1,10 @@
 -- A store's pages as they are after an earlier change, if there is one, that the store has not taken yet.
-use Rattle.std.specs.Prelude.{◌<◌, ℕ, List, length, slice_get, Option, Some, None}
+use Rattle.std.specs.Prelude.{◌≡◌, ◌<◌, ℕ, true, List, length, slice_get, Option, Some, None, Result, IfOk}
 use Rattle.pages.specs.Maps.{PageMap, changed}
 use Rattle.pages.specs.Changes.{AreSized}
 use Rattle.pages.specs.State.{PagesState}
 use Rattle.flash_tree.specs.declared.place.FreshPage.{FreshPage}
+use Rattle.flash_tree.specs.declared.place.Key.{Key}
 use Rattle.pages.specs.declared.change.Change.{Change}
 use Rattle.pages.specs.declared.after.Source.{Source}
 use Rattle.pages.specs.declared.after.Source.TheVariants as sources
@@ -57,3 +58,8 @@ IsSource (Some change) (sources.Change i) = i < length change.pages.items
 abbrev pub IsSizedBy : Option Change → ℕ → Type 0
 IsSizedBy None bytes = Unit {0}
 IsSizedBy (Some change) bytes = AreSized change.pages.items bytes
+
+-- of a sound store: the source that is returned lends the page that the key has after the change
+abbrev pub FindsAfter : {E : Type 0} → Option Change → Key → PagesState → PagesState → Result Source E → Type 0
+FindsAfter earlier key old new result =
+    (after earlier old).sound ≡ true → IfOk result (λ source. (after earlier old).present key.object key.chunk ≡ Some (lent_by earlier new source))

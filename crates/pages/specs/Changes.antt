@@ -1,5 +1,5 @@
 -- Changes that a store takes.
-use Rattle.std.specs.Prelude.{◌≡◌, ◌⊎◌, ◌<◌, ◌≤◌, ◌^◌, ℕ, List, [], ◌∷◌, ◌++◌, length, Some, slice_get}
+use Rattle.std.specs.Prelude.{◌≡◌, ◌⊎◌, ◌<◌, ◌≤◌, ◌+◌, ◌^◌, ℕ, List, [], ◌∷◌, ◌++◌, length, Some, slice_get}
 use Rattle.pages.specs.Maps.{IsPageOf, IsCut}
 use Rattle.flash_tree.specs.Truth.{IsObjectNumber}
 use Rattle.flash_tree.specs.declared.place.FreshPage.{FreshPage}
@@ -28,7 +28,11 @@ AreOfTrees pages = (i : ℕ) (p : FreshPage) → slice_get pages i ≡ Some p �
 pub record IsChange (change : Change) (bytes most : ℕ) : Type 0 where
   pub apart : AreApart change.pages.items
   pub size : AreSized change.pages.items bytes
-  pub few : length change.pages.items ≤ most
+  pub within_limit : length change.pages.items ≤ most
+
+-- the last change has fewer pages than the first two together
+abbrev pub HasFewerPages : Change → Change → Change → Type 0
+HasFewerPages first second both = length both.pages.items + 1 ≤ length first.pages.items + length second.pages.items
 
 -- nothing is written and nothing is cut
 pub record IsNothing (change : Change) : Type 0 where

@@ -1,5 +1,6 @@
 -- Why a call that reads what pages hold fails.
-use Rattle.std.specs.Prelude.{◌≡◌, ◌<◌, true, Result, OnOk, IfErr}
+use Rattle.std.specs.Prelude.{◌≡◌, ◌<◌, true, List, ℕ, Some, Result, OnOk, IfErr}
+use Rattle.flash_tree.specs.declared.place.Key.{Key}
 use Rattle.pages.specs.State.{PagesState, OnlyFinds, KeepsPower}
 use Rattle.volume_terms.specs.declared.fault.StoreFault.{StoreFault}
 use Rattle.volume_terms.specs.declared.fault.StoreFault.TheVariants as store_faults
@@ -24,6 +25,10 @@ Says memory damage full new faults.Full = full
 abbrev pub MayLack : PagesState → PagesState → PageFault → Type 0
 MayLack old new = Says (old.refused < new.refused) ⊥ ⊥ new
 
+-- the same of a call that reads the page of a key, where the pages that it sees are those of a sound store and have one of the key
+abbrev pub MayLackPage : {T : Type 0} → (seen : PagesState) → Key → PagesState → PagesState → Result T PageFault → Type 0
+MayLackPage seen key old new result = seen.sound ≡ true → (xs : List ℕ) → seen.present key.object key.chunk ≡ Some xs → IfErr result (MayLack old new)
+
 -- and where nothing is known of what it reads
 abbrev pub SaysWhy : PagesState → PagesState → PageFault → Type 0
 SaysWhy old new = Says (old.refused < new.refused) (Unit {0}) ⊥ new
@@ -42,6 +47,6 @@ SaysWhyChanging new = Says (Unit {0}) (Unit {0}) (Unit {0}) new
 
 -- a call that looks up pages: it finds only what is there, a done one leaves power as it was, and a failed one says why
 pub record LooksUp {T : Type 0} (reasons : PagesState → PageFault → Type 0) (old new : PagesState) (result : Result T PageFault) : Type 0 where
-  pub finds : OnlyFinds old new
+  pub lookups : OnlyFinds old new
   pub power : OnOk result (KeepsPower old new)
   pub why : IfErr result (reasons new)

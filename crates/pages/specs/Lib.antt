@@ -3,6 +3,7 @@ pub mod Changes
 pub mod State
 pub mod Sound
 pub mod Stores
+pub mod NewestMaps
 pub mod Refreshing
 pub mod Faults
 pub mod Afterwards

@@ -1,5 +1,5 @@
 -- What a store of pages that is changed leaves.
-use Rattle.std.specs.Prelude.{◌≡◌, ◌⊎◌, ◌<◌, ◌≤◌, ℕ, ◌+◌, ◌-◌, ◌*◌, true, false, List, length, slice_get, Some, Result, IsOk}
+use Rattle.std.specs.Prelude.{◌≡◌, ◌⊎◌, ◌<◌, ◌≤◌, ℕ, ◌+◌, ◌-◌, ◌*◌, true, false, List, [], ◌∷◌, length, slice_get, Some, Result, IsOk}
 use Rattle.nand_model.specs.Flash.{Flash}
 use Rattle.nand_model.specs.Calls.{Device, Lasts}
 use Rattle.nand_model.specs.Changes.{OnlyReads}
@@ -17,10 +17,11 @@ use Rattle.flash_tree.specs.declared.place.Key.{Key}
 use Rattle.volume_terms.specs.Sizes.{number_limit, number_end}
 use Rattle.volume_terms.specs.declared.fault.StoreFault.{StoreFault}
 use Rattle.volume_terms.specs.declared.fault.StoreFault.TheVariants as faults
-use Rattle.pages.specs.Maps.{PageMap, changed}
+use Rattle.pages.specs.Maps.{PageMap, changed, without_cuts}
 use Rattle.pages.specs.State.{PagesState, NextNumbers, KeepsPower}
 use Rattle.pages.specs.Changes.{AreApart, AreSized, AreOfTrees}
 use Rattle.pages.specs.declared.change.Change.{Change}
+use Rattle.pages.specs.declared.change.Cut.{Cut}
 
 -- each key has the same page in both
 abbrev pub SamePages : PageMap → PageMap → Type 0
@@ -183,7 +184,7 @@ CommitFailsBy old new faults.Worn = IsWornOut old new
 pub record CanApply (p : PagesState) (pages : List FreshPage) : Type 0 where
   pub apart : AreApart pages
   pub size : AreSized pages p.page_bytes
-  pub few : length pages ≤ p.most
+  pub within_limit : length pages ≤ p.most
   pub trees : AreOfTrees pages
 
 -- a sound store with a done change: it is sound, and its current pages are the changed ones
@@ -201,6 +202,14 @@ pub record BuffersPages (pages : List FreshPage) (old new : PagesState) : Type 0
 pub record PaysChange (unfinished : ℕ) (old new : PagesState) : Type 0 where
   pub costs : CostsACommit old new
   pub reads : ReadsFew unfinished old.device new.device
+
+-- the current pages are those before, but for what is cut
+abbrev pub CutsCurrent : Cut → PagesState → PagesState → Type 0
+CutsCurrent cut old new = SamePages new.present (without_cuts (cut ∷ []) old.present)
+
+-- the buffer has room for so many pages more
+abbrev pub HasBufferFor : ℕ → PagesState → Type 0
+HasBufferFor count p = p.buffered + count ≤ p.most
 
 -- a sound store with a done commit: it is sound, its current pages stay, and they are committed
 pub record MakesDurable (old new : PagesState) : Type 0 where

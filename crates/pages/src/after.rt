@@ -1,9 +1,8 @@
 // A store's pages as they are after a change that it has not taken yet.
-ghost use Rattle.std.specs.Prelude.{◌≡◌, ◌≤◌, ◌+◌, List, ℕ, true, Some, OnOk, IfOk, IfErr, length, option_copied};
-ghost use Rattle.pages.specs.Maps.{changed};
+ghost use Rattle.std.specs.Prelude.{◌≡◌, ◌≤◌, ◌+◌, Some, OnOk, IfOk, IfErr, length, option_copied};
 ghost use Rattle.pages.specs.State.{OnlyFinds, KeepsPower};
-ghost use Rattle.pages.specs.Faults.{MayLack, SaysWhy};
-ghost use Rattle.pages.specs.Afterwards.{after, lent_by, IsSource, IsSizedBy};
+ghost use Rattle.pages.specs.Faults.{MayLackPage, SaysWhy};
+ghost use Rattle.pages.specs.Afterwards.{after, lent_by, FindsAfter, IsSource, IsSizedBy};
 
 use crate::change::{Change, is_cut, place_of};
 use crate::fault::PageFault;
@@ -22,15 +21,13 @@ pub enum Source {
 
 /// Finds the page that a key has after a change.
 fn load_changed<P: Pages>(pages: &mut P, change: &Change, key: Key) -> Result<Source, PageFault>
-    ensures finds { OnlyFinds (P.state pages.old) (P.state pages.new) }
+    ensures lookups { OnlyFinds (P.state pages.old) (P.state pages.new) }
     ensures issued { (P.state pages.new).issued ≤ (P.state pages.old).issued + 1 }
     ensures source { IfOk result (IsSource (Some change.now)) }
-    ensures page { (P.state pages.old).sound ≡ true
-        → IfOk result (λ source. changed change.now (P.state pages.old).present key.object key.chunk ≡ Some (lent_by (Some change.now) (P.state pages.new) source)) }
+    ensures page { FindsAfter (Some change.now) key (P.state pages.old) (P.state pages.new) result }
     ensures power { OnOk result (KeepsPower (P.state pages.old) (P.state pages.new)) }
     ensures reported { IfErr result (SaysWhy (P.state pages.old) (P.state pages.new)) }
-    ensures fault { (P.state pages.old).sound ≡ true → (xs : List ℕ) → changed change.now (P.state pages.old).present key.object key.chunk ≡ Some xs
-        → IfErr result (MayLack (P.state pages.old) (P.state pages.new)) }
+    ensures fault { MayLackPage (after (Some change.now) (P.state pages.old)) key (P.state pages.old) (P.state pages.new) result }
 {
     if let Some(place) = place_of(&change.pages, key) {
         return Ok(Source::Change(place));
@@ -49,15 +46,13 @@ pub fn load_after<P: Pages>(
     earlier: Option<&Change>,
     key: Key,
 ) -> Result<Source, PageFault>
-    ensures finds { OnlyFinds (P.state pages.old) (P.state pages.new) }
+    ensures lookups { OnlyFinds (P.state pages.old) (P.state pages.new) }
     ensures issued { (P.state pages.new).issued ≤ (P.state pages.old).issued + 1 }
     ensures source { IfOk result (IsSource (option_copied earlier.entry)) }
-    ensures page { let seen = after (option_copied earlier.entry) (P.state pages.old) in
-        seen.sound ≡ true → IfOk result (λ source. seen.present key.object key.chunk ≡ Some (lent_by (option_copied earlier.entry) (P.state pages.new) source)) }
+    ensures page { FindsAfter (option_copied earlier.entry) key (P.state pages.old) (P.state pages.new) result }
     ensures power { OnOk result (KeepsPower (P.state pages.old) (P.state pages.new)) }
     ensures reported { IfErr result (SaysWhy (P.state pages.old) (P.state pages.new)) }
-    ensures fault { let seen = after (option_copied earlier.entry) (P.state pages.old) in
-        seen.sound ≡ true → (xs : List ℕ) → seen.present key.object key.chunk ≡ Some xs → IfErr result (MayLack (P.state pages.old) (P.state pages.new)) }
+    ensures fault { MayLackPage (after (option_copied earlier.entry) (P.state pages.old)) key (P.state pages.old) (P.state pages.new) result }
 {
     match earlier {
         Some(change) => load_changed(pages, change, key),

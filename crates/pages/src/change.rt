@@ -1,7 +1,7 @@
 // What is changed together.
 ghost use Rattle.std.specs.Prelude.{◌≡◌, ◌≤◌, ◌+◌, ◌↔◌, ℕ, true, false, IsTrue, IfOk, OnOk, IfSome, IfNone, length};
 ghost use Rattle.pages.specs.Maps.{PageMap, changed, IsPageOf, IsFirstOf, takes, IsCut};
-ghost use Rattle.pages.specs.Changes.{AreApart, AreSized, IsNothing, IsPutBehind};
+ghost use Rattle.pages.specs.Changes.{AreApart, AreSized, HasFewerPages, IsNothing, IsPutBehind};
 
 use flash_tree::{FreshPage, Key};
 use std::alloc::{AllocError, Global};
@@ -93,9 +93,9 @@ impl Change {
         ensures pages { (m : PageMap) (o c : ℕ) → IfOk result (λ both. changed both m o c ≡ changed next (changed self m) o c) }
         ensures apart { AreApart self.pages.items → AreApart next.pages.items → IfOk result (λ both. AreApart both.pages.items) }
         ensures size { (bytes : ℕ) → AreSized self.pages.items bytes → AreSized next.pages.items bytes → IfOk result (λ both. AreSized both.pages.items bytes) }
-        ensures few { IfOk result (λ both. length both.pages.items ≤ length self.pages.items + length next.pages.items) }
+        ensures within_limit { IfOk result (λ both. length both.pages.items ≤ length self.pages.items + length next.pages.items) }
         ensures shared { (o c i j : ℕ) → IsPageOf self.pages.items o c i → IsPageOf next.pages.items o c j
-            → IfOk result (λ both. length both.pages.items + 1 ≤ length self.pages.items + length next.pages.items) }
+            → IfOk result (HasFewerPages self next) }
     {
         let Change {
             pages: earlier,

@@ -33,7 +33,7 @@ pub struct MemPages {
     // What is lent before a page was found.
     blank: Vec<u8>,
     found: usize,
-    finds: u64,
+    lookups: u64,
     refusal: Option<Refusal>,
     failed: bool,
     refused: Count,
@@ -63,7 +63,7 @@ impl MemPages {
             pages: Vec::new(alloc),
             blank: vec![in alloc; 0u8; page_bytes as usize]?,
             found: 0,
-            finds: 0,
+            lookups: 0,
             refusal: None,
             failed: false,
             refused: Count::new(),
@@ -91,7 +91,7 @@ impl MemPages {
             pages: both.pages,
             blank: self.blank,
             found: 0,
-            finds: self.finds,
+            lookups: self.lookups,
             refusal: self.refusal,
             failed: self.failed,
             refused: self.refused,
@@ -107,16 +107,16 @@ impl MemPages {
     }
 
     /// How many look-ups of keys that have a page there were.
-    pub fn finds(&self) -> u64
+    pub fn lookups(&self) -> u64
         ensures { result ≡ (committed self.now).issued }
     {
-        self.finds
+        self.lookups
     }
 
     /// What is lacking for a look-up of this number.
     fn lacking(&self) -> Option<Lack> {
         match self.refusal {
-            Some(refusal) if refusal.number == self.finds => Some(refusal.lack),
+            Some(refusal) if refusal.number == self.lookups => Some(refusal.lack),
             _ => None,
         }
     }
@@ -129,12 +129,12 @@ impl MemPages {
         ensures refusal { self.new.refusal ≡ self.old.refusal }
         ensures failed { self.old.failed ≡ true → self.new.failed ≡ true }
         ensures refused { self.old.refused.total ≤ self.new.refused.total }
-        ensures rises { self.old.finds ≤ self.new.finds }
-        ensures issued { self.new.finds ≤ self.old.finds + 1 }
+        ensures rises { self.old.lookups ≤ self.new.lookups }
+        ensures issued { self.new.lookups ≤ self.old.lookups + 1 }
         ensures found { OnOk result (self.new.found ≡ place) }
         ensures fault { IfErr result (FailsBy (committed self.old) (committed self.new)) }
     {
-        self.finds = self.finds.saturating_add(1);
+        self.lookups = self.lookups.saturating_add(1);
         match self.lacking() {
             Some(Lack::Memory) => {
                 self.refused.rise();

@@ -1,9 +1,8 @@
 // Pages that are changed and committed.
-ghost use Rattle.std.specs.Prelude.{◌≡◌, ◌⊎◌, ◌≤◌, ◌+◌, true, false, length, OnOk, IfErr, IsErrOf, ◌∷◌, []};
+ghost use Rattle.std.specs.Prelude.{◌≡◌, ◌⊎◌, ◌≤◌, true, false, length, OnOk, IfErr, IsErrOf};
 ghost use Rattle.nand_model.specs.Counts.{ReadsFor, unfinished};
-ghost use Rattle.pages.specs.Maps.{changed, without_cuts};
 ghost use Rattle.pages.specs.Refreshing.{Refreshes};
-ghost use Rattle.pages.specs.Stores.{SamePages, GoesOn, CommittedAs, KeepsEither, StaysSame, CostsACommit, CommitsNothing, ChangeFailsBy, CommitFailsBy, bad_on, CanApply, MakesCurrent, BuffersPages, PaysChange, MakesDurable, EmptiesBuffer, IsIdle};
+ghost use Rattle.pages.specs.Stores.{GoesOn, CommittedAs, KeepsEither, StaysSame, CostsACommit, CommitsNothing, CutsCurrent, HasBufferFor, ChangeFailsBy, CommitFailsBy, bad_on, CanApply, MakesCurrent, BuffersPages, PaysChange, MakesDurable, EmptiesBuffer, IsIdle};
 ghost use Rattle.volume_terms.specs.declared.fault.StoreFault.TheVariants as faults;
 
 use crate::change::{Change, Cut};
@@ -27,7 +26,7 @@ pub trait PageStore: Pages {
         ensures buffers { OnOk result (BuffersPages change.pages.items (Self.state self.old) (Self.state self.new)) }
         ensures committed { (Self.state self.old).sound ≡ true → KeepsEither (Self.state self.old) (Self.state self.new) }
         // Where there is room beside what is buffered nothing is committed, and else once.
-        ensures room { (Self.state self.old).buffered + length change.pages.items ≤ (Self.state self.old).most → CommitsNothing (Self.state self.old) (Self.state self.new) }
+        ensures room { HasBufferFor (length change.pages.items) (Self.state self.old) → CommitsNothing (Self.state self.old) (Self.state self.new) }
         ensures pays { PaysChange (unfinished result) (Self.state self.old) (Self.state self.new) }
         ensures refused { IsErrOf result faults.NoMemory → StaysSame (Self.state self.old) (Self.state self.new) }
         ensures stops { IfErr result (λ fault. (fault ≡ faults.NoMemory) ⊎ ((Self.state self.new).sound ≡ false)) }
@@ -37,7 +36,7 @@ pub trait PageStore: Pages {
     fn cut(&mut self, cut: Cut) -> Result<(), StoreFault>
         ensures goes_on { GoesOn (Self.state self.old) (Self.state self.new) }
         ensures sound { OnOk result ((Self.state self.old).sound ≡ true → (Self.state self.new).sound ≡ true) }
-        ensures present { (Self.state self.old).sound ≡ true → OnOk result (SamePages (Self.state self.new).present (without_cuts (cut ∷ []) (Self.state self.old).present)) }
+        ensures present { (Self.state self.old).sound ≡ true → OnOk result (CutsCurrent cut (Self.state self.old) (Self.state self.new)) }
         ensures committed { (Self.state self.old).sound ≡ true → CommittedAs (Self.state self.new) (Self.state self.old).committed }
         ensures device { (Self.state self.new).device ≡ (Self.state self.old).device }
         ensures next { (Self.state self.new).next ≡ (Self.state self.old).next }
@@ -70,5 +69,5 @@ pub trait PageStore: Pages {
     ghost lost: { (pages : Self) → (Self.state pages).sound ≡ true → (Self.state pages).failed ≡ true → (Self.state pages).device.gone ≡ true };
 
     /// A sound store that can be written has no more bad blocks than there are to spare.
-    ghost few: { (pages : Self) → (Self.state pages).sound ≡ true → (Self.state pages).worn ≡ false → bad_on (Self.state pages).device ≤ (Self.state pages).spare };
+    ghost within_limit: { (pages : Self) → (Self.state pages).sound ≡ true → (Self.state pages).worn ≡ false → bad_on (Self.state pages).device ≤ (Self.state pages).spare };
 }

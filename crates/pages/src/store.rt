@@ -25,7 +25,7 @@ pub trait Pages {
 
     /// Returns whether there is a page of the key; `page` lends it then. A key that has none is reported without looking up a page.
     fn find(&mut self, key: Key) -> Result<Presence, StoreFault>
-        ensures finds { OnlyFinds (state self.old) (state self.new) }
+        ensures lookups { OnlyFinds (state self.old) (state self.new) }
         ensures issued { (state self.new).issued ≤ (state self.old).issued + 1 }
         ensures absent { (state self.old).sound ≡ true → (state self.old).present key.object key.chunk ≡ None → (state self.new).issued ≡ (state self.old).issued }
         // Nor does one that is near make a call of the device.
@@ -37,7 +37,7 @@ pub trait Pages {
 
     /// Whether the device has power still. It may ask the device, as for a page.
     fn has_power(&mut self) -> bool
-        ensures finds { OnlyFinds (state self.old) (state self.new) }
+        ensures lookups { OnlyFinds (state self.old) (state self.new) }
         ensures issued { (state self.new).issued ≤ (state self.old).issued + 1 }
         ensures power { result ≡ not (state self.new).device.gone };
 

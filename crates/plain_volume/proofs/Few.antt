@@ -46,12 +46,12 @@ filter_short p (x ∷ xs) = elim (p x) as (λ b. length (cond b (x ∷ filter p 
 ]
 
 names_few : (z : Sizes) (o : ℕ) (x : Object) → 0 < page_slots z → page_slots z ≤ 4096 → length (names_to o x) ≤ 4096 * cost z x
-names_few z o (File moment bytes) some few = omega arith
-names_few z o (Dir moment entries) some few =
+names_few z o (File moment bytes) some within_limit = omega arith
+names_few z o (Dir moment entries) some within_limit =
     let short = filter_short (λ (e : Name × ℕ). nat_eq o e.1) (map.entries entries) in
     let same = length-map {B = Name} (filter (λ (e : Name × ℕ). nat_eq o e.1) (map.entries entries)) (λ e. e.0) in
     let paged : map.len entries ≤ ceiling (map.len entries) (page_slots z) * page_slots z = (ceiling_at_most (map.len entries) (page_slots z) (ceiling (map.len entries) (page_slots z)) some).0 (omega arith) in
-    let most = mul-le-mul_left (ceiling (map.len entries) (page_slots z)) few in
+    let most = mul-le-mul_left (ceiling (map.len entries) (page_slots z)) within_limit in
     omega (arith, short, same, map.len-entries entries, paged, most)
 
 sum_times : (g : PlainObject → ℕ) (xs : List PlainObject) → sum_by (λ x. 4096 * g x) xs ≡ 4096 * sum_by g xs
@@ -69,6 +69,6 @@ pub pairs_few : (z : Sizes) (m : BTreeMap ℕ PlainObject) (o : ℕ) → tree.Is
 pairs_few z m o sorted least page blocks pages is =
     let fit = leb-true (charge z (objects_in m)) (capacity z) is in
     let some : 0 < page_slots z = omega arith in
-    let few : page_slots z ≤ 4096 = omega arith in
-    let less = sum_by-le-sum_by (names_in o) (λ x. 4096 * cost z (object_of x)) (tree.values m) (λ x. names_few z o (object_of x) some few) in
+    let within_limit : page_slots z ≤ 4096 = omega arith in
+    let less = sum_by-le-sum_by (names_in o) (λ x. 4096 * cost z (object_of x)) (tree.values m) (λ x. names_few z o (object_of x) some within_limit) in
     omega (arith, fit, less, sum_times (λ x. cost z (object_of x)) (tree.values m), charge_values z m sorted, capacity_small z blocks pages)

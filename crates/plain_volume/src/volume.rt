@@ -1,5 +1,5 @@
 // A volume over maps.
-ghost use Rattle.std.specs.Prelude.{◌≡◌, ◌≤◌, ◌↔◌, ℕ, true, false, length, IfOk, IsTrue, OnOk, OnErr};
+ghost use Rattle.std.specs.Prelude.{◌≡◌, ◌↔◌, true, false, IfOk, IsTrue, OnOk, OnErr};
 ghost use Rattle.std.specs.FinMap as map;
 ghost use Rattle.volume_terms.specs.Sizes.{IsSizes};
 ghost use Rattle.volume_terms.specs.VolumeSizes.{sizes_of};
@@ -8,6 +8,7 @@ ghost use Rattle.posix_profile.specs.Runs.{is_no_memory, is_stop, takes_no_memor
 ghost use Rattle.posix_profile.specs.Steps.{step};
 ghost use Rattle.posix_profile.specs.laws.Fresh.{fresh};
 ghost use Rattle.posix_profile.specs.laws.Sound.{IsSound};
+ghost use Rattle.object_commands.specs.Running.{OfFirst};
 ghost use Rattle.object_commands.specs.Volumes.{store_of, handles_of, is_read_only, is_stopped};
 ghost use Rattle.plain_volume.specs.Runs.{RunsPlain};
 
@@ -119,8 +120,7 @@ impl PlainVolume {
     pub fn run(&mut self, commands: &[Stamped], replies: &mut Vec<Reply>) -> Result<(), AllocError>
         ensures sizes { self.new.sizes ≡ self.old.sizes }
         ensures read_only { self.new.read_only ≡ self.old.read_only }
-        ensures runs { (n : ℕ) × (n ≤ length commands.now) × OnOk result (n ≡ length commands.now)
-            × RunsPlain self.old self.new commands.now n replies.old.items replies.new.items }
+        ensures runs { OfFirst commands.now result (λ n. RunsPlain self.old self.new commands.now n replies.old.items replies.new.items) }
     {
         self.volume.run(commands, replies)
     }

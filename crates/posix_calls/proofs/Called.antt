@@ -15,7 +15,7 @@ use Rattle.posix_calls.specs.PageVolumes.{is_read_only, is_stopped, IsVolumeOf}
 use Rattle.posix_calls.specs.declared.page_volume.PageVolume.{PageVolume}
 use Rattle.posix_calls.proofs.Calls.{FewLaw, meaning_of, is_at, is_volume, one_call, reads_device, tree_after, synced_after}
 
-module _ {P : Type 0} (state : P → PagesState) (few : FewLaw state) (a b : PageVolume P) (command : Stamped) (reply : Reply) (served : IsServed (meaning_of state) a.volume command reply b.volume) where
+module _ {P : Type 0} (state : P → PagesState) (within_limit : FewLaw state) (a b : PageVolume P) (command : Stamped) (reply : Reply) (served : IsServed (meaning_of state) a.volume command reply b.volume) where
   ends : is_stopped a ≡ false → (z : Sizes) (s : State) → IsVolumeOf state z s a → One (meaning_of state) z (is_read_only a) s command reply a.volume b.volume
   ends goes z s is = one_call state z s command reply a b is (served.ends goes z s (is_at state z s a is))
 
@@ -24,7 +24,7 @@ module _ {P : Type 0} (state : P → PagesState) (few : FewLaw state) (a b : Pag
       let one = ends goes z s is in
       record {
         reply_is = one.replies;
-        state_is = λ still. is_volume state z _ b few (served.lasts.0.worn ∙ is.worn ∙ sym served.keeps) (one.state still);
+        state_is = λ still. is_volume state z _ b within_limit (served.lasts.0.worn ∙ is.worn ∙ sym served.keeps) (one.state still);
         tree = tree_after state z s (is_read_only a) command reply a b is.sizes served.lasts.1 one;
         synced = synced_after state z s (is_read_only a) command reply a b is.sizes served.lasts.1 one;
         cause = λ stop. (one.fails stop).0.cause;

@@ -99,9 +99,9 @@ module _ (z : Sizes) (numbers : IsSizes z) (m : PageMap) where
 -- pages of objects that all have names are those of the tree that a mount shows
 pub keeps_only : (z : Sizes) (p : PagesState) (objects : Objects) → IsSizes z → p.sound ≡ true → Shown z p (settled objects) → HoldsObjects z p.committed objects → settled objects ≡ objects
     → bad_on p.device ≤ p.spare → KeepsOnly z p (settled objects)
-keeps_only z p objects numbers sound shown holds same few = record {
+keeps_only z p objects numbers sound shown holds same within_limit = record {
   sound = sound;
-  few = few;
+  within_limit = within_limit;
   all = λ honest o c foot. footprint_pages z p.committed numbers p.device.flash (carries honest) objects holds o c foot;
   only = λ honest o c page. page_looked z numbers p.committed objects holds p.device.flash (carries honest) same o c page;
 } where
@@ -112,11 +112,11 @@ module _ {P : Type 0} (state : P → PagesState) (z : Sizes) where
   -- after a commit that is done
   pub commit_exact : (objects : Objects) (a b : PagedObjects P) → Has (meaning_of state) z objects a → settled objects ≡ objects → (r : Result (Unit {0}) StoreFault) (done : Unit {0}) → r ≡ Ok done
       → Commits (meaning_of state) objects a b r → ((state b.pages).sound ≡ true → bad_on (state b.pages).device ≤ (state b.pages).spare) → KeepsOnly z (state b.pages) (settled objects)
-  commit_exact objects a b has same r done is commits few =
+  commit_exact objects a b has same r done is commits within_limit =
       let ends : Commits (meaning_of state) objects a b (Ok done) = subst (Commits (meaning_of state) objects a b) is commits in
       let sound = ends.0.stands.sound in
       keeps_only z (state b.pages) objects has.numbers sound (commit_done state z objects a b has r done is commits)
-      (subst (λ (y : Sizes). HoldsObjects y (state b.pages).committed objects) has.sizes (ends.1.0.holds sound)) same (few sound)
+      (subst (λ (y : Sizes). HoldsObjects y (state b.pages).committed objects) has.sizes (ends.1.0.holds sound)) same (within_limit sound)
 
   -- a commit of objects that settle to others leaves the tree or settles these
   pub committed_tree : (first objects : Objects) (a b : PagedObjects P) → Has (meaning_of state) z objects a → (r : Result (Unit {0}) StoreFault) → (r ≡ Err faults.NoMemory → ⊥)

@@ -91,7 +91,7 @@ module _ {M : Type 0} {nand : Ghosts M} (state : FlashPages M nand → PagesStat
     next = next_there given.made;
     tree = over.tree given.made;
     checked = λ truth. there (λ q. IsChecked device.geometry device.flash q.checkpoint) (given.checked truth);
-    few = there (λ q. ReadsAtMost device q.device) given.few;
+    within_limit = there (λ q. ReadsAtMost device q.device) given.within_limit;
     remembers = λ honest. there (Remembers device) (given.remembers honest);
   }
 
@@ -104,6 +104,6 @@ module _ {M : Type 0} {nand : Ghosts M} (state : FlashPages M nand → PagesStat
     next = next_there given.made;
     tree = over.tree given.made;
     checked = λ honest truth. there (λ q. IsChecked device.geometry device.flash q.checkpoint) (given.checked honest truth);
-    few = there (λ q. ReadsAllTags device q.device) given.few;
+    within_limit = there (λ q. ReadsAllTags device q.device) given.within_limit;
     remembers = λ honest. there (Remembers device) (given.remembers honest);
   }

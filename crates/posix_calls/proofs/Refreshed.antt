@@ -78,7 +78,7 @@ ended_by q faults.Device why = inl why
 ended_by q faults.Worn why = inr why
 
 -- The block of the pages was to be refreshed, and all else of the volume stays.
-module _ {P : Type 0} (state : P → PagesState) (few : FewLaw state) (block : ℕ) (a : PageVolume P) (store : PagedObjects P) (goes : is_stopped a ≡ false) (written : is_read_only a ≡ false) (table : store.table ≡ table_of a)
+module _ {P : Type 0} (state : P → PagesState) (within_limit : FewLaw state) (block : ℕ) (a : PageVolume P) (store : PagedObjects P) (goes : is_stopped a ≡ false) (written : is_read_only a ≡ false) (table : store.table ≡ table_of a)
     (names : store.names ≡ names_of a) where
   abbrev p : PagesState
   p = state (pages_of a)
@@ -111,7 +111,7 @@ module _ {P : Type 0} (state : P → PagesState) (few : FewLaw state) (block : �
           handles = at.handles;
           sound = at.sound;
           worn = worn;
-          few = λ _. few store.pages done.sound (worn ∙ written);
+          within_limit = λ _. within_limit store.pages done.sound (worn ∙ written);
           reading = λ only. absurd (true≢false (sym only ∙ written));
           named = λ only. absurd (true≢false (sym only ∙ written));
           shown = λ only. absurd (true≢false (sym only ∙ written));

@@ -53,7 +53,7 @@ power_there p device (reported, is) power = sym (ap (λ (d : Device). d.gone) is
 
 -- it has as many bad blocks
 few_there : (p : PagesState) (device : Device) → LiesOn p device → bad_on p.device ≤ p.spare → bad_on device ≤ p.spare
-few_there p device (reported, is) few = subst (λ (d : Device). bad_on d ≤ p.spare) is few
+few_there p device (reported, is) within_limit = subst (λ (d : Device). bad_on d ≤ p.spare) is within_limit
 
 -- a tree that was shown is shown by what was committed
 sealed_shown : (z : Sizes) (p q : PagesState) (tree : Objects) → EndsOn p q → p.sound ≡ true → CommittedAs q p.committed → Shown z p tree → Shown z q tree
@@ -94,7 +94,7 @@ module _ {P : Type 0} (state : P → PagesState) (v : PageVolume P) (p : PagesSt
     replies_are = finished.replies_are;
     read_only_done = finished.read_only_done;
     power = λ reported was. power_there p device lies (finished.power reported was);
-    few = λ written z s is done. few_there p device lies (finished.exact z s (written, is) done).few;
+    within_limit = λ written z s is done. few_there p device lies (finished.exact z s (written, is) done).within_limit;
     done = finished.done;
     tree = finished.tree;
     cause = finished.cause;
@@ -125,8 +125,8 @@ module _ {P : Type 0} (state : P → PagesState) (v : PageVolume P) (p : PagesSt
     which (Err fault) = inr refl
 
     few_after : (r : Result (Unit {0}) StoreFault) → OnOk r (bad_on sealed.pages.device ≤ sealed.pages.spare) → reply_of r ≡ replies.Done → bad_on sealed.pages.device ≤ sealed.pages.spare
-    few_after (Ok done') few all = few
-    few_after (Err fault) few not = absurd (not_done not)
+    few_after (Ok done') within_limit all = within_limit
+    few_after (Err fault) within_limit not = absurd (not_done not)
 
     -- a checkpoint of the pages was written, where one was due
     pub sealed_after : LiesOn sealed.pages device → IsUnmounted state v device reported
@@ -139,7 +139,7 @@ module _ {P : Type 0} (state : P → PagesState) (v : PageVolume P) (p : PagesSt
       replies_are = λ runs. subst (λ (r : Reply). (r ≡ replies.Done) ⊎ (r ≡ replies.Error errors.EIO)) (sym is) (which result);
       read_only_done = λ runs read_only. absurd (true≢false (sym read_only ∙ written));
       power = λ all was. power_there sealed.pages device lies (has_power result sealed.ends (sym is ∙ all) (finished.power done was));
-      few = λ _ z s stands all. few_there sealed.pages device lies (few_after result (sealed.few (finished.exact z s (written, stands) done).few) (sym is ∙ all));
+      within_limit = λ _ z s stands all. few_there sealed.pages device lies (few_after result (sealed.within_limit (finished.exact z s (written, stands) done).within_limit) (sym is ∙ all));
       done = λ runs z s stands all. shown_on z s stands (settled s.objects) (finished.done runs z s stands done);
       tree = λ runs z s stands tree shown. inr (shown_on z s stands (settled s.objects) (finished.done runs z s stands done));
       cause = λ runs z s stands stop. ended result sealed.ends (finished.exact z s (written, stands) done).sound (sym is ∙ stop);

@@ -19,6 +19,10 @@ pub record IsClosed (n : ℕ) (s t : State) : Type 0 where
   pub closed : (fd : ℕ) → fd < n → map.get t.handles fd ≡ None
   pub settles : settled t.objects ≡ settled s.objects
 
+-- a tree that a mount of the old pages shows is shown of the new ones, or this one is
+abbrev pub ShowsOldOrNew : Sizes → (old new : PagesState) → Objects → Type 0
+ShowsOldOrNew z old new committed = (tree : Objects) → Shown z old tree → Shown z new tree ⊎ Shown z new committed
+
 -- The first n descriptors were closed in turn. The volume goes on, and stands for a state in which they are; or it is stopped for its
 -- reason. A mount shows the tree that it did, or what names keep of the objects. The device is left as it is.
 pub record Closes {P : Type 0} (state : P → PagesState) (n : ℕ) (a b : PageVolume P) : Type 0 where
@@ -26,15 +30,14 @@ pub record Closes {P : Type 0} (state : P → PagesState) (n : ℕ) (a b : PageV
   pub read_only : is_read_only b ≡ is_read_only a
   pub device : (state (pages_of b)).device ≡ (state (pages_of a)).device
   pub stands : is_stopped b ≡ false → (z : Sizes) (s : State) → IsVolumeOf state z s a → (t : State) × IsVolumeOf state z t b × IsClosed n s t
-  pub tree : (z : Sizes) (s : State) → IsVolumeOf state z s a → (tree : Objects) → Shown z (state (pages_of a)) tree
-      → Shown z (state (pages_of b)) tree ⊎ Shown z (state (pages_of b)) (settled s.objects)
+  pub tree : (z : Sizes) (s : State) → IsVolumeOf state z s a → ShowsOldOrNew z (state (pages_of a)) (state (pages_of b)) (settled s.objects)
   pub cause : is_stopped b ≡ true → (z : Sizes) (s : State) → IsVolumeOf state z s a → HasEnded (state (pages_of a)) (state (pages_of b))
 
 -- The store is sound, with no more bad blocks than there are to spare; and on an honest device a key has a committed page exactly where it is
 -- looked up to see the tree.
 pub record KeepsOnly (z : Sizes) (p : PagesState) (tree : Objects) : Type 0 where
   pub sound : p.sound ≡ true
-  pub few : bad_on p.device ≤ p.spare
+  pub within_limit : bad_on p.device ≤ p.spare
   pub all : p.device.honest ≡ true → (o c : ℕ) → InFootprint z (HasNewest p.device.flash) tree o c → HasPage p.committed o c
   pub only : p.device.honest ≡ true → (o c : ℕ) → HasPage p.committed o c → InFootprint z (HasNewest p.device.flash) tree o c
 

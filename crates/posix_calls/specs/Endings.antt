@@ -36,7 +36,7 @@ pub record IsUnmounted {P : Type 0} (state : P → PagesState) (v : PageVolume P
   pub replies_are : is_stopped v ≡ false → (reply ≡ replies.Done) ⊎ (reply ≡ replies.Error errors.EIO)
   pub read_only_done : is_stopped v ≡ false → is_read_only v ≡ true → reply ≡ replies.Done
   pub power : reply ≡ replies.Done → (state (pages_of v)).device.gone ≡ false → device.gone ≡ false
-  pub few : is_read_only v ≡ false → (z : Sizes) (s : State) → IsVolumeOf state z s v → reply ≡ replies.Done → bad_on device ≤ pages.spare
+  pub within_limit : is_read_only v ≡ false → (z : Sizes) (s : State) → IsVolumeOf state z s v → reply ≡ replies.Done → bad_on device ≤ pages.spare
   pub done : is_stopped v ≡ false → (z : Sizes) (s : State) → IsVolumeOf state z s v → reply ≡ replies.Done → Shown z pages (settled s.objects)
   pub tree : is_stopped v ≡ false → (z : Sizes) (s : State) → IsVolumeOf state z s v → (tree : Objects) → Shown z (state (pages_of v)) tree
       → Shown z pages tree ⊎ Shown z pages (settled s.objects)

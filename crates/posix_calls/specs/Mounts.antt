@@ -52,7 +52,7 @@ pub record IsMounted {P : Type 0} (state : P → PagesState) (device : Device) (
   pub next : (state (pages_of v)).device.honest ≡ true → AreNext (state (pages_of v)).device.flash (state (pages_of v)).next
   pub tree : (state (pages_of v)).device.honest ≡ true → (objects : Objects) × StandsForTree state v objects
   pub checked : HasTrueFlash device → IsChecked device.geometry device.flash (state (pages_of v)).checkpoint
-  pub few : ReadsAtMost device (state (pages_of v)).device
+  pub within_limit : ReadsAtMost device (state (pages_of v)).device
   pub remembers : device.honest ≡ true → Remembers device (state (pages_of v))
 
 -- The volume of a device is mounted by all tags, whatever its flash is. The device was only read, and keeps its power. Then, if it is honest,
@@ -67,7 +67,7 @@ pub record IsMountedByScan {P : Type 0} (state : P → PagesState) (device : Dev
   pub next : (state (pages_of v)).device.honest ≡ true → AreNext (state (pages_of v)).device.flash (state (pages_of v)).next
   pub tree : (state (pages_of v)).device.honest ≡ true → (objects : Objects) × StandsForTree state v objects
   pub checked : device.honest ≡ true → IsTrueFlash device.geometry device.flash → IsChecked device.geometry device.flash (state (pages_of v)).checkpoint
-  pub few : ReadsAllTags device (state (pages_of v)).device
+  pub within_limit : ReadsAllTags device (state (pages_of v)).device
   pub remembers : device.honest ≡ true → Remembers device (state (pages_of v))
 
 -- A volume is over the pages that a mount gave: it goes on, can only be read where that says so, and stands for the tree of the pages of

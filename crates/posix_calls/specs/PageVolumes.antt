@@ -54,7 +54,7 @@ pub record IsVolumeOf {P : Type 0} (state : P → PagesState) (z : Sizes) (s : S
   pub handles : volumes.handles_of v.volume ≡ s.handles
   pub sound : IsSound z s
   pub worn : (state (pages_of v)).worn ≡ is_read_only v
-  pub few : is_read_only v ≡ false → bad_on (state (pages_of v)).device ≤ (state (pages_of v)).spare
+  pub within_limit : is_read_only v ≡ false → bad_on (state (pages_of v)).device ≤ (state (pages_of v)).spare
   pub reading : is_read_only v ≡ true → AreReading s.handles
   pub named : is_read_only v ≡ true → settled s.objects ≡ s.objects
   pub shown : is_read_only v ≡ true → Shown z (state (pages_of v)) s.objects
@@ -72,3 +72,10 @@ pub record IsStored {P : Type 0} (state : P → PagesState) (o : PagedObjects P)
 pub record IsShownBy {P : Type 0} (state : P → PagesState) (o : PagedObjects P) (objects : Objects) : Type 0 where
   pub named : settled objects ≡ objects
   pub shown : Shown (table_sizes (parts.table_of o)) (state (parts.pages_of o)) objects
+
+-- These are the objects of a store whose volume is read-only or not, by whether its device is worn out: of a read-only one each has a name,
+-- and a mount shows them.
+pub record IsStoredAs {P : Type 0} (state : P → PagesState) (o : PagedObjects P) (read_only : Bool) (objects : Objects) : Type 0 where
+  pub stored : IsStored state o objects
+  pub worn : (state (parts.pages_of o)).worn ≡ read_only
+  pub shown : read_only ≡ true → IsShownBy state o objects

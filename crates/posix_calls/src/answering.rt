@@ -1,15 +1,15 @@
 // A volume that answers what reads its tree by commands.
+ghost use Rattle.page_store.specs.PagesOf.{mounted_pages};
+
 use crate::volume::Volume;
-use nand_model::{Nand, TrustedNand};
-use page_store::FlashPages;
-use pages::Pages;
+use nand_model::Nand;
 use posix_profile::{Answers, Reply, Stamped};
 
 impl<N: Nand> Answers for Volume<N> {
     ghost use Rattle.posix_calls.specs.Answering.{ShowsState};
     ghost use Rattle.posix_calls.specs.Volumes.{over_pages};
 
-    ghost shows = { λ v. ShowsState ⟦<FlashPages<TrustedNand<N>> as Pages>⟧.state (over_pages v) };
+    ghost shows = { λ v. ShowsState mounted_pages (over_pages v) };
 
     fn answer(&mut self, stamped: &Stamped) -> Reply {
         self.call(stamped)

@@ -4,15 +4,14 @@ ghost use Rattle.nand_model.specs.Changes.{OnlyReads};
 ghost use Rattle.nand_model.specs.TrustedParts.{inner_of};
 ghost use Rattle.page_store.specs.FlashParts.{device_in};
 ghost use Rattle.mounting.specs.Faults.{WhyNotMounted};
+ghost use Rattle.page_store.specs.PagesOf.{mounted_pages};
 
 use crate::joining::join;
 use crate::volume::Volume;
 use command_plans::table::DescriptorTable;
 use mounting::{MountFault, Mounted, unmounted};
 use nand_model::{Nand, TrustedNand};
-use page_store::FlashPages;
 use paged_objects::PagedObjects;
-use pages::Pages;
 use std::alloc::Global;
 use std::num::NonZeroUsize;
 
@@ -24,8 +23,8 @@ impl<N: Nand> Volume<N> {
     /// without one by the summaries of its blocks, where these do; and else by a scan of all pages. It only reads; after a fault the
     /// device is given back.
     pub fn mount(alloc: Global, device: N) -> Result<Volume<N>, (N, MountFault)>
-        ensures mounted { IfOk result (λ v. IsMounted ⟦<FlashPages<TrustedNand<N>> as Pages>⟧.state (N.state device) (over_pages v)) }
-        ensures placed { IfOk result (λ v. LieAsScanned ⟦<FlashPages<TrustedNand<N>> as Pages>⟧.state (over_pages v)) }
+        ensures mounted { IfOk result (λ v. IsMounted mounted_pages (N.state device) (over_pages v)) }
+        ensures placed { IfOk result (λ v. LieAsScanned mounted_pages (over_pages v)) }
         ensures back { IfErr result (λ failed. OnlyReads (N.state device) (N.state failed.0)) }
         ensures fault { IfErr result (λ failed. WhyNotMounted (N.state failed.0) failed.1) }
     {
@@ -38,8 +37,8 @@ impl<N: Nand> Volume<N> {
         device: N,
         capacity: usize,
     ) -> Result<Volume<N>, (N, MountFault)>
-        ensures mounted { IfOk result (λ v. IsMounted ⟦<FlashPages<TrustedNand<N>> as Pages>⟧.state (N.state device) (over_pages v)) }
-        ensures placed { IfOk result (λ v. LieAsScanned ⟦<FlashPages<TrustedNand<N>> as Pages>⟧.state (over_pages v)) }
+        ensures mounted { IfOk result (λ v. IsMounted mounted_pages (N.state device) (over_pages v)) }
+        ensures placed { IfOk result (λ v. LieAsScanned mounted_pages (over_pages v)) }
         ensures back { IfErr result (λ failed. OnlyReads (N.state device) (N.state failed.0)) }
         ensures fault { IfErr result (λ failed. WhyNotMounted (N.state failed.0) failed.1) }
     {
@@ -51,8 +50,8 @@ impl<N: Nand> Volume<N> {
     /// Mounts the volume on a device as `mount` does, but always by a scan of all pages: for a device that another program than this
     /// file system may have written.
     pub fn mount_scanned(alloc: Global, device: N) -> Result<Volume<N>, (N, MountFault)>
-        ensures mounted { IfOk result (λ v. IsMountedByScan ⟦<FlashPages<TrustedNand<N>> as Pages>⟧.state (N.state device) (over_pages v)) }
-        ensures placed { IfOk result (λ v. LieAsScanned ⟦<FlashPages<TrustedNand<N>> as Pages>⟧.state (over_pages v)) }
+        ensures mounted { IfOk result (λ v. IsMountedByScan mounted_pages (N.state device) (over_pages v)) }
+        ensures placed { IfOk result (λ v. LieAsScanned mounted_pages (over_pages v)) }
         ensures back { IfErr result (λ failed. OnlyReads (N.state device) (N.state failed.0)) }
         ensures fault { IfErr result (λ failed. WhyNotMounted (N.state failed.0) failed.1) }
     {
@@ -65,8 +64,8 @@ impl<N: Nand> Volume<N> {
         device: N,
         capacity: usize,
     ) -> Result<Volume<N>, (N, MountFault)>
-        ensures mounted { IfOk result (λ v. IsMountedByScan ⟦<FlashPages<TrustedNand<N>> as Pages>⟧.state (N.state device) (over_pages v)) }
-        ensures placed { IfOk result (λ v. LieAsScanned ⟦<FlashPages<TrustedNand<N>> as Pages>⟧.state (over_pages v)) }
+        ensures mounted { IfOk result (λ v. IsMountedByScan mounted_pages (N.state device) (over_pages v)) }
+        ensures placed { IfOk result (λ v. LieAsScanned mounted_pages (over_pages v)) }
         ensures back { IfErr result (λ failed. OnlyReads (N.state device) (N.state failed.0)) }
         ensures fault { IfErr result (λ failed. WhyNotMounted (N.state failed.0) failed.1) }
     {
@@ -80,7 +79,7 @@ impl<N: Nand> Volume<N> {
         alloc: Global,
         mounted: Mounted<TrustedNand<N>>,
     ) -> Result<Volume<N>, (N, MountFault)>
-        ensures over { IfOk result (λ v. IsOver ⟦<FlashPages<TrustedNand<N>> as Pages>⟧.state mounted (over_pages v)) }
+        ensures over { IfOk result (λ v. IsOver mounted_pages mounted (over_pages v)) }
         ensures back { IfErr result (λ failed. OnlyReads (N.state (inner_of (device_in mounted.pages))) (N.state failed.0)) }
         ensures fault { IfErr result (λ failed. WhyNotMounted (N.state failed.0) failed.1) }
     {

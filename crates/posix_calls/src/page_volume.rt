@@ -2,6 +2,7 @@
 ghost use Rattle.std.specs.Prelude.{◌≡◌, ◌⊎◌, ◌≤◌, ℕ, true, false, length, Err, OnOk};
 ghost use Rattle.std.specs.FinMap as map;
 ghost use Rattle.volume_terms.specs.Sizes.{Sizes, most_written};
+ghost use Rattle.lives.specs.Lives.{at_mount};
 ghost use Rattle.posix_profile.specs.Requests.{stamped_of};
 ghost use Rattle.posix_profile.specs.State.{Objects, State};
 ghost use Rattle.posix_profile.specs.declared.reply.Errno.TheVariants as errors;
@@ -27,14 +28,14 @@ pub struct PageVolume<P: PageStore> {
 }
 
 impl<P: PageStore> PageVolume<P> {
-    ghost use Rattle.posix_calls.specs.PageVolumes.{pages_of, table_of, is_read_only, is_stopped, IsStored, IsShownBy, IsVolumeOf};
+    ghost use Rattle.posix_calls.specs.PageVolumes.{pages_of, table_of, is_read_only, is_stopped, IsStoredAs, IsVolumeOf};
     ghost use Rattle.command_plans.specs.Tables.{handles_in};
     ghost use Rattle.paged_objects.specs.Parts as parts;
     ghost use Rattle.object_commands.specs.Describing.{Describes};
     ghost use Rattle.object_commands.specs.Reads.{LeavesRest, asked_of, read_reply, reading};
     ghost use Rattle.posix_calls.specs.Calls.{IsCalled};
     ghost use Rattle.posix_calls.specs.Refreshing.{IsRefreshed};
-    ghost use Rattle.posix_calls.specs.Closing.{CanWrite, KeepsOnly};
+    ghost use Rattle.posix_calls.specs.Closing.{CanWrite, KeepsOnly, ShowsOldOrNew};
     ghost use Rattle.posix_calls.specs.Running.{RunsPages};
 
     /// A volume of objects in pages, with a table of descriptors of which none is open.
@@ -49,8 +50,7 @@ impl<P: PageStore> PageVolume<P> {
         ensures table { table_of result ≡ parts.table_of objects }
         ensures read_only { is_read_only result ≡ read_only }
         ensures goes_on { is_stopped result ≡ false }
-        ensures at { (tree : Objects) → IsStored P.state objects tree → (P.state (parts.pages_of objects)).worn ≡ read_only → (read_only ≡ true → IsShownBy P.state objects tree)
-            → IsVolumeOf P.state (table_sizes (parts.table_of objects)) (record { objects = tree; handles = map.empty }) result }
+        ensures at { (tree : Objects) → IsStoredAs P.state objects read_only tree → IsVolumeOf P.state (table_sizes (parts.table_of objects)) (at_mount tree) result }
     {
         PageVolume {
             volume: Volume::over(alloc, objects, descriptors, read_only),
@@ -120,8 +120,8 @@ impl<P: PageStore> PageVolume<P> {
         ensures read_only_done { is_stopped self ≡ false → is_read_only self ≡ true → result.1 ≡ replies.Done }
         ensures done { is_stopped self ≡ false → (z : Sizes) (s : State) → IsVolumeOf P.state z s self → result.1 ≡ replies.Done
             → Shown z (P.state result.0) (settled s.objects) }
-        ensures tree { is_stopped self ≡ false → (z : Sizes) (s : State) → IsVolumeOf P.state z s self → (tree : Objects) → Shown z (P.state (pages_of self)) tree
-            → Shown z (P.state result.0) tree ⊎ Shown z (P.state result.0) (settled s.objects) }
+        ensures tree { is_stopped self ≡ false → (z : Sizes) (s : State) → IsVolumeOf P.state z s self
+            → ShowsOldOrNew z (P.state (pages_of self)) (P.state result.0) (settled s.objects) }
         ensures cause { is_stopped self ≡ false → (z : Sizes) (s : State) → IsVolumeOf P.state z s self → result.1 ≡ replies.Error errors.EIO
             → HasEnded (P.state (pages_of self)) (P.state result.0) }
         // After Done the committed pages are those of the tree, and no others.

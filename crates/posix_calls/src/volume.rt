@@ -4,12 +4,12 @@ ghost use Rattle.volume_terms.specs.Sizes.{most_written};
 ghost use Rattle.object_store.specs.Reported.{table_sizes};
 ghost use Rattle.posix_profile.specs.Requests.{stamped_of};
 ghost use Rattle.posix_profile.specs.declared.reply.Reply.TheVariants as replies;
+ghost use Rattle.page_store.specs.PagesOf.{mounted_pages};
 
 use crate::PageVolume;
 use crate::ending::end_with;
 use nand_model::{Nand, TrustedNand};
 use page_store::FlashPages;
-use pages::Pages;
 use posix_profile::{Errno, Info, Reply, Stamped, StampedRequest};
 use std::alloc::AllocError;
 
@@ -38,7 +38,7 @@ impl<N: Nand> Volume<N> {
 
     /// Does a command and replies to it.
     pub fn ask(&mut self, issued: &StampedRequest<'_>) -> Reply
-        ensures { IsCalled ⟦<FlashPages<TrustedNand<N>> as Pages>⟧.state (over_pages self.old) (stamped_of issued.now) result (over_pages self.new) }
+        ensures { IsCalled mounted_pages (over_pages self.old) (stamped_of issued.now) result (over_pages self.new) }
     {
         self.volume.ask(issued)
     }
@@ -48,14 +48,14 @@ impl<N: Nand> Volume<N> {
     pub fn read_into(&mut self, fd: u32, buffer: &mut [u8]) -> Result<usize, Errno>
         ensures size { length buffer.new ≡ length buffer.old }
         ensures rest { LeavesRest buffer.old buffer.new result }
-        ensures called { IsCalled ⟦<FlashPages<TrustedNand<N>> as Pages>⟧.state (over_pages self.old) (reading fd (asked_of buffer.old)) (read_reply buffer.new result) (over_pages self.new) }
+        ensures called { IsCalled mounted_pages (over_pages self.old) (reading fd (asked_of buffer.old)) (read_reply buffer.new result) (over_pages self.new) }
     {
         self.volume.read_into(fd, buffer)
     }
 
     /// Does a command that is a value, and replies to it.
     pub fn call(&mut self, stamped: &Stamped) -> Reply
-        ensures { IsCalled ⟦<FlashPages<TrustedNand<N>> as Pages>⟧.state (over_pages self.old) stamped.now result (over_pages self.new) }
+        ensures { IsCalled mounted_pages (over_pages self.old) stamped.now result (over_pages self.new) }
     {
         self.ask(&stamped.as_request())
     }
@@ -66,7 +66,7 @@ impl<N: Nand> Volume<N> {
     /// A volume that is stopped returns EIO, and a read-only one EROFS. Another one is stopped by EIO, where the device failed or nothing
     /// is left to write with.
     pub fn refresh(&mut self, block: u32) -> Result<(), Errno>
-        ensures { IsRefreshed ⟦<FlashPages<TrustedNand<N>> as Pages>⟧.state block (over_pages self.old) result (over_pages self.new) }
+        ensures { IsRefreshed mounted_pages block (over_pages self.old) result (over_pages self.new) }
     {
         self.volume.refresh(block)
     }
@@ -74,9 +74,9 @@ impl<N: Nand> Volume<N> {
     /// Does the commands in turn and adds their replies at the end of the vector. Where a reply finds no room its command
     /// is not begun, nor is any after it.
     pub fn run(&mut self, commands: &[Stamped], replies: &mut Vec<Reply>) -> Result<(), AllocError>
-        ensures goes_on { VolumeGoesOn ⟦<FlashPages<TrustedNand<N>> as Pages>⟧.state (over_pages self.old) (over_pages self.new) }
+        ensures goes_on { VolumeGoesOn mounted_pages (over_pages self.old) (over_pages self.new) }
         ensures runs { (n : ℕ) × (n ≤ length commands.now) × OnOk result (n ≡ length commands.now)
-            × RunsPages ⟦<FlashPages<TrustedNand<N>> as Pages>⟧.state commands.now n replies.old.items replies.new.items (over_pages self.old) (over_pages self.new) }
+            × RunsPages mounted_pages commands.now n replies.old.items replies.new.items (over_pages self.old) (over_pages self.new) }
     {
         self.volume.run(commands, replies)
     }
@@ -84,9 +84,9 @@ impl<N: Nand> Volume<N> {
     /// Closes all descriptors, commits what was accepted, writes a checkpoint where one is due, and gives the device back, with the
     /// reply Done, or Error of EIO where that could not be done. A read-only volume makes no call.
     pub fn unmount(self) -> (N, Reply)
-        ensures ends { IsUnmounted ⟦<FlashPages<TrustedNand<N>> as Pages>⟧.state (over_pages self) (N.state result.0) result.1 }
+        ensures ends { IsUnmounted mounted_pages (over_pages self) (N.state result.0) result.1 }
         ensures leaves { is_read_only (over_pages self) ≡ false → result.1 ≡ replies.Done
-            → LeavesCheckpoint ⟦<FlashPages<TrustedNand<N>> as Pages>⟧.state IsDueOf check_pages_of (over_pages self) (N.state result.0) }
+            → LeavesCheckpoint mounted_pages IsDueOf check_pages_of (over_pages self) (N.state result.0) }
     {
         let read_only = self.volume.read_only();
         let (pages, reply) = self.volume.finish();
@@ -99,14 +99,14 @@ impl<N: Nand> Volume<N> {
 
     /// Gives the device back as it is, as if power were lost between two calls.
     pub fn abandon(self) -> N
-        ensures { LiesOn (⟦<FlashPages<TrustedNand<N>> as Pages>⟧.state (pages_of (over_pages self))) (N.state result) }
+        ensures { LiesOn (mounted_pages (pages_of (over_pages self))) (N.state result) }
     {
         self.volume.into_pages().into_device().into_inner()
     }
 
     /// What Stat reports of the object that a descriptor stands for, which need not have a name. It makes no call of the device.
     pub fn describe(&self, fd: u32) -> Result<Info, Errno>
-        ensures { IsDescribed ⟦<FlashPages<TrustedNand<N>> as Pages>⟧.state (over_pages self.now) fd result }
+        ensures { IsDescribed mounted_pages (over_pages self.now) fd result }
     {
         self.volume.describe(fd)
     }

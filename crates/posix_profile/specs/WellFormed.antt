@@ -54,6 +54,10 @@ pub record IsWellFormed (z : Sizes) (s : State) : Type 0 where
   pub handles : AreHandles s.objects s.handles
   pub committed : (o : ℕ) (object : Object) → map.get s.objects o ≡ Some object → (o ≡ root_number) ⊎ IsNamed s.objects o ⊎ IsOpen s.handles o
 
+-- the object is a directory that is reached from the root
+abbrev pub IsReachedDirectory : Objects → ℕ → Type 0
+IsReachedDirectory objects o = IsDirectory objects o × Reached objects o
+
 -- objects that a mount can show: all of them are reached from the root
 pub record IsTree (z : Sizes) (objects : Objects) : Type 0 where
   pub forest : IsForest z objects

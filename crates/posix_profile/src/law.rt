@@ -1,29 +1,29 @@
 // The laws of the definitions, each by a function that does nothing.
-ghost use Rattle.std.specs.Prelude.{◌≡◌, ◌↔◌, ℕ, ◌+◌, ◌-◌, ◌*◌, ◌<◌, Bool, true, List, length, min, Some, None, Ok};
+ghost use Rattle.std.specs.Prelude.{◌≡◌, ◌↔◌, ℕ, ◌+◌, ◌<◌, Bool, true, List, Some, None, IfOk};
 ghost use Rattle.std.specs.FinMap as map;
 ghost use Rattle.posix_profile.specs.Changes.{new_number, free_descriptor};
 ghost use Rattle.posix_profile.specs.Charge.{fits};
 ghost use Rattle.posix_profile.specs.laws.Error.{KeepsOnError};
 ghost use Rattle.posix_profile.specs.laws.Fresh.{fresh};
-ghost use Rattle.posix_profile.specs.HandleSteps.{write_offset, write_count};
-ghost use Rattle.posix_profile.specs.laws.Link.{Lists, IsSubdirectory};
+ghost use Rattle.posix_profile.specs.HandleSteps.{write_count};
+ghost use Rattle.posix_profile.specs.laws.Link.{AreSoMany, IsNameOf, IsSubdirectory};
 ghost use Rattle.posix_profile.specs.NameSteps.{is_below};
 ghost use Rattle.posix_profile.specs.laws.Moment.{AreStampedAt};
-ghost use Rattle.posix_profile.specs.Names.{Names, Reached, Below, links, settle};
+ghost use Rattle.posix_profile.specs.Names.{Below, links, settle};
 ghost use Rattle.posix_profile.specs.laws.Number.{IsNewNumber, IsFreeDescriptor};
 ghost use Rattle.posix_profile.specs.laws.Own.{AnswersItself};
 ghost use Rattle.posix_profile.specs.laws.Path.{IsPlace};
-ghost use Rattle.posix_profile.specs.Paths.{Place, resolve};
+ghost use Rattle.posix_profile.specs.Paths.{resolve};
 ghost use Rattle.posix_profile.specs.laws.Reply.{IsReply};
 ghost use Rattle.posix_profile.specs.Runs.{after};
-ghost use Rattle.volume_terms.specs.Sizes.{Sizes, IsSizes, most_written, greatest_length, descriptors};
-ghost use Rattle.posix_profile.specs.laws.Sound.{IsStamped};
-ghost use Rattle.posix_profile.specs.State.{Name, Entries, Objects, File, Dir, Handle, Handles, State, IsDirectory};
-ghost use Rattle.posix_profile.specs.laws.Step.{AreStamped};
+ghost use Rattle.volume_terms.specs.Sizes.{Sizes, IsSizes, descriptors};
+ghost use Rattle.posix_profile.specs.laws.Sound.{IsSound};
+ghost use Rattle.posix_profile.specs.State.{Objects, File, Dir, Handle, Handles, State, IsDirectory};
+ghost use Rattle.posix_profile.specs.laws.Step.{CanStep, CanRun};
 ghost use Rattle.posix_profile.specs.Steps.{step};
-ghost use Rattle.posix_profile.specs.WellFormed.{IsForest, IsWellFormed, IsTree};
+ghost use Rattle.posix_profile.specs.WellFormed.{IsForest, IsWellFormed, IsTree, IsReachedDirectory};
 ghost use Rattle.volume_terms.specs.Names.{AreBytes};
-ghost use Rattle.posix_profile.specs.laws.Write.{units_for};
+ghost use Rattle.posix_profile.specs.laws.Write.{IsWritable, writable};
 ghost use Rattle.posix_profile.specs.declared.command.Stamped.{Stamped};
 ghost use Rattle.posix_profile.specs.declared.reply.Reply.{Reply};
 
@@ -36,15 +36,13 @@ pub fn an_error_changes_nothing()
 /// What fits goes on to fit.
 pub fn every_step_fits()
     ensures { (z : Sizes) (read_only : Bool) (s : State) (stamped : Stamped)
-        → IsSizes z → IsStamped stamped → IsWellFormed z s → fits z s.objects ≡ true
-        → fits z (step z read_only s stamped).state.objects ≡ true }
+        → CanStep z s stamped → fits z (step z read_only s stamped).state.objects ≡ true }
 {}
 
 /// A step leads from a state that a volume can have to one.
 pub fn every_step_keeps_a_state_well_formed()
     ensures { (z : Sizes) (read_only : Bool) (s : State) (stamped : Stamped)
-        → IsSizes z → IsStamped stamped → IsWellFormed z s → fits z s.objects ≡ true
-        → IsWellFormed z (step z read_only s stamped).state }
+        → CanStep z s stamped → IsWellFormed z (step z read_only s stamped).state }
 {}
 
 /// A step itself answers neither want of memory nor a stop.
@@ -56,8 +54,7 @@ pub fn a_step_answers_itself()
 /// The numbers of a reply fit their types, and what it reports is bytes and names.
 pub fn every_reply_fits_its_type()
     ensures { (z : Sizes) (read_only : Bool) (s : State) (stamped : Stamped)
-        → IsSizes z → IsWellFormed z s → fits z s.objects ≡ true
-        → IsReply (step z read_only s stamped).reply }
+        → IsSizes z → IsSound z s → IsReply (step z read_only s stamped).reply }
 {}
 
 /// What a step makes or changes gets the command's moment.
@@ -69,8 +66,7 @@ pub fn every_changed_object_has_the_moment()
 /// A run of commands leads from a state that a volume can have to one.
 pub fn every_run_keeps_a_state_well_formed()
     ensures { (z : Sizes) (read_only : Bool) (s : State) (commands : List Stamped) (replies : List Reply)
-        → IsSizes z → AreStamped commands → IsWellFormed z s → fits z s.objects ≡ true
-        → IsWellFormed z (after z read_only s commands replies) }
+        → CanRun z s commands → IsWellFormed z (after z read_only s commands replies) }
 {}
 
 /// A volume that was just formatted has a state that a volume can have, and it fits.
@@ -91,39 +87,33 @@ pub fn settling_again_changes_nothing()
 
 /// A path leads to a place in a directory that is reached from the root.
 pub fn a_path_leads_to_a_place()
-    ensures { (z : Sizes) (objects : Objects) → IsForest z objects → (path : List ℕ) (place : Place)
-        → AreBytes path → resolve objects path ≡ Ok place → IsPlace objects place }
+    ensures { (z : Sizes) (objects : Objects) (path : List ℕ)
+        → IsForest z objects → AreBytes path → IfOk (resolve objects path) (IsPlace objects) }
 {}
 
 /// The test of what lies below an object is right.
 pub fn the_test_says_what_lies_below()
-    ensures { (z : Sizes) (objects : Objects) → IsForest z objects → (x q : ℕ)
-        → IsDirectory objects q → Reached objects q → (is_below objects x q ≡ true) ↔ Below objects x q }
+    ensures { (z : Sizes) (objects : Objects) (x q : ℕ)
+        → IsForest z objects → IsReachedDirectory objects q → (is_below objects x q ≡ true) ↔ Below objects x q }
 {}
 
 /// A file has as many links as there are pairs of a directory and a name in it that lead to it.
 pub fn the_links_of_a_file_are_its_names()
     ensures { (objects : Objects) (o moment : ℕ) (bytes : List ℕ)
-        → (pairs : List (ℕ × Name)) × Lists (λ pair. Names objects pair.0 pair.1 o) pairs
-        × (links objects o (File moment bytes) ≡ length pairs) }
+        → AreSoMany (IsNameOf objects o) (links objects o (File moment bytes)) }
 {}
 
 /// A directory has two links, and one for each directory that it names.
 pub fn the_links_of_a_directory_are_its_subdirectories()
-    ensures { (z : Sizes) (objects : Objects) (d moment : ℕ) (entries : Entries)
-        → IsForest z objects → map.get objects d ≡ Some (Dir moment entries)
-        → (children : List ℕ) × Lists (IsSubdirectory objects d) children
-        × (links objects d (Dir moment entries) ≡ 2 + length children) }
+    ensures { (z : Sizes) (objects : Objects) (d : ℕ) (dir : IsDirectory objects d) → IsForest z objects
+        → (n : ℕ) × AreSoMany (IsSubdirectory objects d) n × (links objects d (Dir dir.0 dir.1) ≡ 2 + n) }
 {}
 
 /// How many bytes a write writes: those given, up to the most of one write, a file's greatest length and the end of
 /// the units that the file may have.
 pub fn a_write_goes_as_far_as_there_is_room()
-    ensures { (z : Sizes) (moment : ℕ) (s : State) (handle : Handle) (m : ℕ) (bytes new : List ℕ)
-        → 0 < z.page_bytes → fits z s.objects ≡ true → map.get s.objects handle.object ≡ Some (File m bytes)
-        → write_count z moment s handle bytes new
-        ≡ min (min (length new) (min (most_written z) (greatest_length z - write_offset handle bytes)))
-        (units_for z s.objects bytes * z.page_bytes - write_offset handle bytes) }
+    ensures { (z : Sizes) (moment : ℕ) (s : State) (handle : Handle) (bytes new : List ℕ)
+        → IsWritable z s handle bytes → write_count z moment s handle bytes new ≡ writable z s handle bytes new }
 {}
 
 /// There is always a number for a new object: the least from 2 up that is free.

@@ -179,7 +179,7 @@ module _ {V : Type 0} (m : Meaning V) (v : V) (d e : Device) (commands : List St
     tree_is = let is = found in cc
 
     can_be_written : CanOnlyBeRead p → ⊥
-    can_be_written (inl many) = let few = sound_there.few_bad in let is = spare_is in omega (arith, many, few, is)
+    can_be_written (inl many) = let within_limit = sound_there.few_bad in let is = spare_is in omega (arith, many, within_limit, is)
     can_be_written (inr (inl group)) = let most = (next.1.least _ sound_there.numbers).1 in let is = next_group in omega (arith, group, most, is)
     can_be_written (inr (inr seq)) = let most = (next.1.least _ sound_there.numbers).2 in let is = next_seq in omega (arith, seq, most, is)
 
@@ -215,14 +215,14 @@ module _ {V : Type 0} (m : Meaning V) (v : V) (d e : Device) (commands : List St
       | inr power ↦ absurd (omega (arith, group, groups_left power))
     ]
     ends_by_cut (inr (inr (inl seq))) = absurd (omega (arith, seq, seqs_left))
-    ends_by_cut (inr (inr (inr many))) = let few = within.few_bad in let committed = used.ends_on.spare in let is = spare_is in absurd (omega (arith, many, few, committed, is))
+    ends_by_cut (inr (inr (inr many))) = let within_limit = within.few_bad in let committed = used.ends_on.spare in let is = spare_is in absurd (omega (arith, many, within_limit, committed, is))
 
     left_sound : (after : Objects) → Shown (volume_of p) q after → IsSoundFlash q.device.geometry q.device.flash spare after
     left_sound after shown =
-        let few = within.few_bad in
+        let within_limit = within.few_bad in
         let is : q.spare ≡ spare = used.ends_on.spare ∙ spare_is in
         subst (λ k. IsSoundFlash q.device.geometry q.device.flash k after) is
-        (shown_sound (volume_of p) q after shown (lasts.honest ∙ honest) (used.ends_on.limits p_honest sound_there.numbers) (omega (arith, few, is)))
+        (shown_sound (volume_of p) q after shown (lasts.honest ∙ honest) (used.ends_on.limits p_honest sound_there.numbers) (omega (arith, within_limit, is)))
 
     sizes_are : volume_of p ≡ sizes_of d.geometry spare
     sizes_are = ap (λ (g : Geometry). sizes_of g p.spare) reads.lasts.geometry ∙ ap (λ k. sizes_of d.geometry k) spare_is

@@ -50,7 +50,7 @@ module _ (fused : Bool) (a b c : Device) (starts : Starts fused a b) where
         cuts = let is = planned.cuts in omega (arith, is, cuts);
         cut = λ gone. let is = planned.cut gone in (is.0, let at = is.1 in omega (arith, at, changes, reads));
         uncut = λ goes some. let lt = planned.uncut goes some in omega (arith, lt, changes, reads);
-        failures = λ all. let few = planned.failures all in omega (arith, few, failures);
+        failures = λ all. let within_limit = planned.failures all in omega (arith, within_limit, failures);
       }
 
   -- and so are its calls

@@ -62,9 +62,9 @@ module _ (a b c : Device) (xs ys : List SessionRecord) (first : HasLived a b xs)
   earlier spare within =
       let more = then.changes in
       let fewer : bad_blocks b.geometry b.flash ≤ bad_blocks b.geometry c.flash = bad_more b.geometry b.flash c.flash then.marks in
-      let few : bad_blocks b.geometry c.flash ≤ spare = subst (λ (g : Geometry). bad_blocks g c.flash ≤ spare) then.geometry within.few_bad in
+      let within_limit : bad_blocks b.geometry c.flash ≤ spare = subst (λ (g : Geometry). bad_blocks g c.flash ≤ spare) then.geometry within.few_bad in
       record {
-        few_bad = omega (arith, fewer, few);
+        few_bad = omega (arith, fewer, within_limit);
         numbers = record {
           versions = λ n greatest. let lt = within.numbers.versions n greatest in omega (arith, lt, more);
           groups = λ n greatest. let lt = within.numbers.groups n greatest in omega (arith, lt, more);
@@ -136,7 +136,7 @@ module _ (a b c : Device) (xs ys : List SessionRecord) (first : HasLived a b xs)
 
 -- as many blocks as are bad at first, and one more for each failure, are enough to spare
 pub few_from : (a c : Device) (spare listed : ℕ) → bad_on c + a.failures ≤ bad_on a + c.failures → c.failures ≤ a.failures + listed → bad_on a + listed ≤ spare → bad_on c ≤ spare
-few_from a c spare listed marked failed few = omega (arith, marked, failed, few)
+few_from a c spare listed marked failed within_limit = omega (arith, marked, failed, within_limit)
 
 pub lived_here : (a : Device) → HasLived a a []
 lived_here a = lived_still a a refl refl refl (record { page = refl; bad = refl })

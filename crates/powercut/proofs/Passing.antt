@@ -38,11 +38,11 @@ module _ (p : Plan) (first last : Device) (q : Plan) (reported : Totals) (lasts 
       cut = λ gone. let at = keeps.cut gone in (let some = at.0 in let fuse = same_call in omega (arith, some, fuse), let reached = at.1 in let fuse = same_call in let calls = same.calls in omega (arith, reached, fuse, calls));
       uncut = λ goes some. let fuse = same_call in let calls = same.calls in let lt = keeps.uncut goes (omega (arith, some, fuse)) in omega (arith, lt, fuse, calls);
       failures = λ all.
-          let few = keeps.failures (sym (ap are_counted same_failing) ∙ all) in
+          let within_limit = keeps.failures (sym (ap are_counted same_failing) ∙ all) in
           let most = reached_most (failing q) (calls_of last - reported.0) in
           let len : length (failing p) ≡ length (failing q) = ap (λ (ks : List ℕ). length ks) same_failing in
           let were = same.failures in
-          omega (arith, few, most, len, were);
+          omega (arith, within_limit, most, len, were);
     }
 
     -- its calls are from the first device on

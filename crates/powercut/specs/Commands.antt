@@ -27,6 +27,10 @@ pub record Meaning (V : Type 0) : Type 1 where
   pub stopped : V → Bool
   pub read_only : V → Bool
 
+-- what is true of each state that a volume stands for, if it is not stopped
+abbrev pub OfRunning : {V : Type 0} → Meaning V → V → (Sizes → State → Type 0) → Type 0
+OfRunning m a A = m.stopped a ≡ false → (z : Sizes) (s : State) → m.stands z s a → A z s
+
 -- What one command answers and leaves, from a state of a volume that goes on. One that is read-only is stopped by its device alone.
 pub record DoesOne {V : Type 0} (m : Meaning V) (z : Sizes) (s : State) (stamped : Stamped) (reply : Reply) (a b : V) : Type 0 where
   pub right : Replies z (m.read_only a) s stamped reply
@@ -57,7 +61,7 @@ pub record Does {V : Type 0} (m : Meaning V) (commands : List Stamped) (answered
   pub goes_on : GoesOn (m.pages a) (m.pages b)
   pub read_only : m.read_only b ≡ m.read_only a
   pub begun : m.stopped a ≡ false → AreBegun commands answered
-  pub does : m.stopped a ≡ false → (z : Sizes) (s : State) → m.stands z s a → DoesCommands m z s commands answered a b
+  pub does : OfRunning m a (λ z s. DoesCommands m z s commands answered a b)
 
 -- From a state and a tree that a mount would show: the replies are right, and all commands are answered unless the last reply is
 -- EIO; the unmount, if there is one, is done or it is EIO, as a reply is, for its reason; and the pages that are left show the
@@ -81,4 +85,4 @@ pub record IsUsed {V : Type 0} (m : Meaning V) (v : V) (commands : List Stamped)
   pub abandoned : unmounted ≡ None → (after : V) × Does m commands answered v after × LiesOn (m.pages after) device
   pub leaves : m.stopped v ≡ false → (z : Sizes) (s : State) (tree : Objects) → m.stands z s v → Shown z (m.pages v) tree
       → LeavesFrom z (m.read_only v) s tree commands answered unmounted left
-  pub right : m.stopped v ≡ false → (z : Sizes) (s : State) → m.stands z s v → StaysRight (m.pages v) left
+  pub right : OfRunning m v (λ z s. StaysRight (m.pages v) left)

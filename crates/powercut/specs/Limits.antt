@@ -28,5 +28,10 @@ FailsAsListed sessions first last = are_counted (failing_in sessions) ≡ true �
 
 -- The sessions list no more failures than blocks are left to spare, each at a call below 2^64 - 1.
 pub record HasReserve (spare : ℕ) (first : Device) (sessions : List Session) : Type 0 where
-  pub few : bad_on first + length (failing_in sessions) ≤ spare
+  pub within_limit : bad_on first + length (failing_in sessions) ≤ spare
   pub totaled : are_counted (failing_in sessions) ≡ true
+
+-- The sessions have that reserve, and the numbers last.
+pub record StaysInReserve (spare : ℕ) (sessions : List Session) (first last : Device) : Type 0 where
+  pub reserve : HasReserve spare first sessions
+  pub numbers : NumbersLast first last

@@ -2,9 +2,7 @@
 ghost use Rattle.std.specs.Prelude.{◌≡◌, false, IfOk};
 ghost use Rattle.pages.specs.Stores.{GoesOn};
 ghost use Rattle.posix_profile.specs.Runs.{is_stop};
-ghost use Rattle.posix_profile.specs.State.{State};
-ghost use Rattle.powercut.specs.Commands.{Meaning, DoesOne, Does};
-ghost use Rattle.volume_terms.specs.Sizes.{Sizes};
+ghost use Rattle.powercut.specs.Commands.{Meaning, OfRunning, DoesOne, Does};
 
 use posix_calls::{Reply, Stamped};
 use std::alloc::{AllocError, Global};
@@ -19,7 +17,7 @@ pub(crate) trait Commanded {
         ensures goes_on { GoesOn (meaning.pages self.old) (meaning.pages self.new) }
         ensures read_only { meaning.read_only self.new ≡ meaning.read_only self.old }
         ensures stops { meaning.stopped self.old ≡ false → meaning.stopped self.new ≡ is_stop result }
-        ensures one { meaning.stopped self.old ≡ false → (z : Sizes) (s : State) → meaning.stands z s self.old → DoesOne meaning z s stamped.now result self.old self.new };
+        ensures one { OfRunning meaning self.old (λ z s. DoesOne meaning z s stamped.now result self.old self.new) };
 
     /// Whether it answers EIO to each command.
     fn is_stopped(&self) -> bool

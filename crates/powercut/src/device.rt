@@ -1,6 +1,6 @@
 // A device in memory that is known to keep its plan.
 ghost use Rattle.std.specs.Prelude.{◌≡◌, ◌<◌, ◌^◌, ℕ, false};
-ghost use Rattle.nand_model.specs.Calls.{Device, Lasts};
+ghost use Rattle.nand_model.specs.Calls.{Device};
 ghost use Rattle.nand_model.specs.Plans.{Plan};
 ghost use Rattle.nand_model.specs.MemoryState.{device, plan};
 ghost use Rattle.powercut.specs.Planning.{fuse_call, calls_since, IsPlanned};
@@ -23,7 +23,7 @@ pub struct PlannedNand {
 }
 
 impl PlannedNand {
-    ghost use Rattle.powercut.specs.States.{state_of};
+    ghost use Rattle.powercut.specs.States.{state_of, InSession};
 
     /// A device that was just powered up, with the plan of its session.
     pub fn new(nand: MemNand) -> PlannedNand
@@ -43,9 +43,9 @@ impl PlannedNand {
     /// The device itself.
     pub fn into_nand(self) -> MemNand
         ensures device { state_of self ≡ record (device result) { cuts = (state_of self).cuts } }
-        ensures planned { (p : Plan) (first : Device) → Lasts (begun p first) (state_of self) → IsPlanned p first (device result) }
-        ensures runs { (p : Plan) (first : Device) → Lasts (begun p first) (state_of self) → ∥ RunsAsPlanned p first (device result) ∥₁ }
-        ensures calls { (p : Plan) (first : Device) → Lasts (begun p first) (state_of self) → (device result).gone ≡ false
+        ensures planned { (p : Plan) (first : Device) → InSession p first self → IsPlanned p first (device result) }
+        ensures runs { (p : Plan) (first : Device) → InSession p first self → ∥ RunsAsPlanned p first (device result) ∥₁ }
+        ensures calls { (p : Plan) (first : Device) → InSession p first self → (device result).gone ≡ false
             → (plan result).calls ≡ calls_since first (device result) }
     {
         self.nand

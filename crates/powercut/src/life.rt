@@ -1,12 +1,11 @@
 // A life of a volume.
-ghost use Rattle.std.specs.Prelude.{◌≡◌, ◌≤◌, ◌+◌, ◌∷◌, [], ℕ, true, false, length, IfOk};
+ghost use Rattle.std.specs.Prelude.{◌≡◌, ◌≤◌, ◌+◌, ◌∷◌, [], false, length, IfOk};
 ghost use Rattle.nand_model.specs.MemoryState.{device, plan};
 ghost use Rattle.powercut.specs.Planning.{calls_since};
 ghost use Rattle.pages.specs.Stores.{bad_on};
-ghost use Rattle.posix_profile.specs.State.{Objects};
-ghost use Rattle.powercut.specs.Sessions.{record_of, records_of, IsEnded, AreEnded, cuts_in};
-ghost use Rattle.powercut.specs.Limits.{StaysWithin, NumbersLast, HasReserve, FailsAsListed};
-ghost use Rattle.powercut.specs.Living.{HasLived, IsTrueOn, IsSoundOn, LivesOn};
+ghost use Rattle.powercut.specs.Sessions.{record_of, IsEnded, AreEnded, cuts_in};
+ghost use Rattle.powercut.specs.Limits.{StaysWithin, StaysInReserve, FailsAsListed};
+ghost use Rattle.powercut.specs.Living.{HasLived, IsTrueOn, OfSoundTree, LivesAs};
 
 use crate::PlannedNand;
 use crate::power::power_on;
@@ -71,10 +70,10 @@ pub fn live(
 ) -> Result<(MemNand, Vec<SessionEnd>), LiveFault>
     ensures ends { IfOk result (λ lived. length lived.1.items ≡ length sessions.now) }
     ensures geometry { IfOk result (λ lived. (device lived.0).geometry ≡ (device nand).geometry) }
-    ensures life { IfOk result (λ lived. (spare : ℕ) (tree : Objects) → IsSoundOn spare tree (device nand) → StaysWithin spare (device nand) (device lived.0)
-        → LivesOn spare tree (device nand) (records_of sessions.now lived.1.items) (device lived.0)) }
-    ensures reserve { IfOk result (λ lived. (spare : ℕ) (tree : Objects) → IsSoundOn spare tree (device nand) → HasReserve spare (device nand) sessions.now → NumbersLast (device nand) (device lived.0)
-        → LivesOn spare tree (device nand) (records_of sessions.now lived.1.items) (device lived.0)) }
+    ensures life { IfOk result (λ lived. OfSoundTree (device nand) (λ spare tree. StaysWithin spare (device nand) (device lived.0)
+        → LivesAs spare tree (device nand) sessions.now lived)) }
+    ensures reserve { IfOk result (λ lived. OfSoundTree (device nand) (λ spare tree. StaysInReserve spare sessions.now (device nand) (device lived.0)
+        → LivesAs spare tree (device nand) sessions.now lived)) }
     ensures truth { IfOk result (λ lived. IsTrueOn (device nand) → IsTrueOn (device lived.0)) }
     ensures each { IfOk result (λ lived. AreEnded sessions.now lived.1.items (device nand) (device lived.0)) }
     ensures cuts { IfOk result (λ lived. (device lived.0).cuts ≡ (device nand).cuts + cuts_in lived.1.items) }

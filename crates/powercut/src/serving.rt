@@ -1,26 +1,23 @@
 // What is done between a power-up and the end of a session, on any device.
-ghost use Rattle.std.specs.Prelude.{◌≡◌, true, false, [], ◌∷◌, is_some, Ok, IfOk};
+ghost use Rattle.std.specs.Prelude.{◌≡◌, true, false, is_some, IfOk};
 ghost use Rattle.nand_model.specs.Calls.{Lasts};
 ghost use Rattle.page_store.specs.Checked.{HasTrueFlash};
+ghost use Rattle.page_store.specs.PagesOf.{mounted_pages};
 ghost use Rattle.posix_calls.specs.PageVolumes.{pages_of, is_read_only, is_stopped, IsVolumeOf};
 ghost use Rattle.posix_calls.specs.Volumes.{over_pages};
 ghost use Rattle.powercut.specs.Commands.{IsUsed};
-ghost use Rattle.powercut.specs.Living.{HasLived};
-ghost use Rattle.powercut.specs.Serving.{served_record, IsServed};
-ghost use Rattle.powercut.specs.Sessions.{IsServedFrom};
+ghost use Rattle.powercut.specs.Serving.{HasServed, IsServed, IsServedRight};
 
 use crate::commands::{Commanded, do_commands};
 use flash_tree::a_flash_has_one_answer_at_most;
-use nand_model::{Nand, TrustedNand};
-use page_store::FlashPages;
-use pages::Pages;
+use nand_model::Nand;
 use posix_calls::{MountFault, Reply, Stamped, Volume};
 use std::alloc::{AllocError, Global};
 
 impl<N: Nand> Commanded for Volume<N> {
     ghost meaning = { record {
-      pages = λ v. ⟦<FlashPages<TrustedNand<N>> as Pages>⟧.state (pages_of (over_pages v));
-      stands = λ z s v. IsVolumeOf ⟦<FlashPages<TrustedNand<N>> as Pages>⟧.state z s (over_pages v);
+      pages = λ v. mounted_pages (pages_of (over_pages v));
+      stands = λ z s v. IsVolumeOf mounted_pages z s (over_pages v);
       stopped = λ v. is_stopped (over_pages v);
       read_only = λ v. is_read_only (over_pages v);
     } };
@@ -70,10 +67,9 @@ pub(crate) fn serve<N: Nand + Drop>(
 ) -> Result<(N, Served), AllocError>
     ensures lasts { IfOk result (λ r. (N.state r.0).honest ≡ (N.state device).honest → Lasts (N.state device) (N.state r.0)) }
     ensures lived { (N.state device).gone ≡ false → (N.state device).honest ≡ true
-        → IfOk result (λ r. HasLived (N.state device) (N.state r.0) (served_record commands.now r.1 (N.state r.0).gone ∷ [])) }
+        → IfOk result (λ r. HasServed (N.state device) (N.state r.0) commands.now r.1) }
     ensures served { IfOk result (λ r. IsServed commands.now unmount (N.state r.0) r.1) }
-    ensures right { HasTrueFlash (N.state device) → IfOk result (λ r. r.1.mounted ≡ Ok tt
-        → IsServedFrom (N.state device) (N.state r.0) commands.now r.1.replies.items r.1.unmounted) }
+    ensures right { HasTrueFlash (N.state device) → IfOk result (λ r. IsServedRight (N.state device) (N.state r.0) commands.now r.1) }
 {
     a_flash_has_one_answer_at_most();
     match Volume::mount(alloc, device) {

@@ -1,7 +1,7 @@
 // Runs of the program.
 use crate::images::Images;
 use anyhow::Result;
-use flash_program::{Chosen, act, choose};
+use flash_program::{Chosen, act, choose, report};
 use std::alloc::Global;
 use std::io::Cursor;
 
@@ -18,7 +18,8 @@ fn act_on(alloc: Global, chosen: &Chosen, image: Option<&mut Cursor<Vec<u8>>>, i
     let mut lines = input.as_bytes();
     let mut out = Vec::new(alloc);
     let mut err = Vec::new(alloc);
-    let status = act(alloc, chosen, image, &mut lines, &mut out, &mut err);
+    let ended = act(alloc, chosen, image, &mut lines, &mut out);
+    let status = report(&mut err, ended);
     Ran { out, err, status }
 }
 

@@ -1,5 +1,5 @@
 // The program between an image, lines and outputs, each of which may fail.
-use flash_program::{act, choose};
+use flash_program::{act, choose, report};
 use std::alloc::Global;
 use std::io::{
     BufReader, Cursor, Error, ErrorKind, Read, Result as IoResult, Seek, SeekFrom, Write,
@@ -102,14 +102,8 @@ impl Around {
             panic!(rt; "the words are not taken");
         };
         let mut lines = BufReader::new(alloc, lines).expect(rt, "memory");
-        let ended = act(
-            alloc,
-            &chosen,
-            Some(&mut image),
-            &mut lines,
-            &mut out,
-            &mut err,
-        );
+        let ended = act(alloc, &chosen, Some(&mut image), &mut lines, &mut out);
+        let ended = report(&mut err, ended);
         assert_eq!(rt; out.cursor.into_inner().as_slice(), answers.0.as_bytes());
         assert_eq!(rt; err.cursor.into_inner().as_slice(), answers.1.as_bytes());
         assert_eq!(rt; ended, status);
@@ -129,16 +123,7 @@ pub(crate) fn small_image(rt: &impl Abort, alloc: Global) -> Vec<u8> {
     let mut image = Cursor::new(Vec::new(alloc));
     let mut lines = b"".as_slice();
     let mut out = Vec::new(alloc);
-    let mut err = Vec::new(alloc);
-    let status = act(
-        alloc,
-        &chosen,
-        Some(&mut image),
-        &mut lines,
-        &mut out,
-        &mut err,
-    );
-    assert_eq!(rt; status, 0);
+    assert!(rt; act(alloc, &chosen, Some(&mut image), &mut lines, &mut out).is_ok());
     let image = image.into_inner();
     assert_eq!(rt; image.len(), 143_656);
     image

@@ -29,11 +29,11 @@ up_to_or_after (Some key) o = elim (cases_lt key.object o) [ inl less ↦ inr (i
 
 -- a key after one of the greatest chunk is of a later object
 pub later : (last : Option Key) (k : Key) → IsLast last → k.chunk < 2 ^ 64 → IsAfterKey k.object k.chunk last → (o : ℕ) → IsUpTo last o → o < k.object
-later None k is few after o up = absurd up
-later (Some key) k is few (inl less) o up = omega (arith, less, up)
-later (Some key) k is few (inr (same, less)) o up = absurd (omega (arith, is, few, less))
+later None k is within_limit after o up = absurd up
+later (Some key) k is within_limit (inl less) o up = omega (arith, less, up)
+later (Some key) k is within_limit (inr (same, less)) o up = absurd (omega (arith, is, within_limit, less))
 
-module _ (m : CommittedMap) (last : Option Key) (list : List ℕ) (found : CommittedKey) (new : List ℕ) (is_last : IsLast last) (few : found.key.chunk < 2 ^ 64)
+module _ (m : CommittedMap) (last : Option Key) (list : List ℕ) (found : CommittedKey) (new : List ℕ) (is_last : IsLast last) (within_limit : found.key.chunk < 2 ^ 64)
     (l : ListsUpTo m last list) (next : IsNextCommitted m last (Some found)) (puts : PutsHeader found.key list new) where
   abbrev k : Key
   k = found.key
@@ -62,7 +62,7 @@ module _ (m : CommittedMap) (last : Option Key) (list : List ℕ) (found : Commi
   ]
 
   before : (o : ℕ) → IsListed list o → o < k.object
-  before o is = later last k is_last few next.1 o (l.none_later o is)
+  before o is = later last k is_last within_limit next.1 o (l.none_later o is)
 
   none_later : (o : ℕ) → IsListed new o → o ≤ k.object
   none_later o is = elim (cases_lt 0 k.chunk) [
@@ -88,8 +88,8 @@ module _ (m : CommittedMap) (last : Option Key) (list : List ℕ) (found : Commi
 -- fewer objects come after the next key
 pub fewer : (last : Option Key) (k : Key) (c : ℕ) → IsLast last → k.chunk < 2 ^ 64 → k.object < 2 ^ 64 → IsAfterKey k.object k.chunk last
     → objects_after (Some (record { object = k.object; chunk = c })) < objects_after last
-fewer None k c is few small after = omega (arith, small)
-fewer (Some key) k c is few small after = let less = later (Some key) k is few after key.object (omega arith) in omega (arith, less, small)
+fewer None k c is within_limit small after = omega (arith, small)
+fewer (Some key) k c is within_limit small after = let less = later (Some key) k is within_limit after key.object (omega arith) in omega (arith, less, small)
 
 pub lists_none : (m : CommittedMap) → ListsUpTo m None []
 lists_none m = record {

@@ -38,16 +38,16 @@ slot_of_pair z m d c l ps (lacks {n} {lost} {pairs} before not) p at =
 -- each slot that reads has its pair
 pub pair_of_slot : (z : Sizes) → z.page_bytes ≤ 4096 → (m : NewestMap) → IsSingle m → (d c l : ℕ) (ps : List (Name × ℕ)) → AreRead z m d c ps l → (i : ℕ) (e : Entry) → i < c → SlotIs z m d i e
     → Contains ps (e.name, e.object)
-pair_of_slot z few m single d c l ps no_slots i e lt slot = absurd (omega (arith, lt))
-pair_of_slot z few m single d c l ps (reads {n} {lost} {pairs} x before there) i e lt slot = elim (cases_lt i n) [
-  | inl first ↦ Contains-append_left pairs ((x.name, x.object) ∷ []) (e.name, e.object) (pair_of_slot z few m single d n lost pairs before i e first slot)
+pair_of_slot z within_limit m single d c l ps no_slots i e lt slot = absurd (omega (arith, lt))
+pair_of_slot z within_limit m single d c l ps (reads {n} {lost} {pairs} x before there) i e lt slot = elim (cases_lt i n) [
+  | inl first ↦ Contains-append_left pairs ((x.name, x.object) ∷ []) (e.name, e.object) (pair_of_slot z within_limit m single d n lost pairs before i e first slot)
   | inr last ↦
       let same : i ≡ n = omega (arith, lt, last) in
-      let one : x ≡ e = one_slot z few m single d n x e there (subst (λ k. SlotIs z m d k e) same slot) in
+      let one : x ≡ e = one_slot z within_limit m single d n x e there (subst (λ k. SlotIs z m d k e) same slot) in
       subst (λ (y : Entry). Contains (pairs ++ (x.name, x.object) ∷ []) (y.name, y.object)) one (Contains-push pairs (x.name, x.object))
 ]
-pair_of_slot z few m single d c l ps (lacks {n} {lost} {pairs} before not) i e lt slot = elim (cases_lt i n) [
-  | inl first ↦ pair_of_slot z few m single d n lost pairs before i e first slot
+pair_of_slot z within_limit m single d c l ps (lacks {n} {lost} {pairs} before not) i e lt slot = elim (cases_lt i n) [
+  | inl first ↦ pair_of_slot z within_limit m single d n lost pairs before i e first slot
   | inr last ↦ let same : i ≡ n = omega (arith, lt, last) in absurd (not e (subst (λ k. SlotIs z m d k e) same slot))
 ]
 
@@ -58,8 +58,8 @@ all_counted z m d c l ps (reads {n} {lost} {pairs} e before slot) = omega (arith
 all_counted z m d c l ps (lacks {n} {lost} {pairs} before not) = omega (arith, all_counted z m d n lost pairs before)
 
 pub has_slots : (z : Sizes) → z.page_bytes ≤ 4096 → (m : NewestMap) → IsSingle m → (d c : ℕ) (listing : Listing) → ListsSlots z m d c listing → HasSlots z m d c listing
-has_slots z few m single d c listing read = record {
-  each = λ i e lt slot. pair_of_slot z few m single d c listing.lost (pairs_of listing) read i e lt slot;
+has_slots z within_limit m single d c listing read = record {
+  each = λ i e lt slot. pair_of_slot z within_limit m single d c listing.lost (pairs_of listing) read i e lt slot;
   only = λ p at. slot_of_pair z m d c listing.lost (pairs_of listing) read p at;
   lost =
       let f : SalvagedName → Name × ℕ = λ n. (n.name.items, n.object) in
@@ -86,13 +86,13 @@ abbrev pub objects_reported : Option Listing → List ℕ
 objects_reported None = []
 objects_reported (Some listing) = objects_in listing.names.items
 
-module _ (z : Sizes) (few : z.page_bytes ≤ 4096) (m : NewestMap) (single : IsSingle m) (d : ℕ) where
+module _ (z : Sizes) (within_limit : z.page_bytes ≤ 4096) (m : NewestMap) (single : IsSingle m) (d : ℕ) where
   pub led : (reported : Option Listing) → ListsDirectory z m d reported → (o : ℕ) → LeadsTo z m d o → IsOn (objects_reported reported) o
   led None not o l = absurd (not l.fields l.has l.kind)
   led (Some listing) (f, has, kind, slots) o l =
-      let same : l.fields ≡ f = one_header z few m single d l.fields f l.has has in
+      let same : l.fields ≡ f = one_header z within_limit m single d l.fields f l.has has in
       let within : l.place < f.length = subst (λ (x : Fields). l.place < x.length) same l.within in
-      let pair = pair_of_slot z few m single d f.length listing.lost (pairs_of listing) slots l.place l.entry within l.slot in
+      let pair = pair_of_slot z within_limit m single d f.length listing.lost (pairs_of listing) slots l.place l.entry within l.slot in
       on_pair listing.names.items l.entry.name o (subst (λ (x : ℕ). Contains (pairs_of listing) (l.entry.name, x)) l.names pair)
 
   pub leads : (reported : Option Listing) → ListsDirectory z m d reported → (o : ℕ) → IsOn (objects_reported reported) o → LeadsTo z m d o
@@ -106,8 +106,8 @@ module _ (z : Sizes) (few : z.page_bytes ≤ 4096) (m : NewestMap) (single : IsS
 
 module _ (z : Sizes) (m : NewestMap) (d : ℕ) (info : ObjectInfo) (says : SaysInfo z m d (Some info)) where
   pub no_directory : z.page_bytes ≤ 4096 → IsSingle m → info.kind ≡ kinds.File → ListsDirectory z m d None
-  no_directory few single file f has directory =
-      let same : f ≡ says.0 = one_header z few m single d f says.0 has says.1 in
+  no_directory within_limit single file f has directory =
+      let same : f ≡ says.0 = one_header z within_limit m single d f says.0 has says.1 in
       let two : kinds.File ≡ kinds.Directory = sym file ∙ says.2.kind ∙ ap (λ (x : Fields). x.kind) (sym same) ∙ directory in
       cc
 

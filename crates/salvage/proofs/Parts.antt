@@ -29,13 +29,13 @@ module _ (z : Sizes) (m : PageMap) (o : ℕ) (f : Fields) (offset : ℕ) where
   present_bytes : (page part old buffer : List ℕ) (bytes n : ℕ) → is_present f.bits (1 + offset / z.page_bytes) ≡ true → m o (1 + offset / z.page_bytes) ≡ Some page
       → part ≡ take bytes (drop (offset % z.page_bytes) page) → buffer ≡ take n part ++ drop n old → n ≤ length part → bytes ≤ z.page_bytes - offset % z.page_bytes
       → (i : ℕ) → i < n → ByteIs z (has m) o f (offset + i) (slice_index buffer i)
-  present_bytes page part old buffer bytes n present there is_part is few within i lt =
+  present_bytes page part old buffer bytes n present there is_part is within_limit within i lt =
       let long : length part ≤ bytes = omega (arith, ap length is_part, length-take bytes (drop (offset % z.page_bytes) page)) in
-      let at = at_offset offset i z.page_bytes (omega (arith, lt, few, long, within)) in
+      let at = at_offset offset i z.page_bytes (omega (arith, lt, within_limit, long, within)) in
       let chunk : 1 + offset / z.page_bytes ≡ 1 + (offset + i) / z.page_bytes = ap (λ k. 1 + k) (sym at.0) in
-      let front : slice_index buffer i ≡ slice_index (take n part) i = front_at (take n part) (drop n old) buffer i is (omega (arith, length-take-le n part few, lt)) in
+      let front : slice_index buffer i ≡ slice_index (take n part) i = front_at (take n part) (drop n old) buffer i is (omega (arith, length-take-le n part within_limit, lt)) in
       let byte : slice_index buffer i ≡ slice_index page (offset % z.page_bytes + i) =
-      front ∙ get_or-take n part i 0 lt ∙ ap (λ (xs : List ℕ). get_or xs i 0) is_part ∙ get_or-take bytes (drop (offset % z.page_bytes) page) i 0 (omega (arith, lt, few, long))
+      front ∙ get_or-take n part i 0 lt ∙ ap (λ (xs : List ℕ). get_or xs i 0) is_part ∙ get_or-take bytes (drop (offset % z.page_bytes) page) i 0 (omega (arith, lt, within_limit, long))
       ∙ get_or-drop (offset % z.page_bytes) page i 0 in
       inl (
         subst (λ c. is_present f.bits c ≡ true) chunk present,

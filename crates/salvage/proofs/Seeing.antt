@@ -11,9 +11,9 @@ use Rattle.volume_terms.specs.Sizes.{Sizes}
 use Rattle.tree_walk.specs.Visits.{IsSeen}
 
 pub still_seen : (z : Sizes) (p q : PagesState) → OnlyFinds p q → IsSeen z p → IsSeen z q
-still_seen z p q finds is = record {
-  sound = finds.sound ∙ is.sound;
-  size = is.size ∙ sym finds.page_bytes;
+still_seen z p q lookups is = record {
+  sound = lookups.sound ∙ is.sound;
+  size = is.size ∙ sym lookups.page_bytes;
 }
 
 -- the pages of a device have a size that a header can fill

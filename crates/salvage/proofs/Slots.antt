@@ -59,10 +59,10 @@ module _ (z : Sizes) (m : PageMap) (d c : ℕ) where
   -- where a chunk has no page, its slots are lost
   pub all_lost : (count : ℕ) (ps : List (Name × ℕ)) (lost : ℕ) → count ≤ page_slots z → m d (1 + c) ≡ None
       → AreRead z (has m) d (c * page_slots z) ps lost → AreRead z (has m) d (c * page_slots z + count) ps (lost + count)
-  all_lost zero ps lost few is h = read_as z (has m) d (c * page_slots z) (c * page_slots z + zero) ps ps lost (lost + zero) (omega arith) refl (omega arith) h
-  all_lost (suc k) ps lost few is h =
-      let before = all_lost k ps lost (omega (arith, few)) is h in
-      read_as z (has m) d (c * page_slots z + k + 1) (c * page_slots z + suc k) ps ps (lost + k + 1) (lost + suc k) (omega arith) refl (omega arith) (lacks before (no_page k (omega (arith, few)) is))
+  all_lost zero ps lost within_limit is h = read_as z (has m) d (c * page_slots z) (c * page_slots z + zero) ps ps lost (lost + zero) (omega arith) refl (omega arith) h
+  all_lost (suc k) ps lost within_limit is h =
+      let before = all_lost k ps lost (omega (arith, within_limit)) is h in
+      read_as z (has m) d (c * page_slots z + k + 1) (c * page_slots z + suc k) ps ps (lost + k + 1) (lost + suc k) (omega arith) refl (omega arith) (lacks before (no_page k (omega (arith, within_limit)) is))
 
 -- a slot adds one lost at most
 pub lost_one : (bytes : List ℕ) (old new : Listing) → TakesSlot bytes old new → new.lost ≤ old.lost + 1

@@ -36,7 +36,7 @@ none_lost z m d c l ps no_slots each = refl
 none_lost z m d c l ps (reads {n} {lost} {pairs} e before slot) each = none_lost z m d n lost pairs before (λ i lt. each i (omega (arith, lt)))
 none_lost z m d c l ps (lacks {n} {lost} {pairs} before not) each = let s = each n (omega arith) in absurd (not s.0 s.1)
 
-module _ (z : Sizes) (few : z.page_bytes ≤ 4096) (m : NewestMap) (single : IsSingle m) (o : ℕ) where
+module _ (z : Sizes) (within_limit : z.page_bytes ≤ 4096) (m : NewestMap) (single : IsSingle m) (o : ℕ) where
   -- a byte of a file is one
   one_byte : (f : Fields) (i x y : ℕ) → ByteIs z m o f i x → ByteIs z m o f i y → x ≡ y
   one_byte f i x y (inl a) (inl b) =
@@ -61,7 +61,7 @@ module _ (z : Sizes) (few : z.page_bytes ≤ 4096) (m : NewestMap) (single : IsS
     slot_at : (i : ℕ) (e : Entry) → i < r.fields.length → SlotIs z m o i e → map.get entries e.name ≡ Some e.object
     slot_at i e lt slot =
         let x = slice_get_there r.slots i (omega (arith, lt, r.size)) in
-        let one : x.0 ≡ e = one_slot z few m single o i x.0 e (r.each i x.0 x.1) slot in
+        let one : x.0 ≡ e = one_slot z within_limit m single o i x.0 e (r.each i x.0 x.1) slot in
         subst (λ (y : Entry). map.get entries y.name ≡ Some y.object) one (entry_at i x.0 x.1)
 
     slot_there : (i : ℕ) → i < r.fields.length → (e : Entry) × SlotIs z m o i e
@@ -69,7 +69,7 @@ module _ (z : Sizes) (few : z.page_bytes ≤ 4096) (m : NewestMap) (single : IsS
 
     pub led : (c : ℕ) → LeadsTo z m o c → (name : Name) × (map.get entries name ≡ Some c)
     led c l =
-        let same : l.fields ≡ r.fields = one_header z few m single o l.fields r.fields l.has r.has in
+        let same : l.fields ≡ r.fields = one_header z within_limit m single o l.fields r.fields l.has r.has in
         let within : l.place < r.fields.length = subst (λ (x : Fields). l.place < x.length) same l.within in
         (l.entry.name, slot_at l.place l.entry within l.slot ∙ ap Some l.names)
 
@@ -90,7 +90,7 @@ module _ (z : Sizes) (few : z.page_bytes ≤ 4096) (m : NewestMap) (single : IsS
     pub has_names : (reported : Option Listing) → ListsDirectory z m o reported → HasNames reported entries
     has_names None not = not r.fields r.has r.kind
     has_names (Some listing) (f, has, kind, slots) =
-        let same : f ≡ r.fields = one_header z few m single o f r.fields has r.has in
+        let same : f ≡ r.fields = one_header z within_limit m single o f r.fields has r.has in
         let read : AreRead z m o r.fields.length (pairs_of listing) listing.lost = subst (λ (x : Fields). AreRead z m o x.length (pairs_of listing) listing.lost) same slots in (
           none_lost z m o r.fields.length listing.lost (pairs_of listing) read slot_there,
           λ name c. (to read name c, from read name c),
@@ -105,7 +105,7 @@ module _ (z : Sizes) (few : z.page_bytes ≤ 4096) (m : NewestMap) (single : IsS
         from : AreRead z m o r.fields.length (pairs_of listing) listing.lost → (name : Name) (c : ℕ) → map.get entries name ≡ Some c → Contains (pairs_of listing) (name, c)
         from read name c is =
             let s = entry_slot z m o moment entries r name c is in
-            let pair = pair_of_slot z few m single o r.fields.length listing.lost (pairs_of listing) read s.0 s.1 (omega (arith, slice_get_within r.slots s.0 s.1 s.2, r.size)) (r.each s.0 s.1 s.2) in
+            let pair = pair_of_slot z within_limit m single o r.fields.length listing.lost (pairs_of listing) read s.0 s.1 (omega (arith, slice_get_within r.slots s.0 s.1 s.2, r.size)) (r.each s.0 s.1 s.2) in
             subst (λ (x : Name). Contains (pairs_of listing) (x, c)) s.3 (subst (λ (x : ℕ). Contains (pairs_of listing) (s.1.name, x)) s.4 pair)
 
   -- ---- a file
@@ -126,7 +126,7 @@ module _ (z : Sizes) (few : z.page_bytes ≤ 4096) (m : NewestMap) (single : IsS
     pub has_bytes : (reported : Option Part) → ReadsPart z m o offset buffer reported → HasBytes z bytes offset buffer reported
     has_bytes None not = absurd (not r.fields r.has r.kind)
     has_bytes (Some (parts.Lost part)) (f, has, kind, lost) =
-        let same : f ≡ r.fields = one_header z few m single o f r.fields has r.has in
+        let same : f ≡ r.fields = one_header z within_limit m single o f r.fields has r.has in
         let lt : offset < length bytes = omega (arith, lost.within, ap (λ (x : Fields). x.length) same, r.size) in
         absurd (elim (r.each offset lt) [
           | inl there ↦ lost.none there.1.0 (subst (λ c. m o c there.1.0) (sym lost.chunk) there.1.1)
@@ -135,30 +135,30 @@ module _ (z : Sizes) (few : z.page_bytes ≤ 4096) (m : NewestMap) (single : IsS
               cc
         ])
     has_bytes (Some (parts.Bytes n)) (f, has, kind, (count, each)) =
-        let same : f ≡ r.fields = one_header z few m single o f r.fields has r.has in
+        let same : f ≡ r.fields = one_header z within_limit m single o f r.fields has r.has in
         let size : f.length ≡ length bytes = ap (λ (x : Fields). x.length) same ∙ r.size in
         let is : n ≡ min (length buffer) (rest_of_chunk z (length bytes) offset) = count ∙ ap (λ k. min (length buffer) (rest_of_chunk z k offset)) size in
         (n, refl, is, same_bytes f n same (omega (arith, is)) (omega (arith, is)) each)
 
 -- ---- the tree
 
-module _ (z : Sizes) (few : z.page_bytes ≤ 4096) (m : NewestMap) (single : IsSingle m) (objects : Objects) (shown : Shows z m objects) where
+module _ (z : Sizes) (within_limit : z.page_bytes ≤ 4096) (m : NewestMap) (single : IsSingle m) (objects : Objects) (shown : Shows z m objects) where
   -- what is reached is an object of the tree
   there : (o : ℕ) → IsReached z m root_number o → (x : Object) × (map.get objects o ≡ Some x)
   there o here = let d = shown.tree.forest.root in (Dir d.0 d.1, d.2)
   there o (on {d} {o = c} up l) = let x = there d up in go x.0 x.1 (shown.each d x.0 x.1)
     where
       go : (x : Object) → map.get objects d ≡ Some x → ReadsAs z m d x → (y : Object) × (map.get objects c ≡ Some y)
-      go (File moment bytes) is r = absurd (kinds_apart z few m single d r.fields l.fields (one_header z few m single d r.fields l.fields r.has l.has) r.kind l.kind)
+      go (File moment bytes) is r = absurd (kinds_apart z within_limit m single d r.fields l.fields (one_header z within_limit m single d r.fields l.fields r.has l.has) r.kind l.kind)
       go (Dir moment entries) is r =
-          let n = led z few m single d moment entries r c l in
+          let n = led z within_limit m single d moment entries r c l in
           shown.tree.forest.leads d c n.0 (record { moment = moment; entries = entries; directory_is = is; object_is = n.1 })
 
   reached : (o : ℕ) → Reached objects o → IsReached z m root_number o
   reached o root = here
   reached o (below {directory} {object} name up n) =
       let r : ReadsDir z m directory n.moment n.entries = shown.each directory (Dir n.moment n.entries) n.directory_is in
-      on (reached directory up) (leads z few m single directory n.moment n.entries r name object n.object_is)
+      on (reached directory up) (leads z within_limit m single directory n.moment n.entries r name object n.object_is)
 
   pub reaches_all : ReachesAll z m objects
   reaches_all o = (
@@ -167,7 +167,7 @@ module _ (z : Sizes) (few : z.page_bytes ≤ 4096) (m : NewestMap) (single : IsS
   )
 
   pub lists_all : ListsAll z m objects
-  lists_all d moment entries reported is listed = has_names z few m single d moment entries (shown.each d (Dir moment entries) is) reported listed
+  lists_all d moment entries reported is listed = has_names z within_limit m single d moment entries (shown.each d (Dir moment entries) is) reported listed
 
   pub reads_all : ReadsAll z m objects
-  reads_all o moment offset bytes buffer reported is part = has_bytes z few m single o moment bytes (shown.each o (File moment bytes) is) offset buffer reported part
+  reads_all o moment offset bytes buffer reported is part = has_bytes z within_limit m single o moment bytes (shown.each o (File moment bytes) is) offset buffer reported part

@@ -6,6 +6,7 @@ pub mod Reached
 pub mod Whole
 pub mod Headers
 pub mod Slots
+pub mod Steps
 pub mod Chunks
 pub mod Reaching
 pub mod Orphans

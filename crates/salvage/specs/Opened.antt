@@ -4,16 +4,19 @@ use Rattle.std.specs.Prelude.{◌≡◌, ◌⊎◌, ◌↔◌, ◌<◌, ◌^◌,
 use Rattle.nand_model.specs.Calls.{Device}
 use Rattle.nand_model.specs.Flash.{Flash}
 use Rattle.nand_model.specs.declared.geometry.Geometry.{Geometry}
+use Rattle.posix_profile.specs.State.{Objects}
+use Rattle.flash_tree.specs.Mount.{Answers, IsTreeOf}
 use Rattle.pages.specs.Maps.{PageMap}
 use Rattle.chunk_index.specs.Maps.{committed_pages}
 use Rattle.chunk_index.specs.declared.form.CommittedPage.{CommittedPage}
 use Rattle.chunk_index.specs.declared.index.Index.{Index}
-use Rattle.page_store.specs.Shown.{data_at}
+use Rattle.page_store.specs.Shown.{committed_data, data_at}
 use Rattle.mounting.specs.NewestMaps.{IsNewestMap}
 use Rattle.surviving_pages.specs.Lost.{ListsLost}
 use Rattle.surviving_pages.specs.Opened.{LiesOn}
 use Rattle.surviving_pages.specs.Surviving.{HasSurvivor}
 use Rattle.surviving_pages.specs.declared.survivors.LostPlace.{LostPlace}
+use Rattle.surviving_pages.specs.declared.survivors.Survivors.{Survivors}
 use Rattle.volume_check.specs.Verdicts.{ShowsVolume}
 use Rattle.volume_check.specs.declared.fault.CheckFault.{CheckFault}
 use Rattle.volume_check.specs.declared.fault.CheckFault.TheVariants as checks
@@ -34,6 +37,21 @@ GoesBySurvivors flash m lost = IsSurvivorMap flash m × ListsLost flash lost
 -- what a salvage goes by: the newest pages of a flash that shows a volume, or the pages that survive
 abbrev pub GoesBy : Geometry → Flash → PageMap → List LostPlace → Type 0
 GoesBy g flash m lost = (ShowsVolume g flash × IsNewestMap flash m) ⊎ GoesBySurvivors flash m lost
+
+-- what was found has the pages that survive, and the places of those that are lost
+abbrev pub FindsSurvivors : Flash → Survivors → Type 0
+FindsSurvivors flash found = GoesBySurvivors flash (committed_data found.index flash) found.lost.items
+
+-- what was found has the newest pages
+abbrev pub FindsNewest : Flash → Survivors → Type 0
+FindsNewest flash found = IsNewestMap flash (committed_data found.index flash)
+
+-- an honest device, on whose flash a mount answers a tree
+pub record AnswersTree (device : Device) : Type 0 where
+  pub honest : device.honest ≡ true
+  pub spare : ℕ
+  pub objects : Objects
+  pub answer : Answers device.geometry device.flash (IsTreeOf spare objects)
 
 -- each page that the index has lies on the device, and has data where the device is honest
 pub record CanBeRead (device : Device) (x : Index) : Type 0 where

@@ -37,3 +37,7 @@ pub record IsReaching (z : Sizes) (m : NewestMap) (from n : ℕ) (list : List �
   pub reached : (p o : ℕ) → slice_get list p ≡ Some o → IsReached z m from o
   pub within : n ≤ length list
   pub leads : (p d o : ℕ) → p < n → slice_get list p ≡ Some d → LeadsTo z m d o → IsOn list o
+
+-- and that is so of the objects that were named
+abbrev pub HasReached : Sizes → NewestMap → (from n : ℕ) → NamedObjects → Type 0
+HasReached z m from n named = IsReaching z m from n named.objects.items

@@ -1,10 +1,16 @@
 -- One slot of a directory, gone through.
 -- From: this project.
-use Rattle.std.specs.Prelude.{◌≡◌, ◌≢◌, ◌⊎◌, ◌+◌, ℕ, List, [], ◌∷◌, ◌++◌}
+use Rattle.std.specs.Prelude.{◌≡◌, ◌≢◌, ◌⊎◌, ◌+◌, ℕ, List, [], ◌∷◌, ◌++◌, Some, length}
 use Rattle.page_tags.specs.Slots.{Entry, slot_bytes}
+use Rattle.volume_terms.specs.Sizes.{Sizes}
 use Rattle.flash_tree.specs.Slots.{IsTreeSlot}
+use Rattle.pages.specs.Maps.{PageMap}
 use Rattle.salvage.specs.Reported.{pairs_of}
 use Rattle.salvage.specs.declared.reported.Listing.{Listing}
+
+-- this holds, by the sizes of a volume with pages as long as this one, of each chunk of a directory's slots that has it
+abbrev pub OfSlotPage : List ℕ → (Sizes → PageMap → (d chunk : ℕ) → Type 0) → Type 0
+OfSlotPage page A = (z : Sizes) (m : PageMap) (d chunk : ℕ) → m d (1 + chunk) ≡ Some page → z.page_bytes ≡ length page → A z m d chunk
 
 -- the bytes are a slot, whose name and object come behind the others
 pub record TakesEntry (bytes : List ℕ) (entry : Entry) (old new : Listing) : Type 0 where

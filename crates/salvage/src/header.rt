@@ -23,7 +23,7 @@ pub(crate) fn read_info<N: Nand>(
     pages: &mut NewestPages<N>,
     object: u64,
 ) -> Result<Option<ObjectInfo>, SalvageFault>
-    ensures finds { OnlyFinds (seen_by pages.old) (seen_by pages.new) }
+    ensures lookups { OnlyFinds (seen_by pages.old) (seen_by pages.new) }
     ensures info { (z : Sizes) → IsSeen z (seen_by pages.old) → IfOk result (SaysInfo z (has (seen_by pages.old).present) object) }
     ensures entries { IfOk result (λ reported. IfSome reported (λ info. info.kind ≡ kinds.Directory → info.length < 2 ^ 32)) }
     ensures fault { IfErr result (LacksPower (seen_by pages.new)) }

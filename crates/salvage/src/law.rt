@@ -11,8 +11,8 @@ ghost use Rattle.salvage.specs.declared.reported.Listing.{Listing};
 /// What is listed of a directory, whole or not, are the names of exactly the slots that read, and with those that are lost they are as
 /// many as the slots.
 pub fn a_listing_has_the_slots_that_read()
-    ensures { (z : Sizes) (m : PageMap) (d count : ℕ) (listing : Listing) → z.page_bytes ≤ 4096
-        → ListsSlots z (has m) d count listing → HasSlots z (has m) d count listing }
+    ensures { (z : Sizes) (m : PageMap) (d count : ℕ) (read : Listing) → z.page_bytes ≤ 4096
+        → ListsSlots z (has m) d count read → HasSlots z (has m) d count read }
 {}
 
 /// Of pages that show a tree all of it is there: exactly its objects are reached, each directory has exactly its names and no lost

@@ -1,11 +1,12 @@
 // The names of a directory whose slots read.
-ghost use Rattle.std.specs.Prelude.{◌≡◌, ◌<◌, ◌≤◌, ◌+◌, ◌*◌, ◌^◌, ℕ, Some, length, take, drop, IfOk, IfErr, OnOk};
-ghost use Rattle.pages.specs.Maps.{PageMap, has};
+ghost use Rattle.std.specs.Prelude.{◌≡◌, ◌<◌, ◌≤◌, ◌+◌, ◌*◌, ◌^◌, length, take, drop, IfOk, IfErr, OnOk};
+ghost use Rattle.pages.specs.Maps.{has};
 ghost use Rattle.pages.specs.State.{OnlyFinds};
-ghost use Rattle.volume_terms.specs.Sizes.{Sizes, page_slots};
-ghost use Rattle.tree_walk.specs.Visits.{IsSeen};
+ghost use Rattle.volume_terms.specs.Sizes.{page_slots};
+ghost use Rattle.tree_walk.specs.Visits.{OfSeen};
 ghost use Rattle.salvage.specs.SeenBy.{seen_by};
-ghost use Rattle.salvage.specs.Slots.{TakesSlot};
+ghost use Rattle.salvage.specs.Slots.{OfSlotPage, TakesSlot};
+ghost use Rattle.salvage.specs.Steps.{ExtendsBy};
 ghost use Rattle.salvage.specs.Reported.{ListsDirectory, ListsSlots, WhyNotRead};
 
 use crate::fault::SalvageFault;
@@ -26,9 +27,8 @@ pub(crate) fn read_names<N: Nand>(
     pages: &mut NewestPages<N>,
     directory: u64,
 ) -> Result<Option<Listing>, SalvageFault>
-    ensures finds { OnlyFinds (seen_by pages.old) (seen_by pages.new) }
-    ensures lists { (z : Sizes) → IsSeen z (seen_by pages.old)
-        → IfOk result (ListsDirectory z (has (seen_by pages.old).present) directory) }
+    ensures lookups { OnlyFinds (seen_by pages.old) (seen_by pages.new) }
+    ensures lists { OfSeen (seen_by pages.old) (λ z m. IfOk result (ListsDirectory z (has m) directory)) }
     ensures fault { IfErr result (WhyNotRead (seen_by pages.new)) }
 {
     let Some(info) = read_info(pages, directory)? else {
@@ -50,10 +50,9 @@ fn read_slots<N: Nand>(
     directory: u64,
     length: u64,
 ) -> Result<Listing, SalvageFault>
-    requires few { length < 2 ^ 32 }
-    ensures finds { OnlyFinds (seen_by pages.old) (seen_by pages.new) }
-    ensures lists { (z : Sizes) → IsSeen z (seen_by pages.old)
-        → IfOk result (ListsSlots z (has (seen_by pages.old).present) directory length) }
+    requires within_limit { length < 2 ^ 32 }
+    ensures lookups { OnlyFinds (seen_by pages.old) (seen_by pages.new) }
+    ensures lists { OfSeen (seen_by pages.old) (λ z m. IfOk result (ListsSlots z (has m) directory length)) }
     ensures fault { IfErr result (WhyNotRead (seen_by pages.new)) }
 {
     let slots = u64::from(pages.page_bytes() / SLOT_BYTES as u32);
@@ -78,12 +77,10 @@ fn read_chunk<N: Nand>(
     listing: &mut Listing,
 ) -> Result<(), SalvageFault>
     requires room { 272 * count ≤ (seen_by pages.old).page_bytes }
-    requires few { chunk < 2 ^ 32 }
+    requires within_limit { chunk < 2 ^ 32 }
     requires fits { listing.old.lost + count < 2 ^ 64 }
-    ensures finds { OnlyFinds (seen_by pages.old) (seen_by pages.new) }
-    ensures lists { (z : Sizes) → IsSeen z (seen_by pages.old)
-        → ListsSlots z (has (seen_by pages.old).present) directory (chunk * page_slots z) listing.old
-        → OnOk result (ListsSlots z (has (seen_by pages.old).present) directory (chunk * page_slots z + count) listing.new) }
+    ensures lookups { OnlyFinds (seen_by pages.old) (seen_by pages.new) }
+    ensures lists { OfSeen (seen_by pages.old) (λ z m. ExtendsBy count (ListsSlots z (has m) directory) (chunk * page_slots z) listing.old listing.new result) }
     ensures lost { OnOk result (listing.new.lost ≤ listing.old.lost + count) }
     ensures fault { IfErr result (WhyNotRead (seen_by pages.new)) }
 {
@@ -111,11 +108,9 @@ fn read_page(
     listing: &mut Listing,
 ) -> Result<(), AllocError>
     requires room { 272 * count ≤ length page.now }
-    requires few { length page.now ≤ 4096 }
+    requires within_limit { length page.now ≤ 4096 }
     requires fits { listing.old.lost + count < 2 ^ 64 }
-    ensures lists { (z : Sizes) (m : PageMap) (d chunk : ℕ) → m d (1 + chunk) ≡ Some page.now → z.page_bytes ≡ length page.now
-        → ListsSlots z (has m) d (chunk * page_slots z) listing.old
-        → OnOk result (ListsSlots z (has m) d (chunk * page_slots z + count) listing.new) }
+    ensures lists { OfSlotPage page.now (λ z m d chunk. ExtendsBy count (ListsSlots z (has m) d) (chunk * page_slots z) listing.old listing.new result) }
     ensures lost { OnOk result (listing.new.lost ≤ listing.old.lost + count) }
 {
     for place in 0..count {
@@ -127,7 +122,7 @@ fn read_page(
 /// The bytes of a slot of a page.
 fn slot_of(page: &[u8], place: u64) -> &[u8]
     requires room { 272 * place + 272 ≤ length page.now }
-    requires few { length page.now ≤ 4096 }
+    requires within_limit { length page.now ≤ 4096 }
     ensures bytes { result.now ≡ take 272 (drop (272 * place) page.now) }
     ensures len { length result.now ≡ 272 }
 {

@@ -13,7 +13,7 @@ use pages::{Pages, Presence};
 /// Returns whether there is a page of the key. One that a device with power does not give back counts as absent, so that only a loss
 /// of power ends a look-up.
 pub(crate) fn look<N: Nand>(pages: &mut NewestPages<N>, key: Key) -> Result<Presence, SalvageFault>
-    ensures finds { OnlyFinds (seen_by pages.old) (seen_by pages.new) }
+    ensures lookups { OnlyFinds (seen_by pages.old) (seen_by pages.new) }
     ensures page { (seen_by pages.old).sound ≡ true
         → IfOk result (FindsPage (seen_by pages.old).present key.object key.chunk (seen_by pages.new).lent) }
     ensures fault { IfErr result (LacksPower (seen_by pages.new)) }

@@ -1,12 +1,9 @@
 // The opening of a device whose tree may be damaged.
-ghost use Rattle.std.specs.Prelude.{◌≡◌, ℕ, true, false, IfOk, IfErr};
+ghost use Rattle.std.specs.Prelude.{◌≡◌, true, false, IfOk, IfErr};
 ghost use Rattle.nand_model.specs.Changes.{OnlyReads};
-ghost use Rattle.posix_profile.specs.State.{Objects};
-ghost use Rattle.flash_tree.specs.Mount.{Answers, IsTreeOf};
-ghost use Rattle.page_store.specs.Shown.{committed_data};
 ghost use Rattle.mounting.specs.NewestMaps.{IsNewestMap};
 ghost use Rattle.volume_check.specs.Verdicts.{ShowsVolume};
-ghost use Rattle.salvage.specs.Opened.{CanBeRead, GoesBy, GoesBySurvivors, WhyNotOpened, is_whole, whole_by};
+ghost use Rattle.salvage.specs.Opened.{AnswersTree, CanBeRead, FindsNewest, FindsSurvivors, GoesBy, WhyNotOpened, is_whole, whole_by};
 ghost use Rattle.salvage.specs.StateOf.{device_in, lost_in, state};
 
 use crate::fault::SalvageFault;
@@ -45,8 +42,7 @@ fn whole_by(found: Result<Diagnosis, CheckFault>) -> Result<bool, SalvageFault>
 /// Whether a mount would find a whole tree on a device, which is only read and given back.
 fn has_whole_tree<N: Nand>(alloc: Global, device: N) -> (N, Result<bool, SalvageFault>)
     ensures reads { OnlyReads (N.state device) (N.state result.0) }
-    ensures tree { (N.state device).honest ≡ true → (spare : ℕ) (objects : Objects)
-        → Answers (N.state device).geometry (N.state device).flash (IsTreeOf spare objects) → IfOk result.1 (λ whole. whole ≡ true) }
+    ensures tree { AnswersTree (N.state device) → IfOk result.1 (λ whole. whole ≡ true) }
     ensures shows { (N.state device).honest ≡ true → IfOk result.1 (λ whole. whole ≡ true → ShowsVolume (N.state device).geometry (N.state device).flash) }
     ensures fault { IfErr result.1 (WhyNotOpened (N.state result.0)) }
 {
@@ -59,8 +55,7 @@ fn has_whole_tree<N: Nand>(alloc: Global, device: N) -> (N, Result<bool, Salvage
 fn find_survivors<N: Nand>(alloc: Global, device: &mut N) -> Result<Survivors, SalvageFault>
     ensures reads { OnlyReads (N.state device.old) (N.state device.new) }
     ensures can { IfOk result (λ found. CanBeRead (N.state device.new) found.index) }
-    ensures pages { (N.state device.new).honest ≡ true
-        → IfOk result (λ found. GoesBySurvivors (N.state device.new).flash (committed_data found.index (N.state device.new).flash) found.lost.items) }
+    ensures pages { (N.state device.new).honest ≡ true → IfOk result (FindsSurvivors (N.state device.new).flash) }
     ensures fault { IfErr result (WhyNotOpened (N.state device.new)) }
 {
     the_surviving_pages_have_data();
@@ -75,8 +70,7 @@ fn find_survivors<N: Nand>(alloc: Global, device: &mut N) -> Result<Survivors, S
 fn find_newest<N: Nand>(alloc: Global, device: &mut N) -> Result<Survivors, SalvageFault>
     ensures reads { OnlyReads (N.state device.old) (N.state device.new) }
     ensures can { IfOk result (λ found. CanBeRead (N.state device.new) found.index) }
-    ensures pages { (N.state device.new).honest ≡ true
-        → IfOk result (λ found. IsNewestMap (N.state device.new).flash (committed_data found.index (N.state device.new).flash)) }
+    ensures pages { (N.state device.new).honest ≡ true → IfOk result (FindsNewest (N.state device.new).flash) }
     ensures fault { IfErr result (WhyNotOpened (N.state device.new)) }
 {
     the_opened_pages_are_the_newest();
@@ -100,10 +94,8 @@ fn find_pages<N: Nand>(
 ) -> Result<Survivors, SalvageFault>
     ensures reads { OnlyReads (N.state device.old) (N.state device.new) }
     ensures can { IfOk result (λ found. CanBeRead (N.state device.new) found.index) }
-    ensures whole { (N.state device.new).honest ≡ true → whole ≡ true
-        → IfOk result (λ found. IsNewestMap (N.state device.new).flash (committed_data found.index (N.state device.new).flash)) }
-    ensures damaged { (N.state device.new).honest ≡ true → whole ≡ false
-        → IfOk result (λ found. GoesBySurvivors (N.state device.new).flash (committed_data found.index (N.state device.new).flash) found.lost.items) }
+    ensures whole { (N.state device.new).honest ≡ true → whole ≡ true → IfOk result (FindsNewest (N.state device.new).flash) }
+    ensures damaged { (N.state device.new).honest ≡ true → whole ≡ false → IfOk result (FindsSurvivors (N.state device.new).flash) }
     ensures fault { IfErr result (WhyNotOpened (N.state device.new)) }
 {
     if whole {
@@ -121,8 +113,7 @@ impl<N: Nand> Salvage<N> {
     pub fn open(alloc: Global, device: N) -> Result<Salvage<N>, (N, SalvageFault)>
         ensures reads { IfOk result (λ s. OnlyReads (N.state device) (N.state (device_in s))) }
         ensures back { IfErr result (λ back. OnlyReads (N.state device) (N.state back.0)) }
-        ensures tree { (N.state device).honest ≡ true → (spare : ℕ) (objects : Objects)
-            → Answers (N.state device).geometry (N.state device).flash (IsTreeOf spare objects) → IfOk result (λ s. IsNewestMap (N.state device).flash (state s).present) }
+        ensures tree { AnswersTree (N.state device) → IfOk result (λ s. IsNewestMap (N.state device).flash (state s).present) }
         ensures pages { (N.state device).honest ≡ true
             → IfOk result (λ s. GoesBy (N.state device).geometry (N.state device).flash (state s).present (lost_in s)) }
         ensures fault { IfErr result (λ back. WhyNotOpened (N.state back.0) back.1) }

@@ -3,8 +3,7 @@ ghost use Rattle.std.specs.Prelude.{◌≡◌, length, IfOk, IfErr, OnOk};
 ghost use Rattle.std.specs.List.{Contains};
 ghost use Rattle.pages.specs.Maps.{has};
 ghost use Rattle.pages.specs.State.{OnlyFinds};
-ghost use Rattle.volume_terms.specs.Sizes.{Sizes};
-ghost use Rattle.tree_walk.specs.Visits.{IsSeen};
+ghost use Rattle.tree_walk.specs.Visits.{OfSeen};
 ghost use Rattle.salvage.specs.Headers.{HasHeaders, Rises};
 ghost use Rattle.salvage.specs.Orphans.{Adds, HasNamed, IsUnnamed, ListsUnnamed, PutsUnnamed};
 ghost use Rattle.salvage.specs.Reached.{LeadsTo, ListsOrphans};
@@ -30,10 +29,8 @@ pub(crate) fn find_orphans<N: Nand>(
     pages: &mut NewestPages<N>,
     headers: &[u64],
 ) -> Result<Vec<u64>, SalvageFault>
-    ensures finds { OnlyFinds (seen_by pages.old) (seen_by pages.new) }
-    ensures orphans { (z : Sizes) → IsSeen z (seen_by pages.old)
-        → HasHeaders (seen_by pages.old).present headers.now → Rises headers.now
-        → IfOk result (λ list. ListsOrphans z (has (seen_by pages.old).present) list.items) }
+    ensures lookups { OnlyFinds (seen_by pages.old) (seen_by pages.new) }
+    ensures orphans { OfSeen (seen_by pages.old) (λ z m. HasHeaders m headers.now → Rises headers.now → IfOk result (λ list. ListsOrphans z (has m) list.items)) }
     ensures fault { IfErr result (WhyNotRead (seen_by pages.new)) }
 {
     let named = find_named(alloc, pages, headers)?;
@@ -46,9 +43,8 @@ fn find_named<N: Nand>(
     pages: &mut NewestPages<N>,
     directories: &[u64],
 ) -> Result<BTreeSet<u64>, SalvageFault>
-    ensures finds { OnlyFinds (seen_by pages.old) (seen_by pages.new) }
-    ensures named { (z : Sizes) → IsSeen z (seen_by pages.old)
-        → IfOk result (HasNamed z (has (seen_by pages.old).present) directories.now) }
+    ensures lookups { OnlyFinds (seen_by pages.old) (seen_by pages.new) }
+    ensures named { OfSeen (seen_by pages.old) (λ z m. IfOk result (HasNamed z (has m) directories.now)) }
     ensures fault { IfErr result (WhyNotRead (seen_by pages.new)) }
 {
     let mut named = BTreeSet::new(alloc);
@@ -65,9 +61,8 @@ fn add_named<N: Nand>(
     directory: u64,
     named: &mut BTreeSet<u64>,
 ) -> Result<(), SalvageFault>
-    ensures finds { OnlyFinds (seen_by pages.old) (seen_by pages.new) }
-    ensures adds { (z : Sizes) → IsSeen z (seen_by pages.old)
-        → OnOk result (Adds (LeadsTo z (has (seen_by pages.old).present) directory) named.old named.new) }
+    ensures lookups { OnlyFinds (seen_by pages.old) (seen_by pages.new) }
+    ensures adds { OfSeen (seen_by pages.old) (λ z m. OnOk result (Adds (LeadsTo z (has m) directory) named.old named.new)) }
     ensures fault { IfErr result (WhyNotRead (seen_by pages.new)) }
 {
     match read_names(alloc, pages, directory)? {
@@ -94,9 +89,8 @@ fn find_unnamed<N: Nand>(
     objects: &[u64],
     named: &BTreeSet<u64>,
 ) -> Result<Vec<u64>, SalvageFault>
-    ensures finds { OnlyFinds (seen_by pages.old) (seen_by pages.new) }
-    ensures unnamed { (z : Sizes) → IsSeen z (seen_by pages.old)
-        → IfOk result (λ list. ListsUnnamed z (has (seen_by pages.old).present) named.now objects.now (length objects.now) list.items) }
+    ensures lookups { OnlyFinds (seen_by pages.old) (seen_by pages.new) }
+    ensures unnamed { OfSeen (seen_by pages.old) (λ z m. IfOk result (λ list. ListsUnnamed z (has m) named.now objects.now (length objects.now) list.items)) }
     ensures fault { IfErr result (WhyNotRead (seen_by pages.new)) }
 {
     let mut list = Vec::new(alloc);
@@ -113,9 +107,8 @@ fn put_unnamed<N: Nand>(
     named: &BTreeSet<u64>,
     list: &mut Vec<u64>,
 ) -> Result<(), SalvageFault>
-    ensures finds { OnlyFinds (seen_by pages.old) (seen_by pages.new) }
-    ensures puts { (z : Sizes) → IsSeen z (seen_by pages.old)
-        → OnOk result (PutsUnnamed (IsUnnamed z (has (seen_by pages.old).present) named.now object) object list.old.items list.new.items) }
+    ensures lookups { OnlyFinds (seen_by pages.old) (seen_by pages.new) }
+    ensures puts { OfSeen (seen_by pages.old) (λ z m. OnOk result (PutsUnnamed (IsUnnamed z (has m) named.now object) object list.old.items list.new.items)) }
     ensures fault { IfErr result (WhyNotRead (seen_by pages.new)) }
 {
     if object == ROOT {

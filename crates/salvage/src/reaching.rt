@@ -1,12 +1,12 @@
 // The objects that can be reached from one.
-ghost use Rattle.std.specs.Prelude.{◌≡◌, ◌<◌, ◌+◌, ℕ, [], ◌∷◌, length, IfOk, IfErr, OnOk};
+ghost use Rattle.std.specs.Prelude.{◌≡◌, ◌<◌, ℕ, [], ◌∷◌, length, IfOk, IfErr, OnOk};
 ghost use Rattle.pages.specs.Maps.{has};
 ghost use Rattle.pages.specs.State.{OnlyFinds};
-ghost use Rattle.volume_terms.specs.Sizes.{Sizes};
-ghost use Rattle.tree_walk.specs.Visits.{IsSeen};
+ghost use Rattle.tree_walk.specs.Visits.{OfSeen};
 ghost use Rattle.salvage.specs.Reached.{ListsReached};
-ghost use Rattle.salvage.specs.Reaching.{Begins, IsReaching, Knows, Puts, objects_in};
+ghost use Rattle.salvage.specs.Reaching.{Begins, HasReached, Knows, Puts, objects_in};
 ghost use Rattle.salvage.specs.SeenBy.{seen_by};
+ghost use Rattle.salvage.specs.Steps.{ExtendsBy};
 ghost use Rattle.salvage.specs.Reported.{WhyNotRead};
 ghost use Rattle.salvage.specs.declared.fault.SalvageFault.TheVariants as faults;
 
@@ -24,9 +24,8 @@ pub(crate) fn find_reached<N: Nand>(
     pages: &mut NewestPages<N>,
     from: u64,
 ) -> Result<Vec<u64>, SalvageFault>
-    ensures finds { OnlyFinds (seen_by pages.old) (seen_by pages.new) }
-    ensures reached { (z : Sizes) → IsSeen z (seen_by pages.old)
-        → IfOk result (λ list. ListsReached z (has (seen_by pages.old).present) from list.items) }
+    ensures lookups { OnlyFinds (seen_by pages.old) (seen_by pages.new) }
+    ensures reached { OfSeen (seen_by pages.old) (λ z m. IfOk result (λ list. ListsReached z (has m) from list.items)) }
     ensures fault { IfErr result (WhyNotRead (seen_by pages.new)) }
 {
     let mut named = begin(alloc, from)?;
@@ -68,11 +67,9 @@ impl NamedObjects {
     ) -> Result<(), SalvageFault>
         requires within { place < length self.old.objects.items }
         requires knows { Knows self.old }
-        ensures finds { OnlyFinds (seen_by pages.old) (seen_by pages.new) }
+        ensures lookups { OnlyFinds (seen_by pages.old) (seen_by pages.new) }
         ensures knows { OnOk result (Knows self.new) }
-        ensures goes { (z : Sizes) (from : ℕ) → IsSeen z (seen_by pages.old)
-            → IsReaching z (has (seen_by pages.old).present) from place self.old.objects.items
-            → OnOk result (IsReaching z (has (seen_by pages.old).present) from (place + 1) self.new.objects.items) }
+        ensures goes { (from : ℕ) → OfSeen (seen_by pages.old) (λ z m. ExtendsBy 1 (HasReached z (has m) from) place self.old self.new result) }
         ensures fault { IfErr result (WhyNotRead (seen_by pages.new)) }
     {
         let object = self.objects[place];

@@ -34,7 +34,7 @@ pub(crate) fn read_part<N: Nand>(
     offset: u64,
     buffer: &mut [u8],
 ) -> Result<Option<Part>, SalvageFault>
-    ensures finds { OnlyFinds (seen_by pages.old) (seen_by pages.new) }
+    ensures lookups { OnlyFinds (seen_by pages.old) (seen_by pages.new) }
     ensures size { length buffer.new ≡ length buffer.old }
     ensures reads { (z : Sizes) → IsSeen z (seen_by pages.old)
         → IfOk result (ReadsPart z (has (seen_by pages.old).present) file offset buffer.new) }
@@ -77,7 +77,7 @@ fn find_chunk<N: Nand>(
     chunk: u64,
 ) -> Result<Option<FileChunk>, SalvageFault>
     requires { 1 ≤ chunk }
-    ensures finds { OnlyFinds (seen_by pages.old) (seen_by pages.new) }
+    ensures lookups { OnlyFinds (seen_by pages.old) (seen_by pages.new) }
     ensures says { (z : Sizes) → IsSeen z (seen_by pages.old)
         → IfOk result (SaysChunk z (has (seen_by pages.old).present) file chunk) }
     ensures fault { IfErr result (LacksPower (seen_by pages.new)) }

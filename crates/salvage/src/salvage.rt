@@ -83,7 +83,7 @@ impl<N: Nand> Salvage<N> {
 
     /// What the header of an object says; none where no header of it reads.
     pub fn stat(&mut self, object: u64) -> Result<Option<ObjectInfo>, SalvageFault>
-        ensures finds { OnlyFinds (state self.old) (state self.new) }
+        ensures lookups { OnlyFinds (state self.old) (state self.new) }
         ensures lost { lost_in self.new ≡ lost_in self.old }
         ensures info { (z : Sizes) → IsSeen z (state self.old) → IfOk result (SaysInfo z (has (state self.old).present) object) }
         ensures fault { IfErr result (LacksPower (state self.new)) }
@@ -94,7 +94,7 @@ impl<N: Nand> Salvage<N> {
     /// The names of a directory whose slots read; none where no header of a directory reads. A name may stand twice, and may lead
     /// to an object that is lost.
     pub fn list(&mut self, alloc: Global, directory: u64) -> Result<Option<Listing>, SalvageFault>
-        ensures finds { OnlyFinds (state self.old) (state self.new) }
+        ensures lookups { OnlyFinds (state self.old) (state self.new) }
         ensures lost { lost_in self.new ≡ lost_in self.old }
         ensures lists { (z : Sizes) → IsSeen z (state self.old) → IfOk result (ListsDirectory z (has (state self.old).present) directory) }
         ensures fault { IfErr result (WhyNotRead (state self.new)) }
@@ -111,7 +111,7 @@ impl<N: Nand> Salvage<N> {
         offset: u64,
         buffer: &mut [u8],
     ) -> Result<Option<Part>, SalvageFault>
-        ensures finds { OnlyFinds (state self.old) (state self.new) }
+        ensures lookups { OnlyFinds (state self.old) (state self.new) }
         ensures lost { lost_in self.new ≡ lost_in self.old }
         ensures size { length buffer.new ≡ length buffer.old }
         ensures reads { (z : Sizes) → IsSeen z (state self.old)
@@ -125,7 +125,7 @@ impl<N: Nand> Salvage<N> {
 
     /// The objects that can be reached from one, itself first, each once.
     pub fn reach(&mut self, alloc: Global, from: u64) -> Result<Vec<u64>, SalvageFault>
-        ensures finds { OnlyFinds (state self.old) (state self.new) }
+        ensures lookups { OnlyFinds (state self.old) (state self.new) }
         ensures lost { lost_in self.new ≡ lost_in self.old }
         ensures reached { (z : Sizes) → IsSeen z (state self.old)
             → IfOk result (λ list. ListsReached z (has (state self.old).present) from list.items) }
@@ -136,7 +136,7 @@ impl<N: Nand> Salvage<N> {
 
     /// The objects but the root whose headers read and that no directory names, each once.
     pub fn orphans(&mut self, alloc: Global) -> Result<Vec<u64>, SalvageFault>
-        ensures finds { OnlyFinds (state self.old) (state self.new) }
+        ensures lookups { OnlyFinds (state self.old) (state self.new) }
         ensures lost { lost_in self.new ≡ lost_in self.old }
         ensures orphans { (z : Sizes) → IsSeen z (state self.old)
             → IfOk result (λ list. ListsOrphans z (has (state self.old).present) list.items) }

@@ -1,6 +1,7 @@
 // Changes that a store can take.
 ghost use Rattle.std.specs.Prelude.{◌≡◌, ◌≤◌, IsTrue, IfOk, length};
 ghost use Rattle.pages.specs.Changes.{AreApart, AreSized, AreOfTrees};
+ghost use Rattle.page_store.specs.PagesOf.{store_pages};
 
 use flash_tree::{CHECK_OBJECT, CHUNK_END, FreshPage};
 use nand_model::Nand;
@@ -57,8 +58,8 @@ fn are_of_trees(pages: &[FreshPage]) -> bool
 
 /// Whether a store can take a change: its pages are of the store's size and of keys that a tree may look up, and there are not too many.
 pub fn fits<N: Nand>(store: &Store<N>, change: &Change) -> bool
-    ensures size { IsTrue result → AreSized change.now.pages.items (⟦<Store<N> as Pages>⟧.state store.now).page_bytes }
-    ensures few { IsTrue result → length change.now.pages.items ≤ (⟦<Store<N> as Pages>⟧.state store.now).most }
+    ensures size { IsTrue result → AreSized change.now.pages.items (store_pages store.now).page_bytes }
+    ensures within_limit { IsTrue result → length change.now.pages.items ≤ (store_pages store.now).most }
     ensures trees { IsTrue result → AreOfTrees change.now.pages.items }
 {
     change.pages.len() <= store.most_pages() as usize

@@ -66,7 +66,7 @@ fn fit(blocks: &Blocks) -> bool
 
 /// Whether no more blocks are bad than these, and blocks enough are free.
 fn has_free(blocks: &Blocks, spare: u32) -> bool
-    ensures few { IsTrue result → bad_count (table blocks.now) ≤ spare }
+    ensures within_limit { IsTrue result → bad_count (table blocks.now) ≤ spare }
     ensures free { IsTrue result → HasFreeBlocks (table blocks.now) spare }
 {
     let (free, bad) = (blocks.free_count(), blocks.bad_count());
@@ -91,7 +91,7 @@ fn may_stand(opened: &Opened, spare: u32) -> bool
         → IsReady d (table opened.now.blocks) }
     ensures stands { IsTrue result → (d : Device) → KeepsNewest d (table opened.now.blocks) opened.now.index (numbers_of opened.now.numbers)
         → Stands spare d (table opened.now.blocks) opened.now.index }
-    ensures few { IsTrue result → bad_count (table opened.now.blocks) ≤ spare }
+    ensures within_limit { IsTrue result → bad_count (table opened.now.blocks) ≤ spare }
     ensures free { IsTrue result → HasFreeBlocks (table opened.now.blocks) spare }
 {
     if opened.numbers.group >= NUMBER_END || opened.numbers.seq >= NUMBER_END {

@@ -52,7 +52,7 @@ fn keeps_ordinary(index: &Index) -> bool
 /// than are to spare, blocks enough are free, and no page of a checkpoint is committed.
 pub(crate) fn may_stand(blocks: &Blocks, index: &Index, spare: u32) -> bool
     ensures stands { IsTrue result → (d : Device) → IsScanned d (table blocks.now) index.now → Stands spare d (table blocks.now) index.now }
-    ensures few { IsTrue result → bad_count (table blocks.now) ≤ spare }
+    ensures within_limit { IsTrue result → bad_count (table blocks.now) ≤ spare }
 {
     fit(blocks) && has_uncommitted(blocks, spare) && keeps_ordinary(index)
 }

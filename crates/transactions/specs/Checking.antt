@@ -7,7 +7,7 @@ use Rattle.nand_model.specs.Counts.{ReadsFew}
 use Rattle.nand_model.specs.declared.geometry.Geometry.{Geometry}
 use Rattle.page_tags.specs.Checks.{IsCheckEntry, IsEntryBefore, check_page}
 use Rattle.page_tags.specs.declared.check.CheckEntry.{CheckEntry}
-use Rattle.flash_tree.specs.Checkpoints.{IsChecked}
+use Rattle.flash_tree.specs.Checkpoints.{IsChecked, ListsTree}
 use Rattle.flash_tree.specs.Numbering.{AreBelow}
 use Rattle.flash_tree.specs.Slots.{check_object}
 use Rattle.block_state.specs.Table.{Table, room}
@@ -43,6 +43,12 @@ pub record WritesCheckpoint {T : Type 0} (pages : Ghosts T) (source : T) (d : De
   pub apart : (e : CheckEntry) → Contains entries e → e.block ≢ block
   pub ordinary : (e : CheckEntry) → Contains entries e → e.object ≢ check_object
   pub fresh : AreBelow d.flash t.next_group (t.entry block).seq
+
+-- the device is honest, and the source has the pages of a checkpoint that lists its tree
+pub record ChecksTree {T : Type 0} (pages : Ghosts T) (source : T) (d : Device) (t : Table) : Type 0 where
+  pub honest : d.honest ≡ true
+  pub writes : WritesCheckpoint pages source d t
+  pub tree : ListsTree d.geometry d.flash writes.entries
 
 -- What the writing of a group does, whichever its pages: where there is no room; what the device and the table are in the end; where
 -- the group was written. Wherever it ends, the group counts whole or not at all, and no other group changes. For pages in memory

@@ -21,6 +21,6 @@ fresh_bytes pages i = option_map_or (λ p. p.bytes.items) (slice_get pages i) []
 -- There is at least one page, each has the size of the device's pages, and no page is of object 0.
 pub record CanCommit (pages : List FreshPage) (geometry : Geometry) (number : ℕ) : Type 0 where
   pub some : 1 ≤ length pages
-  pub few : length pages < 2 ^ 32
+  pub within_limit : length pages < 2 ^ 32
   pub numbered : 1 ≤ number
   pub each : (i : ℕ) (p : FreshPage) → slice_get pages i ≡ Some p → (1 ≤ p.key.object) × (length p.bytes.items ≡ geometry.bytes)

@@ -85,6 +85,10 @@ pub record Stays (t : Table) (old new : Device) : Type 0 where
 abbrev pub BelowAfter : Table → ℕ → Flash → Flash → Type 0
 BelowAfter t o old new = (seq : ℕ) → (t.entry o).seq < seq → AreBelow old t.next_group seq → AreBelow new (1 + t.next_group) seq
 
+-- the same of an honest device whose open block the group was written in
+abbrev pub LeavesBelow : Table → Device → Device → Type 0
+LeavesBelow t old new = old.honest ≡ true → (o : ℕ) → t.open_block ≡ Some o → BelowAfter t o old.flash new.flash
+
 -- Only erased pages are other than they were, and these lie in the open block, in which each tag has the block's seq and none is without the
 -- first page.
 pub record WritesOpen (t : Table) (old new : Flash) : Type 0 where

@@ -1,6 +1,5 @@
 pub mod Sources
 pub mod SourceEnds
-pub mod Copying
 pub mod Committing
 pub mod Ready
 pub mod Written
@@ -11,6 +10,5 @@ pub mod Opening
 pub mod Handing
 pub mod Marking
 pub mod Checking
-pub mod CopyingOne
 pub mod SummaryWriting
 pub mod laws

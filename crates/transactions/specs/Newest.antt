@@ -8,6 +8,7 @@ use Rattle.transactions.specs.declared.source.PageName.{PageName}
 use Rattle.transactions.specs.declared.group.Placed.{Placed}
 use Rattle.transactions.specs.declared.group.GroupFault.{GroupFault}
 use Rattle.transactions.specs.declared.group.GroupFault.TheVariants as faults
+use Rattle.transactions.specs.Groups.{GroupsAfter}
 use Rattle.transactions.specs.Naming.{IsNamed, NamesOnce}
 use Rattle.flash_tree.specs.Numbering.{AreBelow}
 use Rattle.transactions.specs.Written.{tag_in}
@@ -45,3 +46,7 @@ NewestAfter g name bytes old new (Err faults.NoRoom) = KeepsNewest old new
 NewestAfter g name bytes old new (Err faults.Failed) = KeepsNewest old new
 NewestAfter g name bytes old new (Err faults.Lost) = KeepsNewest old new
 NewestAfter g name bytes old new (Err faults.Gone) = KeepsNewest old new ⊎ ShowsGroup g name bytes old new
+
+-- however the writing of the group ended, by the groups that are valid afterwards, those pages are newest
+abbrev pub EndsNewest : Group → (ℕ → PageName) → (ℕ → List ℕ) → Flash → Flash → Type 0
+EndsNewest g name bytes old new = (result : Result Placed GroupFault) → GroupsAfter g name bytes old new result → NewestAfter g name bytes old new result

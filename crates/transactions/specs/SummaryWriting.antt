@@ -1,9 +1,9 @@
 -- What the writing of a block summary promises.
-use Rattle.std.specs.Prelude.{◌≡◌, ◌<◌, ℕ, ◌+◌, Some}
+use Rattle.std.specs.Prelude.{◌≡◌, ◌<◌, ℕ, ◌+◌, true, Some}
 use Rattle.nand_model.specs.Calls.{Device}
 use Rattle.flash_tree.specs.Slots.{check_object}
 use Rattle.flash_tree.specs.Summaries.{summary_chunk, Summary, summary_page, HasSummaryForm}
-use Rattle.flash_tree.specs.Summarizing.{ListsBlock}
+use Rattle.flash_tree.specs.Summarizing.{AddsSummary, ListsBlock}
 use Rattle.block_state.specs.Table.{Table}
 use Rattle.transactions.specs.declared.source.PageSource.{Ghosts}
 
@@ -20,3 +20,7 @@ pub record WritesSummary {T : Type 0} (pages : Ghosts T) (source : T) (d : Devic
   pub names : (i : ℕ) → i < pages.count source → pages.name source t.next_group i ≡ record { key = record { object = check_object; chunk = summary_chunk + i }; version = t.next_group }
   pub bytes : (i : ℕ) → i < pages.count source → pages.bytes source d.flash i ≡ summary_page d.geometry.bytes summary i
   pub lists : ListsBlock d.flash summary
+
+-- on an honest device the group that is added, if one is, is that of the summary whose pages the source has
+abbrev pub AddsItsSummary : {T : Type 0} → Ghosts T → T → Device → Table → Device → Type 0
+AddsItsSummary pages source old t new = old.honest ≡ true → (writes : WritesSummary pages source old t) → AddsSummary old.geometry old.flash new.flash writes.summary

@@ -1,4 +1,3 @@
-pub mod Copying
 pub mod Handing
 pub mod Newest
 pub mod Ready

@@ -3,8 +3,7 @@ ghost use Rattle.std.specs.Prelude.{◌≡◌, ◌<◌, ℕ, true};
 ghost use Rattle.nand_model.specs.Calls.{Lasts};
 ghost use Rattle.block_state.specs.TableOf.{table};
 ghost use Rattle.transactions.specs.Ready.{IsReady, CanWrite};
-ghost use Rattle.flash_tree.specs.Checkpoints.{ListsTree};
-ghost use Rattle.transactions.specs.Checking.{log_of, WritesCheckpoint, WritesGroup, LeavesChecked};
+ghost use Rattle.transactions.specs.Checking.{log_of, ChecksTree, WritesGroup, LeavesChecked};
 
 use crate::group::{GroupFault, Placed, write_any};
 use crate::source::PageSource;
@@ -28,8 +27,8 @@ pub fn write_checkpoint<N: Nand, S: PageSource>(
     ensures ready { IsReady (N.state device.new) (table blocks.new) }
     ensures group { WritesGroup S.PageSource source.now (log_of (N.state device.old) (table blocks.old)) (log_of (N.state device.new) (table blocks.new)) result }
     // Where no checkpoint was whole, and this one lists the device's tree, each that is whole now is right, and in this block.
-    ensures checked { (N.state device.old).honest ≡ true → (writes : WritesCheckpoint S.PageSource source.now (N.state device.old) (table blocks.old))
-        → ListsTree (N.state device.old).geometry (N.state device.old).flash writes.entries → LeavesChecked (N.state device.old) (N.state device.new) (table blocks.old).open_block result }
+    ensures checked { ChecksTree S.PageSource source.now (N.state device.old) (table blocks.old)
+        → LeavesChecked (N.state device.old) (N.state device.new) (table blocks.old).open_block result }
 {
     write_any(device, blocks, source, scratch)
 }

@@ -1,15 +1,12 @@
 // The writing of a group: whole, or not at all.
-ghost use Rattle.std.specs.Prelude.{◌≡◌, ◌↔◌, ◌<◌, ◌≤◌, ◌+◌, ℕ, length, true, IfOk, Some, IsErrOf};
+ghost use Rattle.std.specs.Prelude.{◌≡◌, ◌<◌, ◌≤◌, ℕ, length, true};
 ghost use Rattle.volume_terms.specs.Sizes.{number_end};
 ghost use Rattle.nand_model.specs.Calls.{Lasts};
-ghost use Rattle.nand_model.specs.Counts.{ReadsFew};
-ghost use Rattle.block_state.specs.Table.{room};
 ghost use Rattle.block_state.specs.TableOf.{table};
 ghost use Rattle.transactions.specs.Ready.{IsReady, CanWrite};
-ghost use Rattle.transactions.specs.Handing.{HandsNumbers, HandsOut};
-ghost use Rattle.transactions.specs.Naming.{AreOrdinary, KeepsRight};
-ghost use Rattle.transactions.specs.Groups.{next_group, ReportsGroup, GroupsAfter, GroupEnds, TableEnds, Stays, BelowAfter, WritesOpen};
-ghost use Rattle.transactions.specs.Written.{unwritten};
+ghost use Rattle.transactions.specs.Handing.{HandsOut};
+ghost use Rattle.transactions.specs.Naming.{AreOrdinary};
+ghost use Rattle.transactions.specs.Groups.{LeavesBelow};
 ghost use Rattle.transactions.specs.Checking.{WritesGroup, log_of};
 
 use crate::page::write_pages;
@@ -77,23 +74,9 @@ pub(crate) fn write_any<N: Nand, S: PageSource>(
     requires has { (N.state device.old).honest ≡ true → (i : ℕ) → i < S.count source.now → S.has source.now (N.state device.old).flash i }
     ensures lasts { Lasts (N.state device.old) (N.state device.new) }
     ensures ready { IsReady (N.state device.new) (table blocks.new) }
-    ensures no_room { IsErrOf result GroupFault.NoRoom ↔ (room (table blocks.old) < S.count source.now) }
-    ensures ends { GroupEnds (N.state device.old) (N.state device.new) (S.count source.now) result }
-    ensures table { TableEnds (S.count source.now) (table blocks.old) (table blocks.new) result }
-    ensures placed { (o : ℕ) → (table blocks.old).open_block ≡ Some o
-        → IfOk result (λ placed. ReportsGroup (next_group (table blocks.old) (S.count source.now) o) placed) }
-    ensures groups { (N.state device.old).honest ≡ true → (o : ℕ) → (table blocks.old).open_block ≡ Some o
-        → GroupsAfter (next_group (table blocks.old) (S.count source.now) o) (S.name source.now (table blocks.old).next_group)
-        (S.bytes source.now (N.state device.old).flash) (N.state device.old).flash (N.state device.new).flash result }
-    ensures writes { (N.state device.old).honest ≡ true → WritesOpen (table blocks.old) (N.state device.old).flash (N.state device.new).flash }
-    ensures stays { Stays (table blocks.old) (N.state device.old) (N.state device.new) }
-    ensures quiet { S.quiet source.now → (N.state device.new).reads + (N.state device.old).failures ≤ (N.state device.old).reads + (N.state device.new).failures }
-    ensures reads { ReadsFew (unwritten result) (N.state device.old) (N.state device.new) }
+    ensures group { WritesGroup S.PageSource source.now (log_of (N.state device.old) (table blocks.old)) (log_of (N.state device.new) (table blocks.new)) result }
     ensures some { 1 ≤ S.count source.now }
-    ensures below { (N.state device.old).honest ≡ true → (o : ℕ) → (table blocks.old).open_block ≡ Some o
-        → BelowAfter (table blocks.old) o (N.state device.old).flash (N.state device.new).flash }
-    ensures numbers { HandsNumbers (N.state device.old) (N.state device.new) (table blocks.old) (table blocks.new) }
-    ensures summaries { KeepsRight (S.count source.now) (S.name source.now (table blocks.old).next_group) (N.state device.old) (N.state device.new) }
+    ensures below { LeavesBelow (table blocks.old) (N.state device.old) (N.state device.new) }
 {
     let count = source.count();
     let Some(place) = take_place(blocks, count) else {

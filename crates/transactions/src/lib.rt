@@ -2,7 +2,6 @@
 #![tactic(auto)]
 
 mod checkpoint;
-mod copies;
 mod fresh;
 mod group;
 mod law;
@@ -15,7 +14,6 @@ mod summary;
 mod table;
 
 pub use checkpoint::write_checkpoint;
-pub use copies::{Copies, CopyOf};
 pub use fresh::Fresh;
 pub use group::{GroupFault, Placed, write_group};
 pub use law::{

@@ -3,10 +3,9 @@ ghost use Rattle.std.specs.Prelude.{◌≡◌, ◌<◌, ℕ, true};
 ghost use Rattle.nand_model.specs.Calls.{Lasts};
 ghost use Rattle.block_state.specs.TableOf.{table};
 ghost use Rattle.transactions.specs.Ready.{IsReady, CanWrite};
-ghost use Rattle.flash_tree.specs.Summarizing.{AddsSummary};
 ghost use Rattle.transactions.specs.Checking.{log_of, WritesGroup};
 ghost use Rattle.transactions.specs.Handing.{HandsOut};
-ghost use Rattle.transactions.specs.SummaryWriting.{WritesSummary};
+ghost use Rattle.transactions.specs.SummaryWriting.{AddsItsSummary, WritesSummary};
 
 use crate::group::{GroupFault, Placed, write_any};
 use crate::source::PageSource;
@@ -33,8 +32,7 @@ pub fn write_summary<N: Nand, S: PageSource>(
     // Each whole checkpoint stays right, and so does each summary, the new one too.
     ensures numbers { HandsOut (N.state device.old) (N.state device.new) (table blocks.old) (table blocks.new) }
     // The group that is added, if one is, is that summary.
-    ensures adds { (N.state device.old).honest ≡ true → (writes : WritesSummary S.PageSource source.now (N.state device.old) (table blocks.old))
-        → AddsSummary (N.state device.old).geometry (N.state device.old).flash (N.state device.new).flash writes.summary }
+    ensures adds { AddsItsSummary S.PageSource source.now (N.state device.old) (table blocks.old) (N.state device.new) }
 {
     write_any(device, blocks, source, scratch)
 }

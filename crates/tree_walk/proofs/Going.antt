@@ -87,19 +87,19 @@ module _ (z : Sizes) (size : IsPageSize z.page_bytes) (m : NewestMap) (single : 
       cc
 
   later_at : (p i x : ℕ) → IsNamedAt z m list p i x → IsNamedAt z m new.objects.items p i x
-  later_at p i x a = record { object = a.object; listed = b.stays p a.object a.listed; named = a.named; finds = a.finds; there = a.there }
+  later_at p i x a = record { object = a.object; listed = b.stays p a.object a.listed; named = a.named; lookups = a.lookups; there = a.there }
 
   earlier_at : (p i x : ℕ) → p < n → IsNamedAt z m new.objects.items p i x → IsNamedAt z m list p i x
-  earlier_at p i x lt a = record { object = a.object; listed = same_at p a.object (omega (arith, lt)) a.listed; named = a.named; finds = a.finds; there = a.there }
+  earlier_at p i x lt a = record { object = a.object; listed = same_at p a.object (omega (arith, lt)) a.listed; named = a.named; lookups = a.lookups; there = a.there }
 
   -- the object itself names what was found
   named_here : (i x : ℕ) → slice_get named i ≡ Some x → IsNamedAt z m new.objects.items n i x
-  named_here i x is = record { object = o; listed = here; named = named; finds = v.leads; there = is }
+  named_here i x is = record { object = o; listed = here; named = named; lookups = v.leads; there = is }
 
   here_named : (p i x : ℕ) → n ≤ p → p < n + 1 → IsNamedAt z m new.objects.items p i x → slice_get named i ≡ Some x
   here_named p i x low lt a =
       let object : a.object ≡ o = is_here p a.object low lt a.listed in
-      let two : Leads a.named ≡ Leads named = one_finding z size m single o _ _ (subst (λ k. Finds z m k (Leads a.named)) object a.finds) v.leads in
+      let two : Leads a.named ≡ Leads named = one_finding z size m single o _ _ (subst (λ k. Finds z m k (Leads a.named)) object a.lookups) v.leads in
       let same : a.named ≡ named = cc in
       ap (λ (xs : List ℕ). slice_get xs i) (sym same) ∙ a.there
 
@@ -171,7 +171,7 @@ module _ (z : Sizes) (size : IsPageSize z.page_bytes) (m : NewestMap) (single : 
   -- the names of the first objects are what they were
   names_stay : (k : ℕ) (names : List NamedObject) → AreNamesOf z m list k names → AreNamesOf z m new.objects.items k names
   names_stay zero names are = are
-  names_stay (suc k) names (x, ns, before, is, finds, are, all) = (x, ns, before, b.stays k x is, finds, names_stay k before are, all)
+  names_stay (suc k) names (x, ns, before, is, lookups, are, all) = (x, ns, before, b.stays k x is, lookups, names_stay k before are, all)
 
   names_on : AreNamesOf z m new.objects.items (n + 1) new.names.items
   names_on =

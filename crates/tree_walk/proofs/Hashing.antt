@@ -33,9 +33,9 @@ holds_next old new d n h hashes at adds each = λ s k lt is. elim (cases_eq s n)
 
 -- where the hashes of the slots are held, the directory's are
 pub has_hashes : (z : Sizes) (m : PageMap) (d n : ℕ) (seen : Slots) (index : NameIndex) → z.page_bytes ≤ 4096 → HasSlots z m d n seen → HoldsEach index d n seen.hashes.items → HasHashes index z m d n
-has_hashes z m d n seen index few h each = λ s e lt slot.
+has_hashes z m d n seen index within_limit h each = λ s e lt slot.
     let at = slice_get_there h.slots s (omega (arith, lt, h.are.size)) in
-    let one : at.0 ≡ e = one_slot z few (has m) (single m) d s at.0 e (h.are.each s at.0 at.1) slot in
+    let one : at.0 ≡ e = one_slot z within_limit (has m) (single m) d s at.0 e (h.are.each s at.0 at.1) slot in
     let hash : slice_get seen.hashes.items s ≡ Some (fnv1a at.0.name) = ap (λ (hs : List ℕ). slice_get hs s) h.hashes ∙ mapped_at (λ (x : Entry). fnv1a x.name) h.slots s at.0 at.1 in
     subst (λ (x : Entry). Holds index d (fnv1a x.name) s) one (each s (fnv1a at.0.name) lt hash)
 

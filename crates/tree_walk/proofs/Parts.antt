@@ -37,7 +37,7 @@ part_cost z (Dir moment entries) y (some, is, among) = omega (arith, ap (cost z)
 pub part_countable : (z : Sizes) → IsSizes z → (objects part : Objects) → fits z objects ≡ true → ArePartOf objects part → IsCountable z part
 part_countable z sizes objects part fit are = record {
   sizes = sizes;
-  few =
+  within_limit =
       let less : charge z part ≤ charge z objects = total_le nat_cmp_total map.nat_cmp-IsAntisymmetric (cost z) part objects (λ o y is. let x = are o y is in (x.0, x.1, part_cost z x.0 y x.2)) in
       omega (arith, less, leb-true (charge z objects) (capacity z) fit, capacity_few z sizes);
 }

@@ -8,9 +8,9 @@ use Rattle.volume_terms.specs.Sizes.{Sizes}
 use Rattle.tree_walk.specs.Visits.{IsSeen}
 
 pub still_seen : (z : Sizes) (p q : PagesState) → OnlyFinds p q → IsSeen z p → IsSeen z q
-still_seen z p q finds seen = record {
-  sound = finds.sound ∙ seen.sound;
-  size = seen.size ∙ sym finds.page_bytes;
+still_seen z p q lookups seen = record {
+  sound = lookups.sound ∙ seen.sound;
+  size = seen.size ∙ sym lookups.page_bytes;
 }
 
 pub page_size : (z : Sizes) (p : PagesState) → 512 ≤ p.page_bytes → p.page_bytes ≤ 4096 → IsSeen z p → IsPageSize z.page_bytes

@@ -42,14 +42,14 @@ record AreSlotsAt (objects : Objects) (o : ℕ) (slots : List Entry) : Type 0 wh
 module _ (z : Sizes) (size : IsPageSize z.page_bytes) (m : NewestMap) (single : IsSingle m) (objects : Objects) (shown : Shows z m objects) where
   slots_at : (o : ℕ) (x : Object) → map.get objects o ≡ Some x → ReadsAs z m o x → (named : List ℕ) → Finds z m o (Leads named)
       → (slots : List Entry) × AreSlotsAt objects o slots × (named ≡ list_map (λ e. e.object) slots)
-  slots_at o (File moment bytes) is r named finds = (
+  slots_at o (File moment bytes) is r named lookups = (
     [],
     record {
       each = λ k e at. absurd (nothing k e at);
       once = λ i j a b at. absurd (nothing i a at);
       every = λ name c n. let two : Some (File moment bytes) ≡ Some (Dir n.moment n.entries) = sym is ∙ n.directory_is in absurd cc;
     },
-    none finds,
+    none lookups,
   ) where
     nothing : (k : ℕ) (e : Entry) → slice_get [] k ≡ Some e → ⊥
     nothing k e at = cc
@@ -57,9 +57,9 @@ module _ (z : Sizes) (size : IsPageSize z.page_bytes) (m : NewestMap) (single : 
     none : Finds z m o (Leads named) → named ≡ []
     none (inl (f, has, kind, chunks, empty)) = empty
     none (inr (f, has, kind, slots, are, all)) = absurd (kinds_apart z size m single o r.fields f r.has has r.kind kind)
-  slots_at o (Dir moment entries) is r named finds =
+  slots_at o (Dir moment entries) is r named lookups =
       let leads : Finds z m o (Leads (list_map (λ (e : Entry). e.object) r.slots)) = inr (r.fields, r.has, r.kind, r.slots, record { size = r.size; each = r.each; once = r.once }, refl) in
-      let two : Leads named ≡ Leads (list_map (λ (e : Entry). e.object) r.slots) = one_finding z size m single o _ _ finds leads in (
+      let two : Leads named ≡ Leads (list_map (λ (e : Entry). e.object) r.slots) = one_finding z size m single o _ _ lookups leads in (
         r.slots,
         record {
           each = λ k e at. record {
@@ -155,10 +155,10 @@ module _ (z : Sizes) (size : IsPageSize z.page_bytes) (m : NewestMap) (single : 
   ) where
     nothing : (i : ℕ) (s : NamedSlot) → slice_get [] i ≡ Some s → ⊥
     nothing i s is = cc
-  all_slots (suc n) names (o, named, before, at, finds, are, is) =
+  all_slots (suc n) names (o, named, before, at, lookups, are, is) =
       let rest = all_slots n before are in
       let x = there n o at in
-      let s = slots_at z size m single objects shown o x.0 x.1 (shown.each o x.0 x.1) named finds in
+      let s = slots_at z size m single objects shown o x.0 x.1 (shown.each o x.0 x.1) named lookups in
       let more = slots_more objects list once n o at rest.0 before rest.1 s.0 s.1 names (is ∙ ap (λ (ns : List ℕ). before ++ named_in o ns) s.2) in
       let one : n + 1 ≡ suc n = omega arith in
       (rest.0 ++ list_map (slot_in o) s.0, subst (λ k. AreSlotsOf objects list k (rest.0 ++ list_map (slot_in o) s.0) names) one more)

@@ -11,7 +11,7 @@ use Rattle.tree_walk.specs.declared.broken.Broken.{Broken}
 use Rattle.tree_walk.specs.declared.walking.WalkState.{WalkState}
 
 pub wrong_by_stop : (z : Sizes) (m : NewestMap) (n : ℕ) (walk : WalkState) → IsGoing z m n walk → (b : Broken) → StopsOn z m walk n b → IsWrongBy z m b
-wrong_by_stop z m n walk going b (at, (object, breaks, finds)) = (
-  inl (going.so_far (Wrongly (wrong_of b.rule)) (stops b.key.object (wrong_of b.rule) at finds)),
+wrong_by_stop z m n walk going b (at, (object, breaks, lookups)) = (
+  inl (going.so_far (Wrongly (wrong_of b.rule)) (stops b.key.object (wrong_of b.rule) at lookups)),
   (breaks, inr (going.comes b.key.object (comes_here at))),
 )

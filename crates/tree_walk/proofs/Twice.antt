@@ -24,7 +24,7 @@ module _ (z : Sizes) (size : IsPageSize z.page_bytes) (m : NewestMap) (single : 
 
   -- a name stands in a slot
   slot_in : (p i x : ℕ) (a : IsNamedAt z m list p i x) → (e : Entry) × IsSlotIn z m list a.object i e × (e.object ≡ x)
-  slot_in p i x a = go a.named a.finds a.there where
+  slot_in p i x a = go a.named a.lookups a.there where
     go : (named : List ℕ) → Finds z m a.object (Leads named) → slice_get named i ≡ Some x → (e : Entry) × IsSlotIn z m list a.object i e × (e.object ≡ x)
     go named (inl (f, has, kind, chunks, none)) is = absurd (nothing (ap (λ xs. slice_get xs i) (sym none) ∙ is)) where
       nothing : slice_get [] i ≡ Some x → ⊥
@@ -37,7 +37,7 @@ module _ (z : Sizes) (size : IsPageSize z.page_bytes) (m : NewestMap) (single : 
   in_slot : (d i : ℕ) (e : Entry) (s : IsSlotIn z m list d i e) → IsNamedAt z m list s.place i e.object
   in_slot d i e s =
       let w = going.whole s.place d (omega (arith, all, slice_get_within list s.place d s.listed)) s.listed in
-      record { object = d; listed = s.listed; named = w.0; finds = w.1; there = go w.0 w.1 }
+      record { object = d; listed = s.listed; named = w.0; lookups = w.1; there = go w.0 w.1 }
     where
       go : (named : List ℕ) → Finds z m d (Leads named) → slice_get named i ≡ Some e.object
       go named (inl (f, has, kind, chunks, none)) = absurd (kinds_apart z size m single d f s.fields has s.has kind s.kind)

@@ -32,7 +32,7 @@ module _ (z : Sizes) (size : IsPageSize z.page_bytes) (m : NewestMap) (single : 
   EndsWhole (Wholly list) = IsWhole list
 
   closed_more : (list : List ℕ) (n o : ℕ) (named : List ℕ) → slice_get list n ≡ Some o → Finds z m o (Leads named) → AreClosed list n → AreClosed (with_new list named) (n + 1)
-  closed_more list n o named at finds closed i x ns lt is leads k c there =
+  closed_more list n o named at lookups closed i x ns lt is leads k c there =
       let b = added list named in
       elim (cases_lt i n) [
         | inl before ↦
@@ -45,17 +45,17 @@ module _ (z : Sizes) (size : IsPageSize z.page_bytes) (m : NewestMap) (single : 
             let here : i ≡ n = omega (arith, lt, after) in
             let two : Some x ≡ Some o = sym is ∙ ap (slice_get (with_new list named)) here ∙ b.stays n o at in
             let one : x ≡ o = cc in
-            let same : Leads ns ≡ Leads named = one_finding z size m single o _ _ (subst (λ p. Finds z m p (Leads ns)) one leads) finds in
+            let same : Leads ns ≡ Leads named = one_finding z size m single o _ _ (subst (λ p. Finds z m p (Leads ns)) one leads) lookups in
             let lists : ns ≡ named = cc in
             b.on k c (ap (λ (l : List ℕ). slice_get l k) (sym lists) ∙ there)
       ]
 
   goes_whole : (list : List ℕ) (n : ℕ) (end : ListEnd) → IsOnce list → slice_get list 0 ≡ Some root_number → AreClosed list n → GoesThrough z m list n end → EndsWhole end
   goes_whole list n end once begins closed (ends len) = record { once = once; begins = begins; closed = subst (AreClosed list) (sym len) closed }
-  goes_whole list n end once begins closed (stops o wrong is finds) = tt
-  goes_whole list n end once begins closed (goes o named is finds on) =
+  goes_whole list n end once begins closed (stops o wrong is lookups) = tt
+  goes_whole list n end once begins closed (goes o named is lookups on) =
       let b = added list named in
-      goes_whole (with_new list named) (n + 1) end (b.once once) (b.stays 0 root_number begins) (closed_more list n o named is finds closed) on
+      goes_whole (with_new list named) (n + 1) end (b.once once) (b.stays 0 root_number begins) (closed_more list n o named is lookups closed) on
 
   once_root : IsOnce (root_number ∷ [])
   once_root zero zero o a b = refl

@@ -79,7 +79,7 @@ pub record IsNamedAt (z : Sizes) (m : NewestMap) (list : List ℕ) (p i o : ℕ)
   pub object : ℕ
   pub listed : slice_get list p ≡ Some object
   pub named : List ℕ
-  pub finds : Finds z m object (Leads named)
+  pub lookups : Finds z m object (Leads named)
   pub there : slice_get named i ≡ Some o
 
 -- one of the first n of the list names it

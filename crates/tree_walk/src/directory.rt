@@ -53,8 +53,8 @@ pub(crate) fn read_slots<P: Pages>(
     length: u64,
     names: &mut NameIndex,
 ) -> Result<Vec<u64>, WalkFault>
-    requires few { length < 2 ^ 32 }
-    ensures finds { OnlyFinds (P.state pages.old) (P.state pages.new) }
+    requires within_limit { length < 2 ^ 32 }
+    ensures lookups { OnlyFinds (P.state pages.old) (P.state pages.new) }
     ensures issued { OfPageBytes (P.state pages.old) (λ z. (P.state pages.new).issued ≤ (P.state pages.old).issued + div_ceil length (page_slots z)) }
     ensures power { OnOk result (KeepsPower (P.state pages.old) (P.state pages.new)) }
     ensures reported { OfPages (P.state pages.old) (λ z m. IfOk result (λ objects. NamesFrom z m directory length objects.items)) }
@@ -87,7 +87,7 @@ struct SlotPage {
 impl SlotPage {
     /// The key of the page.
     fn key(self) -> Key
-        requires few { self.number < 2 ^ 32 }
+        requires within_limit { self.number < 2 ^ 32 }
         ensures key { result ≡ record { object = self.directory; chunk = 1 + self.number } }
     {
         Key {
@@ -98,7 +98,7 @@ impl SlotPage {
 
     /// The rule is broken by this page.
     fn breaks(self, rule: Rule) -> WalkFault
-        requires few { self.number < 2 ^ 32 }
+        requires within_limit { self.number < 2 ^ 32 }
         ensures broken { result ≡ broken_at self rule }
     {
         WalkFault::Broken(Broken {
@@ -117,8 +117,8 @@ fn take_chunk<P: Pages>(
     seen: &mut Slots,
 ) -> Result<(), WalkFault>
     requires room { 272 * count ≤ (P.state pages.old).page_bytes }
-    requires few { at.number < 2 ^ 32 }
-    ensures finds { OnlyFinds (P.state pages.old) (P.state pages.new) }
+    requires within_limit { at.number < 2 ^ 32 }
+    ensures lookups { OnlyFinds (P.state pages.old) (P.state pages.new) }
     ensures issued { (P.state pages.new).issued ≤ (P.state pages.old).issued + 1 }
     ensures power { OnOk result (KeepsPower (P.state pages.old) (P.state pages.new)) }
     ensures reported { OfPages (P.state pages.old) (λ z m. SlotsBefore z m at seen.old → OnOk result (SlotsUpTo z m at count seen.new)) }
@@ -140,7 +140,7 @@ fn take_page(
     seen: &mut Slots,
 ) -> Result<(), WalkFault>
     requires room { 272 * count ≤ length page.now }
-    requires few { length page.now ≤ 4096 }
+    requires within_limit { length page.now ≤ 4096 }
     requires number { at.number < 2 ^ 32 }
     ensures reported { OfSlotPage at page.now (λ z m. SlotsBefore z m at seen.old → OnOk result (SlotsUpTo z m at count seen.new)) }
     ensures fault { (new : PagesState) → OfSlotPage at page.now (λ z m. SlotsBefore z m at seen.old → IfFault result (BreaksUpTo z m at count) new) }
@@ -155,7 +155,7 @@ fn take_page(
 /// The bytes of a slot of a page.
 fn slot_of(page: &[u8], place: u64) -> &[u8]
     requires room { 272 * place + 272 ≤ length page.now }
-    requires few { length page.now ≤ 4096 }
+    requires within_limit { length page.now ≤ 4096 }
     ensures bytes { result.now ≡ take 272 (drop (272 * place) page.now) }
     ensures len { length result.now ≡ 272 }
 {

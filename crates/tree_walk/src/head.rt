@@ -60,10 +60,10 @@ pub(crate) fn read_head<P: Pages>(
     pages: &mut P,
     object: u64,
 ) -> Result<Head, WalkFault>
-    ensures finds { OnlyFinds (P.state pages.old) (P.state pages.new) }
+    ensures lookups { OnlyFinds (P.state pages.old) (P.state pages.new) }
     ensures issued { (P.state pages.new).issued ≤ (P.state pages.old).issued + 1 }
     ensures power { OnOk result (KeepsPower (P.state pages.old) (P.state pages.new)) }
-    ensures few { IfOk result (λ head. length head.bits.items ≤ 4064) }
+    ensures within_limit { IfOk result (λ head. length head.bits.items ≤ 4064) }
     ensures entries { IfOk result (λ head. head.kind ≡ kinds.Directory → head.length < 2 ^ 32) }
     ensures reported { OfPages (P.state pages.old) (λ z m. IfOk result (SaysHead z (has m) object)) }
     ensures stops { OfPages (P.state pages.old) (λ z m. IfFault result (StopsAt z (has m) object) (P.state pages.new)) }
@@ -84,7 +84,7 @@ fn decode_head(alloc: Global, page: &[u8], object: u64) -> Result<Head, WalkFaul
     requires least { 32 ≤ length page.now }
     requires most { length page.now ≤ 4096 }
     ensures reported { IfOk result (λ head. (f : Fields) × IsHeaderOf page.now f × IsHeadOf head f) }
-    ensures few { IfOk result (λ head. length head.bits.items ≤ 4064) }
+    ensures within_limit { IfOk result (λ head. length head.bits.items ≤ 4064) }
     ensures fault { (new : PagesState) → IfFault result (IsNoHeader page.now object) new }
 {
     let header = match decode_header(page) {

@@ -34,7 +34,7 @@ pub fn visit<P: KnownPages>(
     object: u64,
     names: &mut NameIndex,
 ) -> Result<Visited, WalkFault>
-    ensures finds { OnlyFinds (P.state pages.old) (P.state pages.new) }
+    ensures lookups { OnlyFinds (P.state pages.old) (P.state pages.new) }
     ensures issued { OfPageBytes (P.state pages.old) (λ z. IfOk result (λ visited. IssuesForHead z (P.state pages.old) (P.state pages.new) visited.head)) }
     ensures power { OnOk result (KeepsPower (P.state pages.old) (P.state pages.new)) }
     ensures leads { OfSeen (P.state pages.old) (λ z m. IfOk result (IsVisited z (has m) object)) }

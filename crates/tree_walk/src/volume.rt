@@ -20,7 +20,7 @@ use volume_terms::{ROOT, StoreFault};
 
 /// Reads how many blocks the volume keeps spare, on a device of these sizes. One page is looked up.
 pub fn root<P: Pages>(pages: &mut P, geometry: Geometry) -> Result<u16, RootFault>
-    ensures finds { OnlyFinds (P.state pages.old) (P.state pages.new) }
+    ensures lookups { OnlyFinds (P.state pages.old) (P.state pages.new) }
     ensures issued { (P.state pages.new).issued ≤ (P.state pages.old).issued + 1 }
     ensures power { OnOk result (KeepsPower (P.state pages.old) (P.state pages.new)) }
     ensures volume { OfSized geometry (P.state pages.old) (IfOk result (IsVolume geometry (has (P.state pages.old).present))) }

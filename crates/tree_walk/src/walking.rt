@@ -30,7 +30,7 @@ pub fn walk<P: KnownPages>(
     pages: &mut P,
     names: &mut NameIndex,
 ) -> Result<Tree, WalkFault>
-    ensures finds { OnlyFinds (P.state pages.old) (P.state pages.new) }
+    ensures lookups { OnlyFinds (P.state pages.old) (P.state pages.new) }
     ensures power { OnOk result (KeepsPower (P.state pages.old) (P.state pages.new)) }
     ensures issued { OfSeen (P.state pages.old) (λ z m. IfOk result (λ tree. (P.state pages.new).issued ≤ (P.state pages.old).issued + tree_pages z tree)) }
     ensures tree { OfSeen (P.state pages.old) (λ z m. IfOk result (IsTreeThrough z (has m))) }
@@ -108,7 +108,7 @@ impl WalkState {
     ) -> Result<(), WalkFault>
         requires within { place < length self.old.objects.items }
         requires knows { Knows self.old }
-        ensures finds { OnlyFinds (P.state pages.old) (P.state pages.new) }
+        ensures lookups { OnlyFinds (P.state pages.old) (P.state pages.new) }
         ensures power { OnOk result (KeepsPower (P.state pages.old) (P.state pages.new)) }
         ensures knows { OnOk result (Knows self.new) }
         ensures goes { OfGoing (P.state pages.old) place self.old (λ z m. OnOk result (IsGoing z (has m) (place + 1) self.new)) }

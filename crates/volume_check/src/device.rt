@@ -27,7 +27,7 @@ fn find<P: KnownPages>(
     pages: &mut P,
     geometry: Geometry,
 ) -> Result<Option<Finding>, CheckFault>
-    ensures finds { OnlyFinds (P.state pages.old) (P.state pages.new) }
+    ensures lookups { OnlyFinds (P.state pages.old) (P.state pages.new) }
     ensures verdict { IsSeen (sizes_of geometry 0) (P.state pages.old)
         → IfOk result (λ found. ReportsVerdict geometry (has (P.state pages.old).present) (verdict_of (broken_in found))) }
     ensures first { IsSeen (sizes_of geometry 0) (P.state pages.old)

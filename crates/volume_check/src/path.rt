@@ -37,7 +37,7 @@ impl Parents {
         pages: &mut P,
         object: u64,
     ) -> Result<(), CheckFault>
-        ensures finds { OnlyFinds (P.state pages.old) (P.state pages.new) }
+        ensures lookups { OnlyFinds (P.state pages.old) (P.state pages.new) }
         ensures fault { IfErr result (λ fault. fault ≡ faults.NoMemory) }
     {
         let mut names = NameIndex::new(alloc);
@@ -59,7 +59,7 @@ fn parents_of<P: KnownPages>(
     pages: &mut P,
     object: u64,
 ) -> Result<BTreeMap<u64, u64>, CheckFault>
-    ensures finds { OnlyFinds (P.state pages.old) (P.state pages.new) }
+    ensures lookups { OnlyFinds (P.state pages.old) (P.state pages.new) }
     ensures fault { IfErr result (λ fault. fault ≡ faults.NoMemory) }
 {
     let mut parents = Parents {
@@ -81,7 +81,7 @@ fn parents_of<P: KnownPages>(
 /// The bytes of a slot of a page.
 fn slot_of(page: &[u8], place: u64) -> &[u8]
     requires room { 272 * place + 272 ≤ length page.now }
-    requires few { length page.now ≤ 4096 }
+    requires within_limit { length page.now ≤ 4096 }
     ensures { length result.now ≡ 272 }
 {
     let at = SLOT_BYTES * place as usize;
@@ -109,7 +109,7 @@ fn name_of<P: Pages>(
     directory: u64,
     object: u64,
 ) -> Result<Vec<u8>, CheckFault>
-    ensures finds { OnlyFinds (P.state pages.old) (P.state pages.new) }
+    ensures lookups { OnlyFinds (P.state pages.old) (P.state pages.new) }
     ensures fault { IfErr result (λ fault. fault ≡ faults.NoMemory) }
 {
     for chunk in 1..u64::MAX {
@@ -149,7 +149,7 @@ pub(crate) fn path_of<P: KnownPages>(
     pages: &mut P,
     object: u64,
 ) -> Result<Vec<u8>, CheckFault>
-    ensures finds { OnlyFinds (P.state pages.old) (P.state pages.new) }
+    ensures lookups { OnlyFinds (P.state pages.old) (P.state pages.new) }
     ensures fault { IfErr result (λ fault. fault ≡ faults.NoMemory) }
 {
     let parents = parents_of(alloc, pages, object)?;

@@ -26,7 +26,7 @@ pub(crate) fn root_rule<P: Pages>(
     pages: &mut P,
     geometry: Geometry,
 ) -> Result<Option<Rule>, CheckFault>
-    ensures finds { OnlyFinds (P.state pages.old) (P.state pages.new) }
+    ensures lookups { OnlyFinds (P.state pages.old) (P.state pages.new) }
     ensures none { IsSeen (sizes_of geometry 0) (P.state pages.old)
         → IfOk result (λ rule. IfNone rule (HasVolume geometry (has (P.state pages.old).present))) }
     ensures breaks { IsSeen (sizes_of geometry 0) (P.state pages.old)
@@ -67,7 +67,7 @@ fn header_rule(page: &[u8], blocks: u32) -> Option<Rule>
 /// Why pages were not read of a device that has failed.
 pub(crate) fn why_failed<P: Pages>(pages: &mut P) -> CheckFault
     requires failed { (P.state pages.old).failed ≡ true }
-    ensures finds { OnlyFinds (P.state pages.old) (P.state pages.new) }
+    ensures lookups { OnlyFinds (P.state pages.old) (P.state pages.new) }
     ensures why { WhyNoVerdict (P.state pages.new) result }
 {
     if pages.has_power() {

@@ -23,7 +23,7 @@ pub(crate) fn find_broken<P: KnownPages>(
     pages: &mut P,
     geometry: Geometry,
 ) -> Result<Option<Broken>, CheckFault>
-    ensures finds { OnlyFinds (P.state pages.old) (P.state pages.new) }
+    ensures lookups { OnlyFinds (P.state pages.old) (P.state pages.new) }
     ensures verdict { IsSeen (sizes_of geometry 0) (P.state pages.old)
         → IfOk result (λ found. ReportsVerdict geometry (has (P.state pages.old).present) (verdict_of found)) }
     ensures first { IsSeen (sizes_of geometry 0) (P.state pages.old)

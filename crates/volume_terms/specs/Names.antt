@@ -10,7 +10,7 @@ AreBytes bytes = All (λ byte. byte < 256) bytes
 pub record IsName (name : List ℕ) : Type 0 where
   pub bytes : AreBytes name
   pub some : 1 ≤ length name
-  pub few : length name ≤ name_limit
+  pub within_limit : length name ≤ name_limit
   pub no_zero : ¬ Contains name 0
   pub no_slash : ¬ Contains name 47
   pub not_dot : name ≢ 46 ∷ []

@@ -92,7 +92,7 @@ impl<P: PageStore> PageStore for RefusingPages<P> {
 
     ghost lost = { λ it sound failed. nothing_lost _ sound };
 
-    ghost few = { λ it sound fresh. nothing_worn _ _ sound };
+    ghost within_limit = { λ it sound fresh. nothing_worn _ _ sound };
 
     fn most_pages(&self) -> u32 {
         self.inner.most_pages()

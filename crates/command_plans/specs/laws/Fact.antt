@@ -53,7 +53,7 @@ few_pairs objects o (a ∷ b ∷ rest) lists one =
     absurd (lists.distinct.0 (inl (λ i. (same.0 i, same.1 i))))
 
 no_two : (n : ℕ) → n ≤ 1 → false ≡ nat_le 2 n
-no_two n few = sym (lt-leb 2 n (omega arith))
+no_two n within_limit = sym (lt-leb 2 n (omega arith))
 
 -- a directory has one name at most
 pub directory_pairs : (z : Sizes) (objects : Objects) (o : ℕ) → IsForest z objects → IsDirectory objects o → false ≡ nat_le 2 (length (link_pairs objects o))

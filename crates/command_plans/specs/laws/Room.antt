@@ -144,9 +144,9 @@ length_few z sizes = elim sizes.page_bytes [
 pub units_few : (z : Sizes) (objects : Objects) (o : ℕ) (bytes : List ℕ) → IsSizes z → length bytes ≤ greatest_length z → capacity z - charge z objects + ceiling (length bytes) z.page_bytes ≤ 2 ^ 28
 units_few z objects o bytes sizes long =
     let some = page_some z sizes in
-    let few : ceiling (length bytes) z.page_bytes ≤ length bytes =
+    let within_limit : ceiling (length bytes) z.page_bytes ≤ length bytes =
     (ceiling_at_most (length bytes) z.page_bytes (length bytes) some).1 (omega (arith, mul-le (length bytes) 1 (length bytes) z.page_bytes (omega arith) some)) in
-    omega (arith, few, capacity_few z sizes, length_few z sizes, long)
+    omega (arith, within_limit, capacity_few z sizes, length_few z sizes, long)
 
 pub page_few : (z : Sizes) → IsSizes z → z.page_bytes ≤ 4096
 page_few z sizes = elim sizes.page_bytes [

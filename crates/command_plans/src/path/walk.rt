@@ -1,9 +1,9 @@
 // Where a path leads.
-ghost use Rattle.std.specs.Prelude.{◌≡◌, OnOk, map as list_map};
-ghost use Rattle.posix_profile.specs.Paths.{component, leads_to, arrive, pass, walk_from_root, resolve};
+ghost use Rattle.std.specs.Prelude.{◌≡◌, [], OnOk};
+ghost use Rattle.posix_profile.specs.Paths.{leads_to, pass, walk, resolve};
 ghost use Rattle.posix_profile.specs.Names.{parent};
-ghost use Rattle.object_store.specs.Stores.{Finds, KeepsPower, OfDirectory, OfTree};
-ghost use Rattle.command_plans.specs.Paths.{component_of, last_of, goes_on, Passes, Leads};
+ghost use Rattle.object_store.specs.Stores.{KeepsPower, OfDirectory, OfTree};
+ghost use Rattle.command_plans.specs.Paths.{component_of, last_of, goes_on, walk_over, FindsIn, PassesIn, Leads, LeadsIn};
 
 use crate::path::parts::{PathPart, PathPlace, ends_in_slash, part_of, parts_of, test_path};
 use object_store::{ObjectStore, Refusal, is_file};
@@ -29,7 +29,7 @@ fn leads_to<S: ObjectStore>(
 ) -> Result<Option<u64>, StoreFault>
     ensures reads { S.meaning.reads store.old store.new }
     ensures power { OnOk result (S.meaning.has_power store.new ≡ S.meaning.has_power store.old) }
-    ensures finds { OfDirectory S.meaning store.old directory (λ z objects. Finds S.meaning (leads_to objects directory (component_of part.entry)) store.old store.new result) }
+    ensures lookups { FindsIn S.meaning directory (λ objects. leads_to objects directory (component_of part.entry)) store.old store.new result }
 {
     match part {
         PathPart::Dot => Ok(Some(directory)),
@@ -42,7 +42,7 @@ fn leads_to<S: ObjectStore>(
 fn pass<S: ObjectStore>(store: &mut S, directory: u64, part: PathPart<'_>) -> Result<u64, Refusal>
     ensures reads { S.meaning.reads store.old store.new }
     ensures power { KeepsPower S.meaning store.old store.new result }
-    ensures passes { OfDirectory S.meaning store.old directory (λ z objects. Passes S.meaning objects (pass objects (leads_to objects directory (component_of part.entry))) store.old store.new result) }
+    ensures passes { PassesIn S.meaning directory (λ objects. pass objects (leads_to objects directory (component_of part.entry))) store.old store.new result }
 {
     match leads_to(store, directory, part) {
         Ok(Some(number)) => {
@@ -66,7 +66,7 @@ fn arrive<'a, S: ObjectStore>(
 ) -> Result<PathPlace<'a>, Refusal>
     ensures reads { S.meaning.reads store.old store.new }
     ensures power { KeepsPower S.meaning store.old store.new result }
-    ensures leads { OfDirectory S.meaning store.old directory (λ z objects. Leads S.meaning (arrive objects slash_follows directory (component_of last.entry) (leads_to objects directory (component_of last.entry))) store.old store.new result) }
+    ensures leads { LeadsIn S.meaning directory (λ objects. walk objects slash_follows directory (component_of last.entry) []) store.old store.new result }
 {
     match leads_to(store, directory, last) {
         Ok(Some(number)) => {
@@ -99,7 +99,7 @@ fn step_on<S: ObjectStore>(
 ) -> Result<u64, Refusal>
     ensures reads { S.meaning.reads store.old store.new }
     ensures power { KeepsPower S.meaning store.old store.new result }
-    ensures passes { OfDirectory S.meaning store.old directory (λ z objects. Passes S.meaning objects (goes_on objects directory (last_of last.entry)) store.old store.new result) }
+    ensures passes { PassesIn S.meaning directory (λ objects. goes_on objects directory (last_of last.entry)) store.old store.new result }
 {
     match last {
         Some(before) => pass(store, directory, before),
@@ -115,7 +115,7 @@ fn walk<'a, S: ObjectStore>(
 ) -> Result<PathPlace<'a>, Refusal>
     ensures reads { S.meaning.reads store.old store.new }
     ensures power { KeepsPower S.meaning store.old store.new result }
-    ensures leads { OfTree S.meaning store.old (λ z objects. Leads S.meaning (walk_from_root objects slash_follows (list_map (λ part. component part.now) parts.now)) store.old store.new result) }
+    ensures leads { OfTree S.meaning store.old (λ z objects. Leads S.meaning (walk_over objects slash_follows parts.now) store.old store.new result) }
 {
     let mut directory = ROOT;
     let mut last = None;

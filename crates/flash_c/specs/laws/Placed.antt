@@ -47,11 +47,11 @@ seek_there : (z : Sizes) (read_only : Bool) (s : State) (fd n moment : ℕ) (h :
     → map.get s.objects h.object ≡ Some (File moment bytes) → n ≤ offset_limit
     → step z read_only s (at 0 (commands.Seek fd (pos n) origins.Set)) ≡ answer (with_offset s fd h n) (replies.At n)
 unfolding Rattle.posix_profile.specs.Steps.step_at
-seek_there z read_only s fd n moment h bytes is file few =
+seek_there z read_only s fd n moment h bytes is file within_limit =
     let there : List ℕ → Outcome = λ found. seek_to s fd h (pos 0 +ℤ pos n) in
     let zero : 0 + n ≡ n = omega arith in
     let sum : pos 0 +ℤ pos n ≡ pos n = ap pos zero in
-    sym (passed_all s (answer (with_offset s fd h n) (replies.At n)) ∙ passed s (nat_lt offset_limit n) errors.EOVERFLOW [] _ (le-ltb offset_limit n few)
+    sym (passed_all s (answer (with_offset s fd h n) (replies.At n)) ∙ passed s (nat_lt offset_limit n) errors.EOVERFLOW [] _ (le-ltb offset_limit n within_limit)
     ∙ ap (seek_to s fd h) (sym sum) ∙ this_file s errors.EINVAL there h.object (moment, bytes, file) _ file ∙ this_handle s _ _ h (sym is))
 
 -- a seek by nothing from where the descriptor is
@@ -94,12 +94,12 @@ ReadsInPlace = (z : Sizes) (read_only : Bool) (s : State) (fd n count moment : �
     × ((step z read_only read.state (at 0 (commands.Seek fd (pos handle.offset) origins.Set))).state ≡ s)
 
 pub read_in_place : ReadsInPlace
-read_in_place z read_only s fd n count moment handle bytes is may file committed few =
+read_in_place z read_only s fd n count moment handle bytes is may file committed within_limit =
     let m : ℕ = n + length (take count (drop n bytes)) in
     let there : State = with_offset s fd handle n in
     let left : State = with_offset there fd (record handle { offset = n }) m in
     let here = get_here nat_cmp_total map.nat_cmp-IsAntisymmetric in
-    let seek = ap (λ (o : Outcome). o.state) (seek_there z read_only s fd n moment handle bytes is file few) in
+    let seek = ap (λ (o : Outcome). o.state) (seek_there z read_only s fd n moment handle bytes is file within_limit) in
     let read = ap (λ (t : State). step z read_only t (at 0 (commands.Read fd count))) seek
     ∙ read_there z read_only there fd count moment (record handle { offset = n }) bytes (here s.handles fd (record handle { offset = n })) may file in
     let back = seek_there z read_only left fd handle.offset moment (record handle { offset = m }) bytes (here there.handles fd (record handle { offset = m })) file committed in
@@ -155,13 +155,13 @@ WritesInPlace = (z : Sizes) (read_only : Bool) (s : State) (fd n now moment byte
     ≡ record s { objects = with_bytes s.objects now handle.object (written bytes n (take k (byte ∷ more))) }
 
 pub write_in_place : WritesInPlace
-write_in_place z read_only s fd n now moment byte k handle bytes more is may append file committed few wrote =
+write_in_place z read_only s fd n now moment byte k handle bytes more is may append file committed within_limit wrote =
     let new : List ℕ = written bytes n (take k (byte ∷ more)) in
     let put : State = record s { objects = with_bytes s.objects now handle.object new } in
     let there : State = with_offset s fd handle n in
     let left : State = with_offset (with_offset put fd handle n) fd (record handle { offset = n }) (n + k) in
     let here = get_here nat_cmp_total map.nat_cmp-IsAntisymmetric in
-    let seek = ap (λ (o : Outcome). o.state) (seek_there z read_only s fd n moment handle bytes is file few) in
+    let seek = ap (λ (o : Outcome). o.state) (seek_there z read_only s fd n moment handle bytes is file within_limit) in
     let write : State → Outcome = λ t. step z read_only t (at now (commands.Write fd (byte ∷ more))) in
     let does : (write there).state ≡ left = write_there z read_only there fd now moment byte k (record handle { offset = n }) bytes more
     (here s.handles fd (record handle { offset = n })) may append file (ap (λ (t : State). (write t).reply) (sym seek) ∙ wrote) in

@@ -25,5 +25,5 @@ costs_taken pages count d0 d1 lasts take =
 -- a block's committed pages are no more than a block has
 pub costs_committed : (b o : ℕ) (d e : Device) (t : Table) → t.geometry ≡ d.geometry → (t.entry b).committed ≤ t.geometry.pages → Costs ((t.entry b).committed + 1) (d.geometry.pages + 2) o d e → Costs (d.geometry.pages + 1) (d.geometry.pages + 2) o d e
 costs_committed b o d e t same fits costs =
-    let few : (t.entry b).committed ≤ d.geometry.pages = subst (λ (g : Geometry). (t.entry b).committed ≤ g.pages) same fits in
-    omega (arith, few, costs)
+    let within_limit : (t.entry b).committed ≤ d.geometry.pages = subst (λ (g : Geometry). (t.entry b).committed ≤ g.pages) same fits in
+    omega (arith, within_limit, costs)

@@ -30,7 +30,7 @@ use Rattle.transactions.specs.declared.group.GroupFault.{GroupFault}
 use Rattle.transactions.specs.declared.group.GroupFault.TheVariants as groups
 use Rattle.transactions.specs.declared.group.Placed.{Placed}
 use Rattle.transactions.specs.declared.source.PageName.{PageName}
-use Rattle.flash_log.specs.Erased.{IsBlank, IsUnwritten, KnowsErased, LeadsErased, TracksErased, KeepsErased}
+use Rattle.flash_log.specs.Erased.{IsBlank, IsUnwritten, KnowsErased, LeadsErased, KeepsErased}
 
 -- ---- of the blocks that begin erased the first alone has tags
 

@@ -8,11 +8,11 @@ use Rattle.nand_model.specs.declared.nand.EraseFault.{EraseFault}
 use Rattle.nand_model.specs.declared.nand.Gone.{Gone}
 use Rattle.nand_model.specs.laws.Changes.{shrinks-erase}
 use Rattle.flash_tree.specs.Fading.{Fades}
-use Rattle.flash_tree.specs.Groups.{Group, SameGroups}
+use Rattle.flash_tree.specs.Groups.{Group, SameGroups, NamesNot}
 use Rattle.flash_tree.specs.Newest.{Spot, IsNewest}
 use Rattle.flash_tree.specs.Slots.{check_object}
 use Rattle.flash_tree.specs.Summaries.{AreSummariesRight}
-use Rattle.flash_tree.specs.Summarizing.{WritesIn, AddsNamed, NamesNot, IsKey, IsFindable}
+use Rattle.flash_tree.specs.Summarizing.{WritesIn, AddsNamed, IsKey, IsFindable}
 use Rattle.flash_tree.specs.Truth.{KeepsSummaries}
 use Rattle.flash_tree.specs.laws.Fading.{fades_erase, fades_mark}
 use Rattle.flash_tree.specs.laws.Findable.{fades_key, findable_same, named_findable, unnamed_findable}

@@ -17,9 +17,9 @@ use Rattle.chunk_index.specs.declared.form.CommittedPage.{CommittedPage}
 use Rattle.chunk_index.specs.declared.index.Index.{Index}
 use Rattle.chunk_index.specs.Maps.{committed_pages}
 use Rattle.transactions.specs.Ready.{IsReady}
-use Rattle.transactions.specs.declared.copies.CopyOf.{CopyOf}
+use Rattle.chunk_index.specs.declared.form.CommittedKey.{CommittedKey}
 use Rattle.flash_log.specs.Copying.{KeepsCounts, KeepsCommittedAt, IsCopyOf, LieApart, StayOrLieApart, copy_in}
-use Rattle.flash_log.specs.Lists.{ListsCommitted, IsListed, committed_by}
+use Rattle.flash_log.specs.Lists.{ListsCommitted, IsListed}
 use Rattle.flash_log.specs.Standing.{IsCommittedKey, IsCommittedAt, AreCommitted, AreHeld, TablesAgree, Stands, KeepsFree}
 use Rattle.flash_log.specs.laws.CommittedPages.{spot_of}
 
@@ -29,7 +29,7 @@ use Rattle.flash_log.specs.laws.CommittedPages.{spot_of}
 pub leaves_fewer : (g : Geometry) (flash : Flash) (spare : ℕ) (keys fewer : ℕ → ℕ → Type 0) → ((o c : ℕ) → fewer o c → keys o c) → LeavesFree g flash spare keys → LeavesFree g flash spare fewer
 leaves_fewer g flash spare keys fewer are leaves = record {
   free = leaves.free;
-  enough = leaves.enough;
+  sufficient = leaves.sufficient;
   each = λ b lt is. let f = leaves.each b lt is in record { good = f.good; apart = λ o c s key newest. f.apart o c s (are o c key) newest };
 }
 
@@ -60,7 +60,7 @@ module _ (spare : ℕ) (d : Device) (t : Table) (x : Index) (ready : IsReady d t
   pub leaves_uncommitted : AreCommitted d.flash (committed_pages x) → LeavesFree d.geometry d.flash spare (IsCommittedKey (committed_pages x))
   leaves_uncommitted committed = record {
     free = is_uncommitted t;
-    enough =
+    sufficient =
         let bads = same_bad_blocks d t ready in
         let size : how_many (is_uncommitted t) d.geometry.blocks ≡ uncommitted_count t = ap (λ (g : Geometry). how_many (is_uncommitted t) g.blocks) (sym ready.geometry) in
         let uncommitted = tables.uncommitted in
@@ -79,7 +79,7 @@ module _ (spare : ℕ) (d : Device) (t : Table) (x : Index) (ready : IsReady d t
 
   -- Where copies of all that is committed in block v are the newest of their keys, in a block that had none, this block is not
   -- free, and block v is.
-  module _ (v : ℕ) (copies : List CopyOf) (old : Flash) (lists : ListsCommitted v (committed_pages x) copies) (within : v < t.geometry.blocks) (good : (t.entry v).bad ≡ false) (some : 1 ≤ (t.entry v).committed)
+  module _ (v : ℕ) (copies : List CommittedKey) (old : Flash) (lists : ListsCommitted v (committed_pages x) copies) (within : v < t.geometry.blocks) (good : (t.entry v).bad ≡ false) (some : 1 ≤ (t.entry v).committed)
       (lie : LieApart copies t old d) (was : AreCommitted old (committed_pages x)) where
     apart : v ≢ lie.at.block
     apart e = let same : (t.entry v).committed ≡ (t.entry lie.at.block).committed = ap (λ b. (t.entry b).committed) e in let none : (t.entry lie.at.block).committed ≡ 0 = lie.uncommitted in omega (arith, same, some, none)
@@ -109,14 +109,14 @@ module _ (spare : ℕ) (d : Device) (t : Table) (x : Index) (ready : IsReady d t
     lies : (o c : ℕ) (p : CommittedPage) (s : Spot) → committed_pages x o c ≡ Some p → IsNewest d.flash o c s → (s.block ≡ lie.at.block) ⊎ ((s.block ≡ p.block) × (p.block ≢ v))
     lies o c p s at newest = elim (cases_eq p.block v) [
       | inl here ↦
-          let z : CopyOf = record { block = p.block; page = p.page; name = record { key = record { object = o; chunk = c }; version = p.version } } in
+          let z : CommittedKey = record { key = record { object = o; chunk = c }; at = p } in
           let there = lists.all o c p at here in
           inl (newest_where_committed d.flash o c (copy_in lie.at there.0 z) s (lie.copied.copied there.0 z there.1) newest)
       | inr ne ↦
-          let none : (i : ℕ) (z : CopyOf) → slice_get copies i ≡ Some z → IsCopyOf z o c → ⊥ = λ i z there of.
-          let committed : committed_pages x o c ≡ Some (committed_by z) = sym (ap (λ q. committed_pages x q c) of.0) ∙ ap (committed_pages x z.name.key.object) (sym of.1) ∙ lists.committed i z there in
-          let both : Some p ≡ Some (committed_by z) = sym at ∙ committed in
-          let same : p ≡ committed_by z = cc in
+          let none : (i : ℕ) (z : CommittedKey) → slice_get copies i ≡ Some z → IsCopyOf z o c → ⊥ = λ i z there of.
+          let committed : committed_pages x o c ≡ Some z.at = sym (ap (λ q. committed_pages x q c) of.0) ∙ ap (committed_pages x z.key.object) (sym of.1) ∙ lists.committed i z there in
+          let both : Some p ≡ Some z.at = sym at ∙ committed in
+          let same : p ≡ z.at = cc in
           ne (ap (λ (k : CommittedPage). k.block) same ∙ lists.here i z there) in
           inr (newest_where_committed d.flash o c p s (lie.copied.others o c p (held o c p at) none (was o c p at)) newest, ne)
     ]
@@ -124,7 +124,7 @@ module _ (spare : ℕ) (d : Device) (t : Table) (x : Index) (ready : IsReady d t
     pub leaves_apart : LeavesFree d.geometry d.flash spare (IsCommittedKey (committed_pages x))
     leaves_apart = record {
       free = pick;
-      enough =
+      sufficient =
           let bads = same_bad_blocks d t ready in
           let size : how_many pick d.geometry.blocks ≡ how_many pick t.geometry.blocks = ap (λ (g : Geometry). how_many pick g.blocks) (sym ready.geometry) in
           let many = as_many in
@@ -184,7 +184,7 @@ module _ (spare : ℕ) (d0 d1 : Device) (t0 t1 : Table) (x : Index) (held : AreH
   free_still stays = free_where_power (λ honest. free_stays (stays honest) honest)
 
   -- or writes copies
-  pub free_copied : (v : ℕ) (copies : List CopyOf) → IsListed v t0 x copies → (d0.honest ≡ true → StayOrLieApart copies t0 d0.flash d1) → KeepsFree spare d0 d1 x x
+  pub free_copied : (v : ℕ) (copies : List CommittedKey) → IsListed v t0 x copies → (d0.honest ≡ true → StayOrLieApart copies t0 d0.flash d1) → KeepsFree spare d0 d1 x x
   free_copied v copies listed either = free_where_power (λ honest power. elim (either honest) [
     | inl stays ↦ free_stays stays honest power
     | inr lie ↦ leaves_apart spare d1 t1 x keeps.ready tables held_later v copies d0.flash listed.lists

@@ -8,12 +8,12 @@ use Rattle.page_tags.specs.declared.tag.Tag.{Tag}
 use Rattle.page_tags.specs.declared.check.CheckEntry.{CheckEntry}
 use Rattle.page_tags.specs.Tags.{tag_bytes}
 use Rattle.flash_tree.specs.Fading.{Fades}
-use Rattle.flash_tree.specs.Groups.{HasTag, Group, IsGroup, SameGroups}
+use Rattle.flash_tree.specs.Groups.{HasTag, Group, IsGroup, SameGroups, NamesOnce, NamesNot}
 use Rattle.flash_tree.specs.Keeping.{StaysNewest}
 use Rattle.flash_tree.specs.Newest.{Spot, spot_in, Holds, IsAfter, IsNewest}
 use Rattle.flash_tree.specs.Slots.{check_object}
 use Rattle.flash_tree.specs.Summaries.{BeginsSummary, Summary, summary_group, summary_tag, summary_page, IsWholeSummary, MatchesBlock, IsListed, AreSummariesRight, claimed, AreFindable}
-use Rattle.flash_tree.specs.Summarizing.{WritesIn, AddsNoSummary, ListsKey, AddsSummary, AddsNamed, NamesOnce, NamesNot, IsKey, IsFindable, Renews}
+use Rattle.flash_tree.specs.Summarizing.{WritesIn, AddsNoSummary, ListsKey, AddsSummary, AddsNamed, IsKey, IsFindable, Renews}
 use Rattle.flash_tree.specs.laws.Added.{newest_this, newest_other}
 use Rattle.flash_tree.specs.laws.Fading.{loses_fading}
 use Rattle.flash_tree.specs.laws.Newest.{one_tag, one_spot, group_before, keeps_elsewhere, same_groups_keep}
@@ -267,7 +267,7 @@ module _ (g : Geometry) (x : Group) (tag : ℕ → Tag) (bytes : ℕ → List �
           | inl before ↦ added.in_order l before (erased_before old new named_writes.grows x.block l is)
           | inr behind ↦
               let at : x.start + (l - x.start) ≡ l = omega (arith, behind) in
-              let within : l - x.start < x.size = let few = names.within in omega (arith, lt, behind, few) in
+              let within : l - x.start < x.size = let within_limit = names.within in omega (arith, lt, behind, within_limit) in
               let there = (added.all (l - x.start) within).0 in
               let two : Erased ≡ Written (bytes (l - x.start)) (tag_bytes (tag (l - x.start))) = sym is ∙ ap (new.page x.block) (sym at) ∙ there in
               absurd cc

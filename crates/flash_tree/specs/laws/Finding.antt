@@ -116,21 +116,21 @@ module _ (z : Sizes) (size : IsPageSize z.page_bytes) (m : NewestMap) (single : 
   -- going through the list ends in one way
   pub one_end : (list : List ℕ) (n : ℕ) (a b : ListEnd) → GoesThrough z m list n a → GoesThrough z m list n b → a ≡ b
   one_end list n a b (ends len) (ends len') = refl
-  one_end list n a b (ends len) (stops o wrong is finds) = let lt = slice_get_within list n o is in absurd (omega arith)
-  one_end list n a b (ends len) (goes o named is finds on) = let lt = slice_get_within list n o is in absurd (omega arith)
-  one_end list n a b (stops o wrong is finds) (ends len) = let lt = slice_get_within list n o is in absurd (omega arith)
-  one_end list n a b (stops o wrong is finds) (stops o' wrong' is' finds') =
-      let same : Stops wrong ≡ Stops wrong' = one_finding z size m single o _ _ finds (subst (λ p. Finds z m p (Stops wrong')) (same_object list n o' o is' is) finds') in
+  one_end list n a b (ends len) (stops o wrong is lookups) = let lt = slice_get_within list n o is in absurd (omega arith)
+  one_end list n a b (ends len) (goes o named is lookups on) = let lt = slice_get_within list n o is in absurd (omega arith)
+  one_end list n a b (stops o wrong is lookups) (ends len) = let lt = slice_get_within list n o is in absurd (omega arith)
+  one_end list n a b (stops o wrong is lookups) (stops o' wrong' is' finds') =
+      let same : Stops wrong ≡ Stops wrong' = one_finding z size m single o _ _ lookups (subst (λ p. Finds z m p (Stops wrong')) (same_object list n o' o is' is) finds') in
       let wrongs : wrong ≡ wrong' = cc in
       ap Wrongly wrongs
-  one_end list n a b (stops o wrong is finds) (goes o' named is' finds' on) =
-      let same : Stops wrong ≡ Leads named = one_finding z size m single o _ _ finds (subst (λ p. Finds z m p (Leads named)) (same_object list n o' o is' is) finds') in
+  one_end list n a b (stops o wrong is lookups) (goes o' named is' finds' on) =
+      let same : Stops wrong ≡ Leads named = one_finding z size m single o _ _ lookups (subst (λ p. Finds z m p (Leads named)) (same_object list n o' o is' is) finds') in
       absurd cc
-  one_end list n a b (goes o named is finds on) (ends len) = let lt = slice_get_within list n o is in absurd (omega arith)
-  one_end list n a b (goes o named is finds on) (stops o' wrong is' finds') =
-      let same : Leads named ≡ Stops wrong = one_finding z size m single o _ _ finds (subst (λ p. Finds z m p (Stops wrong)) (same_object list n o' o is' is) finds') in
+  one_end list n a b (goes o named is lookups on) (ends len) = let lt = slice_get_within list n o is in absurd (omega arith)
+  one_end list n a b (goes o named is lookups on) (stops o' wrong is' finds') =
+      let same : Leads named ≡ Stops wrong = one_finding z size m single o _ _ lookups (subst (λ p. Finds z m p (Stops wrong)) (same_object list n o' o is' is) finds') in
       absurd cc
-  one_end list n a b (goes o named is finds on) (goes o' named' is' finds' on') =
-      let same : Leads named ≡ Leads named' = one_finding z size m single o _ _ finds (subst (λ p. Finds z m p (Leads named')) (same_object list n o' o is' is) finds') in
+  one_end list n a b (goes o named is lookups on) (goes o' named' is' finds' on') =
+      let same : Leads named ≡ Leads named' = one_finding z size m single o _ _ lookups (subst (λ p. Finds z m p (Leads named')) (same_object list n o' o is' is) finds') in
       let names : named ≡ named' = cc in
       one_end (with_new list named) (n + 1) a b on (subst (λ l. GoesThrough z m (with_new list l) (n + 1) b) (sym names) on')

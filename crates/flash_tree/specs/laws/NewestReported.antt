@@ -116,8 +116,8 @@ module _ (flash : Flash) (o c : ℕ) where
 
     -- all pages of a block are before the first of the next
     before_block : (b : ℕ) (t : Spot) → IsBefore (suc b) zero t → t.page < pages → IsBefore b pages t
-    before_block b t (inl lt) few = elim (cases_eq t.block b) [ inl same ↦ inr (same, few) | inr ne ↦ inl (omega arith) ]
-    before_block b t (inr (same, lt)) few = absurd (omega arith)
+    before_block b t (inl lt) within_limit = elim (cases_eq t.block b) [ inl same ↦ inr (same, within_limit) | inr ne ↦ inl (omega arith) ]
+    before_block b t (inr (same, lt)) within_limit = absurd (omega arith)
 
     best_block : (b : ℕ) → Best b zero
     best_block zero = inr (λ t before h. elim before [ inl lt ↦ absurd (omega arith) | inr (same, lt) ↦ absurd (omega arith) ])

@@ -21,9 +21,9 @@ same_options None None f g = refl
 same_options (Some v) y f g = sym (f v refl)
 same_options None (Some v) f g = g v refl
 
-module _ (z : Sizes) (few : z.page_bytes ≤ 4096) (m : NewestMap) (single : IsSingle m) (o : ℕ) where
+module _ (z : Sizes) (within_limit : z.page_bytes ≤ 4096) (m : NewestMap) (single : IsSingle m) (o : ℕ) where
   pub one_header : (f g : Fields) → HasHeader z m o f → HasHeader z m o g → f ≡ g
-  one_header f g a b = same_fields z.page_bytes f g few a.1 b.1 (single o 0 _ _ a.0 b.0)
+  one_header f g a b = same_fields z.page_bytes f g within_limit a.1 b.1 (single o 0 _ _ a.0 b.0)
 
   one_byte : (f : Fields) (i x y : ℕ) → ByteIs z m o f i x → ByteIs z m o f i y → x ≡ y
   one_byte f i x y (inl a) (inl b) =
@@ -64,13 +64,13 @@ module _ (z : Sizes) (few : z.page_bytes ≤ 4096) (m : NewestMap) (single : IsS
   one_object (File s xs) (Dir t ys) a b = let two : kinds.File ≡ kinds.Directory = sym a.kind ∙ ap (λ (f : Fields). f.kind) (one_header _ _ a.has b.has) ∙ b.kind in cc
   one_object (Dir s xs) (File t ys) a b = let two : kinds.File ≡ kinds.Directory = sym b.kind ∙ ap (λ (f : Fields). f.kind) (one_header _ _ b.has a.has) ∙ a.kind in cc
 
-module _ (z : Sizes) (few : z.page_bytes ≤ 4096) (m : NewestMap) (single : IsSingle m) (x y : Objects) (a : Shows z m x) (b : Shows z m y) where
+module _ (z : Sizes) (within_limit : z.page_bytes ≤ 4096) (m : NewestMap) (single : IsSingle m) (x y : Objects) (a : Shows z m x) (b : Shows z m y) where
   -- what is reached in one is the same object in the other
   also : (o : ℕ) → Reached x o → (object : Object) × (map.get x o ≡ Some object) × (map.get y o ≡ Some object)
   also o root =
       let p = a.tree.forest.root in
       let q = b.tree.forest.root in
-      let same : Dir p.0 p.1 ≡ Dir q.0 q.1 = one_object z few m single root_number _ _ (a.each root_number _ p.2) (b.each root_number _ q.2) in
+      let same : Dir p.0 p.1 ≡ Dir q.0 q.1 = one_object z within_limit m single root_number _ _ (a.each root_number _ p.2) (b.each root_number _ q.2) in
       (Dir p.0 p.1, p.2, q.2 ∙ ap Some (sym same))
   also o (below {directory} {object} name up names) =
       let p = also directory up in
@@ -79,7 +79,7 @@ module _ (z : Sizes) (few : z.page_bytes ≤ 4096) (m : NewestMap) (single : IsS
       let there : Names y directory name object = record { moment = names.moment; entries = names.entries; directory_is = p.2 ∙ ap Some same; object_is = names.object_is } in
       let u = a.tree.forest.leads directory object name names in
       let v = b.tree.forest.leads directory object name there in
-      let one : u.0 ≡ v.0 = one_object z few m single object _ _ (a.each object _ u.1) (b.each object _ v.1) in
+      let one : u.0 ≡ v.0 = one_object z within_limit m single object _ _ (a.each object _ u.1) (b.each object _ v.1) in
       (u.0, u.1, v.1 ∙ ap Some (sym one))
 
   in_both : (o : ℕ) (object : Object) → map.get x o ≡ Some object → map.get y o ≡ Some object
@@ -87,4 +87,4 @@ module _ (z : Sizes) (few : z.page_bytes ≤ 4096) (m : NewestMap) (single : IsS
 
 -- where each key has one newest data, one tree is shown at most
 pub one_tree : (z : Sizes) → z.page_bytes ≤ 4096 → (m : NewestMap) → IsSingle m → (x y : Objects) → Shows z m x → Shows z m y → x ≡ y
-one_tree z few m single x y a b = map.same_map nat_cmp_total map.nat_cmp-IsAntisymmetric x y (λ o. same_options _ _ (in_both z few m single x y a b o) (in_both z few m single y x b a o))
+one_tree z within_limit m single x y a b = map.same_map nat_cmp_total map.nat_cmp-IsAntisymmetric x y (λ o. same_options _ _ (in_both z within_limit m single x y a b o) (in_both z within_limit m single y x b a o))

@@ -30,7 +30,7 @@ module _ (m n : NewestMap) (to : (o c : ℕ) (xs : List ℕ) → m o c xs → n 
   -- what was gone through wholly in the part is so in all
   pub through_all : (z : Sizes) (list : List ℕ) (k : ℕ) (whole : List ℕ) → GoesThrough z m list k (Wholly whole) → GoesThrough z n list k (Wholly whole)
   through_all z list k whole (ends len) = ends len
-  through_all z list k whole (goes o named is finds on) = goes o named is (finds_to z o named finds) (through_all z (with_new list named) (k + 1) whole on)
+  through_all z list k whole (goes o named is lookups on) = goes o named is (finds_to z o named lookups) (through_all z (with_new list named) (k + 1) whole on)
 
   pub volume_all : (g : Geometry) (spare : ℕ) → IsVolume g m spare → IsVolume g n spare
   volume_all g spare v = record { fields = v.fields; has = header_to (sizes_of g spare) root_number v.fields v.has; kind = v.kind; spare_is = v.spare_is; room = v.room }

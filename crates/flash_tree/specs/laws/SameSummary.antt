@@ -21,15 +21,15 @@ use Rattle.flash_tree.specs.laws.Newest.{one_tag}
 
 -- lists of so many parts are one where their parts are
 same_parts : (d n : ℕ) (xs ys : List ℕ) → length xs ≤ n * d → length ys ≤ n * d → ((i : ℕ) → i < n → take d (drop (i * d) xs) ≡ take d (drop (i * d) ys)) → xs ≡ ys
-same_parts d zero [] [] few few' each = refl
-same_parts d zero (x ∷ xs) ys few few' each = absurd (omega (arith, few))
-same_parts d zero [] (y ∷ ys) few few' each = absurd (omega (arith, few'))
-same_parts d (suc n) xs ys few few' each =
+same_parts d zero [] [] within_limit few' each = refl
+same_parts d zero (x ∷ xs) ys within_limit few' each = absurd (omega (arith, within_limit))
+same_parts d zero [] (y ∷ ys) within_limit few' each = absurd (omega (arith, few'))
+same_parts d (suc n) xs ys within_limit few' each =
     let none : 0 * d ≡ 0 = omega arith in
     let first : take d xs ≡ take d ys = ap (λ k. take d (drop k xs)) (sym none) ∙ each 0 (omega arith) ∙ ap (λ k. take d (drop k ys)) none in
     let size : suc n * d ≡ d + n * d = grind arith in
     let less : (l : List ℕ) → length l ≤ suc n * d → length (drop d l) ≤ n * d = λ l le. let len = length-drop d l in omega (arith, len, le, size) in
-    let rest : drop d xs ≡ drop d ys = same_parts d n (drop d xs) (drop d ys) (less xs few) (less ys few') (λ i lt.
+    let rest : drop d xs ≡ drop d ys = same_parts d n (drop d xs) (drop d ys) (less xs within_limit) (less ys few') (λ i lt.
     let next : d + i * d ≡ suc i * d = grind arith in
     let at : (l : List ℕ) → drop (i * d) (drop d l) ≡ drop (suc i * d) l = λ l. drop-drop (i * d) d l ∙ ap (λ k. drop k l) next in
     ap (take d) (at xs) ∙ each (suc i) (omega (arith, lt)) ∙ ap (take d) (sym (at ys))) in

@@ -142,15 +142,15 @@ module _ (z : Sizes) (size : IsPageSize z.page_bytes) (m : NewestMap) (single : 
 
   -- so nothing is found to be wrong
   nothing_wrong : (o : ℕ) (wrong : Wrong) → IsThere o → Finds z m o (Stops wrong) → ⊥
-  nothing_wrong o wrong there finds =
+  nothing_wrong o wrong there lookups =
       let leads = shown_leads o there.0 there.1 in
-      let two : Leads leads.0 ≡ Stops wrong = one_finding z size m single o _ _ leads.1 finds in
+      let two : Leads leads.0 ≡ Stops wrong = one_finding z size m single o _ _ leads.1 lookups in
       cc
 
   named_there : (o : ℕ) (named : List ℕ) → IsThere o → Finds z m o (Leads named) → Each IsThere named
-  named_there o named there finds =
+  named_there o named there lookups =
       let leads = shown_leads o there.0 there.1 in
-      let two : Leads leads.0 ≡ Leads named = one_finding z size m single o _ _ leads.1 finds in
+      let two : Leads leads.0 ≡ Leads named = one_finding z size m single o _ _ leads.1 lookups in
       let same : leads.0 ≡ named = cc in
       subst (Each IsThere) same leads.2
 
@@ -161,9 +161,9 @@ module _ (z : Sizes) (size : IsPageSize z.page_bytes) (m : NewestMap) (single : 
 
   pub ends_well : (list : List ℕ) (n : ℕ) (end : ListEnd) → Each IsThere list → GoesThrough z m list n end → EndsWell end
   ends_well list n end there (ends len) = there
-  ends_well list n end there (stops o wrong is finds) = nothing_wrong o wrong (there n o is) finds
-  ends_well list n end there (goes o named is finds on) =
-      ends_well (with_new list named) (n + 1) end (each_with_new IsThere list named there (named_there o named (there n o is) finds)) on
+  ends_well list n end there (stops o wrong is lookups) = nothing_wrong o wrong (there n o is) lookups
+  ends_well list n end there (goes o named is lookups on) =
+      ends_well (with_new list named) (n + 1) end (each_with_new IsThere list named there (named_there o named (there n o is) lookups)) on
 
   -- what is there with a directory's header is a directory
   is_directory_there : (o : ℕ) (f : Fields) → HasHeader z m o f → f.kind ≡ kinds.Directory → IsThere o → (moment : ℕ) × (entries : Entries) × (map.get objects o ≡ Some (Dir moment entries)) × ReadsDir z m o moment entries

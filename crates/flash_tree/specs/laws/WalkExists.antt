@@ -159,12 +159,12 @@ module _ (z : Sizes) (size : IsPageSize z.page_bytes) (m : NewestMap) (single : 
   ] where
     go : (o : ℕ) → slice_get list n ≡ Some o → ((list : List ℕ) (n : ℕ) → IsOnce list → n ≤ length list → HaveHeaders list n → fuel + n ≡ suc count → (end : ListEnd) × GoesThrough z m list n end)
         → ((finding : Finding) × Finds z m o finding) → (end : ListEnd) × GoesThrough z m list n end
-    go o at on (Stops wrong, finds) = (Wrongly wrong, stops o wrong at finds)
-    go o at on (Leads named, finds) =
+    go o at on (Stops wrong, lookups) = (Wrongly wrong, stops o wrong at lookups)
+    go o at on (Leads named, lookups) =
         let longer = slice_get_within (with_new list named) n o (stays_with_new list named n o at) in
         let rest = on (with_new list named) (n + 1) (once_with_new list named once) (omega arith)
-        (have_more list named n o at (header_there z size m single o named finds) have) (omega arith) in
-        (rest.0, goes o named at finds rest.1)
+        (have_more list named n o at (header_there z size m single o named lookups) have) (omega arith) in
+        (rest.0, goes o named at lookups rest.1)
 
   once_one : (o : ℕ) → IsOnce (o ∷ [])
   once_one o zero zero x is is' = refl

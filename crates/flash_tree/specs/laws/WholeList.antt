@@ -52,7 +52,7 @@ module _ (z : Sizes) (m : NewestMap) (first : ℕ) where
   still_on list named o (i, at) = (i, stays_with_new list named i o at)
 
   first_more : (list named : List ℕ) (n o : ℕ) → slice_get list n ≡ Some o → Finds z m o (Leads named) → FirstThere list n → FirstThere (with_new list named) (n + 1)
-  first_more list named n o at finds there i x lt is = elim (cases_lt i n) [
+  first_more list named n o at lookups there i x lt is = elim (cases_lt i n) [
     | inl before ↦
         let y = slice_get_there list i (let within = slice_get_within list n o at in omega arith) in
         let same : Some y.0 ≡ Some x = sym (stays_with_new list named i y.0 y.1) ∙ is in
@@ -63,7 +63,7 @@ module _ (z : Sizes) (m : NewestMap) (first : ℕ) where
         let here : i ≡ n = omega arith in
         let same : Some o ≡ Some x = sym (stays_with_new list named n o at) ∙ ap (slice_get (with_new list named)) (sym here) ∙ is in
         let one : o ≡ x = cc in
-        subst (IsThereOn (with_new list named)) one (named, finds, named_on list named)
+        subst (IsThereOn (with_new list named)) one (named, lookups, named_on list named)
   ]
 
   -- how a going through ends, from what holds of the list so far
@@ -78,10 +78,10 @@ module _ (z : Sizes) (m : NewestMap) (first : ℕ) where
     once = once;
     begins = begins;
   }
-  ends_whole list n end there led once begins (stops o wrong is finds) = tt
-  ends_whole list n end there led once begins (goes o named is finds on) =
-      ends_whole (with_new list named) (n + 1) end (first_more list named n o is finds there)
-      (each_with_new IsLedTo list named led (λ k c at. is_named named k (led n o is) finds at))
+  ends_whole list n end there led once begins (stops o wrong is lookups) = tt
+  ends_whole list n end there led once begins (goes o named is lookups on) =
+      ends_whole (with_new list named) (n + 1) end (first_more list named n o is lookups there)
+      (each_with_new IsLedTo list named led (λ k c at. is_named named k (led n o is) lookups at))
       (once_with_new list named once) (stays_with_new list named 0 first begins) on
 
   pub whole_list : (list : List ℕ) → GoesThrough z m (first ∷ []) 0 (Wholly list) → IsWholeList list

@@ -1,5 +1,5 @@
 -- What follows of one session.
-use Rattle.std.specs.Prelude.{◌≡◌, ◌⊎◌, ◌<◌, ◌≤◌, ◌+◌, ℕ, suc, Bool, true, false, ◌||◌, List, [], ◌∷◌, ◌++◌, length, take, Some, None}
+use Rattle.std.specs.Prelude.{◌≡◌, ◌⊎◌, ◌<◌, ◌≤◌, ℕ, suc, Bool, true, false, ◌||◌, List, [], ◌∷◌, ◌++◌, length, take, Some, None}
 use Rattle.std.specs.List.{list_any}
 use Rattle.std.proofs.Common.{refl, sym, ap, subst, ◌∙◌, inl, inr, arith}
 use Rattle.std.proofs.lemmas.Bool.{cases_Bool, or_right}
@@ -11,7 +11,7 @@ use Rattle.posix_profile.specs.State.{Objects, State}
 use Rattle.posix_profile.specs.Names.{settle}
 use Rattle.posix_profile.specs.Steps.{step}
 use Rattle.posix_profile.specs.Runs.{is_no_memory, is_stop, after_one, after, RunHolds}
-use Rattle.posix_profile.specs.Losses.{IsSyncDone, Covers, settled_after, LossLeaves}
+use Rattle.posix_profile.specs.Losses.{Covers, settled_after, LossLeaves}
 use Rattle.posix_profile.specs.laws.Own.{command_own}
 use Rattle.posix_profile.specs.laws.Prune.{prune_same}
 use Rattle.posix_profile.specs.laws.Run.{replied_step}
@@ -21,7 +21,8 @@ use Rattle.posix_profile.specs.declared.command.Stamped.{Stamped}
 use Rattle.posix_profile.specs.declared.reply.Errno.TheVariants as errors
 use Rattle.posix_profile.specs.declared.reply.Reply.{Reply}
 use Rattle.posix_profile.specs.declared.reply.Reply.TheVariants as replies
-use Rattle.lives.specs.Lives.{Mounted, NoMemory, Gone, Faulty, SessionRecord, at_mount, Serves, IsSessionFrom, FailsToMount}
+use Rattle.lives.specs.LawTerms.{IsNotStopped, EndsSynced}
+use Rattle.lives.specs.Lives.{Mounted, NoMemory, Gone, Faulty, SessionRecord, at_mount, tree_after, Serves, IsSessionFrom, FailsToMount}
 use Rattle.lives.specs.PlainLives.{step_replies, step_state, plain_tree, plain_session, IsUndisturbed, IsWhole}
 
 -- no session finds a fault on the flash
@@ -58,11 +59,15 @@ run_within z s (c ∷ cs) [] holds = omega arith
 run_within z s [] (r ∷ rs) holds = absurd holds
 run_within z s (c ∷ cs) (r ∷ rs) holds = omega (arith, run_within z (after_one z false s c r) cs rs holds.2)
 
--- each command that was begun has its reply, and no others have one
-pub replies_begun : (z : Sizes) (before after : Objects) (session : SessionRecord) → IsSessionFrom z before session after → (length session.replies ≡ session.begun) × (session.begun ≤ length session.commands)
-replies_begun z before after session is = elim is.ends [
-  | inl fails ↦ (ap length fails.replies ∙ sym fails.begun, omega (arith, fails.begun))
-  | inr serves ↦ (serves.answered, omega (arith, serves.answered, run_within z (at_mount before) session.commands session.replies serves.run))
+-- each command that was begun has its reply
+pub replies_begun : (z : Sizes) (before after : Objects) (session : SessionRecord) → IsSessionFrom z before session after → length session.replies ≡ session.begun
+replies_begun z before after session is = elim is.ends [ inl fails ↦ ap length fails.replies ∙ sym fails.begun | inr serves ↦ serves.answered ]
+
+-- and it is one of those that were handed in
+pub begun_within : (z : Sizes) (before after : Objects) (session : SessionRecord) → IsSessionFrom z before session after → session.begun ≤ length session.commands
+begun_within z before after session is = elim is.ends [
+  | inl fails ↦ omega (arith, fails.begun)
+  | inr serves ↦ omega (arith, serves.answered, run_within z (at_mount before) session.commands session.replies serves.run)
 ]
 
 -- without a cut no command is answered by the stop
@@ -73,9 +78,8 @@ goes_on session cuts uncut = elim (cases_Bool (list_any is_stop session.replies)
 ]
 
 -- without a cut a mount fails for want of memory alone, no command is answered by the stop, and an unmount is done
-pub uncut_session : (z : Sizes) (before after : Objects) (session : SessionRecord) → IsSessionFrom z before session after → session.cut ≡ false
-    → ((session.mounted ≡ Mounted) ⊎ (session.mounted ≡ NoMemory)) × (list_any is_stop session.replies ≡ false) × ((reply : Reply) → session.unmounted ≡ Some reply → reply ≡ replies.Done)
-uncut_session z before after session is uncut = (mount is.ends, goes_on session is.cuts.commands uncut, done is.ends)
+pub uncut_session : (z : Sizes) (before after : Objects) (session : SessionRecord) → IsSessionFrom z before session after → session.cut ≡ false → IsNotStopped session
+uncut_session z before after session is uncut = record { mount = mount is.ends; commands = goes_on session is.cuts.commands uncut; unmount = done is.ends }
   where
     mount : FailsToMount before session after ⊎ Serves z before session after → (session.mounted ≡ Mounted) ⊎ (session.mounted ≡ NoMemory)
     mount (inl fails) = elim fails.mounted [
@@ -206,14 +210,14 @@ plain_is_session z before commands =
     }
 
 -- a done sync after which no command was begun leaves the whole
-pub synced_whole : (z : Sizes) (before : Objects) (session : SessionRecord) (after : Objects) (i : ℕ) → IsSessionFrom z before session after
-    → IsSyncDone session.commands session.replies i → i + 1 ≡ session.begun
-    → after ≡ settled_after z false (at_mount before) session.commands session.replies session.begun
-synced_whole z before session after i is synced last = elim is.ends [
-  | inl fails ↦ let none : i < 0 = (let (command, reply, there, reported, done) = synced in subst (λ (x : List Reply). i < length x) fails.replies (slice_get_within session.replies i reply reported)) in absurd (omega (arith, none))
+pub synced_whole : (z : Sizes) (before after : Objects) (session : SessionRecord) → IsSessionFrom z before session after → EndsSynced session → after ≡ tree_after z before session session.begun
+synced_whole z before after session is ends = elim is.ends [
+  | inl fails ↦
+      let none : ends.at < 0 = (let (command, reply, there, reported, done) = ends.synced in subst (λ (x : List Reply). ends.at < length x) fails.replies (slice_get_within session.replies ends.at reply reported)) in
+      absurd (omega (arith, none))
   | inr serves ↦
-      let all : serves.keeps.count ≡ session.begun = omega (arith, serves.keeps.covers i synced, serves.keeps.within, last) in
-      serves.keeps.tree ∙ ap (λ n. settled_after z false (at_mount before) session.commands session.replies n) all
+      let all : serves.keeps.count ≡ session.begun = omega (arith, serves.keeps.covers ends.at ends.synced, serves.keeps.within, ends.last) in
+      serves.keeps.tree ∙ ap (tree_after z before session) all
 ]
 
 -- what a mount shows after a session is sound where it was before

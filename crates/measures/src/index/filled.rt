@@ -16,7 +16,7 @@ pub struct Filled {
     index: Index,
     blocks: Blocks,
     ghost agree: { CountsAgree (table blocks) index },
-    ghost few: { (o c i : ℕ) → present index o c ≡ presents.InBuffer i → i < 64 },
+    ghost within_limit: { (o c i : ℕ) → present index o c ≡ presents.InBuffer i → i < 64 },
     ghost pages: { (table blocks).geometry.pages ≡ 256 },
 }
 

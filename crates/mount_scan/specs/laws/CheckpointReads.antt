@@ -1,14 +1,11 @@
 -- What was found of a device is so still after more reads of it.
-use Rattle.std.specs.Prelude.{◌≡◌, ◌≢◌, ◌<◌, ◌≤◌, ℕ, Bool, true, length, ◌+◌, ◌*◌}
+use Rattle.std.specs.Prelude.{◌≡◌, ◌≢◌, ℕ, Bool, true}
 use Rattle.std.proofs.Common.{sym, ◌∙◌, ap, subst}
-use Rattle.volume_terms.specs.Rounding.{ceiling}
 use Rattle.nand_model.specs.Calls.{Device}
 use Rattle.nand_model.specs.Changes.{OnlyReads}
 use Rattle.nand_model.specs.Flash.{Flash}
 use Rattle.nand_model.specs.declared.geometry.Geometry.{Geometry}
-use Rattle.flash_tree.specs.Checkpoints.{Checkpoint, IsWhole}
 use Rattle.flash_tree.specs.laws.Place.{same_flash}
-use Rattle.mount_scan.specs.FoundCheckpoint.{HasForm, IsWholeOn}
 use Rattle.flash_tree.specs.Places.{numbers_of}
 use Rattle.mount_scan.specs.FirstPages.{IsGoodFirst, AreFirstPages, AreAboveFirsts, AreNoneAbove, AreFirstsOf, BeginsRenewed, IsRenewedBelow}
 use Rattle.mount_scan.specs.declared.first_page.FirstPage.{FirstPage}

@@ -1,12 +1,10 @@
 -- Many keys that can be found.
-use Rattle.std.specs.Prelude.{ℕ, List}
-use Rattle.std.proofs.Common.{refl, sym, subst}
+use Rattle.std.specs.Prelude.{ℕ}
+use Rattle.std.proofs.Common.{sym, subst}
 use Rattle.nand_model.specs.Flash.{Flash}
-use Rattle.nand_model.specs.Calls.{Device}
 use Rattle.nand_model.specs.declared.geometry.Geometry.{Geometry}
 use Rattle.flash_tree.specs.Summaries.{AreFindable}
-use Rattle.mount_scan.specs.declared.page_copy.PageCopy.{PageCopy}
-use Rattle.mount_scan.specs.Summarized.{HasSummarizedFlash, FindsEach, FindsNeeded, IsKey}
+use Rattle.mount_scan.specs.Summarized.{IsKey}
 
 -- of keys that can be found each can
 one_findable : (g : Geometry) (flash : Flash) (keys : ℕ → ℕ → Type 0) (o c : ℕ) → AreFindable g flash keys → keys o c → AreFindable g flash (IsKey o c)

@@ -61,7 +61,7 @@ entry_said bytes size each =
 -- a head says its number
 pub number_read : (n : ℕ) → n < 2 ^ 64 → little_number 8 (drop 8 (check_head_bytes n)) ≡ n
 unfolding check_head_bytes
-number_read n few = little_number-reads_back 8 n (replicate 16 0) (omega (arith, few))
+number_read n within_limit = little_number-reads_back 8 n (replicate 16 0) (omega (arith, within_limit))
 
 -- ---- parts of 32 bytes
 
@@ -139,10 +139,10 @@ module _ (d : ℕ) (some : 32 ≤ d) (es fs : List CheckEntry) (count : ℕ) (sa
       let row = rows (check_slot es) (check_slot fs) (λ j. length-slot es j ∙ sym (length-slot fs j)) (k / per * per) per (same (k / per) page) (k % per) rest in
       ap (check_slot es) (sym split) ∙ row ∙ ap (check_slot fs) split
 
-  module _ (fits : 1 + length es ≤ count * per) (fits_too : 1 + length fs ≤ count * per) (few : count * per < 2 ^ 64) (right : All IsCheckEntry es) (right_too : All IsCheckEntry fs) where
+  module _ (fits : 1 + length es ≤ count * per) (fits_too : 1 + length fs ≤ count * per) (within_limit : count * per < 2 ^ 64) (right : All IsCheckEntry es) (right_too : All IsCheckEntry fs) where
     -- and so the number of entries
     same_count : length es ≡ length fs
-    same_count = sym (number_read (length es) (omega (arith, fits, few))) ∙ ap (λ (bytes : List ℕ). little_number 8 (drop 8 bytes)) (same_slot 0 (omega (arith, fits))) ∙ number_read (length fs) (omega (arith, fits_too, few))
+    same_count = sym (number_read (length es) (omega (arith, fits, within_limit))) ∙ ap (λ (bytes : List ℕ). little_number 8 (drop 8 bytes)) (same_slot 0 (omega (arith, fits))) ∙ number_read (length fs) (omega (arith, fits_too, within_limit))
 
     same_one : (k : ℕ) (e f : CheckEntry) → slice_get es k ≡ Some e → slice_get fs k ≡ Some f → e ≡ f
     same_one k e f is is' =

@@ -52,8 +52,8 @@ moment_at f fits = little_number-reads_back 8 f.moment (replicate 8 0 ++ f.bits)
 
 -- no length over pages of at most 4096 bytes needs more than 64 bits
 pub length_small : (d : ℕ) (kind : ObjectKind) (n : ℕ) → d ≤ 4096 → n ≤ greatest_recorded d kind → n < 2 ^ 64
-length_small d kinds.File n few fits = omega (arith, mul-le (8 * (d - 32)) d (8 * 4096) 4096 (omega arith) few)
-length_small d kinds.Directory n few fits = omega arith
+length_small d kinds.File n within_limit fits = omega (arith, mul-le (8 * (d - 32)) d (8 * 4096) 4096 (omega arith) within_limit)
+length_small d kinds.Directory n within_limit fits = omega arith
 
 -- ---- two headers
 
@@ -71,18 +71,18 @@ same_kind kinds.Directory kinds.Directory e = refl
 
 -- no two headers have the same bytes
 pub same_fields : (d : ℕ) (f g : Fields) → d ≤ 4096 → IsHeader d f → IsHeader d g → header_bytes f ≡ header_bytes g → f ≡ g
-same_fields d f g few h k e =
+same_fields d f g within_limit h k e =
     let format : f.format ≡ g.format = same_format f.format g.format (sym (format_at f) ∙ ap (λ bs. get_or bs 4 0) e ∙ format_at g) in
     let kind : f.kind ≡ g.kind = same_kind f.kind g.kind (sym (kind_at f) ∙ ap (λ bs. get_or bs 5 0) e ∙ kind_at g) in
     let spare : f.spare ≡ g.spare = sym (spare_at f h.spare) ∙ ap (λ bs. little_number 2 (drop 6 bs)) e ∙ spare_at g k.spare in
-    let len : f.length ≡ g.length = sym (length_at f (length_small d f.kind f.length few h.length_fits)) ∙ ap length_in e ∙ length_at g (length_small d g.kind g.length few k.length_fits) in
+    let len : f.length ≡ g.length = sym (length_at f (length_small d f.kind f.length within_limit h.length_fits)) ∙ ap length_in e ∙ length_at g (length_small d g.kind g.length within_limit k.length_fits) in
     let moment : f.moment ≡ g.moment = sym (moment_at f h.moment) ∙ ap moment_in e ∙ moment_at g k.moment in
     let bits : f.bits ≡ g.bits = sym (bits_at f) ∙ ap (drop 32) e ∙ bits_at g in
     λ i. record { format = format i; kind = kind i; spare = spare i; length = len i; moment = moment i; bits = bits i }
 
 -- a page is the encoding of one header at most
 pub one_header : (page : List ℕ) (f g : Fields) → length page ≤ 4096 → IsHeaderOf page f → IsHeaderOf page g → f ≡ g
-one_header page f g few h k = same_fields (length page) f g few h.valid k.valid (sym h.encodes ∙ k.encodes)
+one_header page f g within_limit h k = same_fields (length page) f g within_limit h.valid k.valid (sym h.encodes ∙ k.encodes)
 
 -- ---- a page without fault is a header
 
@@ -154,8 +154,8 @@ sound_or_fault page format kind faults.Length sound = no_length_fault page kind 
 sound_or_fault page format kind faults.Pad sound = no_pad_fault page format kind sound
 
 sound_from_header : (page : List ℕ) (f : Fields) → length page ≤ 4096 → IsHeaderOf page f → IsSoundHeader page f.format f.kind
-sound_from_header page f few h =
-    let len : length_in page ≡ f.length = ap length_in h.encodes ∙ length_at f (length_small (length page) f.kind f.length few h.valid.length_fits) in
+sound_from_header page f within_limit h =
+    let len : length_in page ≡ f.length = ap length_in h.encodes ∙ length_at f (length_small (length page) f.kind f.length within_limit h.valid.length_fits) in
     let bits : drop 32 page ≡ f.bits = ap (drop 32) h.encodes ∙ bits_at f in
     record {
       begins = record { magic_first = ap (take 4) h.encodes ∙ magic_at f; format_next = ap (λ bs. get_or bs 4 0) h.encodes ∙ format_at f };
@@ -168,7 +168,7 @@ sound_from_header page f few h =
 
 -- no page is a header and has a fault
 pub header_or_fault : (page : List ℕ) (f : Fields) (fault : HeaderFault) → length page ≤ 4096 → IsHeaderOf page f → HasFault page fault → ⊥
-header_or_fault page f fault few h = sound_or_fault page f.format f.kind fault (sound_from_header page f few h)
+header_or_fault page f fault within_limit h = sound_or_fault page f.format f.kind fault (sound_from_header page f within_limit h)
 
 -- ---- the first fault, by what the tests before it said
 

@@ -27,7 +27,7 @@ module _ (s : Entry) (h : IsSlot s) where
 
   pub name_length_at : name_length_in (slot_bytes s) ≡ length s.name
   unfolding slot_bytes
-  name_length_at = little_number-reads_back 2 (length s.name) (s.name ++ replicate (262 - length s.name) 0) (omega (arith, h.name.few))
+  name_length_at = little_number-reads_back 2 (length s.name) (s.name ++ replicate (262 - length s.name) 0) (omega (arith, h.name.within_limit))
 
   after_numbers : drop 10 (slot_bytes s) ≡ s.name ++ replicate (262 - length s.name) 0
   unfolding slot_bytes
@@ -58,7 +58,7 @@ pub slot_bytes-slot_in :
     (bytes : List ℕ) → length bytes ≡ slot_length → IsBytes bytes → name_length_in bytes ≤ 255
     → drop (name_length_in bytes) (drop 10 bytes) ≡ replicate (262 - name_length_in bytes) 0 → slot_bytes (slot_in bytes) ≡ bytes
 unfolding slot_bytes
-slot_bytes-slot_in bytes size each few zeros =
+slot_bytes-slot_in bytes size each within_limit zeros =
     let n : ℕ = name_length_in bytes in
     let len : length (take n (drop 10 bytes)) ≡ n = omega (arith, length-take n (drop 10 bytes), length-drop 10 bytes) in
     let object : little_bytes 8 (little_number 8 bytes) ≡ take 8 bytes = little_bytes-little_number 8 bytes (omega arith) each in
@@ -108,7 +108,7 @@ module _ (bytes : List ℕ) where
   no_slot_by_object reserved s h e = let object : little_number 8 bytes ≡ s.object = ap (λ (t : Entry). t.object) (slot_said s h e) in omega (arith, h.object)
 
   pub no_slot_by_length : 255 < name_length_in bytes → (s : Entry) → IsSlot s → bytes ≢ slot_bytes s
-  no_slot_by_length many s h e = let len : name_length_in bytes ≡ length s.name = ap name_length_in e ∙ name_length_at s h in omega (arith, h.name.few)
+  no_slot_by_length many s h e = let len : name_length_in bytes ≡ length s.name = ap name_length_in e ∙ name_length_at s h in omega (arith, h.name.within_limit)
 
   pub no_slot_by_name : (name : List ℕ) → name ≡ take (name_length_in bytes) (drop 10 bytes) → ¬ IsName name → (s : Entry) → IsSlot s → bytes ≢ slot_bytes s
   no_slot_by_name name is none s h e = none (subst IsName (sym (is ∙ ap (λ (t : Entry). t.name) (slot_said s h e))) h.name)
@@ -124,7 +124,7 @@ module _ (bytes : List ℕ) where
       → (name rest : List ℕ) → name ≡ take (name_length_in bytes) (drop 10 bytes) → rest ≡ drop (name_length_in bytes) (drop 10 bytes)
       → IsName name → EachIndex rest (λ i. get_or rest i 0 ≡ 0)
       → (s : Entry) → s.object ≡ little_number 8 bytes → s.name ≡ name → IsSlot s × (bytes ≡ slot_bytes s)
-  slot_from_parts size each named few name rest name_is rest_is is_name zeros s object_is said =
+  slot_from_parts size each named within_limit name rest name_is rest_is is_name zeros s object_is said =
       let n : ℕ = name_length_in bytes in
       let rest_len : length rest ≡ 262 - n = ap length rest_is ∙ omega (arith, length-drop n (drop 10 bytes), length-drop 10 bytes) in
       let rest_zeros : drop n (drop 10 bytes) ≡ replicate (262 - n) 0 = sym rest_is ∙ zeros_from_each rest (262 - n) rest_len zeros in
@@ -134,4 +134,4 @@ module _ (bytes : List ℕ) where
         object = (named, little_from-lt 0 8 bytes each);
         name = subst IsName name_is is_name;
       } in
-      (subst IsSlot same valid, sym (slot_bytes-slot_in bytes size each few rest_zeros) ∙ ap slot_bytes same)
+      (subst IsSlot same valid, sym (slot_bytes-slot_in bytes size each within_limit rest_zeros) ∙ ap slot_bytes same)

@@ -158,5 +158,5 @@ module _ (z : Sizes) (m : PageMap) (objects : Objects) (numbers : IsSizes z) (ho
   pub pages_charged : length keys ≤ charge z objects
   pages_charged =
       let long : length (list_map place keys) ≡ length keys = length-map keys place in
-      let few = length-le_from_distinct_below (list_map place keys) (charge z objects) (IsDistinct-from_apart eqb (list_map place keys) places_apart) place_below in
-      omega (arith, long, few)
+      let within_limit = length-le_from_distinct_below (list_map place keys) (charge z objects) (IsDistinct-from_apart eqb (list_map place keys) places_apart) place_below in
+      omega (arith, long, within_limit)

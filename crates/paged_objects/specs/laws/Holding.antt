@@ -33,10 +33,10 @@ directory_in p z objects h o dir = record { sound = h.sound; size = h.size; read
 
 -- calls that only look for pages leave what is held
 pub holds_on : (p q : PagesState) (z : Sizes) (objects : Objects) → OnlyFinds p q → HoldsIn p z objects → HoldsIn q z objects
-holds_on p q z objects finds h = record {
-  sound = finds.sound ∙ h.sound;
-  size = h.size ∙ sym finds.page_bytes;
-  holds = subst (λ m. HoldsObjects z m objects) (sym finds.present) h.holds;
+holds_on p q z objects lookups h = record {
+  sound = lookups.sound ∙ h.sound;
+  size = h.size ∙ sym lookups.page_bytes;
+  holds = subst (λ m. HoldsObjects z m objects) (sym lookups.present) h.holds;
 }
 
 module _ (z : Sizes) (m n : PageMap) (o : ℕ) (same : (c : ℕ) → n o c ≡ m o c) where

@@ -125,7 +125,7 @@ module _ (g : Geometry) (flash : Flash) (spare : ℕ) (m : PageMap) (objects : O
 
   module _ (leaves : LeavesFree g flash spare (HasPage m)) where
     free_there : bad_blocks g flash ≤ spare → HasFree g flash (sizes_of g spare) (settled objects) (1 + spare - bad_blocks g flash)
-    free_there few =
+    free_there within_limit =
         free_of_picked g flash (sizes_of g spare) (settled objects) leaves.free (1 + spare - bad_blocks g flash)
         (λ b within picked.
         let free = leaves.each b within picked in
@@ -134,7 +134,7 @@ module _ (g : Geometry) (flash : Flash) (spare : ℕ) (m : PageMap) (objects : O
           good = free.good;
           apart = λ o c s foot newest. free.apart o c s (footprint_pages (sizes_of g spare) m can.numbers flash carries objects holds o c foot) newest;
         })
-        (omega (arith, leaves.enough, few))
+        (omega (arith, leaves.sufficient, within_limit))
 
     room_there : HasRoom g flash spare (settled objects)
     room_there = record {
@@ -145,7 +145,7 @@ module _ (g : Geometry) (flash : Flash) (spare : ℕ) (m : PageMap) (objects : O
 -- A mount finds the tree that is shown sound on an honest device, as long as numbers are left and no more blocks are bad than are to spare.
 pub shown_sound : (z : Sizes) (p : PagesState) (tree : Objects) → Shown z p tree → p.device.honest ≡ true → HasNumbersLeft p.device.flash → bad_on p.device ≤ p.spare
     → IsSoundFlash p.device.geometry p.device.flash p.spare tree
-shown_sound z p tree shown honest left few =
+shown_sound z p tree shown honest left within_limit =
     let y : Sizes = volume_of p in
     let holds = subst (λ (k : Sizes). HoldsObjects k shown.pages shown.objects) (sym shown.sizes) shown.holds in
     let can = subst (λ (k : Sizes). CanHave k shown.objects) (sym shown.sizes) shown.can in
@@ -155,7 +155,7 @@ shown_sound z p tree shown honest left few =
       volume = volume_there p.device.geometry p.device.flash p.spare shown.pages shown.objects holds can carried.newest;
       shows = tree_there p.device.geometry p.device.flash p.spare shown.pages shown.objects holds can carried.newest;
       room = room_there p.device.geometry p.device.flash p.spare shown.pages shown.objects holds can carried.newest leaves;
-      few_bad = few;
+      few_bad = within_limit;
       numbers = left;
     })
 

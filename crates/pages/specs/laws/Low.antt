@@ -29,8 +29,8 @@ pub present_low : (d : ℕ) → IsPageSize d → (f : Fields) (c : ℕ) → IsHe
 present_low d size f c valid some present = go f.kind valid.length_fits (valid.within c some present) where
   go : (kind : ObjectKind) → f.length ≤ greatest_recorded d kind → MayBeSet d kind f.length c → c < 2 ^ 32
   go kinds.File most may =
-      let few : c ≤ 8 * (d - 32) = few_chunks (8 * (d - 32)) d f.length c (omega (arith, size.least)) most may in
-      omega (arith, few, size.most)
+      let within_limit : c ≤ 8 * (d - 32) = few_chunks (8 * (d - 32)) d f.length c (omega (arith, size.least)) most may in
+      omega (arith, within_limit, size.most)
   go kinds.Directory most may = absurd may
 
 -- a directory has no more slots than these
@@ -46,6 +46,6 @@ pub looked_low : (z : Sizes) → IsPageSize z.page_bytes → (f : Fields) (c : �
 looked_low z size f c valid (inl first) = subst (λ k. k < 2 ^ 32) (sym first) first_low
 looked_low z size f c valid (inr (inl (file, some, present))) = present_low z.page_bytes size f c valid some present
 looked_low z size f c valid (inr (inr (directory, (i, lt, is)))) =
-    let few = slots_few z.page_bytes f valid directory in
-    let low = place_low i (page_slots z) (omega (arith, lt, few)) in
+    let within_limit = slots_few z.page_bytes f valid directory in
+    let low = place_low i (page_slots z) (omega (arith, lt, within_limit)) in
     omega (arith, low, is)

@@ -5,11 +5,10 @@ use Rattle.std.proofs.Common.{refl, sym, ◌∙◌, ap, subst, arith, append_ass
 use Rattle.std.proofs.lemmas.List.{append-nil}
 use Rattle.posix_profile.specs.NameSteps.{info}
 use Rattle.posix_profile.specs.Paths.{Place}
-use Rattle.posix_profile.specs.State.{Name, Object, File, Dir, Objects, State}
+use Rattle.posix_profile.specs.State.{Object, Objects, State}
 use Rattle.posix_profile.specs.declared.reply.Errno.{Errno}
-use Rattle.posix_profile.specs.declared.reply.Info.{Info}
 use Rattle.volume_terms.specs.Sizes.{Sizes}
-use Rattle.plain_volume.specs.Items.{Reported, OfFile, OfDirectory, Item, IsFound, IsInfo, AreNames, AreBytesAt, IsContent, IsRead, AreRead, content_of, paths_below, root_path}
+use Rattle.plain_volume.specs.Items.{Item, IsFound, IsRead, AreRead, content_of, paths_below, root_path}
 use Rattle.plain_volume.specs.Reading.{Reports}
 
 -- a path leads to one object

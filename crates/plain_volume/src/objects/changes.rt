@@ -1,9 +1,10 @@
 // Changes of maps: each makes a copy of the objects, changed.
 ghost use Rattle.std.specs.Prelude.{◌≡◌, Some, IfOk, OnOk};
 ghost use Rattle.std.specs.FinMap as map;
-ghost use Rattle.posix_profile.specs.Changes.{written, resized, with_bytes, with_object, with_name, without_name};
+ghost use Rattle.posix_profile.specs.Changes.{written};
 ghost use Rattle.object_store.specs.Changes.{empty_object, made, without};
 ghost use Rattle.object_store.specs.Facts.{bytes_of};
+ghost use Rattle.object_store.specs.declared.change.ObjectChange.TheVariants as changes;
 ghost use Rattle.plain_volume.specs.PlainState.{object_of, objects_in};
 
 use crate::state::change::{add_object, put_name, remove_name, resized, written};
@@ -95,7 +96,7 @@ fn write(
     added: &[u8],
     moment: u64,
 ) -> Result<(), AllocError>
-    ensures { OnOk result (objects_in objects.new ≡ with_bytes (objects_in objects.old) moment number (written (bytes_of (map.get (objects_in objects.old) number)) offset added.now)) }
+    ensures { OnOk result (objects_in objects.new ≡ made (objects_in objects.old) (changes.Write number offset added.entry moment)) }
 {
     let before = bytes_at(alloc, objects, number)?;
     let bytes = spliced(alloc, &before, offset, added)?;
@@ -110,7 +111,7 @@ fn resize(
     length: u64,
     moment: u64,
 ) -> Result<(), AllocError>
-    ensures { OnOk result (objects_in objects.new ≡ with_bytes (objects_in objects.old) moment number (resized (bytes_of (map.get (objects_in objects.old) number)) length)) }
+    ensures { OnOk result (objects_in objects.new ≡ made (objects_in objects.old) (changes.Resize number length moment)) }
 {
     let before = bytes_at(alloc, objects, number)?;
     let bytes = resized(alloc, &before, length as usize)?;
@@ -127,7 +128,7 @@ fn move_name(
     dropped: Option<u64>,
     moment: u64,
 ) -> Result<(), AllocError>
-    ensures { OnOk result (objects_in objects.new ≡ without dropped (with_name (without_name (objects_in objects.old) moment from.entry.directory from.entry.name.now) moment to.entry.directory to.entry.name.now number)) }
+    ensures { OnOk result (objects_in objects.new ≡ made (objects_in objects.old) (changes.Move from.entry to.entry number dropped moment)) }
 {
     remove_name(alloc, objects, moment, from.directory, from.name)?;
     put_name(alloc, objects, moment, to.directory, to.name, number)?;
@@ -143,7 +144,7 @@ fn create(
     kind: Kind,
     moment: u64,
 ) -> Result<(), AllocError>
-    ensures { OnOk result (objects_in objects.new ≡ with_object (objects_in objects.old) moment entry.entry.directory entry.entry.name.now (empty_object kind moment)) }
+    ensures { OnOk result (objects_in objects.new ≡ made (objects_in objects.old) (changes.Create entry.entry kind moment)) }
 {
     let object = empty_object(alloc, kind, moment);
     add_object(alloc, objects, moment, entry.directory, entry.name, object)
@@ -157,7 +158,7 @@ fn name(
     number: u64,
     moment: u64,
 ) -> Result<(), AllocError>
-    ensures { OnOk result (objects_in objects.new ≡ with_name (objects_in objects.old) moment entry.entry.directory entry.entry.name.now number) }
+    ensures { OnOk result (objects_in objects.new ≡ made (objects_in objects.old) (changes.Name entry.entry number moment)) }
 {
     put_name(alloc, objects, moment, entry.directory, entry.name, number)
 }
@@ -170,7 +171,7 @@ fn remove(
     dropped: Option<u64>,
     moment: u64,
 ) -> Result<(), AllocError>
-    ensures { OnOk result (objects_in objects.new ≡ without dropped (without_name (objects_in objects.old) moment entry.entry.directory entry.entry.name.now)) }
+    ensures { OnOk result (objects_in objects.new ≡ made (objects_in objects.old) (changes.Remove entry.entry dropped moment)) }
 {
     remove_name(alloc, objects, moment, entry.directory, entry.name)?;
     drop_reported(objects, dropped);

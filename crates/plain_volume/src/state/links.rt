@@ -141,7 +141,7 @@ fn file_links(sizes: VolumeSizes, objects: &ObjectMap, number: u64) -> u64
 /// The subdirectories among the entries.
 fn subdirectories(objects: &ObjectMap, entries: &EntryMap) -> u64
     ensures exact { result ≡ count_by (λ child. is_directory (map.get (objects_in objects.now) child)) (map.values (entries_in entries.now)) }
-    ensures few { result < 2 ^ 63 }
+    ensures within_limit { result < 2 ^ 63 }
 {
     let mut count: u64 = 0;
     for child in entries.values() {

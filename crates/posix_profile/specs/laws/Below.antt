@@ -92,7 +92,7 @@ module _ (z : Sizes) (objects : Objects) (forest : IsForest z objects) where
         member_below x q (map.len objects) up (subst (Member (directories_above objects (map.len objects) q)) (sym (eqb-true x m.0 m.2)) m.1),
     λ b.
         let d = depth_of objects q up in
-        let few = depth_few q d.0 dir d.1 in
+        let within_limit = depth_few q d.0 dir d.1 in
         member_any (nat_eq x) (directories_above objects (map.len objects) q) x (below_member x q d.0 (map.len objects) dir d.1 (omega arith) b) (eq-eqb x x refl),
   )
 

@@ -28,6 +28,16 @@ pub record Lists {X : Type 0} (P : X → Type 0) (xs : List X) : Type 0 where
   pub only : (x : X) → Member xs x → P x
   pub all : (x : X) → P x → Member xs x
 
+-- the pair is a directory and a name in it that leads to the object
+abbrev pub IsNameOf : Objects → ℕ → ℕ × Name → Type 0
+IsNameOf objects o pair = Names objects pair.0 pair.1 o
+
+-- there are so many x of which P holds, as a list of them says
+pub record AreSoMany {X : Type 0} (P : X → Type 0) (count : ℕ) : Type 0 where
+  pub list : List X
+  pub lists : Lists P list
+  pub count_is : count ≡ length list
+
 append_member : {X : Type 0} (xs ys : List X) (x : X) → Member (xs ++ ys) x → Member xs x ⊎ Member ys x
 append_member [] ys x is = inr is
 append_member (y ∷ xs) ys x (inl is) = inl (inl is)
@@ -199,15 +209,14 @@ subdirectories_list z objects d moment entries forest is = record {
     named e m = record { moment = moment; entries = entries; directory_is = is; object_is = member_get nat_list_cmp_total name_same entries e m }
 
 -- a file has as many links as there are pairs of a directory and a name that lead to it
-pub file_links : (objects : Objects) (o moment : ℕ) (bytes : List ℕ)
-    → (pairs : List (ℕ × Name)) × Lists (λ pair. Names objects pair.0 pair.1 o) pairs × (links objects o (File moment bytes) ≡ length pairs)
-file_links objects o moment bytes = (link_pairs objects o, link_pairs_list objects o, refl)
+pub file_links : (objects : Objects) (o moment : ℕ) (bytes : List ℕ) → AreSoMany (IsNameOf objects o) (links objects o (File moment bytes))
+file_links objects o moment bytes = record { list = link_pairs objects o; lists = link_pairs_list objects o; count_is = refl }
 
 -- a directory has 2 and as many as it has subdirectories
-pub directory_links : (z : Sizes) (objects : Objects) (d moment : ℕ) (entries : Entries) → IsForest z objects → map.get objects d ≡ Some (Dir moment entries)
-    → (children : List ℕ) × Lists (IsSubdirectory objects d) children × (links objects d (Dir moment entries) ≡ 2 + length children)
-directory_links z objects d moment entries forest is = (
-  filter (λ o. is_directory (map.get objects o)) (map.values entries),
-  subdirectories_list z objects d moment entries forest is,
-  ap (λ n. 2 + n) (sym (length-filter (λ o. is_directory (map.get objects o)) (map.values entries))),
-)
+pub directory_links : (z : Sizes) (objects : Objects) (d : ℕ) (dir : IsDirectory objects d) → IsForest z objects → (n : ℕ) × AreSoMany (IsSubdirectory objects d) n × (links objects d (Dir dir.0 dir.1) ≡ 2 + n)
+directory_links z objects d (moment, entries, is) forest =
+    let children : List ℕ = filter (λ o. is_directory (map.get objects o)) (map.values entries) in (
+      length children,
+      record { list = children; lists = subdirectories_list z objects d moment entries forest is; count_is = refl },
+      ap (λ n. 2 + n) (sym (length-filter (λ o. is_directory (map.get objects o)) (map.values entries))),
+    )

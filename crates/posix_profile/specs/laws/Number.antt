@@ -6,7 +6,7 @@ use Rattle.std.specs.List.{find as first_of, range_with_len}
 use Rattle.std.specs.Cmp.{nat_cmp_total}
 use Rattle.std.specs.FinMap as map
 use Rattle.std.proofs.lemmas.Nat.{mul-le}
-use Rattle.volume_terms.specs.Sizes.{Sizes, IsSizes, capacity, greatest_length, descriptors, offset_limit, root_number}
+use Rattle.volume_terms.specs.Sizes.{Sizes, IsSizes, capacity, greatest_length, descriptors, offset_limit}
 use Rattle.posix_profile.specs.State.{Object, Objects, Handles}
 use Rattle.posix_profile.specs.Charge.{charge, fits}
 use Rattle.posix_profile.specs.Changes.{greatest, new_number, free_descriptor}

@@ -1,5 +1,5 @@
 -- What the place is to which a path leads.
-use Rattle.std.specs.Prelude.{◌≡◌, ◌≢◌, ◌<◌, ◌≤◌, ℕ, Bool, true, false, ◌&&◌, List, [], ◌∷◌, length, filter, map as list_map, Option, Some, None, Result, Ok, Err, nat_eq, nat_lt, cond, All, Contains}
+use Rattle.std.specs.Prelude.{◌≡◌, ◌≢◌, ◌<◌, ◌≤◌, ℕ, Bool, true, false, ◌&&◌, List, [], ◌∷◌, length, filter, map as list_map, Option, Some, None, Result, Ok, Err, IfOk, nat_eq, nat_lt, cond, All, Contains}
 use Rattle.std.proofs.Common.{refl, sym, ◌∙◌, ap, subst, inl, inr}
 use Rattle.std.proofs.lemmas.Bool.{true≢false, eq-eqb, ltb-true, ltb-false, false_from_ne_true}
 use Rattle.std.proofs.lemmas.List.Elements.{All-nil, All-cons, All-contains, All-head, All-tail}
@@ -77,7 +77,7 @@ not_list : (bytes other : List ℕ) → pointwise nat_eq bytes other ≡ false �
 not_list bytes other e is = true≢false (sym ((bytes_decides bytes other).1 is) ∙ e)
 
 component_is : (bytes : List ℕ) → AreBytes bytes → 1 ≤ length bytes → length bytes ≤ name_limit → (Contains bytes 0 → ⊥) → (Contains bytes 47 → ⊥) → IsComponent (component bytes)
-component_is bytes are some few zero' slash' =
+component_is bytes are some within_limit zero' slash' =
     elim (pointwise nat_eq bytes (46 ∷ [])) as (λ b. pointwise nat_eq bytes (46 ∷ []) ≡ b
     → IsComponent (cond b Dot (cond (pointwise nat_eq bytes (46 ∷ 46 ∷ [])) DotDot (Named bytes)))) [
       | true ↦ λ e. tt
@@ -86,7 +86,7 @@ component_is bytes are some few zero' slash' =
         | false ↦ λ f. record {
           bytes = are;
           some = some;
-          few = few;
+          within_limit = within_limit;
           no_zero = zero';
           no_slash = slash';
           not_dot = not_list bytes (46 ∷ []) e;
@@ -108,12 +108,12 @@ components_are path are passed c is =
       λ s'. true≢false (sym (eq-eqb 47 b (sym s')) ∙ e),
     ))
     m.0 f.1 in
-    let few : nat_lt name_limit (length m.0) ≡ false =
+    let within_limit : nat_lt name_limit (length m.0) ≡ false =
     false_from_ne_true _ (λ e. true≢false (sym (member_any (λ part. nat_lt name_limit (length part)) (parts path) m.0 m.1 e) ∙ passed.1.1.1.0)) in
     subst IsComponent (sym m.2) (component_is m.0
     (all_from_members (λ b. b < 256) m.0 (λ b in'. (bytes b in').0))
     (ltb-true 0 (length m.0) f.0)
-    (ltb-false name_limit (length m.0) few)
+    (ltb-false name_limit (length m.0) within_limit)
     (λ has. (bytes 0 (member_from_contains m.0 0 has)).1 refl)
     (λ has. (bytes 47 (member_from_contains m.0 47 has)).2 refl))
 
@@ -197,3 +197,12 @@ module _ (z : Sizes) (objects : Objects) (forest : IsForest z objects) where
   pub resolve_place : (path : List ℕ) (place : Place) → AreBytes path → resolve objects path ≡ Ok place → IsPlace objects place
   unfolding resolve
   resolve_place path place are is = unless_place path place are (first_error (path_tests path)) refl is
+
+-- what holds of each value that a result can have holds of the result
+of_each : {X E : Type 0} (P : X → Type 0) (r : Result X E) → ((x : X) → r ≡ Ok x → P x) → IfOk r P
+of_each P (Ok x) each = each x refl
+of_each P (Err error) each = tt
+
+-- the same of the path's result
+pub resolved_place : (z : Sizes) (objects : Objects) (path : List ℕ) → IsForest z objects → AreBytes path → IfOk (resolve objects path) (IsPlace objects)
+resolved_place z objects path forest are = of_each (IsPlace objects) (resolve objects path) (λ place is. resolve_place z objects forest path place are is)

@@ -171,8 +171,8 @@ module _ (z : Sizes) (sizes : IsSizes z) (s : State) (sound : IsSound z s) where
     write_reported fd handle (byte ∷ rest) = by_file P s refused _ _ _ (λ m bytes is. by_unless P s refused _ _ (λ _. record {
       reply =
           (let most = greatest_cases (λ k. fits z (objects_written moment s handle bytes (byte ∷ rest) k)) (min (length (byte ∷ rest)) (min (most_written z) (greatest_length z - write_offset handle bytes))) in
-          let few = written_few (length (byte ∷ rest)) (greatest_length z - write_offset handle bytes) in
-          omega (arith, most.0, few));
+          let within_limit = written_few (length (byte ∷ rest)) (greatest_length z - write_offset handle bytes) in
+          omega (arith, most.0, within_limit));
     }))
 
     seek_reported : (fd : ℕ) (handle : Handle) (offset : ℤ) → P (seek_to s fd handle offset)

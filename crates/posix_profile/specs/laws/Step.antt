@@ -41,18 +41,28 @@ module _ (z : Sizes) (sizes : IsSizes z) (read_only : Bool) (s : State) (sound :
 pub step_sound : (z : Sizes) (read_only : Bool) (s : State) (stamped : Stamped) → IsSizes z → IsStamped stamped → IsSound z s → IsSound z (step z read_only s stamped).state
 step_sound z read_only s stamped sizes is sound = (command_sound z sizes read_only s sound stamped.moment is.moment stamped.command is.bytes).sound
 
-pub step_well_formed : (z : Sizes) (read_only : Bool) (s : State) (stamped : Stamped) → IsSizes z → IsStamped stamped → IsWellFormed z s → fits z s.objects ≡ true
-    → IsWellFormed z (step z read_only s stamped).state
-step_well_formed z read_only s stamped sizes is sound fit = (step_sound z read_only s stamped sizes is (record { well_formed = sound; fit = fit })).well_formed
+-- What a step begins with: sizes that a volume can have, a command as its types allow, and a state that a volume can have and that fits.
+pub record CanStep (z : Sizes) (s : State) (stamped : Stamped) : Type 0 where
+  pub sizes : IsSizes z
+  pub command : IsStamped stamped
+  pub sound : IsSound z s
 
-pub step_fits : (z : Sizes) (read_only : Bool) (s : State) (stamped : Stamped) → IsSizes z → IsStamped stamped → IsWellFormed z s → fits z s.objects ≡ true
-    → fits z (step z read_only s stamped).state.objects ≡ true
-step_fits z read_only s stamped sizes is sound fit = (step_sound z read_only s stamped sizes is (record { well_formed = sound; fit = fit })).fit
+pub step_well_formed : (z : Sizes) (read_only : Bool) (s : State) (stamped : Stamped) → CanStep z s stamped → IsWellFormed z (step z read_only s stamped).state
+step_well_formed z read_only s stamped can = (step_sound z read_only s stamped can.sizes can.command can.sound).well_formed
+
+pub step_fits : (z : Sizes) (read_only : Bool) (s : State) (stamped : Stamped) → CanStep z s stamped → fits z (step z read_only s stamped).state.objects ≡ true
+step_fits z read_only s stamped can = (step_sound z read_only s stamped can.sizes can.command can.sound).fit
 
 -- stamped commands as the types allow them
 abbrev pub AreStamped : List Stamped → Type 0
 AreStamped [] = Unit {0}
 AreStamped (stamped ∷ rest) = IsStamped stamped × AreStamped rest
+
+-- What a run begins with: the same, of all its commands.
+pub record CanRun (z : Sizes) (s : State) (commands : List Stamped) : Type 0 where
+  pub sizes : IsSizes z
+  pub stamped : AreStamped commands
+  pub sound : IsSound z s
 
 after_one_sound : (z : Sizes) (read_only : Bool) (s : State) (stamped : Stamped) (reply : Reply) → IsSizes z → IsStamped stamped → IsSound z s → IsSound z (after_one z read_only s stamped reply)
 after_one_sound z read_only s stamped reply sizes is sound = go (is_no_memory reply) (is_stop reply) (step_sound z read_only s stamped sizes is sound)
@@ -69,9 +79,8 @@ after_sound z read_only s [] (reply ∷ replies) sizes are sound = sound
 after_sound z read_only s (stamped ∷ commands) (reply ∷ replies) sizes are sound =
     after_sound z read_only (after_one z read_only s stamped reply) commands replies sizes are.1 (after_one_sound z read_only s stamped reply sizes are.0 sound)
 
-pub after_well_formed : (z : Sizes) (read_only : Bool) (s : State) (commands : List Stamped) (replies : List Reply) → IsSizes z → AreStamped commands → IsWellFormed z s → fits z s.objects ≡ true
-    → IsWellFormed z (after z read_only s commands replies)
-after_well_formed z read_only s commands replies sizes are sound fit = (after_sound z read_only s commands replies sizes are (record { well_formed = sound; fit = fit })).well_formed
+pub after_well_formed : (z : Sizes) (read_only : Bool) (s : State) (commands : List Stamped) (replies : List Reply) → CanRun z s commands → IsWellFormed z (after z read_only s commands replies)
+after_well_formed z read_only s commands replies can = (after_sound z read_only s commands replies can.sizes can.stamped can.sound).well_formed
 
 -- and what a mount then shows
 pub settle_sound : (z : Sizes) (s : State) → IsSound z s → IsSound z (settle s)

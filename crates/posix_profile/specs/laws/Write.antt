@@ -61,12 +61,23 @@ charge_with_bytes z objects moment o m bytes new is =
 abbrev pub units_for : Sizes → Objects → List ℕ → ℕ
 units_for z objects bytes = capacity z - charge z objects + ceiling (length bytes) z.page_bytes
 
+-- the handle stands for a file of these bytes, in a state that fits, of a volume whose pages hold bytes
+pub record IsWritable (z : Sizes) (s : State) (handle : Handle) (bytes : List ℕ) : Type 0 where
+  pub page : 0 < z.page_bytes
+  pub fit : fits z s.objects ≡ true
+  pub moment : ℕ
+  pub file : map.get s.objects handle.object ≡ Some (File moment bytes)
+
+-- how many of the new bytes there is room for, in a file of these bytes: up to the most of one write, a file's greatest length, and the end of the units that there are for the file
+abbrev pub writable : Sizes → State → Handle → List ℕ → List ℕ → ℕ
+writable z s handle bytes new =
+    min (min (length new) (min (most_written z) (greatest_length z - write_offset handle bytes)))
+    (units_for z s.objects bytes * z.page_bytes - write_offset handle bytes)
+
 -- a write of some bytes writes all of them, up to the most of one write, a file's greatest length, and the end of the units that there are for the file
 pub write_count_is : (z : Sizes) (moment : ℕ) (s : State) (handle : Handle) (m : ℕ) (bytes new : List ℕ) → 0 < z.page_bytes → fits z s.objects ≡ true
     → map.get s.objects handle.object ≡ Some (File m bytes)
-    → write_count z moment s handle bytes new
-    ≡ min (min (length new) (min (most_written z) (greatest_length z - write_offset handle bytes)))
-    (units_for z s.objects bytes * z.page_bytes - write_offset handle bytes)
+    → write_count z moment s handle bytes new ≡ writable z s handle bytes new
 write_count_is z moment s handle m bytes new some fit is =
     greatest_up_to (λ k. fits z (objects_written moment s handle bytes new k))
     (min (length new) (min (most_written z) (greatest_length z - write_offset handle bytes)))

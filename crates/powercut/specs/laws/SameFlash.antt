@@ -79,9 +79,9 @@ free_same g a b same z objects block free = record {
 room_same : (g : Geometry) (a b : Flash) → HasSame a b → (spare : ℕ) (objects : Objects) → HasRoom g a spare objects → HasRoom g b spare objects
 room_same g a b same spare objects room = record {
   fits = room.fits;
-  free = λ few.
+  free = λ within_limit.
       let count = bad_same g a b same in
-      let was = room.free (subst (λ n. n ≤ spare) count few) in
+      let was = room.free (subst (λ n. n ≤ spare) count within_limit) in
       record {
         blocks = was.blocks;
         size = was.size ∙ ap (λ n. 1 + spare - n) (sym count);

@@ -36,8 +36,8 @@ pub name_or_not : (name : List ℕ) → AreBytes name → IsName name ⊎ (IsNam
 name_or_not name bytes = elim (cases_lt 0 (length name)) [
   | inr none ↦ inr (λ h. omega (arith, h.some))
   | inl some ↦ elim (cases_lt 255 (length name)) [
-    | inl many ↦ inr (λ h. omega (arith, h.few))
-    | inr few ↦ elim (contains_or_not name 0) [
+    | inl many ↦ inr (λ h. omega (arith, h.within_limit))
+    | inr within_limit ↦ elim (contains_or_not name 0) [
       | inl has_zero ↦ inr (λ h. h.no_zero has_zero)
       | inr no_zero ↦ elim (contains_or_not name 47) [
         | inl has_slash ↦ inr (λ h. h.no_slash has_slash)
@@ -45,7 +45,7 @@ name_or_not name bytes = elim (cases_lt 0 (length name)) [
           | inl dot ↦ inr (λ h. h.not_dot dot)
           | inr not_dot ↦ elim (same_or_not name (46 ∷ 46 ∷ [])) [
             | inl dot_dot ↦ inr (λ h. h.not_dot_dot dot_dot)
-            | inr not_dot_dot ↦ inl (record { bytes = bytes; some = some; few = few; no_zero = no_zero; no_slash = no_slash; not_dot = not_dot; not_dot_dot = not_dot_dot })
+            | inr not_dot_dot ↦ inl (record { bytes = bytes; some = some; within_limit = within_limit; no_zero = no_zero; no_slash = no_slash; not_dot = not_dot; not_dot_dot = not_dot_dot })
           ]
         ]
       ]

@@ -12,8 +12,8 @@ pub returns : goal.returns
 returns g c z objects number has file same =
     let bytes = bytes_of (map.get objects number) in
     let there : map.get objects number ≡ Some (File file.0 bytes) = file.2 ∙ ap (λ b. Some (File file.0 b)) (sym (ap bytes_of file.2)) in
-    let few : capacity z - charge z objects + ceiling (length bytes) z.page_bytes ≤ 2 ^ 28 = units_few z objects number bytes has.numbers (has.forest.each number (File file.0 bytes) there).content.1 in
+    let within_limit : capacity z - charge z objects + ceiling (length bytes) z.page_bytes ≤ 2 ^ 28 = units_few z objects number bytes has.numbers (has.forest.each number (File file.0 bytes) there).content.1 in
     let own = c.units_of.ensures ∙ ap₂ ceiling same (ap (λ z. z.page_bytes) (c.sizes.ensures ∙ has.sizes)) in
     let free = c.free_units.ensures z objects has in
-    let all : c.saturating_add.result ≡ capacity z - charge z objects + ceiling (length bytes) z.page_bytes = omega (arith, c.saturating_add.ensures, own, free, few) in
-    (all, subst (λ n. n ≤ 2 ^ 28) (sym all) few)
+    let all : c.saturating_add.result ≡ capacity z - charge z objects + ceiling (length bytes) z.page_bytes = omega (arith, c.saturating_add.ensures, own, free, within_limit) in
+    (all, subst (λ n. n ≤ 2 ^ 28) (sym all) within_limit)

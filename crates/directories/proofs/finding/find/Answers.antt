@@ -27,12 +27,12 @@ returns-in-Some-clause-found g c = λ z moment entries d is.
     let p : PagesState = g.P.Pages.state c.args.pages.now in
     let o = c.args.directory in
     let sized = g.met.P.Pages.sized c.args.pages.now in
-    let few = few_counted p z o moment entries (dir c.args.names.now p z o moment entries d) c.args.count is in
+    let within_limit = few_counted p z o moment entries (dir c.args.names.now p z o moment entries d) c.args.count is in
     let head = head_of p z o moment entries (dir c.args.names.now p z o moment entries d) c.args.count is in
     let says = head_reported p z o moment entries (dir c.args.names.now p z o moment entries d) c.args.count is in
     let reported : FindsHeld (Holds c.args.names.now o (fnv1a c.args.name.now)) (SlotOf z p.present o) c.args.count c.args.name.now (Some c.in-Some.found) =
     subst (λ (x : Option Located). FindsHeld (Holds c.args.names.now o (fnv1a c.args.name.now)) (SlotOf z p.present o) c.args.count c.args.name.now x) c.in-Some.is
-    (subst (λ n. FindsHeld (Holds c.args.names.now o (fnv1a c.args.name.now)) (SlotOf z p.present o) n c.args.name.now c.in_ok-found.found) (c.slots_of.ensures few) (c.in_ok-found.ensures.reported d.sound z d.size)) in
+    (subst (λ n. FindsHeld (Holds c.args.names.now o (fnv1a c.args.name.now)) (SlotOf z p.present o) n c.args.name.now c.in_ok-found.found) (c.slots_of.ensures within_limit) (c.in_ok-found.ensures.reported d.sound z d.size)) in
     let f = (sought_in c.args.names.now p z o moment entries d sized head says c.args.name.now (Some c.in-Some.found) reported).found in
     ap Some f.3 ∙ sym (leads d.reads.slots d.reads.once entries d.reads.entries_are c.in-Some.found.place f.0 f.1) ∙ ap (map.get entries) f.2
 
@@ -41,26 +41,26 @@ returns-in-None-clause-found g c = λ z moment entries d is.
     let p : PagesState = g.P.Pages.state c.args.pages.now in
     let o = c.args.directory in
     let sized = g.met.P.Pages.sized c.args.pages.now in
-    let few = few_counted p z o moment entries (dir c.args.names.now p z o moment entries d) c.args.count is in
+    let within_limit = few_counted p z o moment entries (dir c.args.names.now p z o moment entries d) c.args.count is in
     let head = head_of p z o moment entries (dir c.args.names.now p z o moment entries d) c.args.count is in
     let says = head_reported p z o moment entries (dir c.args.names.now p z o moment entries d) c.args.count is in
     let reported : FindsHeld (Holds c.args.names.now o (fnv1a c.args.name.now)) (SlotOf z p.present o) c.args.count c.args.name.now None =
     subst (λ (x : Option Located). FindsHeld (Holds c.args.names.now o (fnv1a c.args.name.now)) (SlotOf z p.present o) c.args.count c.args.name.now x) c.in-None.is
-    (subst (λ n. FindsHeld (Holds c.args.names.now o (fnv1a c.args.name.now)) (SlotOf z p.present o) n c.args.name.now c.in_ok-found.found) (c.slots_of.ensures few) (c.in_ok-found.ensures.reported d.sound z d.size)) in
+    (subst (λ n. FindsHeld (Holds c.args.names.now o (fnv1a c.args.name.now)) (SlotOf z p.present o) n c.args.name.now c.in_ok-found.found) (c.slots_of.ensures within_limit) (c.in_ok-found.ensures.reported d.sound z d.size)) in
     sym (sought_in c.args.names.now p z o moment entries d sized head says c.args.name.now None reported).found
 
 pub returns-in-Some-clause-reported : goal.returns-in-Some-clause-reported
-returns-in-Some-clause-reported g c = λ few sound z size.
+returns-in-Some-clause-reported g c = λ within_limit sound z size.
     let p : PagesState = g.P.Pages.state c.args.pages.now in
     let o = c.args.directory in
     let is : FindsHeld (Holds c.args.names.now o (fnv1a c.args.name.now)) (SlotOf z p.present o) c.args.count c.args.name.now (Some c.in-Some.found) =
     subst (λ (x : Option Located). FindsHeld (Holds c.args.names.now o (fnv1a c.args.name.now)) (SlotOf z p.present o) c.args.count c.args.name.now x) c.in-Some.is
-    (subst (λ n. FindsHeld (Holds c.args.names.now o (fnv1a c.args.name.now)) (SlotOf z p.present o) n c.args.name.now c.in_ok-found.found) (c.slots_of.ensures few) (c.in_ok-found.ensures.reported sound z size)) in
+    (subst (λ n. FindsHeld (Holds c.args.names.now o (fnv1a c.args.name.now)) (SlotOf z p.present o) n c.args.name.now c.in_ok-found.found) (c.slots_of.ensures within_limit) (c.in_ok-found.ensures.reported sound z size)) in
     (c.in-Some.found.place, is.most, (is.entry, is.there, is.name_is, is.object_is))
 
 pub returns-in-None-clause-reported : goal.returns-in-None-clause-reported
-returns-in-None-clause-reported g c = λ few sound z size.
+returns-in-None-clause-reported g c = λ within_limit sound z size.
     let p : PagesState = g.P.Pages.state c.args.pages.now in
     let o = c.args.directory in
     subst (λ (x : Option Located). FindsHeld (Holds c.args.names.now o (fnv1a c.args.name.now)) (SlotOf z p.present o) c.args.count c.args.name.now x) c.in-None.is
-    (subst (λ n. FindsHeld (Holds c.args.names.now o (fnv1a c.args.name.now)) (SlotOf z p.present o) n c.args.name.now c.in_ok-found.found) (c.slots_of.ensures few) (c.in_ok-found.ensures.reported sound z size))
+    (subst (λ n. FindsHeld (Holds c.args.names.now o (fnv1a c.args.name.now)) (SlotOf z p.present o) n c.args.name.now c.in_ok-found.found) (c.slots_of.ensures within_limit) (c.in_ok-found.ensures.reported sound z size))

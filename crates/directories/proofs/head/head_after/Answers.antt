@@ -7,7 +7,7 @@ pub returns-in-Some-clause-reported : goal.returns-in-Some-clause-reported
 returns-in-Some-clause-reported g c = λ sound.
     let there = c.in_ok-source.ensures.page sound in
     let reported = rw c.in-Some.is at c.decode_head.ensures.reported in
-    let same = c.load_after.ensures.finds.page_bytes in
+    let same = c.load_after.ensures.lookups.page_bytes in
     let size = c.page_after.ensures.size (sized_on (option_copied c.args.earlier) _ _ same c.requires) in (
       record {
         fields = reported.0;

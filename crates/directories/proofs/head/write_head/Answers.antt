@@ -9,8 +9,8 @@ use Rattle.directories.proofs.head.write_head.Goals as goal
 pub encode_header-requires-clause-valid : goal.encode_header-requires-clause-valid
 encode_header-requires-clause-valid c =
     let d : ℕ = length c.args.page.now in
-    let few : d - 32 ≤ 4064 = omega (arith, c.requires.most) in
-    let bits : take (d - 32) (replicate 4064 0) ≡ replicate (d - 32) 0 = take-replicate (d - 32) 4064 0 few in
+    let within_limit : d - 32 ≤ 4064 = omega (arith, c.requires.most) in
+    let bits : take (d - 32) (replicate 4064 0) ≡ replicate (d - 32) 0 = take-replicate (d - 32) 4064 0 within_limit in
     let same = fields_are d c.args.head c.from.result _ c.from.ensures bits in
     let valid = head_valid d c.args.head c.requires.least (search rules) (search rules) (search rules) in
     subst (IsHeader d) (sym same) valid
@@ -18,8 +18,8 @@ encode_header-requires-clause-valid c =
 pub returns : goal.returns
 returns c =
     let d : ℕ = length c.args.page.now in
-    let few : d - 32 ≤ 4064 = omega (arith, c.requires.most) in
-    let bits : take (d - 32) (replicate 4064 0) ≡ replicate (d - 32) 0 = take-replicate (d - 32) 4064 0 few in
+    let within_limit : d - 32 ≤ 4064 = omega (arith, c.requires.most) in
+    let bits : take (d - 32) (replicate 4064 0) ≡ replicate (d - 32) 0 = take-replicate (d - 32) 4064 0 within_limit in
     let same = fields_are d c.args.head c.from.result _ c.from.ensures bits in
     let valid = head_valid d c.args.head c.requires.least (search rules) (search rules) (search rules) in
     record {

@@ -22,7 +22,7 @@ all_asked old now chunk said most a less is = omega (arith, a, less, is)
 
 pub loop-chunk-init : goal.loop-chunk-init
 loop-chunk-init g c = record {
-  finds = c.read_head.ensures.finds;
+  lookups = c.read_head.ensures.lookups;
   power = c.in_ok-head.ensures.power;
   issued = omega (arith, c.read_head.ensures.issued);
   first = λ sound z size. subst (λ k. ReadsFirst z (g.P.Pages.state c.args.pages.now).present c.args.directory k c.new-entries.result) (let zero_is : 0 ≡ min c.in_ok-head.head.length (0 * page_slots z) = grind arith in zero_is)
@@ -35,7 +35,7 @@ returns-in_err-take_chunk-clause-issued g c = λ z moment entries d.
     let s = c.in_ok-head.ensures.reported d.sound in
     let sized = g.met.P.Pages.sized c.args.pages.now in
     let n : ℕ = c.page_bytes.result / 272 in
-    let slots : n ≡ page_slots z = ap (λ k. k / 272) (c.page_bytes.ensures.bytes ∙ c.read_head.ensures.finds.page_bytes ∙ sym d.size) in
+    let slots : n ≡ page_slots z = ap (λ k. k / 272) (c.page_bytes.ensures.bytes ∙ c.read_head.ensures.lookups.page_bytes ∙ sym d.size) in
     let count : c.in_ok-head.head.length ≡ map.len entries = count_is old old (finds_none old) z c.args.directory moment entries d sized c.in_ok-head.head s in
     let most : c.div_ceil-chunk-end.result ≡ div_ceil (map.len entries) (page_slots z) = c.div_ceil-chunk-end.ensures ∙ ap (λ k. div_ceil k n) count ∙ ap (div_ceil (map.len entries)) slots in
     more_asked _ _ _ _ _ _ c.loop-chunk.invariant.issued c.take_chunk.ensures.issued c.loop-chunk-test.true most
@@ -46,16 +46,16 @@ returns-in_err-take_chunk-clause-fault g c = λ z moment entries d.
     let sound = d.sound in
     let old : PagesState = g.P.Pages.state c.args.pages.now in
     let now : PagesState = g.P.Pages.state c.loop-chunk.pages in
-    let finds = c.loop-chunk.invariant.finds in
+    let lookups = c.loop-chunk.invariant.lookups in
     let len : ℕ = c.in_ok-head.head.length in
     let n : ℕ = c.page_bytes.result / 272 in
-    let slots : n ≡ page_slots z = ap (λ k. k / 272) (c.page_bytes.ensures.bytes ∙ c.read_head.ensures.finds.page_bytes ∙ sym size) in
+    let slots : n ≡ page_slots z = ap (λ k. k / 272) (c.page_bytes.ensures.bytes ∙ c.read_head.ensures.lookups.page_bytes ∙ sym size) in
     let some : 1 ≤ n = omega (arith, c.page_bytes.ensures.least) in
     let less : c.loop-chunk.chunk < div_ceil len n = subst (λ k. c.loop-chunk.chunk < k) c.div_ceil-chunk-end.ensures c.loop-chunk-test.true in
     let within : c.loop-chunk.chunk * n < len = part_begins len n c.loop-chunk.chunk some less in
-    let few : c.min-count.result ≡ min n (len - c.loop-chunk.chunk * n) = search rules in
+    let within_limit : c.min-count.result ≡ min n (len - c.loop-chunk.chunk * n) = search rules in
     let start : min len (c.loop-chunk.chunk * page_slots z) ≡ c.loop-chunk.chunk * page_slots z = subst (λ k. min len (c.loop-chunk.chunk * k) ≡ c.loop-chunk.chunk * k) slots (grind arith) in
-    let first = subst (λ (m : PageMap). ReadsFirst z m c.args.directory (c.loop-chunk.chunk * page_slots z) c.loop-chunk.entries) (sym finds.present)
+    let first = subst (λ (m : PageMap). ReadsFirst z m c.args.directory (c.loop-chunk.chunk * page_slots z) c.loop-chunk.entries) (sym lookups.present)
     (subst (λ k. ReadsFirst z old.present c.args.directory k c.loop-chunk.entries) start (c.loop-chunk.invariant.first sound z size)) in
     let s = c.in_ok-head.ensures.reported d.sound in
     let sized = g.met.P.Pages.sized c.args.pages.now in
@@ -63,33 +63,33 @@ returns-in_err-take_chunk-clause-fault g c = λ z moment entries d.
     let more : 1 ≤ c.min-count.result = grind arith in
     let high : c.loop-chunk.chunk * n + c.min-count.result ≤ length d.reads.slots = subst (λ k. c.loop-chunk.chunk * n + c.min-count.result ≤ k) said (grind arith) in
     let p = err_from_is_err_and c.from_residual-in_err-take_chunk.result c.from_residual-in_err-take_chunk.ensures.1 in
-    rw (p.1, p.2) (c.in_err-take_chunk.ensures.fault z moment entries (later old now z c.args.directory moment entries finds d) more
+    rw (p.1, p.2) (c.in_err-take_chunk.ensures.fault z moment entries (later old now z c.args.directory moment entries lookups d) more
     (subst (λ k. c.loop-chunk.chunk * k + c.min-count.result ≤ length d.reads.slots) slots high) first)
 
 pub loop-chunk-preserved : goal.loop-chunk-preserved
 loop-chunk-preserved g c = record {
-  finds = finds_on _ _ _ c.loop-chunk.invariant.finds c.take_chunk.ensures.finds;
+  lookups = finds_on _ _ _ c.loop-chunk.invariant.lookups c.take_chunk.ensures.lookups;
   power = c.in_ok-take_chunk.ensures.power ∙ c.loop-chunk.invariant.power;
   issued = omega (arith, c.loop-chunk.invariant.issued, c.take_chunk.ensures.issued);
   first = λ sound z size.
       let old : PagesState = g.P.Pages.state c.args.pages.now in
       let now : PagesState = g.P.Pages.state c.loop-chunk.pages in
-      let finds = c.loop-chunk.invariant.finds in
+      let lookups = c.loop-chunk.invariant.lookups in
       let len : ℕ = c.in_ok-head.head.length in
       let n : ℕ = c.page_bytes.result / 272 in
-      let slots : n ≡ page_slots z = ap (λ k. k / 272) (c.page_bytes.ensures.bytes ∙ c.read_head.ensures.finds.page_bytes ∙ sym size) in
+      let slots : n ≡ page_slots z = ap (λ k. k / 272) (c.page_bytes.ensures.bytes ∙ c.read_head.ensures.lookups.page_bytes ∙ sym size) in
       let some : 1 ≤ n = omega (arith, c.page_bytes.ensures.least) in
       let less : c.loop-chunk.chunk < div_ceil len n = subst (λ k. c.loop-chunk.chunk < k) c.div_ceil-chunk-end.ensures c.loop-chunk-test.true in
       let within : c.loop-chunk.chunk * n < len = part_begins len n c.loop-chunk.chunk some less in
-      let few : c.min-count.result ≡ min n (len - c.loop-chunk.chunk * n) = search rules in
+      let within_limit : c.min-count.result ≡ min n (len - c.loop-chunk.chunk * n) = search rules in
       let start : min len (c.loop-chunk.chunk * page_slots z) ≡ c.loop-chunk.chunk * page_slots z = subst (λ k. min len (c.loop-chunk.chunk * k) ≡ c.loop-chunk.chunk * k) slots (grind arith) in
-      let first = subst (λ (m : PageMap). ReadsFirst z m c.args.directory (c.loop-chunk.chunk * page_slots z) c.loop-chunk.entries) (sym finds.present)
+      let first = subst (λ (m : PageMap). ReadsFirst z m c.args.directory (c.loop-chunk.chunk * page_slots z) c.loop-chunk.entries) (sym lookups.present)
       (subst (λ k. ReadsFirst z old.present c.args.directory k c.loop-chunk.entries) start (c.loop-chunk.invariant.first sound z size)) in
-      let reported = c.in_ok-take_chunk.ensures.reported (finds.sound ∙ sound) z (size ∙ sym finds.page_bytes) first in
+      let reported = c.in_ok-take_chunk.ensures.reported (lookups.sound ∙ sound) z (size ∙ sym lookups.page_bytes) first in
       let end : c.loop-chunk.chunk * page_slots z + c.min-count.result ≡ min len ((c.loop-chunk.chunk + 1) * page_slots z) =
-      ap (λ k. k + c.min-count.result) (sym start) ∙ part_end (page_slots z) len c.loop-chunk.chunk c.min-count.result (few ∙ ap (λ k. min k (len - c.loop-chunk.chunk * k)) slots) in
+      ap (λ k. k + c.min-count.result) (sym start) ∙ part_end (page_slots z) len c.loop-chunk.chunk c.min-count.result (within_limit ∙ ap (λ k. min k (len - c.loop-chunk.chunk * k)) slots) in
       subst (λ k. ReadsFirst z old.present c.args.directory k c.take_chunk.new.entries) end
-      (subst (λ (m : PageMap). ReadsFirst z m c.args.directory (c.loop-chunk.chunk * page_slots z + c.min-count.result) c.take_chunk.new.entries) finds.present reported);
+      (subst (λ (m : PageMap). ReadsFirst z m c.args.directory (c.loop-chunk.chunk * page_slots z + c.min-count.result) c.take_chunk.new.entries) lookups.present reported);
 }
 
 pub returns-clause-issued : goal.returns-clause-issued
@@ -98,7 +98,7 @@ returns-clause-issued g c = λ z moment entries d.
     let s = c.in_ok-head.ensures.reported d.sound in
     let sized = g.met.P.Pages.sized c.args.pages.now in
     let n : ℕ = c.page_bytes.result / 272 in
-    let slots : n ≡ page_slots z = ap (λ k. k / 272) (c.page_bytes.ensures.bytes ∙ c.read_head.ensures.finds.page_bytes ∙ sym d.size) in
+    let slots : n ≡ page_slots z = ap (λ k. k / 272) (c.page_bytes.ensures.bytes ∙ c.read_head.ensures.lookups.page_bytes ∙ sym d.size) in
     let count : c.in_ok-head.head.length ≡ map.len entries = count_is old old (finds_none old) z c.args.directory moment entries d sized c.in_ok-head.head s in
     let most : c.div_ceil-chunk-end.result ≡ div_ceil (map.len entries) (page_slots z) = c.div_ceil-chunk-end.ensures ∙ ap (λ k. div_ceil k n) count ∙ ap (div_ceil (map.len entries)) slots in
     all_asked _ _ _ _ _ c.loop-chunk.invariant.issued (search rules) most
@@ -108,7 +108,7 @@ returns-clause-reported g c = λ sound z size.
     let old : PagesState = g.P.Pages.state c.args.pages.now in
     let len : ℕ = c.in_ok-head.head.length in
     let n : ℕ = c.page_bytes.result / 272 in
-    let slots : n ≡ page_slots z = ap (λ k. k / 272) (c.page_bytes.ensures.bytes ∙ c.read_head.ensures.finds.page_bytes ∙ sym size) in
+    let slots : n ≡ page_slots z = ap (λ k. k / 272) (c.page_bytes.ensures.bytes ∙ c.read_head.ensures.lookups.page_bytes ∙ sym size) in
     let some : 1 ≤ n = omega (arith, c.page_bytes.ensures.least) in
     let more : div_ceil len n ≤ c.loop-chunk.chunk = subst (λ k. k ≤ c.loop-chunk.chunk) c.div_ceil-chunk-end.ensures c.loop-chunk-test.false in
     let all : len ≤ c.loop-chunk.chunk * n = parts_reach len n c.loop-chunk.chunk some more in
@@ -123,7 +123,7 @@ returns-clause-found g c = λ z moment entries d.
     let size = d.size in
     let len : ℕ = c.in_ok-head.head.length in
     let n : ℕ = c.page_bytes.result / 272 in
-    let slots : n ≡ page_slots z = ap (λ k. k / 272) (c.page_bytes.ensures.bytes ∙ c.read_head.ensures.finds.page_bytes ∙ sym size) in
+    let slots : n ≡ page_slots z = ap (λ k. k / 272) (c.page_bytes.ensures.bytes ∙ c.read_head.ensures.lookups.page_bytes ∙ sym size) in
     let some : 1 ≤ n = omega (arith, c.page_bytes.ensures.least) in
     let more : div_ceil len n ≤ c.loop-chunk.chunk = subst (λ k. k ≤ c.loop-chunk.chunk) c.div_ceil-chunk-end.ensures c.loop-chunk-test.false in
     let all : len ≤ c.loop-chunk.chunk * n = parts_reach len n c.loop-chunk.chunk some more in

@@ -6,7 +6,7 @@ use Rattle.directories.proofs.listing.entries.Given as goal
 
 abbrev pub invariant-loop-chunk : goal.invariant-loop-chunk
 invariant-loop-chunk g l = record {
-  finds : OnlyFinds (g.P.Pages.state l.fn.pages) (g.P.Pages.state l.pages);
+  lookups : OnlyFinds (g.P.Pages.state l.fn.pages) (g.P.Pages.state l.pages);
   power : KeepsPower (g.P.Pages.state l.fn.pages) (g.P.Pages.state l.pages);
   issued : (g.P.Pages.state l.pages).issued ≤ (g.P.Pages.state l.fn.pages).issued + 1 + l.chunk;
   first : (g.P.Pages.state l.fn.pages).sound ≡ true → (z : Sizes) → z.page_bytes ≡ (g.P.Pages.state l.fn.pages).page_bytes

@@ -26,4 +26,4 @@ returns-clause-fault g c = λ z moment all d some within first.
     let old : PagesState = g.P.Pages.state c.args.pages.now in
     let page : old.present c.args.directory (1 + c.args.chunk) ≡ Some c.page.result.now = subst (λ n. old.present c.args.directory (1 + n) ≡ Some c.page.result.now) c.from.ensures
     (c.in_ok-load.ensures.page d.sound ∙ ap Some (sym c.page.ensures.bytes)) in
-    c.take_page.ensures.fault (g.P.Pages.state c.load.new.pages) z old.present c.args.directory moment all d.reads page (d.size ∙ sym c.load.ensures.finds.page_bytes ∙ sym c.page.ensures.size) within first
+    c.take_page.ensures.fault (g.P.Pages.state c.load.new.pages) z old.present c.args.directory moment all d.reads page (d.size ∙ sym c.load.ensures.lookups.page_bytes ∙ sym c.page.ensures.size) within first

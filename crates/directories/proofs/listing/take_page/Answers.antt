@@ -22,7 +22,7 @@ returns-in_err-take_entry-clause-fault c = λ new z m d moment all r at size wit
     let fits : c.args.count ≤ page_slots z = slots_fit z.page_bytes (length page) c.args.count size c.requires.room in
     let less : place < c.args.count = c.loop-place-test.true in
     let low : n < length r.slots = omega (arith, within, less) in
-    let psize : IsPageSize z.page_bytes = record { least = omega (arith, size, c.requires.room, less); most = omega (arith, size, c.requires.few) } in
+    let psize : IsPageSize z.page_bytes = record { least = omega (arith, size, c.requires.room, less); most = omega (arith, size, c.requires.within_limit) } in
     let s = slice_get_there r.slots n low in
     let slot = r.each n s.0 s.1 in
     let here = slot_in_page z m d c.args.chunk place s.0 page (omega (arith, less, fits)) at slot in

@@ -34,7 +34,7 @@ returns-clause-fills g c = λ sound z size.
     let old : PagesState = g.P.Pages.state c.args.pages.now in
     let m : PageMap = changed_by (option_copied c.args.earlier) old.present in
     let mid : PagesState = g.P.Pages.state c.slot_bytes.new.pages in
-    let finds = c.slot_bytes.ensures.finds in
+    let lookups = c.slot_bytes.ensures.lookups in
     let by : PageMap → PageMap = changed_by (option_copied c.args.earlier) in
     let len : ℕ = c.args.shorter.length in
     let found = rw c.in-Some.is at c.decode_tree_slot.ensures.found in
@@ -43,25 +43,25 @@ returns-clause-fills g c = λ sound z size.
     let count : min (len + 1) len ≡ len = grind arith in
     on_ok _ _ c.write.result
     (λ change w. record {
-      header = subst (λ (k : PageMap). HasHead z (changed change (by k)) c.args.directory c.args.shorter) finds.present w.0;
-      filled = λ less. (e, last, subst (λ (k : PageMap). SlotOf z (changed change (by k)) c.args.directory c.args.place e) finds.present w.1);
+      header = subst (λ (k : PageMap). HasHead z (changed change (by k)) c.args.directory c.args.shorter) lookups.present w.0;
+      filled = λ less. (e, last, subst (λ (k : PageMap). SlotOf z (changed change (by k)) c.args.directory c.args.place e) lookups.present w.1);
       others = subst (λ k. KeepsSlots z m (changed change m) c.args.directory k c.args.place) count
-          (subst (λ (k : PageMap). KeepsSlots z (by k) (changed change (by k)) c.args.directory (min (len + 1) len) c.args.place) finds.present w.2);
+          (subst (λ (k : PageMap). KeepsSlots z (by k) (changed change (by k)) c.args.directory (min (len + 1) len) c.args.place) lookups.present w.2);
       zeros = w.3;
     })
-    (c.write.ensures.writes (finds.sound ∙ sound) z (size ∙ sym finds.page_bytes))
+    (c.write.ensures.writes (lookups.sound ∙ sound) z (size ∙ sym lookups.page_bytes))
 
 pub returns-clause-fault : goal.returns-clause-fault
 returns-clause-fault g c = λ sound z size are.
-    let finds = c.slot_bytes.ensures.finds in
+    let lookups = c.slot_bytes.ensures.lookups in
     let by : PageMap → PageMap = changed_by (option_copied c.args.earlier) in
-    c.write.ensures.fault (finds.sound ∙ sound) z (size ∙ sym finds.page_bytes)
-    (subst (λ (k : PageMap). AreSlots (SlotOf z (by k) c.args.directory) 0 (c.args.shorter.length + 1)) (sym finds.present) are)
+    c.write.ensures.fault (lookups.sound ∙ sound) z (size ∙ sym lookups.page_bytes)
+    (subst (λ (k : PageMap). AreSlots (SlotOf z (by k) c.args.directory) 0 (c.args.shorter.length + 1)) (sym lookups.present) are)
 
 pub returns-clause-pages : goal.returns-clause-pages
 returns-clause-pages g c = λ sound z size m.
-    let finds = c.slot_bytes.ensures.finds in
+    let lookups = c.slot_bytes.ensures.lookups in
     let low = (g.met.P.Pages.sized c.args.pages.now).0 in
     let some : 1 ≤ page_slots z = omega (arith, low, size) in
     on_ok _ _ c.write.result (λ change keeps. committed_behind z m (changed change m) c.args.directory c.args.place c.args.shorter.length some c.requires.within keeps)
-    (c.write.ensures.pages (finds.sound ∙ sound) z (size ∙ sym finds.page_bytes) m)
+    (c.write.ensures.pages (lookups.sound ∙ sound) z (size ∙ sym lookups.page_bytes) m)

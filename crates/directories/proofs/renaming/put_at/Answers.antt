@@ -30,12 +30,12 @@ returns-then-number-head-clause-fault g c = λ z moment entries d stands.
     let e : Option Change = option_copied c.args.earlier in
     let p : PagesState = after e old in
     let q : PagesState = after e (g.P.Pages.state c.head_after.new.pages) in
-    let finds = finds_after e old (g.P.Pages.state c.head_after.new.pages) c.head_after.ensures.finds in
+    let lookups = finds_after e old (g.P.Pages.state c.head_after.new.pages) c.head_after.ensures.lookups in
     let s = c.in_ok-head.ensures.reported d.sound in
     let sized = g.met.P.Pages.sized c.args.pages.now in
     let at = rw c.in-Some.is at stands in
     let within = slice_get_within d.reads.slots c.in-Some.number at.0 at.1 in
-    let len = length_is p q finds z c.args.directory moment entries d sized c.in_ok-head.head s in
+    let len = length_is p q lookups z c.args.directory moment entries d sized c.in_ok-head.head s in
     let over : c.in_ok-head.head.length ≤ c.in-Some.number = c.if-number-head.true in
     omega (arith, within, len, over)
 
@@ -45,12 +45,12 @@ returns-else-number-head-clause-fault g c = λ z moment entries d stands.
     let e : Option Change = option_copied c.args.earlier in
     let p : PagesState = after e old in
     let q : PagesState = after e (g.P.Pages.state c.head_after.new.pages) in
-    let finds = finds_after e old (g.P.Pages.state c.head_after.new.pages) c.head_after.ensures.finds in
+    let lookups = finds_after e old (g.P.Pages.state c.head_after.new.pages) c.head_after.ensures.lookups in
     let s = c.in_ok-head.ensures.reported d.sound in
     let sized = g.met.P.Pages.sized c.args.pages.now in
     on_err _ _ c.write.result (λ fault is. says_more _ _ _ _ _ _ (g.P.Pages.state c.write.new.pages) fault (λ x. x) (λ x. x) (λ x. absurd x) is)
-    (c.write.ensures.fault (sound_on p q finds z c.args.directory moment entries d sized c.in_ok-head.head s) z (size_on p q finds z c.args.directory moment entries d sized c.in_ok-head.head s)
-    (are_on p q finds z c.args.directory moment entries d sized c.in_ok-head.head s))
+    (c.write.ensures.fault (sound_on p q lookups z c.args.directory moment entries d sized c.in_ok-head.head s) z (size_on p q lookups z c.args.directory moment entries d sized c.in_ok-head.head s)
+    (are_on p q lookups z c.args.directory moment entries d sized c.in_ok-head.head s))
 
 pub returns-in-None-clause-fault : goal.returns-in-None-clause-fault
 returns-in-None-clause-fault g c = λ z moment entries d stands.
@@ -58,13 +58,13 @@ returns-in-None-clause-fault g c = λ z moment entries d stands.
     let e : Option Change = option_copied c.args.earlier in
     let p : PagesState = after e old in
     let q : PagesState = after e (g.P.Pages.state c.head_after.new.pages) in
-    let finds = finds_after e old (g.P.Pages.state c.head_after.new.pages) c.head_after.ensures.finds in
+    let lookups = finds_after e old (g.P.Pages.state c.head_after.new.pages) c.head_after.ensures.lookups in
     let s = c.in_ok-head.ensures.reported d.sound in
     let sized = g.met.P.Pages.sized c.args.pages.now in
     on_err _ _ c.push_slot.result
-    (λ fault is. says_more _ _ _ _ _ _ (g.P.Pages.state c.push_slot.new.pages) fault (λ x. x) (λ x. x) (λ full. sym (count_is p q finds z c.args.directory moment entries d sized c.in_ok-head.head s) ∙ full) is)
-    (c.push_slot.ensures.fault (sound_on p q finds z c.args.directory moment entries d sized c.in_ok-head.head s) z (size_on p q finds z c.args.directory moment entries d sized c.in_ok-head.head s)
-    (are_on p q finds z c.args.directory moment entries d sized c.in_ok-head.head s))
+    (λ fault is. says_more _ _ _ _ _ _ (g.P.Pages.state c.push_slot.new.pages) fault (λ x. x) (λ x. x) (λ full. sym (count_is p q lookups z c.args.directory moment entries d sized c.in_ok-head.head s) ∙ full) is)
+    (c.push_slot.ensures.fault (sound_on p q lookups z c.args.directory moment entries d sized c.in_ok-head.head s) z (size_on p q lookups z c.args.directory moment entries d sized c.in_ok-head.head s)
+    (are_on p q lookups z c.args.directory moment entries d sized c.in_ok-head.head s))
 
 pub returns-else-number-head-clause-puts : goal.returns-else-number-head-clause-puts
 returns-else-number-head-clause-puts g c = λ z moment entries d stands.
@@ -72,17 +72,17 @@ returns-else-number-head-clause-puts g c = λ z moment entries d stands.
     let e : Option Change = option_copied c.args.earlier in
     let p : PagesState = after e old in
     let q : PagesState = after e (g.P.Pages.state c.head_after.new.pages) in
-    let finds = finds_after e old (g.P.Pages.state c.head_after.new.pages) c.head_after.ensures.finds in
+    let lookups = finds_after e old (g.P.Pages.state c.head_after.new.pages) c.head_after.ensures.lookups in
     let s = c.in_ok-head.ensures.reported d.sound in
     let sized = g.met.P.Pages.sized c.args.pages.now in
-    let says = head_says p q finds z c.args.directory moment entries d sized c.in_ok-head.head s in
-    let len = length_is p q finds z c.args.directory moment entries d sized c.in_ok-head.head s in
+    let says = head_says p q lookups z c.args.directory moment entries d sized c.in_ok-head.head s in
+    let len = length_is p q lookups z c.args.directory moment entries d sized c.in_ok-head.head s in
     let at = rw c.in-Some.is at stands in
     let n : ℕ = c.in_ok-head.head.length in
     let head : DirectoryHead = record { spare = c.in_ok-head.head.spare; length = n; moment = c.args.moment } in
     let m : PageMap = p.present in
     let place : ℕ = c.in-Some.number in
-    let all : (g.P.Pages.state c.head_after.new.pages).present ≡ old.present = c.head_after.ensures.finds.present in
+    let all : (g.P.Pages.state c.head_after.new.pages).present ≡ old.present = c.head_after.ensures.lookups.present in
     on_ok _ _ c.write.result
     (λ change w.
     let header = subst (λ (k : PageMap). HasHead z (changed change (changed_by e k)) c.args.directory head) all w.0 in
@@ -91,7 +91,7 @@ returns-else-number-head-clause-puts g c = λ z moment entries d stands.
     let committed = subst (λ k. KeepsSlots z m (changed change m) c.args.directory k place) count
     (subst (λ (k : PageMap). KeepsSlots z (changed_by e k) (changed change (changed_by e k)) c.args.directory (min n n) place) all w.2) in
     reads_put z m (changed change m) c.args.directory moment c.args.moment entries d.reads head header says.spare refl len place at.0 at.1 (entry_of c.args.slot.now) (sym at.2) slot committed)
-    (c.write.ensures.writes (sound_on p q finds z c.args.directory moment entries d sized c.in_ok-head.head s) z (size_on p q finds z c.args.directory moment entries d sized c.in_ok-head.head s))
+    (c.write.ensures.writes (sound_on p q lookups z c.args.directory moment entries d sized c.in_ok-head.head s) z (size_on p q lookups z c.args.directory moment entries d sized c.in_ok-head.head s))
 
 pub returns-in-None-clause-puts : goal.returns-in-None-clause-puts
 returns-in-None-clause-puts g c = λ z moment entries d stands.
@@ -99,16 +99,16 @@ returns-in-None-clause-puts g c = λ z moment entries d stands.
     let e : Option Change = option_copied c.args.earlier in
     let p : PagesState = after e old in
     let q : PagesState = after e (g.P.Pages.state c.head_after.new.pages) in
-    let finds = finds_after e old (g.P.Pages.state c.head_after.new.pages) c.head_after.ensures.finds in
+    let lookups = finds_after e old (g.P.Pages.state c.head_after.new.pages) c.head_after.ensures.lookups in
     let s = c.in_ok-head.ensures.reported d.sound in
     let sized = g.met.P.Pages.sized c.args.pages.now in
-    let says = head_says p q finds z c.args.directory moment entries d sized c.in_ok-head.head s in
-    let len = length_is p q finds z c.args.directory moment entries d sized c.in_ok-head.head s in
+    let says = head_says p q lookups z c.args.directory moment entries d sized c.in_ok-head.head s in
+    let len = length_is p q lookups z c.args.directory moment entries d sized c.in_ok-head.head s in
     let absent = rw c.in-None.is at stands in
     let n : ℕ = c.in_ok-head.head.length in
     let head : DirectoryHead = record { spare = c.in_ok-head.head.spare; length = n + 1; moment = c.args.moment } in
     let m : PageMap = p.present in
-    let all : (g.P.Pages.state c.head_after.new.pages).present ≡ old.present = c.head_after.ensures.finds.present in
+    let all : (g.P.Pages.state c.head_after.new.pages).present ≡ old.present = c.head_after.ensures.lookups.present in
     on_ok _ _ c.push_slot.result
     (λ change w.
     let header = subst (λ (k : PageMap). HasHead z (changed change (changed_by e k)) c.args.directory head) all w.0 in
@@ -117,7 +117,7 @@ returns-in-None-clause-puts g c = λ z moment entries d stands.
     let committed = subst (λ k. KeepsSlots z m (changed change m) c.args.directory k k) len
     (subst (λ (k : PageMap). KeepsSlots z (changed_by e k) (changed change (changed_by e k)) c.args.directory n n) all w.2) in
     reads_added z m (changed change m) c.args.directory moment c.args.moment entries d.reads head header says.spare refl (omega (arith, len)) (entry_of c.args.slot.now) absent slot committed)
-    (c.push_slot.ensures.pushes (sound_on p q finds z c.args.directory moment entries d sized c.in_ok-head.head s) z (size_on p q finds z c.args.directory moment entries d sized c.in_ok-head.head s))
+    (c.push_slot.ensures.pushes (sound_on p q lookups z c.args.directory moment entries d sized c.in_ok-head.head s) z (size_on p q lookups z c.args.directory moment entries d sized c.in_ok-head.head s))
 
 pub returns-else-number-head-clause-besides : goal.returns-else-number-head-clause-besides
 returns-else-number-head-clause-besides g c = λ z moment entries d stands only.
@@ -125,19 +125,19 @@ returns-else-number-head-clause-besides g c = λ z moment entries d stands only.
     let e : Option Change = option_copied c.args.earlier in
     let p : PagesState = after e old in
     let q : PagesState = after e (g.P.Pages.state c.head_after.new.pages) in
-    let finds = finds_after e old (g.P.Pages.state c.head_after.new.pages) c.head_after.ensures.finds in
+    let lookups = finds_after e old (g.P.Pages.state c.head_after.new.pages) c.head_after.ensures.lookups in
     let s = c.in_ok-head.ensures.reported d.sound in
     let sized = g.met.P.Pages.sized c.args.pages.now in
-    let size = page_size p q finds z c.args.directory moment entries d sized c.in_ok-head.head s in
-    let some = some_slots p q finds z c.args.directory moment entries d sized c.in_ok-head.head s in
-    let totaled = count_is p q finds z c.args.directory moment entries d sized c.in_ok-head.head s in
-    let sound_on' = sound_on p q finds z c.args.directory moment entries d sized c.in_ok-head.head s in
-    let size_on' = size_on p q finds z c.args.directory moment entries d sized c.in_ok-head.head s in
+    let size = page_size p q lookups z c.args.directory moment entries d sized c.in_ok-head.head s in
+    let some = some_slots p q lookups z c.args.directory moment entries d sized c.in_ok-head.head s in
+    let totaled = count_is p q lookups z c.args.directory moment entries d sized c.in_ok-head.head s in
+    let sound_on' = sound_on p q lookups z c.args.directory moment entries d sized c.in_ok-head.head s in
+    let size_on' = size_on p q lookups z c.args.directory moment entries d sized c.in_ok-head.head s in
     let n : ℕ = c.in_ok-head.head.length in
     let within : c.in-Some.number < n = c.if-number-head.false in
     let head : DirectoryHead = record { spare = c.in_ok-head.head.spare; length = n; moment = c.args.moment } in
     let m : PageMap = p.present in
-    let all : (g.P.Pages.state c.head_after.new.pages).present ≡ old.present = c.head_after.ensures.finds.present in
+    let all : (g.P.Pages.state c.head_after.new.pages).present ≡ old.present = c.head_after.ensures.lookups.present in
     on_all _ _ _ _ c.write.result
     (λ change r w keeps.
     let header = subst (λ (k : PageMap). HasHead z (changed change (changed_by e k)) c.args.directory head) all w.0 in
@@ -154,18 +154,18 @@ returns-in-None-clause-besides g c = λ z moment entries d stands only.
     let e : Option Change = option_copied c.args.earlier in
     let p : PagesState = after e old in
     let q : PagesState = after e (g.P.Pages.state c.head_after.new.pages) in
-    let finds = finds_after e old (g.P.Pages.state c.head_after.new.pages) c.head_after.ensures.finds in
+    let lookups = finds_after e old (g.P.Pages.state c.head_after.new.pages) c.head_after.ensures.lookups in
     let s = c.in_ok-head.ensures.reported d.sound in
     let sized = g.met.P.Pages.sized c.args.pages.now in
-    let size = page_size p q finds z c.args.directory moment entries d sized c.in_ok-head.head s in
-    let some = some_slots p q finds z c.args.directory moment entries d sized c.in_ok-head.head s in
-    let totaled = count_is p q finds z c.args.directory moment entries d sized c.in_ok-head.head s in
-    let sound_on' = sound_on p q finds z c.args.directory moment entries d sized c.in_ok-head.head s in
-    let size_on' = size_on p q finds z c.args.directory moment entries d sized c.in_ok-head.head s in
+    let size = page_size p q lookups z c.args.directory moment entries d sized c.in_ok-head.head s in
+    let some = some_slots p q lookups z c.args.directory moment entries d sized c.in_ok-head.head s in
+    let totaled = count_is p q lookups z c.args.directory moment entries d sized c.in_ok-head.head s in
+    let sound_on' = sound_on p q lookups z c.args.directory moment entries d sized c.in_ok-head.head s in
+    let size_on' = size_on p q lookups z c.args.directory moment entries d sized c.in_ok-head.head s in
     let n : ℕ = c.in_ok-head.head.length in
     let head : DirectoryHead = record { spare = c.in_ok-head.head.spare; length = n + 1; moment = c.args.moment } in
     let m : PageMap = p.present in
-    let all : (g.P.Pages.state c.head_after.new.pages).present ≡ old.present = c.head_after.ensures.finds.present in
+    let all : (g.P.Pages.state c.head_after.new.pages).present ≡ old.present = c.head_after.ensures.lookups.present in
     on_all _ _ _ _ c.push_slot.result
     (λ change r w keeps.
     let header = subst (λ (k : PageMap). HasHead z (changed change (changed_by e k)) c.args.directory head) all w.0 in
@@ -182,17 +182,17 @@ returns-else-number-head-clause-slot g c = λ z moment entries d stands.
     let e : Option Change = option_copied c.args.earlier in
     let p : PagesState = after e old in
     let q : PagesState = after e (g.P.Pages.state c.head_after.new.pages) in
-    let finds = finds_after e old (g.P.Pages.state c.head_after.new.pages) c.head_after.ensures.finds in
+    let lookups = finds_after e old (g.P.Pages.state c.head_after.new.pages) c.head_after.ensures.lookups in
     let s = c.in_ok-head.ensures.reported d.sound in
     let sized = g.met.P.Pages.sized c.args.pages.now in
-    let size = page_size p q finds z c.args.directory moment entries d sized c.in_ok-head.head s in
-    let totaled = count_is p q finds z c.args.directory moment entries d sized c.in_ok-head.head s in
-    let sound_on' = sound_on p q finds z c.args.directory moment entries d sized c.in_ok-head.head s in
-    let size_on' = size_on p q finds z c.args.directory moment entries d sized c.in_ok-head.head s in
+    let size = page_size p q lookups z c.args.directory moment entries d sized c.in_ok-head.head s in
+    let totaled = count_is p q lookups z c.args.directory moment entries d sized c.in_ok-head.head s in
+    let sound_on' = sound_on p q lookups z c.args.directory moment entries d sized c.in_ok-head.head s in
+    let size_on' = size_on p q lookups z c.args.directory moment entries d sized c.in_ok-head.head s in
     let n : ℕ = c.in_ok-head.head.length in
     let head : DirectoryHead = record { spare = c.in_ok-head.head.spare; length = n; moment = c.args.moment } in
     let m : PageMap = p.present in
-    let all : (g.P.Pages.state c.head_after.new.pages).present ≡ old.present = c.head_after.ensures.finds.present in
+    let all : (g.P.Pages.state c.head_after.new.pages).present ≡ old.present = c.head_after.ensures.lookups.present in
     on_all _ _ _ _ c.write.result
     (λ change r w keeps.
     let header = subst (λ (k : PageMap). HasHead z (changed change (changed_by e k)) c.args.directory head) all w.0 in
@@ -208,17 +208,17 @@ returns-in-None-clause-slot g c = λ z moment entries d stands.
     let e : Option Change = option_copied c.args.earlier in
     let p : PagesState = after e old in
     let q : PagesState = after e (g.P.Pages.state c.head_after.new.pages) in
-    let finds = finds_after e old (g.P.Pages.state c.head_after.new.pages) c.head_after.ensures.finds in
+    let lookups = finds_after e old (g.P.Pages.state c.head_after.new.pages) c.head_after.ensures.lookups in
     let s = c.in_ok-head.ensures.reported d.sound in
     let sized = g.met.P.Pages.sized c.args.pages.now in
-    let size = page_size p q finds z c.args.directory moment entries d sized c.in_ok-head.head s in
-    let totaled = count_is p q finds z c.args.directory moment entries d sized c.in_ok-head.head s in
-    let sound_on' = sound_on p q finds z c.args.directory moment entries d sized c.in_ok-head.head s in
-    let size_on' = size_on p q finds z c.args.directory moment entries d sized c.in_ok-head.head s in
+    let size = page_size p q lookups z c.args.directory moment entries d sized c.in_ok-head.head s in
+    let totaled = count_is p q lookups z c.args.directory moment entries d sized c.in_ok-head.head s in
+    let sound_on' = sound_on p q lookups z c.args.directory moment entries d sized c.in_ok-head.head s in
+    let size_on' = size_on p q lookups z c.args.directory moment entries d sized c.in_ok-head.head s in
     let n : ℕ = c.in_ok-head.head.length in
     let head : DirectoryHead = record { spare = c.in_ok-head.head.spare; length = n + 1; moment = c.args.moment } in
     let m : PageMap = p.present in
-    let all : (g.P.Pages.state c.head_after.new.pages).present ≡ old.present = c.head_after.ensures.finds.present in
+    let all : (g.P.Pages.state c.head_after.new.pages).present ≡ old.present = c.head_after.ensures.lookups.present in
     on_all _ _ _ _ c.push_slot.result
     (λ change r w keeps.
     let header = subst (λ (k : PageMap). HasHead z (changed change (changed_by e k)) c.args.directory head) all w.0 in
@@ -235,17 +235,17 @@ returns-else-number-head-clause-slots g c = λ z moment entries d stands.
     let p : PagesState = after e old in
     let mid : PagesState = g.P.Pages.state c.head_after.new.pages in
     let q : PagesState = after e mid in
-    let finds = finds_after e old mid c.head_after.ensures.finds in
+    let lookups = finds_after e old mid c.head_after.ensures.lookups in
     let s = c.in_ok-head.ensures.reported d.sound in
     let sized = g.met.P.Pages.sized c.args.pages.now in
-    let len = length_is p q finds z c.args.directory moment entries d sized c.in_ok-head.head s in
-    let sound_on' = sound_on p q finds z c.args.directory moment entries d sized c.in_ok-head.head s in
-    let size_on' = size_on p q finds z c.args.directory moment entries d sized c.in_ok-head.head s in
+    let len = length_is p q lookups z c.args.directory moment entries d sized c.in_ok-head.head s in
+    let sound_on' = sound_on p q lookups z c.args.directory moment entries d sized c.in_ok-head.head s in
+    let size_on' = size_on p q lookups z c.args.directory moment entries d sized c.in_ok-head.head s in
     let n : ℕ = c.in_ok-head.head.length in
     let m : PageMap = p.present in
     let slots : List Entry = d.reads.slots in
     let entry : Entry = entry_of c.args.slot.now in
-    let all : mid.present ≡ old.present = c.head_after.ensures.finds.present in
+    let all : mid.present ≡ old.present = c.head_after.ensures.lookups.present in
     let at = rw c.in-Some.is at stands in
     let place : ℕ = c.in-Some.number in
     let new : List Entry = set slots place entry in
@@ -272,17 +272,17 @@ returns-in-None-clause-slots g c = λ z moment entries d stands.
     let p : PagesState = after e old in
     let mid : PagesState = g.P.Pages.state c.head_after.new.pages in
     let q : PagesState = after e mid in
-    let finds = finds_after e old mid c.head_after.ensures.finds in
+    let lookups = finds_after e old mid c.head_after.ensures.lookups in
     let s = c.in_ok-head.ensures.reported d.sound in
     let sized = g.met.P.Pages.sized c.args.pages.now in
-    let len = length_is p q finds z c.args.directory moment entries d sized c.in_ok-head.head s in
-    let sound_on' = sound_on p q finds z c.args.directory moment entries d sized c.in_ok-head.head s in
-    let size_on' = size_on p q finds z c.args.directory moment entries d sized c.in_ok-head.head s in
+    let len = length_is p q lookups z c.args.directory moment entries d sized c.in_ok-head.head s in
+    let sound_on' = sound_on p q lookups z c.args.directory moment entries d sized c.in_ok-head.head s in
+    let size_on' = size_on p q lookups z c.args.directory moment entries d sized c.in_ok-head.head s in
     let n : ℕ = c.in_ok-head.head.length in
     let m : PageMap = p.present in
     let slots : List Entry = d.reads.slots in
     let entry : Entry = entry_of c.args.slot.now in
-    let all : mid.present ≡ old.present = c.head_after.ensures.finds.present in
+    let all : mid.present ≡ old.present = c.head_after.ensures.lookups.present in
     let absent = rw c.in-None.is at stands in
     let new : List Entry = slots ++ entry ∷ [] in
     on_all _ _ _ _ c.push_slot.result

@@ -42,7 +42,7 @@ pub returns-in_err-taken-clause-fault : goal.returns-in_err-taken-clause-fault
 returns-in_err-taken-clause-fault g c = λ z s t left entries source target.
     let old : PagesState = g.P.Pages.state c.args.pages.now in
     let mid : PagesState = g.P.Pages.state c.seek.new.pages in
-    let later_d = named_later c.args.names.now old mid z c.args.route.source s left c.seek.ensures.finds source in
+    let later_d = named_later c.args.names.now old mid z c.args.route.source s left c.seek.ensures.lookups source in
     let r = err_from_is_err_and c.from_residual-in_err-taken.result c.from_residual-in_err-taken.ensures.1 in
     rw (r.1, r.2) (memory_room (map.len entries) (g.P.Pages.state c.take_name.new.pages) _ (c.in_err-taken.ensures.fault z s left (dir c.args.names.now mid z c.args.route.source s left later_d)))
 
@@ -55,7 +55,7 @@ pub returns-in_default-clause-named : goal.returns-in_default-clause-named
 returns-in_default-clause-named g c = λ z moment entries d.
     let old : PagesState = g.P.Pages.state c.args.pages.now in
     let mid : PagesState = g.P.Pages.state c.seek.new.pages in
-    rw c.in_default.is at (c.in_ok-taken.ensures.named z moment entries (named_later c.args.names.now old mid z c.args.route.source moment entries c.seek.ensures.finds d))
+    rw c.in_default.is at (c.in_ok-taken.ensures.named z moment entries (named_later c.args.names.now old mid z c.args.route.source moment entries c.seek.ensures.lookups d))
 
 pub returns-in_err-second-clause-issued : goal.returns-in_err-second-clause-issued
 returns-in_err-second-clause-issued g c =
@@ -77,8 +77,8 @@ returns-in_err-second-clause-fault g c = λ z s t left entries source d.
     let old : PagesState = g.P.Pages.state c.args.pages.now in
     let next : PagesState = g.P.Pages.state c.take_name.new.pages in
     let o : ℕ = c.args.route.target in
-    let one = c.seek.ensures.finds in
-    let two = c.take_name.ensures.finds in
+    let one = c.seek.ensures.lookups in
+    let two = c.take_name.ensures.lookups in
     let first : Change = c.in-Some.taken.change in
     let only : IsOnlyOf first c.args.route.source = rw c.in-Some.is at c.in_ok-taken.ensures.only in
     let at = dir_committed old (after (Some first) next) z o t entries (two.sound ∙ one.sound ∙ d.sound) (d.size ∙ sym one.page_bytes ∙ sym two.page_bytes)
@@ -92,17 +92,17 @@ returns-clause-change g c =
     let old : PagesState = g.P.Pages.state c.args.pages.now in
     let mid : PagesState = g.P.Pages.state c.seek.new.pages in
     let next : PagesState = g.P.Pages.state c.take_name.new.pages in
-    let first_bytes : mid.page_bytes ≡ old.page_bytes = c.seek.ensures.finds.page_bytes in
-    let bytes : next.page_bytes ≡ old.page_bytes = c.take_name.ensures.finds.page_bytes ∙ first_bytes in
+    let first_bytes : mid.page_bytes ≡ old.page_bytes = c.seek.ensures.lookups.page_bytes in
+    let bytes : next.page_bytes ≡ old.page_bytes = c.take_name.ensures.lookups.page_bytes ∙ first_bytes in
     let a : IsChange c.in-Some.taken.change old.page_bytes 2 = subst (λ n. IsChange c.in-Some.taken.change n 2) first_bytes (rw c.in-Some.is at c.in_ok-taken.ensures.change) in
     let b : IsChange c.in_ok-second.second next.page_bytes 2 = c.in_ok-second.ensures.change in
-    let few = c.in_ok-change.ensures.few in
+    let within_limit = c.in_ok-change.ensures.within_limit in
     let only : IsOnlyOf c.in-Some.taken.change c.args.route.source = rw c.in-Some.is at c.in_ok-taken.ensures.only in
     record {
       change = record {
         apart = c.in_ok-change.ensures.apart a.apart b.apart;
         size = c.in_ok-change.ensures.size old.page_bytes a.size (subst (AreSized c.in_ok-second.second.pages.items) bytes b.size);
-        few = omega (arith, few, a.few, b.few);
+        within_limit = omega (arith, within_limit, a.within_limit, b.within_limit);
       };
       others = λ o k not_source not_target. c.in_ok-change.ensures.pages old.present o k
           ∙ others_keep c.in_ok-second.second c.args.route.target c.in_ok-second.ensures.only (changed c.in-Some.taken.change old.present) o k not_target
@@ -113,7 +113,7 @@ pub returns-clause-named : goal.returns-clause-named
 returns-clause-named g c = λ z moment entries d.
     let old : PagesState = g.P.Pages.state c.args.pages.now in
     let mid : PagesState = g.P.Pages.state c.seek.new.pages in
-    let later_d = named_later c.args.names.now old mid z c.args.route.source moment entries c.seek.ensures.finds d in
+    let later_d = named_later c.args.names.now old mid z c.args.route.source moment entries c.seek.ensures.lookups d in
     was_named c.args.names.now mid z c.args.route.source moment entries later_d c.args.from.now c.in-Some.taken (rw c.in-Some.is at (c.in_ok-taken.ensures.takes z moment entries later_d))
 
 pub returns-clause-takes : goal.returns-clause-takes
@@ -127,31 +127,31 @@ returns-clause-takes g c = λ z moment entries d.
     let from : Name = c.args.from.now in
     let taken : Taken = c.in-Some.taken in
     let left : Entries = map.remove entries c.args.from.now in
-    let later_d = named_later c.args.names.now old mid z o moment entries c.seek.ensures.finds d in
-    let less = subst (λ (k : PageMap). ReadsDirectory z (changed first k) o c.args.moment left d.reads.fields.spare) c.seek.ensures.finds.present (rw c.in-Some.is at (c.in_ok-taken.ensures.removes z moment entries later_d)) in
+    let later_d = named_later c.args.names.now old mid z o moment entries c.seek.ensures.lookups d in
+    let less = subst (λ (k : PageMap). ReadsDirectory z (changed first k) o c.args.moment left d.reads.fields.spare) c.seek.ensures.lookups.present (rw c.in-Some.is at (c.in_ok-taken.ensures.removes z moment entries later_d)) in
     let both : changed second (changed first old.present) ≡ changed c.in_ok-change.change old.present = λ i x k. sym (c.in_ok-change.ensures.pages old.present x k) i in
     let committed = reads_committed z (changed first old.present) (changed second (changed first old.present)) o c.args.moment left less.0
     (λ k. others_keep second c.args.route.target c.in_ok-second.ensures.only (changed first old.present) o k c.requires.apart) in
-    let few : z.page_bytes ≤ 4096 = few_bytes names old z o moment entries d (g.met.P.Pages.sized c.args.pages.now) in
+    let within_limit : z.page_bytes ≤ 4096 = few_bytes names old z o moment entries d (g.met.P.Pages.sized c.args.pages.now) in
     let t = rw c.in-Some.is at (c.in_ok-taken.ensures.takes z moment entries later_d) in
     let a : IsChange first mid.page_bytes 2 = rw c.in-Some.is at c.in_ok-taken.ensures.change in
-    let slots : List Entry = left_slots z few mid.present o moment entries later_d.reads from taken t in
+    let slots : List Entry = left_slots z within_limit mid.present o moment entries later_d.reads from taken t in
     record {
       makes = record {
         becomes = subst (λ (m : PageMap). ReadsDirectory z m o c.args.moment left d.reads.fields.spare) both (committed.0, committed.1 ∙ less.1);
         ends = λ only k behind.
-            let only_mid : HasOnly z mid.present o (map.len entries) = subst (λ (m : PageMap). HasOnly z m o (map.len entries)) (sym c.seek.ensures.finds.present) only in
+            let only_mid : HasOnly z mid.present o (map.len entries) = subst (λ (m : PageMap). HasOnly z m o (map.len entries)) (sym c.seek.ensures.lookups.present) only in
             let fewer = rw c.in-Some.is at (c.in_ok-taken.ensures.besides z moment entries later_d only_mid) in
             c.in_ok-change.ensures.pages old.present o k
             ∙ others_keep second c.args.route.target c.in_ok-second.ensures.only (changed first old.present) o k c.requires.apart
-            ∙ ap (λ (m : PageMap). changed first m o k) (sym c.seek.ensures.finds.present)
+            ∙ ap (λ (m : PageMap). changed first m o k) (sym c.seek.ensures.lookups.present)
             ∙ fewer k behind;
       };
       slots = (
         slots,
-        left_without z few mid.present o moment entries later_d.reads from taken t,
+        left_without z within_limit mid.present o moment entries later_d.reads from taken t,
         writes_first z first second c.in_ok-change.change (c.in_ok-change.ensures.apart a.apart c.in_ok-second.ensures.change.apart) c.in_ok-change.ensures.pages o
-            c.args.route.target c.in_ok-second.ensures.only c.requires.apart slots (left_writes z few mid.present o moment entries later_d.reads from taken t mid.page_bytes 2 a later_d.size),
+            c.args.route.target c.in_ok-second.ensures.only c.requires.apart slots (left_writes z within_limit mid.present o moment entries later_d.reads from taken t mid.page_bytes 2 a later_d.size),
       );
     }
 
@@ -160,8 +160,8 @@ returns-clause-gives g c = λ z t entries d.
     let old : PagesState = g.P.Pages.state c.args.pages.now in
     let next : PagesState = g.P.Pages.state c.take_name.new.pages in
     let o : ℕ = c.args.route.target in
-    let one = c.seek.ensures.finds in
-    let two = c.take_name.ensures.finds in
+    let one = c.seek.ensures.lookups in
+    let two = c.take_name.ensures.lookups in
     let first : Change = c.in-Some.taken.change in
     let second : Change = c.in_ok-second.second in
     let only : IsOnlyOf first c.args.route.source = rw c.in-Some.is at c.in_ok-taken.ensures.only in
@@ -179,10 +179,10 @@ returns-clause-gives g c = λ z t entries d.
         becomes = subst (λ (m : PageMap). ReadsDirectory z m o c.args.moment now d.reads.fields.spare) both
             (subst (λ (k : PageMap). ReadsDirectory z (changed second (changed first k)) o c.args.moment now d.reads.fields.spare) (two.present ∙ one.present) puts);
         ends = λ alone.
-            let few : HasOnly z (changed first next.present) o (map.len entries) = λ k behind.
+            let within_limit : HasOnly z (changed first next.present) o (map.len entries) = λ k behind.
             others_keep first c.args.route.source only next.present o k (λ same. c.requires.apart (sym same)) ∙ ap (λ (m : PageMap). m o k) (two.present ∙ one.present) ∙ alone k behind in
             subst (λ (m : PageMap). HasOnly z m o (map.len now)) both
-            (subst (λ (k : PageMap). HasOnly z (changed second (changed first k)) o (map.len now)) (two.present ∙ one.present) (c.in_ok-second.ensures.besides z t entries at stands few));
+            (subst (λ (k : PageMap). HasOnly z (changed second (changed first k)) o (map.len now)) (two.present ∙ one.present) (c.in_ok-second.ensures.besides z t entries at stands within_limit));
       };
       more = λ k low high. key_both first second c.in_ok-change.change c.in_ok-change.ensures.pages o (1 + k / page_slots z) (more k low high);
       slots = (

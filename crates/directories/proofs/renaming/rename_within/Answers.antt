@@ -44,7 +44,7 @@ pub returns-in_err-taken-clause-fault : goal.returns-in_err-taken-clause-fault
 returns-in_err-taken-clause-fault g c = λ z moment entries d.
     let old : PagesState = g.P.Pages.state c.args.pages.now in
     let mid : PagesState = g.P.Pages.state c.seek.new.pages in
-    let later_d = named_later c.args.names.now old mid z c.args.directory moment entries c.seek.ensures.finds d in
+    let later_d = named_later c.args.names.now old mid z c.args.directory moment entries c.seek.ensures.lookups d in
     let r = err_from_is_err_and c.from_residual-in_err-taken.result c.from_residual-in_err-taken.ensures.1 in
     rw (r.1, r.2) (memory_room (map.len (map.remove entries c.args.from.now)) (g.P.Pages.state c.take_name.new.pages) _
     (c.in_err-taken.ensures.fault z moment entries (dir c.args.names.now mid z c.args.directory moment entries later_d)))
@@ -58,7 +58,7 @@ pub returns-in_default-clause-named : goal.returns-in_default-clause-named
 returns-in_default-clause-named g c = λ z moment entries d.
     let old : PagesState = g.P.Pages.state c.args.pages.now in
     let mid : PagesState = g.P.Pages.state c.seek.new.pages in
-    rw c.in_default.is at (c.in_ok-taken.ensures.named z moment entries (named_later c.args.names.now old mid z c.args.directory moment entries c.seek.ensures.finds d))
+    rw c.in_default.is at (c.in_ok-taken.ensures.named z moment entries (named_later c.args.names.now old mid z c.args.directory moment entries c.seek.ensures.lookups d))
 
 pub returns-in_err-second-clause-issued : goal.returns-in_err-second-clause-issued
 returns-in_err-second-clause-issued g c =
@@ -84,12 +84,12 @@ returns-in_err-second-clause-fault g c = λ z moment entries d.
     let next : PagesState = g.P.Pages.state c.take_name.new.pages in
     let sized = g.met.P.Pages.sized c.args.pages.now in
     let size : IsPageSize z.page_bytes = record { least = omega (arith, d.size, sized.0); most = omega (arith, d.size, sized.1) } in
-    let later_d = named_later names old mid z o moment entries c.seek.ensures.finds d in
+    let later_d = named_later names old mid z o moment entries c.seek.ensures.lookups d in
     let taken : Taken = c.in-Some.taken in
     let t = rw c.in-Some.is at (c.in_ok-taken.ensures.takes z moment entries later_d) in
     let reads = rw c.in-Some.is at (c.in_ok-taken.ensures.removes z moment entries later_d) in
-    let at = then_in names old mid next c.seek.ensures.finds c.take_name.ensures.finds z size o moment entries d c.args.from.now taken c.args.moment t reads in
-    let stands = stands_in names old mid next c.seek.ensures.finds c.take_name.ensures.finds z size o moment entries d c.args.from.now taken c.args.moment t reads
+    let at = then_in names old mid next c.seek.ensures.lookups c.take_name.ensures.lookups z size o moment entries d c.args.from.now taken c.args.moment t reads in
+    let stands = stands_in names old mid next c.seek.ensures.lookups c.take_name.ensures.lookups z size o moment entries d c.args.from.now taken c.args.moment t reads
     c.args.to.now.name.now c.in_ok-sought.sought.found c.moved-place.result (c.in_ok-sought.ensures.sought z moment entries d).found c.moved-place.ensures in
     let r = err_from_is_err_and c.from_residual-in_err-second.result c.from_residual-in_err-second.ensures.1 in
     rw (r.1, r.2) (c.in_err-second.ensures.fault z c.args.moment (map.remove entries c.args.from.now) at stands)
@@ -99,8 +99,8 @@ returns-clause-change g c =
     let old : PagesState = g.P.Pages.state c.args.pages.now in
     let mid : PagesState = g.P.Pages.state c.seek.new.pages in
     let next : PagesState = g.P.Pages.state c.take_name.new.pages in
-    let first_bytes : mid.page_bytes ≡ old.page_bytes = c.seek.ensures.finds.page_bytes in
-    let bytes : next.page_bytes ≡ old.page_bytes = c.take_name.ensures.finds.page_bytes ∙ first_bytes in
+    let first_bytes : mid.page_bytes ≡ old.page_bytes = c.seek.ensures.lookups.page_bytes in
+    let bytes : next.page_bytes ≡ old.page_bytes = c.take_name.ensures.lookups.page_bytes ∙ first_bytes in
     let a : IsChange c.in-Some.taken.change old.page_bytes 2 = subst (λ n. IsChange c.in-Some.taken.change n 2) first_bytes (rw c.in-Some.is at c.in_ok-taken.ensures.change) in
     let b : IsChange c.in_ok-second.second next.page_bytes 2 = c.in_ok-second.ensures.change in
     let head = rw c.in-Some.is at c.in_ok-taken.ensures.head in
@@ -109,7 +109,7 @@ returns-clause-change g c =
     record {
       apart = c.in_ok-change.ensures.apart a.apart b.apart;
       size = c.in_ok-change.ensures.size old.page_bytes a.size (subst (AreSized c.in_ok-second.second.pages.items) bytes b.size);
-      few = omega (arith, shared, a.few, b.few);
+      within_limit = omega (arith, shared, a.within_limit, b.within_limit);
     }
 
 pub returns-clause-others : goal.returns-clause-others
@@ -124,7 +124,7 @@ pub returns-clause-named : goal.returns-clause-named
 returns-clause-named g c = λ z moment entries d.
     let old : PagesState = g.P.Pages.state c.args.pages.now in
     let mid : PagesState = g.P.Pages.state c.seek.new.pages in
-    let later_d = named_later c.args.names.now old mid z c.args.directory moment entries c.seek.ensures.finds d in
+    let later_d = named_later c.args.names.now old mid z c.args.directory moment entries c.seek.ensures.lookups d in
     was_named c.args.names.now mid z c.args.directory moment entries later_d c.args.from.now c.in-Some.taken (rw c.in-Some.is at (c.in_ok-taken.ensures.takes z moment entries later_d))
 
 pub returns-clause-moves : goal.returns-clause-moves
@@ -136,12 +136,12 @@ returns-clause-moves g c = λ z moment entries d.
     let next : PagesState = g.P.Pages.state c.take_name.new.pages in
     let sized = g.met.P.Pages.sized c.args.pages.now in
     let size : IsPageSize z.page_bytes = record { least = omega (arith, d.size, sized.0); most = omega (arith, d.size, sized.1) } in
-    let later_d = named_later names old mid z o moment entries c.seek.ensures.finds d in
+    let later_d = named_later names old mid z o moment entries c.seek.ensures.lookups d in
     let taken : Taken = c.in-Some.taken in
     let t = rw c.in-Some.is at (c.in_ok-taken.ensures.takes z moment entries later_d) in
     let reads = rw c.in-Some.is at (c.in_ok-taken.ensures.removes z moment entries later_d) in
-    let at = then_in names old mid next c.seek.ensures.finds c.take_name.ensures.finds z size o moment entries d c.args.from.now taken c.args.moment t reads in
-    let stands = stands_in names old mid next c.seek.ensures.finds c.take_name.ensures.finds z size o moment entries d c.args.from.now taken c.args.moment t reads
+    let at = then_in names old mid next c.seek.ensures.lookups c.take_name.ensures.lookups z size o moment entries d c.args.from.now taken c.args.moment t reads in
+    let stands = stands_in names old mid next c.seek.ensures.lookups c.take_name.ensures.lookups z size o moment entries d c.args.from.now taken c.args.moment t reads
     c.args.to.now.name.now c.in_ok-sought.sought.found c.moved-place.result (c.in_ok-sought.ensures.sought z moment entries d).found c.moved-place.ensures in
     let first : Change = taken.change in
     let second : Change = c.in_ok-second.second in
@@ -149,8 +149,8 @@ returns-clause-moves g c = λ z moment entries d.
     let now : Entries = map.insert left c.args.to.now.name.now c.args.to.now.object in
     let change : Change = c.in_ok-change.change in
     let puts = c.in_ok-second.ensures.puts z c.args.moment left at stands in
-    let spare = spare_then names old mid next c.seek.ensures.finds c.take_name.ensures.finds z size o moment entries d c.args.from.now taken c.args.moment t reads in
-    let present : next.present ≡ old.present = c.take_name.ensures.finds.present ∙ c.seek.ensures.finds.present in
+    let spare = spare_then names old mid next c.seek.ensures.lookups c.take_name.ensures.lookups z size o moment entries d c.args.from.now taken c.args.moment t reads in
+    let present : next.present ≡ old.present = c.take_name.ensures.lookups.present ∙ c.seek.ensures.lookups.present in
     let both : changed second (changed first old.present) ≡ changed change old.present = λ i x k. sym (c.in_ok-change.ensures.pages old.present x k) i in
     let slots = c.in_ok-second.ensures.slot z c.args.moment left at stands in
     let fewer : map.len left ≤ map.len entries = len_less entries c.args.from.now in
@@ -160,17 +160,17 @@ returns-clause-moves g c = λ z moment entries d.
     let without = left_without z size.most mid.present o moment entries later_d.reads c.args.from.now taken t in
     let writes = left_writes z size.most mid.present o moment entries later_d.reads c.args.from.now taken t mid.page_bytes 2 a later_d.size in
     let one : list ≡ at.reads.slots = left_are z size.most mid.present o moment entries later_d.reads c.args.from.now taken t (changed first next.present)
-    (same names old mid next c.seek.ensures.finds c.take_name.ensures.finds z size o moment entries d c.args.from.now taken c.args.moment t reads) at.reads.slots
-    (totaled names old mid next c.seek.ensures.finds c.take_name.ensures.finds z size o moment entries d c.args.from.now taken c.args.moment t reads) at.reads.each in
+    (same names old mid next c.seek.ensures.lookups c.take_name.ensures.lookups z size o moment entries d c.args.from.now taken c.args.moment t reads) at.reads.slots
+    (totaled names old mid next c.seek.ensures.lookups c.take_name.ensures.lookups z size o moment entries d c.args.from.now taken c.args.moment t reads) at.reads.each in
     record {
       makes = record {
         becomes = subst (λ (m : PageMap). ReadsDirectory z m o c.args.moment now d.reads.fields.spare) both
             (subst (λ (k : PageMap). ReadsDirectory z (changed second (changed first k)) o c.args.moment now d.reads.fields.spare) present
             (subst (λ n. ReadsDirectory z (changed second (changed first next.present)) o c.args.moment now n) spare puts));
         ends = λ only.
-            let only_mid : HasOnly z mid.present o (map.len entries) = subst (λ (k : PageMap). HasOnly z k o (map.len entries)) (sym c.seek.ensures.finds.present) only in
-            let few = rw c.in-Some.is at (c.in_ok-taken.ensures.besides z moment entries later_d only_mid) in
-            let few_then : HasOnly z (changed first next.present) o (map.len left) = subst (λ (k : PageMap). HasOnly z (changed first k) o (map.len left)) (sym c.take_name.ensures.finds.present) few in
+            let only_mid : HasOnly z mid.present o (map.len entries) = subst (λ (k : PageMap). HasOnly z k o (map.len entries)) (sym c.seek.ensures.lookups.present) only in
+            let within_limit = rw c.in-Some.is at (c.in_ok-taken.ensures.besides z moment entries later_d only_mid) in
+            let few_then : HasOnly z (changed first next.present) o (map.len left) = subst (λ (k : PageMap). HasOnly z (changed first k) o (map.len left)) (sym c.take_name.ensures.lookups.present) within_limit in
             subst (λ (m : PageMap). HasOnly z m o (map.len now)) both
             (subst (λ (k : PageMap). HasOnly z (changed second (changed first k)) o (map.len now)) present
             (c.in_ok-second.ensures.besides z c.args.moment left at stands few_then));

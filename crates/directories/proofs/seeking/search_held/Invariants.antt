@@ -10,7 +10,7 @@ use Rattle.directories.proofs.seeking.search_held.Given as goal
 
 abbrev pub invariant-loop-from : goal.invariant-loop-from
 invariant-loop-from g l = record {
-  finds : OnlyFinds (g.P.Pages.state l.fn.pages) (g.P.Pages.state l.pages);
+  lookups : OnlyFinds (g.P.Pages.state l.fn.pages) (g.P.Pages.state l.pages);
   power : KeepsPower (g.P.Pages.state l.fn.pages) (g.P.Pages.state l.pages);
   issued : (slots : List ℕ) × AreHeld l.names l.directory l.name slots × ((i s : ℕ) → slice_get slots i ≡ Some s → s < l.from)
       × ((g.P.Pages.state l.pages).issued ≤ (g.P.Pages.state l.fn.pages).issued + length slots);

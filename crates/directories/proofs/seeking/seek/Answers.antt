@@ -15,24 +15,24 @@ pub returns-in_err-found-clause-fault : goal.returns-in_err-found-clause-fault
 returns-in_err-found-clause-fault g c = λ z moment entries d.
     let old : PagesState = g.P.Pages.state c.args.pages.now in
     let mid : PagesState = g.P.Pages.state c.read_head.new.pages in
-    let finds = c.read_head.ensures.finds in
+    let lookups = c.read_head.ensures.lookups in
     let s = c.in_ok-head.ensures.reported d.sound in
     let sized = g.met.P.Pages.sized c.args.pages.now in
     let r = err_from_is_err_and c.from_residual-in_err-found.result c.from_residual-in_err-found.ensures.1 in
-    rw (r.1, r.2) (lacks_on old mid (g.P.Pages.state c.search_held.new.pages) _ finds.refused (c.in_err-found.ensures.fault (sound_on old mid finds z c.args.directory moment entries d sized c.in_ok-head.head s) z (size_on old mid finds z c.args.directory moment entries d sized c.in_ok-head.head s)
-    (are_on old mid finds z c.args.directory moment entries d sized c.in_ok-head.head s)))
+    rw (r.1, r.2) (lacks_on old mid (g.P.Pages.state c.search_held.new.pages) _ lookups.refused (c.in_err-found.ensures.fault (sound_on old mid lookups z c.args.directory moment entries d sized c.in_ok-head.head s) z (size_on old mid lookups z c.args.directory moment entries d sized c.in_ok-head.head s)
+    (are_on old mid lookups z c.args.directory moment entries d sized c.in_ok-head.head s)))
 
 pub returns-in_err-found-clause-why : goal.returns-in_err-found-clause-why
 returns-in_err-found-clause-why g c =
     let r = err_from_is_err_and c.from_residual-in_err-found.result c.from_residual-in_err-found.ensures.1 in
-    rw (r.1, r.2) (says_on (g.P.Pages.state c.args.pages.now) (g.P.Pages.state c.read_head.new.pages) (g.P.Pages.state c.search_held.new.pages) _ c.read_head.ensures.finds.refused c.in_err-found.ensures.why)
+    rw (r.1, r.2) (says_on (g.P.Pages.state c.args.pages.now) (g.P.Pages.state c.read_head.new.pages) (g.P.Pages.state c.search_held.new.pages) _ c.read_head.ensures.lookups.refused c.in_err-found.ensures.why)
 
 pub returns-clause-reported : goal.returns-clause-reported
 returns-clause-reported g c = λ sound z size.
-    let finds = c.read_head.ensures.finds in (
+    let lookups = c.read_head.ensures.lookups in (
       c.in_ok-head.ensures.reported sound,
-      subst (λ (m : PageMap). FindsHeld (Holds c.args.names.now c.args.directory (fnv1a c.args.name.now)) (SlotOf z m c.args.directory) c.in_ok-head.head.length c.args.name.now c.in_ok-found.found) finds.present
-          (c.in_ok-found.ensures.reported (finds.sound ∙ sound) z (size ∙ sym finds.page_bytes)),
+      subst (λ (m : PageMap). FindsHeld (Holds c.args.names.now c.args.directory (fnv1a c.args.name.now)) (SlotOf z m c.args.directory) c.in_ok-head.head.length c.args.name.now c.in_ok-found.found) lookups.present
+          (c.in_ok-found.ensures.reported (lookups.sound ∙ sound) z (size ∙ sym lookups.page_bytes)),
     )
 
 pub returns-clause-sought : goal.returns-clause-sought

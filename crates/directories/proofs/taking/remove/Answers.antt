@@ -17,7 +17,7 @@ returns-in-Some-clause-named g c = λ z moment entries d.
 pub returns-in-Some-clause-removes : goal.returns-in-Some-clause-removes
 returns-in-Some-clause-removes g c = λ z moment entries d.
     let old : PagesState = g.P.Pages.state c.args.pages.now in
-    let few = few_bytes c.args.names.now old z c.args.directory moment entries d (g.met.P.Pages.sized c.args.pages.now) in
+    let within_limit = few_bytes c.args.names.now old z c.args.directory moment entries d (g.met.P.Pages.sized c.args.pages.now) in
     let taken : Taken = c.in-Some.taken in
     let t = rw c.in-Some.is at (c.in_ok-taken.ensures.takes z moment entries d) in
     let is = rw c.in-Some.is at c.in_ok-taken.ensures.change in
@@ -25,9 +25,9 @@ returns-in-Some-clause-removes g c = λ z moment entries d.
     record {
       makes = record { becomes = removes; ends = λ only. rw c.in-Some.is at (c.in_ok-taken.ensures.besides z moment entries d only) };
       slots = (
-        left_slots z few old.present c.args.directory moment entries d.reads c.args.name.now taken t,
-        left_without z few old.present c.args.directory moment entries d.reads c.args.name.now taken t,
-        left_writes z few old.present c.args.directory moment entries d.reads c.args.name.now taken t old.page_bytes 2 is d.size,
+        left_slots z within_limit old.present c.args.directory moment entries d.reads c.args.name.now taken t,
+        left_without z within_limit old.present c.args.directory moment entries d.reads c.args.name.now taken t,
+        left_writes z within_limit old.present c.args.directory moment entries d.reads c.args.name.now taken t old.page_bytes 2 is d.size,
       );
     }
 

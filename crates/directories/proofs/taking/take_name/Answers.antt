@@ -31,41 +31,41 @@ pub returns-in_err-change-clause-fault : goal.returns-in_err-change-clause-fault
 returns-in_err-change-clause-fault g c = λ z moment entries d.
     let old : PagesState = g.P.Pages.state c.args.pages.now in
     let mid : PagesState = g.P.Pages.state c.seek.new.pages in
-    let finds = c.seek.ensures.finds in
+    let lookups = c.seek.ensures.lookups in
     let s = (c.in_ok-sought.ensures.reported d.sound z d.size).0 in
     let sized = g.met.P.Pages.sized c.args.pages.now in
     let n : ℕ = c.in_ok-sought.sought.head.length in
     let within : c.in-Some.found.place < n = rw c.in-Some.is at c.in_ok-sought.ensures.within in
     let back : n ≡ n - 1 + 1 = omega (arith, within) in
     let r = err_from_is_err_and c.from_residual-in_err-change.result c.from_residual-in_err-change.ensures.1 in
-    rw (r.1, r.2) (c.in_err-change.ensures.fault (finds.sound ∙ d.sound) z (d.size ∙ sym finds.page_bytes)
-    (subst (λ k. AreSlots (SlotOf z mid.present c.args.directory) 0 k) back (are_on old mid finds z c.args.directory moment entries d sized c.in_ok-sought.sought.head s)))
+    rw (r.1, r.2) (c.in_err-change.ensures.fault (lookups.sound ∙ d.sound) z (d.size ∙ sym lookups.page_bytes)
+    (subst (λ k. AreSlots (SlotOf z mid.present c.args.directory) 0 k) back (are_on old mid lookups z c.args.directory moment entries d sized c.in_ok-sought.sought.head s)))
 
 pub returns-clause-takes : goal.returns-clause-takes
 returns-clause-takes g c = λ z moment entries d.
     let old : PagesState = g.P.Pages.state c.args.pages.now in
-    let finds = c.seek.ensures.finds in
+    let lookups = c.seek.ensures.lookups in
     let sought = c.in_ok-sought.ensures.sought z moment entries d in
     let n : ℕ = c.in_ok-sought.sought.head.length in
     let within : c.in-Some.found.place < n = rw c.in-Some.is at c.in_ok-sought.ensures.within in
     let change : Change = c.in_ok-change.change in
     let head : DirectoryHead = record { spare = c.in_ok-sought.sought.head.spare; length = n - 1; moment = c.args.moment } in
-    let loses = subst (λ (k : PageMap). LosesSlot z k change c.args.directory head c.in-Some.found.place) finds.present
-    (c.in_ok-change.ensures.removes (finds.sound ∙ d.sound) z (d.size ∙ sym finds.page_bytes)) in
+    let loses = subst (λ (k : PageMap). LosesSlot z k change c.args.directory head c.in-Some.found.place) lookups.present
+    (c.in_ok-change.ensures.removes (lookups.sound ∙ d.sound) z (d.size ∙ sym lookups.page_bytes)) in
     taken_name c.args.names.now old z c.args.directory moment entries d c.args.name.now c.in_ok-sought.sought.head sought.head c.in-Some.found (rw c.in-Some.is at sought.found) within c.args.moment change loses
 
 pub returns-clause-removes : goal.returns-clause-removes
 returns-clause-removes g c = λ z moment entries d.
     let old : PagesState = g.P.Pages.state c.args.pages.now in
-    let finds = c.seek.ensures.finds in
+    let lookups = c.seek.ensures.lookups in
     let sized = g.met.P.Pages.sized c.args.pages.now in
     let sought = c.in_ok-sought.ensures.sought z moment entries d in
     let n : ℕ = c.in_ok-sought.sought.head.length in
     let within : c.in-Some.found.place < n = rw c.in-Some.is at c.in_ok-sought.ensures.within in
     let change : Change = c.in_ok-change.change in
     let head : DirectoryHead = record { spare = c.in_ok-sought.sought.head.spare; length = n - 1; moment = c.args.moment } in
-    let loses = subst (λ (k : PageMap). LosesSlot z k change c.args.directory head c.in-Some.found.place) finds.present
-    (c.in_ok-change.ensures.removes (finds.sound ∙ d.sound) z (d.size ∙ sym finds.page_bytes)) in
+    let loses = subst (λ (k : PageMap). LosesSlot z k change c.args.directory head c.in-Some.found.place) lookups.present
+    (c.in_ok-change.ensures.removes (lookups.sound ∙ d.sound) z (d.size ∙ sym lookups.page_bytes)) in
     name_removed c.args.names.now old z c.args.directory moment entries d c.args.name.now c.in_ok-sought.sought.head sought.head c.in-Some.found (rw c.in-Some.is at sought.found) within c.args.moment change
     (few_bytes c.args.names.now old z c.args.directory moment entries d sized) loses
 
@@ -73,7 +73,7 @@ pub returns-clause-besides : goal.returns-clause-besides
 returns-clause-besides g c = λ z moment entries d only.
     let old : PagesState = g.P.Pages.state c.args.pages.now in
     let mid : PagesState = g.P.Pages.state c.seek.new.pages in
-    let finds = c.seek.ensures.finds in
+    let lookups = c.seek.ensures.lookups in
     let here = dir c.args.names.now old z c.args.directory moment entries d in
     let s = (c.in_ok-sought.ensures.reported d.sound z d.size).0 in
     let sized = g.met.P.Pages.sized c.args.pages.now in
@@ -83,13 +83,13 @@ returns-clause-besides g c = λ z moment entries d only.
     let change : Change = c.in_ok-change.change in
     let m : PageMap = old.present in
     let head : DirectoryHead = record { spare = c.in_ok-sought.sought.head.spare; length = n - 1; moment = c.args.moment } in
-    let loses = subst (λ (k : PageMap). LosesSlot z k change c.args.directory head c.in-Some.found.place) finds.present
-    (c.in_ok-change.ensures.removes (finds.sound ∙ d.sound) z (d.size ∙ sym finds.page_bytes)) in
-    let turns = subst (λ (k : PageMap). HasOnly z k c.args.directory (n - 1 + 1) → HasOnly z (changed change k) c.args.directory (n - 1)) finds.present
-    (c.in_ok-change.ensures.besides (finds.sound ∙ d.sound) z (d.size ∙ sym finds.page_bytes)) in
-    let before : HasOnly z m c.args.directory (n - 1 + 1) = subst (HasOnly z m c.args.directory) (sym (count_is old mid finds z c.args.directory moment entries here sized c.in_ok-sought.sought.head s) ∙ back) only in
+    let loses = subst (λ (k : PageMap). LosesSlot z k change c.args.directory head c.in-Some.found.place) lookups.present
+    (c.in_ok-change.ensures.removes (lookups.sound ∙ d.sound) z (d.size ∙ sym lookups.page_bytes)) in
+    let turns = subst (λ (k : PageMap). HasOnly z k c.args.directory (n - 1 + 1) → HasOnly z (changed change k) c.args.directory (n - 1)) lookups.present
+    (c.in_ok-change.ensures.besides (lookups.sound ∙ d.sound) z (d.size ∙ sym lookups.page_bytes)) in
+    let before : HasOnly z m c.args.directory (n - 1 + 1) = subst (HasOnly z m c.args.directory) (sym (count_is old mid lookups z c.args.directory moment entries here sized c.in_ok-sought.sought.head s) ∙ back) only in
     let r = returns-clause-removes g c z moment entries d in
-    let count = count_after z (page_size old mid finds z c.args.directory moment entries here sized c.in_ok-sought.sought.head s) (changed change m) c.args.directory c.args.moment (map.remove entries c.args.name.now) r.0 head loses.header in
+    let count = count_after z (page_size old mid lookups z c.args.directory moment entries here sized c.in_ok-sought.sought.head s) (changed change m) c.args.directory c.args.moment (map.remove entries c.args.name.now) r.0 head loses.header in
     subst (HasOnly z (changed change m) c.args.directory) (sym count) (turns before)
 
 pub returns-clause-reported : goal.returns-clause-reported

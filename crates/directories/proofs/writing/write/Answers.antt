@@ -19,7 +19,7 @@ returns-in_err-slot_page-clause-fault g c = λ sound z size are.
 pub returns-clause-change : goal.returns-clause-change
 returns-clause-change g c =
     let old : PagesState = g.P.Pages.state c.args.pages.now in
-    let bytes : c.page_bytes.result ≡ old.page_bytes = c.page_bytes.ensures.bytes ∙ c.slot_page.ensures.finds.page_bytes in
+    let bytes : c.page_bytes.result ≡ old.page_bytes = c.page_bytes.ensures.bytes ∙ c.slot_page.ensures.lookups.page_bytes in
     let head_is = subst (λ n. IsHeadPage c.in_ok-head_page.head_page n c.args.directory c.args.head) bytes c.in_ok-head_page.ensures in
     let change : Change = record { pages = c.in_ok-pages.pages; cuts = c.new.result } in
     two_change c.args.directory old.page_bytes c.in_ok-slot_page.slot_page c.in_ok-head_page.head_page c.args.head c.in_ok-slot_page.ensures.sized head_is change c.in_ok-pages.ensures.items c.new.ensures.items
@@ -27,7 +27,7 @@ returns-clause-change g c =
 pub returns-clause-only : goal.returns-clause-only
 returns-clause-only g c =
     let old : PagesState = g.P.Pages.state c.args.pages.now in
-    let bytes : c.page_bytes.result ≡ old.page_bytes = c.page_bytes.ensures.bytes ∙ c.slot_page.ensures.finds.page_bytes in
+    let bytes : c.page_bytes.result ≡ old.page_bytes = c.page_bytes.ensures.bytes ∙ c.slot_page.ensures.lookups.page_bytes in
     let head_is = subst (λ n. IsHeadPage c.in_ok-head_page.head_page n c.args.directory c.args.head) bytes c.in_ok-head_page.ensures in
     let change : Change = record { pages = c.in_ok-pages.pages; cuts = c.new.result } in
     two_only c.args.directory old.page_bytes c.in_ok-slot_page.slot_page c.in_ok-head_page.head_page c.args.head c.in_ok-slot_page.ensures.sized head_is change c.in_ok-pages.ensures.items c.new.ensures.items
@@ -35,7 +35,7 @@ returns-clause-only g c =
 pub returns-clause-head : goal.returns-clause-head
 returns-clause-head g c =
     let old : PagesState = g.P.Pages.state c.args.pages.now in
-    let bytes : c.page_bytes.result ≡ old.page_bytes = c.page_bytes.ensures.bytes ∙ c.slot_page.ensures.finds.page_bytes in
+    let bytes : c.page_bytes.result ≡ old.page_bytes = c.page_bytes.ensures.bytes ∙ c.slot_page.ensures.lookups.page_bytes in
     let head_is = subst (λ n. IsHeadPage c.in_ok-head_page.head_page n c.args.directory c.args.head) bytes c.in_ok-head_page.ensures in
     let change : Change = record { pages = c.in_ok-pages.pages; cuts = c.new.result } in
     two_head c.args.directory old.page_bytes c.in_ok-slot_page.slot_page c.in_ok-head_page.head_page c.args.head c.in_ok-slot_page.ensures.sized head_is change c.in_ok-pages.ensures.items c.new.ensures.items
@@ -44,7 +44,7 @@ pub returns-clause-writes : goal.returns-clause-writes
 returns-clause-writes g c = λ sound z size.
     let old : PagesState = g.P.Pages.state c.args.pages.now in
     let m : PageMap = changed_by (option_copied c.args.earlier) old.present in
-    let bytes : c.page_bytes.result ≡ old.page_bytes = c.page_bytes.ensures.bytes ∙ c.slot_page.ensures.finds.page_bytes in
+    let bytes : c.page_bytes.result ≡ old.page_bytes = c.page_bytes.ensures.bytes ∙ c.slot_page.ensures.lookups.page_bytes in
     let head_is = subst (λ n. IsHeadPage c.in_ok-head_page.head_page n c.args.directory c.args.head) bytes c.in_ok-head_page.ensures in
     let change : Change = record { pages = c.in_ok-pages.pages; cuts = c.new.result } in
     let slot = c.in_ok-slot_page.ensures.page sound z size in (
@@ -57,7 +57,7 @@ returns-clause-writes g c = λ sound z size.
 pub returns-clause-pages : goal.returns-clause-pages
 returns-clause-pages g c = λ sound z size m.
     let old : PagesState = g.P.Pages.state c.args.pages.now in
-    let bytes : c.page_bytes.result ≡ old.page_bytes = c.page_bytes.ensures.bytes ∙ c.slot_page.ensures.finds.page_bytes in
+    let bytes : c.page_bytes.result ≡ old.page_bytes = c.page_bytes.ensures.bytes ∙ c.slot_page.ensures.lookups.page_bytes in
     let head_is = subst (λ n. IsHeadPage c.in_ok-head_page.head_page n c.args.directory c.args.head) bytes c.in_ok-head_page.ensures in
     let change : Change = record { pages = c.in_ok-pages.pages; cuts = c.new.result } in
     two_pages c.args.directory old.page_bytes c.in_ok-slot_page.slot_page c.in_ok-head_page.head_page c.args.head c.in_ok-slot_page.ensures.sized head_is change c.in_ok-pages.ensures.items c.new.ensures.items m z c.args.writing.number
@@ -66,7 +66,7 @@ returns-clause-pages g c = λ sound z size m.
 pub returns-clause-slot : goal.returns-clause-slot
 returns-clause-slot g c = λ sound z size.
     let old : PagesState = g.P.Pages.state c.args.pages.now in
-    let bytes : c.page_bytes.result ≡ old.page_bytes = c.page_bytes.ensures.bytes ∙ c.slot_page.ensures.finds.page_bytes in
+    let bytes : c.page_bytes.result ≡ old.page_bytes = c.page_bytes.ensures.bytes ∙ c.slot_page.ensures.lookups.page_bytes in
     let head_is = subst (λ n. IsHeadPage c.in_ok-head_page.head_page n c.args.directory c.args.head) bytes c.in_ok-head_page.ensures in
     let change : Change = record { pages = c.in_ok-pages.pages; cuts = c.new.result } in
     let slot = c.in_ok-slot_page.ensures.page sound z size in

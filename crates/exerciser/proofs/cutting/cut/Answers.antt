@@ -42,18 +42,18 @@ returns-in_err-standing-clause-reports g c =
 pub returns-in_err-done-clause-reports : goal.returns-in_err-done-clause-reports
 returns-in_err-done-clause-reports g c =
     let p = err_from_is_err_and c.from_residual-in_err-done.result c.from_residual-in_err-done.ensures.1 in
-    let few : c.loop-before.before < c.args.sessions = omega (arith, c.from-before-end.ensures) in
+    let within_limit : c.loop-before.before < c.args.sessions = omega (arith, c.from-before-end.ensures) in
     let x = issued c.args.nand c.args.seed c.args.script c.args.sessions in
     let was = c.loop-before.invariant in
     let here = device c.loop-before.standing.device in
     let of : IsAsked x c.loop-before.session = record { commands_are = ap (λ (v : Vec Stamped). v.items) was.commands; failures_are = was.failures; unmounts = was.unmounts } in
-    rw (p.1, p.2) (stops_silently x c.loop-before.before here c.loop-before.standing.tree _ _ c.in_err-done.field-0.0 (inl few) was.reported
+    rw (p.1, p.2) (stops_silently x c.loop-before.before here c.loop-before.standing.tree _ _ c.in_err-done.field-0.0 (inl within_limit) was.reported
     (not_done_stops x c.loop-before.before here c.loop-before.session c.in_err-done.field-0.0 of c.in_err-done.ensures.fault))
 
 pub returns-in_err-tell-clause-reports : goal.returns-in_err-tell-clause-reports
 returns-in_err-tell-clause-reports g c =
     let p = err_from_is_err_and c.from_residual-in_err-tell.result c.from_residual-in_err-tell.ensures.1 in
-    let few : c.loop-before.before < c.args.sessions = omega (arith, c.from-before-end.ensures) in
+    let within_limit : c.loop-before.before < c.args.sessions = omega (arith, c.from-before-end.ensures) in
     let count : c.len-commands.result ≡ length c.args.script.items = omega (arith, c.len-commands.ensures, c.args.script.ok.0) in
     let x = issued c.args.nand c.args.seed c.args.script c.args.sessions in
     let was = c.loop-before.invariant in
@@ -67,12 +67,12 @@ returns-in_err-tell-clause-reports g c =
     let reported = reported_as (g.W.Write.contents c.loop-before.writer) (g.W.Write.contents c.tell.new.writer) (c.loop-before.before + 1) c.in_ok-done.done.operation c.finding-finding.result (finding_of c.in_ok-done.done.seen)
     c.len-commands.result (length c.args.script.items) (Err c.in_err-tell.field-0.0) c.finding-finding.ensures count c.in_err-tell.ensures in
     rw (p.1, p.2) (stops_reporting x c.loop-before.before (device c.loop-before.standing.device) (device c.in_ok-done.done.device) c.loop-before.standing.tree _ _ (g.W.Write.contents c.tell.new.writer) was.reported done was.on
-    c.in_ok-done.done.seen few is_seen mounts c.in_err-tell.field-0.0 reported)
+    c.in_ok-done.done.seen within_limit is_seen mounts c.in_err-tell.field-0.0 reported)
 
 pub returns-in_err-standing-2-clause-reports : goal.returns-in_err-standing-2-clause-reports
 returns-in_err-standing-2-clause-reports g c =
     let p = err_from_is_err_and c.from_residual-in_err-standing-2.result c.from_residual-in_err-standing-2.ensures.1 in
-    let few : c.loop-before.before < c.args.sessions = omega (arith, c.from-before-end.ensures) in
+    let within_limit : c.loop-before.before < c.args.sessions = omega (arith, c.from-before-end.ensures) in
     let count : c.len-commands.result ≡ length c.args.script.items = omega (arith, c.len-commands.ensures, c.args.script.ok.0) in
     let x = issued c.args.nand c.args.seed c.args.script c.args.sessions in
     let was = c.loop-before.invariant in
@@ -86,11 +86,11 @@ returns-in_err-standing-2-clause-reports g c =
     let reported = reported_as (g.W.Write.contents c.loop-before.writer) (g.W.Write.contents c.tell.new.writer) (c.loop-before.before + 1) c.in_ok-done.done.operation c.finding-finding.result (finding_of c.in_ok-done.done.seen)
     c.len-commands.result (length c.args.script.items) (Ok tt) c.finding-finding.ensures count c.in_ok-tell.ensures in
     rw (p.1, p.2) (stops_torn x c.loop-before.before (device c.loop-before.standing.device) (device c.in_ok-done.done.device) c.loop-before.standing.tree _ _ (g.W.Write.contents c.tell.new.writer) was.reported done was.on
-    c.in_ok-done.done.seen few is_seen mounts c.in_err-standing-2.field-0.0 reported c.in_err-standing-2.ensures.torn.0 c.in_err-standing-2.ensures.torn.1)
+    c.in_ok-done.done.seen within_limit is_seen mounts c.in_err-standing-2.field-0.0 reported c.in_err-standing-2.ensures.torn.0 c.in_err-standing-2.ensures.torn.1)
 
 pub loop-before-preserved : goal.loop-before-preserved
 loop-before-preserved g c =
-    let few : c.loop-before.before < c.args.sessions = omega (arith, c.from-before-end.ensures) in
+    let within_limit : c.loop-before.before < c.args.sessions = omega (arith, c.from-before-end.ensures) in
     let count : c.len-commands.result ≡ length c.args.script.items = omega (arith, c.len-commands.ensures, c.args.script.ok.0) in
     let x = issued c.args.nand c.args.seed c.args.script c.args.sessions in
     let was = c.loop-before.invariant in

@@ -13,7 +13,7 @@ loop-place-preserved c =
     let reported : slice_get c.args.replies.now c.loop-place.place ≡ Some c.index-replies-place.result = slice_get_read c.args.replies.now (length c.args.replies.now) c.loop-place.place c.index-replies-place.result refl reported_at c.index-replies-place.is in
     elim c.if-is_synced.branch [
       | then-is_synced w ↦ record {
-        covers = λ i few sync. omega (arith, few, w.covered-is);
+        covers = λ i within_limit sync. omega (arith, within_limit, w.covered-is);
         least = λ k covers. omega (
           arith,
           w.covered-is,
@@ -22,11 +22,11 @@ loop-place-preserved c =
         within = omega (arith, w.covered-is);
       }
       | else-is_synced w ↦ record {
-        covers = λ i few sync. omega (
+        covers = λ i within_limit sync. omega (
           arith,
           w.covered-is,
           covers_other c.args.script.now c.args.replies.now c.loop-place.place c.loop-place.covered c.index-script-place.result c.index-replies-place.result
-              c.loop-place.invariant.covers issued reported (ap (λ x. is_synced x.command c.index-replies-place.result) c.index-script-place.is ∙ sym c.is_synced.ensures ∙ w.if-is_synced.false) i few sync,
+              c.loop-place.invariant.covers issued reported (ap (λ x. is_synced x.command c.index-replies-place.result) c.index-script-place.is ∙ sym c.is_synced.ensures ∙ w.if-is_synced.false) i within_limit sync,
         );
         least = λ k covers. omega (arith, w.covered-is, c.loop-place.invariant.least k covers);
         within = omega (arith, w.covered-is, c.loop-place.invariant.within);

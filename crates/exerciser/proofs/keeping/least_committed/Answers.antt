@@ -17,25 +17,25 @@ returns-then-branch-clause-covers c = covers_more c.args.script.now c.args.repli
 
 pub returns-then-branch-clause-least : goal.returns-then-branch-clause-least
 returns-then-branch-clause-least c =
-    let few : c.loop-done.done ≤ c.min-answered.result = omega arith in
-    let listed : Lists c.args.list.now (shown_after c.args.before.now c.args.script.now c.args.replies.now c.loop-done.done) = subst (λ (s : State). Lists c.args.list.now (settle s).objects) (c.loop-done.invariant.state few) (c.in_ok-has.ensures.listed.0 c.if-branch.true) in
+    let within_limit : c.loop-done.done ≤ c.min-answered.result = omega arith in
+    let listed : Lists c.args.list.now (shown_after c.args.before.now c.args.script.now c.args.replies.now c.loop-done.done) = subst (λ (s : State). Lists c.args.list.now (settle s).objects) (c.loop-done.invariant.state within_limit) (c.in_ok-has.ensures.listed.0 c.if-branch.true) in
     least_found c.args.before.now c.args.script.now c.args.replies.now (Lists c.args.list.now) c.loop-done.done (record {
       covers = covers_more c.args.script.now c.args.replies.now c.covered-covered.result c.loop-done.done c.loop-done.invariant.least c.loop-done.invariant.covers;
-      issued = omega (arith, few, c.min-answered.ensures);
-      answered = omega (arith, few, c.min-answered.ensures);
+      issued = omega (arith, within_limit, c.min-answered.ensures);
+      answered = omega (arith, within_limit, c.min-answered.ensures);
       such = listed;
     }) c.loop-done.invariant.none
 
 pub returns-then-branch-clause-shows : goal.returns-then-branch-clause-shows
 returns-then-branch-clause-shows c =
-    let few : c.loop-done.done ≤ c.min-answered.result = omega arith in
+    let within_limit : c.loop-done.done ≤ c.min-answered.result = omega arith in
     subst (λ (z : Sizes). IsTree z (shown_after c.args.before.now c.args.script.now c.args.replies.now c.loop-done.done)) c.loop-done.invariant.sizes
-    (subst (λ (s : State). IsTree c.loop-done.tree.sizes (settle s).objects) (c.loop-done.invariant.state few) c.in_ok-has.ensures.shows)
+    (subst (λ (s : State). IsTree c.loop-done.tree.sizes (settle s).objects) (c.loop-done.invariant.state within_limit) c.in_ok-has.ensures.shows)
 
 pub loop-done-preserved : goal.loop-done-preserved
 loop-done-preserved c =
-    let few : c.loop-done.done ≤ c.min-answered.result = omega arith in
-    let state = c.loop-done.invariant.state few in
+    let within_limit : c.loop-done.done ≤ c.min-answered.result = omega arith in
+    let state = c.loop-done.invariant.state within_limit in
     let none = none_next c.args.before.now c.args.script.now c.args.replies.now (Lists c.args.list.now) c.loop-done.done
     (λ listed. not_both c.in_ok-has.field-0 c.if-branch.false (c.in_ok-has.ensures.listed.1 (subst (λ (s : State). Lists c.args.list.now (settle s).objects) (sym state) listed))) c.loop-done.invariant.none in
     elim c.if-done-answered.branch [

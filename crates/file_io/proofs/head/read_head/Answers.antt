@@ -10,7 +10,7 @@ pub returns-clause-head : goal.returns-clause-head
 returns-clause-head g c = λ z moment all f.
     let old : PagesState = g.P.Pages.state c.args.pages.now in
     let page : List ℕ = c.page.result.now in
-    let size : length page ≡ old.page_bytes = c.page.ensures.size ∙ c.load.ensures.finds.page_bytes in
+    let size : length page ≡ old.page_bytes = c.page.ensures.size ∙ c.load.ensures.lookups.page_bytes in
     let two : Some page ≡ Some (header_bytes f.reads.fields) = sym (c.in_ok-load.ensures.page f.sound ∙ ap Some (sym c.page.ensures.bytes)) ∙ f.reads.has.0 in
     let same : page ≡ header_bytes f.reads.fields = cc in
     let is : IsHeaderOf page f.reads.fields = record { valid = subst (λ n. IsHeader n f.reads.fields) (f.size ∙ sym size) f.reads.has.1; encodes = same } in
@@ -28,7 +28,7 @@ returns-clause-valid g c =
     let f : Fields = fields_of c.in_ok-header.header in
     let page : List ℕ = c.page.result.now in
     let found = c.in_ok-header.ensures.found in
-    let size : length page ≡ old.page_bytes = c.page.ensures.size ∙ c.load.ensures.finds.page_bytes in
+    let size : length page ≡ old.page_bytes = c.page.ensures.size ∙ c.load.ensures.lookups.page_bytes in
     let copied : c.in_ok-copied_page.field-0.items ≡ page = search rules in
     let bits : drop 32 c.in_ok-copied_page.field-0.items ≡ f.bits = ap (drop 32) (copied ∙ found.encodes) ∙ bits_at f in
     subst (λ (xs : List ℕ). IsHeader old.page_bytes (file_fields f.length f.moment xs)) (sym bits)
@@ -40,7 +40,7 @@ returns-clause-reported g c = λ sound.
     let f : Fields = fields_of c.in_ok-header.header in
     let page : List ℕ = c.page.result.now in
     let found = c.in_ok-header.ensures.found in
-    let size : length page ≡ old.page_bytes = c.page.ensures.size ∙ c.load.ensures.finds.page_bytes in
+    let size : length page ≡ old.page_bytes = c.page.ensures.size ∙ c.load.ensures.lookups.page_bytes in
     let copied : c.in_ok-copied_page.field-0.items ≡ page = search rules in
     let bits : drop 32 c.in_ok-copied_page.field-0.items ≡ f.bits = ap (drop 32) (copied ∙ found.encodes) ∙ bits_at f in (
       record {

@@ -33,17 +33,17 @@ loop-index-preserved g c =
     let d : ℕ = c.from-page_bytes.result in
     let old : PagesState = g.P.Pages.state c.args.pages.now in
     let now : PagesState = g.P.Pages.state c.loop-index.pages in
-    let size : d ≡ now.page_bytes = c.from-page_bytes.ensures ∙ c.page_bytes.ensures.bytes ∙ sym c.loop-index.invariant.finds.page_bytes in
+    let size : d ≡ now.page_bytes = c.from-page_bytes.ensures ∙ c.page_bytes.ensures.bytes ∙ sym c.loop-index.invariant.lookups.page_bytes in
     let some : 1 ≤ d = omega (arith, c.from-page_bytes.ensures, c.page_bytes.ensures.least) in
     let low : c.args.offset / d ≤ c.loop-index.index = c.loop-index.auto.index in
     record {
-      finds = finds_on _ _ _ c.loop-index.invariant.finds c.read_part.ensures.finds;
-      power = c.in_ok-read_part.ensures.power ∙ c.loop-index.invariant.power;
+      lookups = finds_on _ _ _ c.loop-index.invariant.lookups c.read_part.ensures.looks.lookups;
+      power = c.in_ok-read_part.ensures.looks.power ∙ c.loop-index.invariant.power;
       issued = omega (arith, low, c.loop-index.invariant.issued, c.read_part.ensures.issued);
       holes = λ sound.
-          let committed : now.present ≡ old.present = c.loop-index.invariant.finds.present in
+          let committed : now.present ≡ old.present = c.loop-index.invariant.lookups.present in
           count_next old.present c.args.object (c.args.offset / d) c.loop-index.index old.issued now.issued (g.P.Pages.state c.read_part.new.pages).issued low (c.loop-index.invariant.holes sound)
-          (subst (λ (m : PageMap). (g.P.Pages.state c.read_part.new.pages).issued ≤ now.issued + one_page (m c.args.object (1 + c.loop-index.index))) committed (c.read_part.ensures.holes (c.loop-index.invariant.finds.sound ∙ sound)));
+          (subst (λ (m : PageMap). (g.P.Pages.state c.read_part.new.pages).issued ≤ now.issued + one_page (m c.args.object (1 + c.loop-index.index))) committed (c.read_part.ensures.holes (c.loop-index.invariant.lookups.sound ∙ sound)));
       size = c.read_part.ensures.size ∙ c.loop-index.invariant.size;
       rest = c.read_part.ensures.rest ∙ c.loop-index.invariant.rest;
       read = λ z moment all f only same.
@@ -51,11 +51,11 @@ loop-index-preserved g c =
           let within : c.min-end.result ≤ length all = omega (arith, end, same) in
           let begins : c.loop-index.index * d < c.min-end.result = begins_before d c.loop-index.index c.min-end.result (omega (arith, c.if-end-offset.false)) c.loop-index-test.true in
           let ends : c.args.offset < c.loop-index.index * d + d = ends_behind d c.loop-index.index c.args.offset some low in
-          let put = c.in_ok-read_part.ensures.part z moment all (later old now z c.args.object moment all c.loop-index.invariant.finds f) (only_later old now c.args.object f.reads.fields c.loop-index.invariant.finds only) within in
+          let put = c.in_ok-read_part.ensures.part z moment all (later old now z c.args.object moment all c.loop-index.invariant.lookups f) (only_later old now c.args.object f.reads.fields c.loop-index.invariant.lookups only) within in
           next_part d c.loop-index.index (c.loop-index.index + 1) c.args.offset c.min-end.result all c.args.buffer.now c.loop-index.buffer c.read_part.new.buffer refl c.if-end-offset.false begins ends within
           (c.loop-index.invariant.read z moment all f only same)
           (subst (λ m. c.read_part.new.buffer ≡ overwritten c.loop-index.buffer (part_from m c.loop-index.index c.args.offset - c.args.offset) (part_of m c.loop-index.index c.args.offset c.min-end.result all))
-          (sym (size ∙ c.loop-index.invariant.finds.page_bytes ∙ sym f.size)) put);
+          (sym (size ∙ c.loop-index.invariant.lookups.page_bytes ∙ sym f.size)) put);
     }
 
 pub returns-clause-read : goal.returns-clause-read
@@ -83,11 +83,15 @@ returns-clause-count g c =
     range_end c.args.offset n c.args.len c.min-end.result (c.min-end.ensures ∙ ap (min c.args.len) c.saturating_add.ensures) c.ranges.len.fits in
     omega (arith, end, c.if-end-offset.false)
 
-pub returns-in_err-read_part-clause-fault : goal.returns-in_err-read_part-clause-fault
-returns-in_err-read_part-clause-fault g c =
+pub returns-in_err-read_part-clause-looks : goal.returns-in_err-read_part-clause-looks
+returns-in_err-read_part-clause-looks g c =
     let p = err_from_is_err_and c.from_residual.result c.from_residual.ensures.1 in
-    rw (p.1, p.2) (lacks_on (g.P.Pages.state c.args.pages.now) (g.P.Pages.state c.loop-index.pages) (g.P.Pages.state c.read_part.new.pages) c.in_err-read_part.field-0.0
-    c.loop-index.invariant.finds.refused c.in_err-read_part.ensures.fault)
+    rw (p.1, p.2) (record {
+      lookups = finds_on _ _ _ c.loop-index.invariant.lookups c.read_part.ensures.looks.lookups;
+      power = tt;
+      why = lacks_on (g.P.Pages.state c.args.pages.now) (g.P.Pages.state c.loop-index.pages) (g.P.Pages.state c.read_part.new.pages) c.in_err-read_part.field-0.0 c.loop-index.invariant.lookups.refused
+          c.in_err-read_part.ensures.looks.why;
+    })
 
 pub returns-in_err-read_part-clause-issued : goal.returns-in_err-read_part-clause-issued
 returns-in_err-read_part-clause-issued g c =
@@ -125,9 +129,9 @@ returns-in_err-read_part-clause-holes g c = λ sound.
     let low : c.args.offset / d ≤ c.loop-index.index = c.loop-index.auto.index in
     let up : c.loop-index.index < (c.min-end.result - 1) / d + 1 = c.loop-index-test.true in
     let n : ℕ = c.loop-index.index + 1 - c.args.offset / d in
-    let committed : now.present ≡ old.present = c.loop-index.invariant.finds.present in
+    let committed : now.present ≡ old.present = c.loop-index.invariant.lookups.present in
     let one : new ≤ now.issued + one_page (old.present c.args.object (1 + c.loop-index.index)) =
-    subst (λ (m : PageMap). new ≤ now.issued + one_page (m c.args.object (1 + c.loop-index.index))) committed (c.read_part.ensures.holes (c.loop-index.invariant.finds.sound ∙ sound)) in
+    subst (λ (m : PageMap). new ≤ now.issued + one_page (m c.args.object (1 + c.loop-index.index))) committed (c.read_part.ensures.holes (c.loop-index.invariant.lookups.sound ∙ sound)) in
     counted_for d old.page_bytes c.args.offset (length c.args.buffer.now) c.args.len c.min-end.result n old.present c.args.object old.issued new size end c.if-end-offset.false
     (count_next old.present c.args.object (c.args.offset / d) c.loop-index.index old.issued now.issued new low (c.loop-index.invariant.holes sound) one) (omega (arith, up))
 

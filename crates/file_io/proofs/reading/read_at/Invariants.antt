@@ -8,7 +8,7 @@ use Rattle.file_io.proofs.reading.read_at.Given as goal
 
 abbrev pub invariant-loop-index : goal.invariant-loop-index
 invariant-loop-index g l = record {
-  finds : OnlyFinds (g.P.Pages.state l.fn.pages) (g.P.Pages.state l.pages);
+  lookups : OnlyFinds (g.P.Pages.state l.fn.pages) (g.P.Pages.state l.pages);
   power : KeepsPower (g.P.Pages.state l.fn.pages) (g.P.Pages.state l.pages);
   issued : (g.P.Pages.state l.pages).issued ≤ (g.P.Pages.state l.fn.pages).issued + (l.index - l.offset / l.page_bytes);
   holes : (g.P.Pages.state l.fn.pages).sound ≡ true → (g.P.Pages.state l.pages).issued ≤ (g.P.Pages.state l.fn.pages).issued + count_pages (g.P.Pages.state l.fn.pages).present l.object (1 + l.offset / l.page_bytes) (l.index - l.offset / l.page_bytes);

@@ -36,7 +36,7 @@ pub returns-then-head-moment-clause-sets : goal.returns-then-head-moment-clause-
 returns-then-head-moment-clause-sets g c = λ z before all f.
     let old : PagesState = g.P.Pages.state c.args.pages.now in
     let d : ℕ = c.from-size.result in
-    let size : d ≡ z.page_bytes = c.from-size.ensures ∙ c.page_bytes.ensures.bytes ∙ c.read_head.ensures.finds.page_bytes ∙ sym f.size in
+    let size : d ≡ z.page_bytes = c.from-size.ensures ∙ c.page_bytes.ensures.bytes ∙ c.read_head.ensures.looks.lookups.page_bytes ∙ sym f.size in
     let some : 1 ≤ d = omega (arith, c.from-size.ensures, c.page_bytes.ensures.least) in
     let head = c.in_ok-head.ensures.head z before all f in
     resize_same old z c.args.object before all f d size some c.in_ok-head.head.length (head.length_is ∙ f.reads.size) (bits_in c.in_ok-head.head) head.bits c.args.len c.args.moment
@@ -46,26 +46,26 @@ pub returns-in_err-change-clause-issued : goal.returns-in_err-change-clause-issu
 returns-in_err-change-clause-issued g c = λ z before all f.
     let head = c.in_ok-head.ensures.head z before all f in
     asked_up c.in_ok-head.head.length (length all) c.args.len c.tail_limit-limit.result (g.P.Pages.state c.read_head.new.pages).page_bytes (g.P.Pages.state c.args.pages.now).issued (g.P.Pages.state c.read_head.new.pages).issued (g.P.Pages.state c.tail_pages.new.pages).issued
-    (head.length_is ∙ f.reads.size) c.read_head.ensures.issued c.tail_pages.ensures.issued c.tail_limit-limit.ensures.cuts c.tail_pages.ensures.unasked
+    (head.length_is ∙ f.reads.size) c.read_head.ensures.issued c.tail_pages.ensures.issued c.tail_limit-limit.ensures.cuts c.tail_pages.ensures.none_issued
 
 pub returns-in_err-change-clause-fault : goal.returns-in_err-change-clause-fault
 returns-in_err-change-clause-fault g c = λ z before all f.
     let old : PagesState = g.P.Pages.state c.args.pages.now in
     let now : PagesState = g.P.Pages.state c.read_head.new.pages in
     let p = err_from_is_err_and c.from_residual-in_err-change.result c.from_residual-in_err-change.ensures.1 in
-    rw (p.1, p.2) (c.in_err-change.ensures.fault z before all (later old now z c.args.object before all c.read_head.ensures.finds f) (c.in_ok-head.ensures.head z before all f))
+    rw (p.1, p.2) (c.in_err-change.ensures.fault z before all (later old now z c.args.object before all c.read_head.ensures.looks.lookups f) (c.in_ok-head.ensures.head z before all f))
 
 pub returns-in_err-change-2-clause-issued : goal.returns-in_err-change-2-clause-issued
 returns-in_err-change-2-clause-issued g c = λ z before all f.
     let head = c.in_ok-head.ensures.head z before all f in
     asked_up c.in_ok-head.head.length (length all) c.args.len c.tail_limit-limit.result (g.P.Pages.state c.read_head.new.pages).page_bytes (g.P.Pages.state c.args.pages.now).issued (g.P.Pages.state c.read_head.new.pages).issued (g.P.Pages.state c.tail_pages.new.pages).issued
-    (head.length_is ∙ f.reads.size) c.read_head.ensures.issued c.tail_pages.ensures.issued c.tail_limit-limit.ensures.cuts c.tail_pages.ensures.unasked
+    (head.length_is ∙ f.reads.size) c.read_head.ensures.issued c.tail_pages.ensures.issued c.tail_limit-limit.ensures.cuts c.tail_pages.ensures.none_issued
 
 pub head_page-requires-clause-valid : goal.head_page-requires-clause-valid
 head_page-requires-clause-valid g c = λ bytes.
     let old : PagesState = g.P.Pages.state c.args.pages.now in
     let d : ℕ = c.from-size.result in
-    let size_old : d ≡ old.page_bytes = c.from-size.ensures ∙ c.page_bytes.ensures.bytes ∙ c.read_head.ensures.finds.page_bytes in
+    let size_old : d ≡ old.page_bytes = c.from-size.ensures ∙ c.page_bytes.ensures.bytes ∙ c.read_head.ensures.looks.lookups.page_bytes in
     let len : ℕ = c.in_ok-head.head.length in
     let bits : List ℕ = (bits_in c.in_ok-head.head) in
     let valid : IsHeader d (file_fields len c.in_ok-head.head.moment bits) = subst (λ x. IsHeader x (file_fields len c.in_ok-head.head.moment bits)) (sym size_old) c.in_ok-head.ensures.valid in
@@ -86,13 +86,13 @@ pub returns-in_err-push-clause-issued : goal.returns-in_err-push-clause-issued
 returns-in_err-push-clause-issued g c = λ z before all f.
     let head = c.in_ok-head.ensures.head z before all f in
     asked_up c.in_ok-head.head.length (length all) c.args.len c.tail_limit-limit.result (g.P.Pages.state c.read_head.new.pages).page_bytes (g.P.Pages.state c.args.pages.now).issued (g.P.Pages.state c.read_head.new.pages).issued (g.P.Pages.state c.tail_pages.new.pages).issued
-    (head.length_is ∙ f.reads.size) c.read_head.ensures.issued c.tail_pages.ensures.issued c.tail_limit-limit.ensures.cuts c.tail_pages.ensures.unasked
+    (head.length_is ∙ f.reads.size) c.read_head.ensures.issued c.tail_pages.ensures.issued c.tail_limit-limit.ensures.cuts c.tail_pages.ensures.none_issued
 
 pub returns-clause-issued : goal.returns-clause-issued
 returns-clause-issued g c = λ z before all f.
     let head = c.in_ok-head.ensures.head z before all f in
     asked_up c.in_ok-head.head.length (length all) c.args.len c.tail_limit-limit.result (g.P.Pages.state c.read_head.new.pages).page_bytes (g.P.Pages.state c.args.pages.now).issued (g.P.Pages.state c.read_head.new.pages).issued (g.P.Pages.state c.tail_pages.new.pages).issued
-    (head.length_is ∙ f.reads.size) c.read_head.ensures.issued c.tail_pages.ensures.issued c.tail_limit-limit.ensures.cuts c.tail_pages.ensures.unasked
+    (head.length_is ∙ f.reads.size) c.read_head.ensures.issued c.tail_pages.ensures.issued c.tail_limit-limit.ensures.cuts c.tail_pages.ensures.none_issued
 
 pub returns-clause-sets : goal.returns-clause-sets
 returns-clause-sets g c = λ z before all f.
@@ -100,7 +100,7 @@ returns-clause-sets g c = λ z before all f.
     let now : PagesState = g.P.Pages.state c.read_head.new.pages in
     let d : ℕ = c.from-size.result in
     let size_now : d ≡ now.page_bytes = c.from-size.ensures ∙ c.page_bytes.ensures.bytes in
-    let size : d ≡ z.page_bytes = size_now ∙ c.read_head.ensures.finds.page_bytes ∙ sym f.size in
+    let size : d ≡ z.page_bytes = size_now ∙ c.read_head.ensures.looks.lookups.page_bytes ∙ sym f.size in
     let some : 1 ≤ d = omega (arith, c.from-size.ensures, c.page_bytes.ensures.least) in
     let head = c.in_ok-head.ensures.head z before all f in
     let len : ℕ = c.in_ok-head.head.length in
@@ -109,7 +109,7 @@ returns-clause-sets g c = λ z before all f.
     let pages : List FreshPage = c.in_ok-change.field-0.items in
     let of : AreOf c.args.object (IsTail d len bits limit) pages = subst (λ x. AreOf c.args.object (IsTail x len bits limit) pages) (sym size_now) c.in_ok-change.ensures.of in
     let hold : HoldChunks d all pages =
-    subst (λ x. HoldChunks x all pages) (sym size_now) (c.in_ok-change.ensures.hold z before all (later old now z c.args.object before all c.read_head.ensures.finds f) head) in
+    subst (λ x. HoldChunks x all pages) (sym size_now) (c.in_ok-change.ensures.hold z before all (later old now z c.args.object before all c.read_head.ensures.looks.lookups f) head) in
     let change : Change = record { pages = c.push.new.self; cuts = c.in_ok-change-2.field-0 } in
     let q : FreshPage = c.head_page.result in
     let items : c.push.new.self.items ≡ pages ++ q ∷ [] = c.in_ok-push.ensures.items in
@@ -117,7 +117,7 @@ returns-clause-sets g c = λ z before all f.
     let page_is : page ≡ c.cut_chunks.new.page = with_items_is c.in_ok-head.head.page c.cut_chunks.new.page (search (rules, places)) in
     let was : c.deref_mut.result.now ≡ c.in_ok-head.head.page.items = c.deref_mut.ensures.value in
     let same : length c.cut_chunks.new.page ≡ length c.deref_mut.result.now = search rules in
-    let long : length page ≡ d = ap length page_is ∙ same ∙ ap length was ∙ c.in_ok-head.ensures.size ∙ sym (size_now ∙ c.read_head.ensures.finds.page_bytes) in
+    let long : length page ≡ d = ap length page_is ∙ same ∙ ap length was ∙ c.in_ok-head.ensures.size ∙ sym (size_now ∙ c.read_head.ensures.looks.lookups.page_bytes) in
     let now_bits : List ℕ = drop 32 page in
     let valid : IsHeader d (file_fields c.args.len c.args.moment now_bits) = subst (λ x. IsHeader x (file_fields c.args.len c.args.moment now_bits)) long c.head_page.ensures.valid in
     resize_new old z c.args.object before all f d size some len (head.length_is ∙ f.reads.size) bits head.bits c.args.len c.args.moment limit c.tail_limit-limit.ensures.grows c.tail_limit-limit.ensures.cuts pages of hold
@@ -153,7 +153,7 @@ returns-clause-change g c =
     let q : FreshPage = c.head_page.result in
     let items : c.push.new.self.items ≡ pages ++ q ∷ [] = c.in_ok-push.ensures.items in
     let of = header_push c.args.object IsOne pages q c.in_ok-change.ensures.of (λ tail. omega (arith, tail.chunk)) c.head_page.ensures.object c.head_page.ensures.chunk in
-    let same : now.page_bytes ≡ old.page_bytes = c.read_head.ensures.finds.page_bytes in
+    let same : now.page_bytes ≡ old.page_bytes = c.read_head.ensures.looks.lookups.page_bytes in
     let page : List ℕ = (with_items c.in_ok-head.head.page c.cut_chunks.new.page).items in
     let page_is : page ≡ c.cut_chunks.new.page = with_items_is c.in_ok-head.head.page c.cut_chunks.new.page (search (rules, places)) in
     let committed : length c.cut_chunks.new.page ≡ length c.deref_mut.result.now = search rules in
@@ -163,7 +163,7 @@ returns-clause-change g c =
       apart = (subst (λ (xs : List FreshPage). AreOf c.args.object (OrHeader IsOne) xs) (sym items) of).apart;
       size = subst (λ (xs : List FreshPage). AreSized xs old.page_bytes) (sym items)
           (each_push (λ i p. length p.bytes.items ≡ old.page_bytes) pages q (subst (AreSized pages) same c.in_ok-change.ensures.sized) (λ i. size));
-      few = omega (arith, long, c.in_ok-change.ensures.few);
+      within_limit = omega (arith, long, c.in_ok-change.ensures.within_limit);
     }
 
 pub returns-then-head-moment-clause-reported : goal.returns-then-head-moment-clause-reported
@@ -176,7 +176,7 @@ returns-clause-reported g c = λ sound.
     let old : PagesState = g.P.Pages.state c.args.pages.now in
     let now : PagesState = g.P.Pages.state c.read_head.new.pages in
     let d : ℕ = c.from-size.result in
-    let finds = c.read_head.ensures.finds in
+    let lookups = c.read_head.ensures.looks.lookups in
     let size_now : d ≡ now.page_bytes = c.from-size.ensures ∙ c.page_bytes.ensures.bytes in
     let some : 1 ≤ d = omega (arith, c.from-size.ensures, c.page_bytes.ensures.least) in
     let s = c.in_ok-head.ensures.reported sound in (
@@ -186,11 +186,11 @@ returns-clause-reported g c = λ sound.
           let limit : c.tail_limit-limit.result ≡ (c.args.len + d - 1) / d = c.tail_limit-limit.ensures.grows grows in
           let before : c.in_ok-head.head.length / now.page_bytes < c.tail_limit-limit.result =
           subst (λ x. c.in_ok-head.head.length / x < c.tail_limit-limit.result) size_now (subst (λ n. c.in_ok-head.head.length / d < n) (sym limit) (grows_past d c.in_ok-head.head.length c.args.len some grows)) in
-          last_at_entry old now finds c.args.object c.in_ok-head.head s (c.in_ok-change.ensures.reported (finds.sound ∙ sound) before),
+          last_at_entry old now lookups c.args.object c.in_ok-head.head s (c.in_ok-change.ensures.reported (lookups.sound ∙ sound) before),
     )
 
 pub returns-in_err-push-clause-looks : goal.returns-in_err-push-clause-looks
-returns-in_err-push-clause-looks g c = record { finds = search rules; power = search rules; why = search rules }
+returns-in_err-push-clause-looks g c = record { lookups = search rules; power = search rules; why = search rules }
 
 pub returns-clause-looks : goal.returns-clause-looks
-returns-clause-looks g c = record { finds = search rules; power = search rules; why = search rules }
+returns-clause-looks g c = record { lookups = search rules; power = search rules; why = search rules }

@@ -15,7 +15,7 @@ returns-in-Ok-Some g c =
     (let a = c.in-Ok-Some.is in let b = c.in-Ok-Some.field-0-is in let d = c.in-Ok-Some.listing-is in cc) in (
       c.list.result,
       state c.list.new.self,
-      record { finds = ensured.finds; says = ensured.lists; why = ensured.fault },
+      record { lookups = ensured.lookups; says = ensured.lists; why = ensured.fault },
       list_ends _ _ _ _ _ reported (
         refl,
         to_z-of_z w64 c.put_listing.result (search (c.put_listing.type_inv)) ∙ c.put_listing.ensures.number
@@ -31,7 +31,7 @@ returns-in-Ok-None g c =
     let reported : c.list.result ≡ Ok None = (let a = c.in-Ok-None.is in let b = c.in-Ok-None.field-0-is in cc) in (
       c.list.result,
       state c.list.new.self,
-      record { finds = ensured.finds; says = ensured.lists; why = ensured.fault },
+      record { lookups = ensured.lookups; says = ensured.lists; why = ensured.fault },
       list_ends _ _ _ _ _ reported (
         (
           m.0,
@@ -46,7 +46,7 @@ pub returns-in-Err : goal.returns-in-Err
 returns-in-Err g c = let ensured = c.list.ensures in (
   c.list.result,
   state c.list.new.self,
-  record { finds = ensured.finds; says = ensured.lists; why = ensured.fault },
+  record { lookups = ensured.lookups; says = ensured.lists; why = ensured.fault },
   list_ends _ _ _ _ _ c.in-Err.is (
     refl,
     to_z-of_z w64 c.from-in-Err.result (search (c.from-in-Err.type_inv)) ∙ c.from-in-Err.ensures

@@ -13,7 +13,7 @@ returns-in-Ok-Some-Bytes g c =
     (let i = c.in-Ok-Some-Bytes.is in let j = c.in-Ok-Some-Bytes.field-0-is in let k = c.in-Ok-Some-Bytes.field-0-0-is in let l = c.in-Ok-Some-Bytes.count-is in cc) in (
       c.read_at.result,
       state c.read_at.new.self,
-      record { finds = e.finds; says = e.reads; why = e.fault },
+      record { lookups = e.lookups; says = e.reads; why = e.fault },
       record { size = e.size; rest = e.rest; stays = e.stays },
       read_ends (read_of c.args.file c.args.offset c.args.buffer.now _ c.read_at.new.buffer) _ _ _ _ reported (refl, to_z-of_z w64 c.signed.result (search (c.signed.type_inv)) ∙ c.signed.ensures),
     )
@@ -25,7 +25,7 @@ returns-in-Ok-Some-Lost g c =
     (let i = c.in-Ok-Some-Lost.is in let j = c.in-Ok-Some-Lost.field-0-is in let k = c.in-Ok-Some-Lost.field-0-0-is in cc) in (
       c.read_at.result,
       state c.read_at.new.self,
-      record { finds = e.finds; says = e.reads; why = e.fault },
+      record { lookups = e.lookups; says = e.reads; why = e.fault },
       record { size = e.size; rest = e.rest; stays = e.stays },
       read_ends (read_of c.args.file c.args.offset c.args.buffer.now _ c.read_at.new.buffer) _ _ _ _ reported (refl, refl),
     )
@@ -36,7 +36,7 @@ returns-in-Ok-None g c =
     let reported : c.read_at.result ≡ Ok None = (let a = c.in-Ok-None.is in let b = c.in-Ok-None.field-0-is in cc) in (
       c.read_at.result,
       state c.read_at.new.self,
-      record { finds = e.finds; says = e.reads; why = e.fault },
+      record { lookups = e.lookups; says = e.reads; why = e.fault },
       record { size = e.size; rest = e.rest; stays = e.stays },
       read_ends (read_of c.args.file c.args.offset c.args.buffer.now _ c.read_at.new.buffer) _ _ _ _ reported (
         m.0,
@@ -49,7 +49,7 @@ pub returns-in-Err : goal.returns-in-Err
 returns-in-Err g c = let e = c.read_at.ensures in (
   c.read_at.result,
   state c.read_at.new.self,
-  record { finds = e.finds; says = e.reads; why = e.fault },
+  record { lookups = e.lookups; says = e.reads; why = e.fault },
   record { size = e.size; rest = e.rest; stays = e.stays },
   read_ends (read_of c.args.file c.args.offset c.args.buffer.now _ c.read_at.new.buffer) _ _ _ _ c.in-Err.is (
     refl,

@@ -1,7 +1,7 @@
 use Rattle.std.proofs.Common.{◌∙◌, ◌+◌, refl, inl, inr, w32}
 use Rattle.std.proofs.lemmas.Int.{to_z-of_z}
 use Rattle.posix_calls.specs.laws.Formatted.{starts_consistent}
-use Rattle.flash_c.proofs.Formats.{reason, enough}
+use Rattle.flash_c.proofs.Formats.{reason, sufficient}
 use Rattle.flash_c.proofs.devices.format_device.Goals as goal
 
 pub returns-in-Ok : goal.returns-in-Ok
@@ -10,7 +10,7 @@ returns-in-Ok g c = let ensured = c.in-Ok.ensures in record {
   ends = inl (
     refl,
     record {
-      room = enough _ (c.args.spare + 4) ensured.spare.1;
+      room = sufficient _ (c.args.spare + 4) ensured.spare.1;
       power = ensured.has_power;
       few_bad = ensured.few_bad;
       sound = λ honest. (ensured.formatted honest).sound;

@@ -94,7 +94,7 @@ returns-then-placed-clause-leaves g c =
     let w = c.write_checkpoint.ensures in
     let after = c.in-Ok.ensures.checked in
     leaves_noted ghosts c.args.checks.now d e t u c.write_checkpoint.result c.args.block c.requires.take.open_block c.requires.ready w.lasts w.group (written c.args.checks.now c.args.block d t c.requires.list c.requires.take) (table c.note.new.blocks) c.note.ensures w.ready c.requires.number (w.group.quiet tt)
-    (λ lists honest was. after honest (written c.args.checks.now c.args.block d t c.requires.list c.requires.take honest) (lists honest) was c.args.block c.requires.take.open_block)
+    (λ lists honest was. after (record { honest = honest; writes = written c.args.checks.now c.args.block d t c.requires.list c.requires.take honest; tree = lists honest }) was c.args.block c.requires.take.open_block)
 
 pub returns-then-placed-clause-block : goal.returns-then-placed-clause-block
 returns-then-placed-clause-block g c =
@@ -123,7 +123,7 @@ returns-else-placed-clause-leaves g c =
     let w = c.write_checkpoint.ensures in
     let after = c.in-Ok.ensures.checked in
     leaves_noted ghosts c.args.checks.now d e t u c.write_checkpoint.result c.args.block c.requires.take.open_block c.requires.ready w.lasts w.group (written c.args.checks.now c.args.block d t c.requires.list c.requires.take) (table c.note.new.blocks) c.note.ensures w.ready c.requires.number (w.group.quiet tt)
-    (λ lists honest was. after honest (written c.args.checks.now c.args.block d t c.requires.list c.requires.take honest) (lists honest) was c.args.block c.requires.take.open_block)
+    (λ lists honest was. after (record { honest = honest; writes = written c.args.checks.now c.args.block d t c.requires.list c.requires.take honest; tree = lists honest }) was c.args.block c.requires.take.open_block)
 
 pub returns-else-placed-clause-block : goal.returns-else-placed-clause-block
 returns-else-placed-clause-block g c =
@@ -152,7 +152,7 @@ returns-in-Err-Gone-clause-leaves g c =
     let w = c.write_checkpoint.ensures in
     let after = (rw c.in-Err-Gone.field-0-is at c.in-Err-Gone.ensures.checked) in
     leaves_noted ghosts c.args.checks.now d e t u c.write_checkpoint.result c.args.block c.requires.take.open_block c.requires.ready w.lasts w.group (written c.args.checks.now c.args.block d t c.requires.list c.requires.take) (table c.note-in-Err-Gone.new.blocks) c.note-in-Err-Gone.ensures w.ready c.requires.number (w.group.quiet tt)
-    (λ lists honest was. after honest (written c.args.checks.now c.args.block d t c.requires.list c.requires.take honest) (lists honest) was c.args.block c.requires.take.open_block)
+    (λ lists honest was. after (record { honest = honest; writes = written c.args.checks.now c.args.block d t c.requires.list c.requires.take honest; tree = lists honest }) was c.args.block c.requires.take.open_block)
 
 pub returns-in-Err-Gone-clause-block : goal.returns-in-Err-Gone-clause-block
 returns-in-Err-Gone-clause-block g c =
@@ -183,7 +183,7 @@ returns-in-Err-Failed-clause-leaves g c =
     let after = rw c.in-Err-Failed.field-0-is at c.in-Err-Failed.ensures.checked in
     let ends = rw c.in-Err-Failed.field-0-is at c.in-Err-Failed.ensures.group.table in
     leaves_group ghosts c.args.checks.now d e t u c.write_checkpoint.result c.args.block c.requires.take.open_block c.requires.ready w.lasts w.group (written c.args.checks.now c.args.block d t c.requires.list c.requires.take) w.ready c.requires.number (w.group.quiet tt) (ap (λ (x : Table). x.open_block) ends) (ap (λ (x : Table). x.checkpoint) ends)
-    (λ lists honest was. after honest (written c.args.checks.now c.args.block d t c.requires.list c.requires.take honest) (lists honest) was c.args.block c.requires.take.open_block)
+    (λ lists honest was. after (record { honest = honest; writes = written c.args.checks.now c.args.block d t c.requires.list c.requires.take honest; tree = lists honest }) was c.args.block c.requires.take.open_block)
 
 pub returns-in-Err-Failed-clause-block : goal.returns-in-Err-Failed-clause-block
 returns-in-Err-Failed-clause-block g c =
@@ -215,7 +215,7 @@ returns-in-Err-Lost-clause-leaves g c =
     let after = rw c.in-Err-Lost.field-0-is at c.in-Err-Lost.ensures.checked in
     let ends = rw c.in-Err-Lost.field-0-is at c.in-Err-Lost.ensures.group.table in
     leaves_group ghosts c.args.checks.now d e t u c.write_checkpoint.result c.args.block c.requires.take.open_block c.requires.ready w.lasts w.group (written c.args.checks.now c.args.block d t c.requires.list c.requires.take) w.ready c.requires.number (w.group.quiet tt) (ap (λ (x : Table). x.open_block) ends) (ap (λ (x : Table). x.checkpoint) ends)
-    (λ lists honest was. after honest (written c.args.checks.now c.args.block d t c.requires.list c.requires.take honest) (lists honest) was c.args.block c.requires.take.open_block)
+    (λ lists honest was. after (record { honest = honest; writes = written c.args.checks.now c.args.block d t c.requires.list c.requires.take honest; tree = lists honest }) was c.args.block c.requires.take.open_block)
 
 pub returns-in-Err-Lost-clause-block : goal.returns-in-Err-Lost-clause-block
 returns-in-Err-Lost-clause-block g c =

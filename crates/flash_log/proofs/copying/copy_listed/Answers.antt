@@ -41,7 +41,7 @@ loop-target-init g c =
       newest = λ honest. committed_here t d.flash;
       found = λ honest. found_here t d;
       closed = ap (λ (x : Table). x.open_block) c.close.ensures;
-      few = omega (arith, bad, c.requires.some.bad);
+      within_limit = omega (arith, bad, c.requires.some.bad);
       apart = λ k is. keeps.committed k ∙ c.requires.some.apart k (keeps.numbers.truth.noted k is);
       size = c.requires.size;
       copies = may_later d d t u c.args.copies.now (lasts_here d) (omega (arith, group)) keeps.committed (λ honest power. committed_here t d.flash) c.requires.copies;
@@ -66,7 +66,7 @@ loop-target-preserved g c =
           (so_far.newest honest) (tried.pages.newest (so_far.keeps.lasts.honest ∙ honest) tried.ends.2);
       found = λ honest. found_on d0 d1 d2 t u so_far.keeps.committed (places_at t d0.flash d1.flash (so_far.newest honest)) (so_far.found honest) (tried.pages.found (so_far.keeps.lasts.honest ∙ honest));
       closed = tried.ends.0;
-      few = search rules;
+      within_limit = search rules;
       apart = λ k is. keeps.committed k ∙ so_far.apart k (keeps.numbers.truth.noted k is);
       size = search rules;
       copies = may_later d1 d2 u v c.args.copies.now keeps.lasts keeps.numbers.numbers.groups_rise keeps.committed (λ honest power. tried.pages.newest honest power) so_far.copies;

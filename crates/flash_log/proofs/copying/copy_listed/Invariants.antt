@@ -19,7 +19,7 @@ invariant-loop-target g l = record {
   newest : (g.N.Nand.state l.fn.device).honest ≡ true → KeepsCommittedAt (table l.fn.blocks) (g.N.Nand.state l.fn.device).flash (g.N.Nand.state l.device).flash;
   found : (g.N.Nand.state l.fn.device).honest ≡ true → KeepsFound (table l.fn.blocks) (g.N.Nand.state l.fn.device) (g.N.Nand.state l.device);
   closed : (table l.blocks).open_block ≡ None;
-  few : bad_count (table l.blocks) ≤ l.spare;
+  within_limit : bad_count (table l.blocks) ≤ l.spare;
   apart : LiesApart (table l.blocks);
   size : length l.scratch ≡ (g.N.Nand.state l.device).geometry.bytes;
   copies : MayBeCopied (g.N.Nand.state l.device) (table l.blocks) l.copies;

@@ -23,9 +23,9 @@ pub write_copies-requires-clause-fits : goal.write_copies-requires-clause-fits
 write_copies-requires-clause-fits g c =
     let took = c.in_ok-block.ensures in
     let next = took.ends.0.next in
-    let few = c.requires.copies.few in
+    let within_limit = c.requires.copies.within_limit in
     let pages = ap (λ (x : Geometry). x.pages) (took.passes.geometry ∙ c.requires.ready.geometry) in
-    omega (arith, next, few, pages)
+    omega (arith, next, within_limit, pages)
 
 pub write_copies-requires-clause-copies : goal.write_copies-requires-clause-copies
 write_copies-requires-clause-copies g c =
@@ -39,8 +39,8 @@ returns-clause-ends g c =
     let keeps = keeps_passes _ _ (table c.args.blocks.now) (table c.args.blocks.now) _ (same_here _) took.lasts took.ready took.numbers (λ is. is) (erased_here _ (table c.args.blocks.now)) took.passes in
     ends_on (length c.args.copies.now) c.args.spare (g.N.Nand.state c.write_copies.new.device) (table c.args.blocks.now) (table c.take_block.new.blocks) (table c.write_copies.new.blocks) c.write_copies.result took.passes.geometry took.passes.committed keeps.rises (c.write_copies.ensures.ends c.args.spare)
 
-pub returns-clause-few : goal.returns-clause-few
-returns-clause-few g c = c.write_copies.ensures.few c.args.spare c.in_ok-block.ensures.turn.bad
+pub returns-clause-within_limit : goal.returns-clause-within_limit
+returns-clause-within_limit g c = c.write_copies.ensures.within_limit c.args.spare c.in_ok-block.ensures.turn.bad
 
 pub returns-clause-pages : goal.returns-clause-pages
 returns-clause-pages g c =

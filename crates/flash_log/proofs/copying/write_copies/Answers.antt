@@ -51,11 +51,11 @@ returns-in-Ok-clause-ends g c = λ spare. (
   search rules,
 )
 
-pub returns-in-Ok-clause-few : goal.returns-in-Ok-clause-few
-returns-in-Ok-clause-few g c = λ spare few.
+pub returns-in-Ok-clause-within_limit : goal.returns-in-Ok-clause-within_limit
+returns-in-Ok-clause-within_limit g c = λ spare within_limit.
     let wrote = c.in-Ok.ensures in
     let same : bad_count (table c.write_group.new.blocks) ≡ bad_count (table c.args.blocks.now) = same_bad_count _ _ (same_ends (length c.args.copies.now) _ _ (Ok c.in-Ok.placed) wrote.group.table) in
-    omega (arith, same, few)
+    omega (arith, same, within_limit)
 
 pub returns-in-Ok-mark_block-clause-ends : goal.returns-in-Ok-mark_block-clause-ends
 returns-in-Ok-mark_block-clause-ends g c = λ spare.
@@ -137,7 +137,7 @@ returns-in-Err-clause-pays g c =
     let passes = passes_failed c.args.copies.now c.args.block d0 d1 d2 t (table c.write_group.new.blocks) (table c.mark_block.new.blocks) _ c.requires.clear c.requires.copies
     c.requires.ready wrote.numbers wrote.lasts wrote.group.ends.0 wrote.group.writes (λ honest. wrote.group.groups honest c.args.block c.requires.clear.open_block) wrote.group.table marked.marks marked.newest marked.notes in
     let same = mark_fails_not c.args.block d1 d2 _ marked.marks in
-    pays_cut (length c.args.copies.now) (log_of d0 t) (log_of d2 (table c.mark_block.new.blocks)) c.requires.copies.few (same ∙ wrote.group.ends.0)
+    pays_cut (length c.args.copies.now) (log_of d0 t) (log_of d2 (table c.mark_block.new.blocks)) c.requires.copies.within_limit (same ∙ wrote.group.ends.0)
     (changes_marked (length c.args.copies.now) d0 d1 d2 (mark_costs c.args.block d1 d2 _ marked.marks) wrote.group.ends.3) _ passes.failures
     (reads_marked 1 d0 d1 d2 wrote.group.reads marked.marks.reads marked.marks.lasts.changes same)
 
@@ -164,6 +164,6 @@ returns-in-Ok-mark_block-clause-pays g c =
     let marks = c.in-Ok-mark_block.ensures.marks in
     let notes = subst (λ (x : Table). NotesMark c.args.block d2.flash x (table c.mark_block.new.blocks)) wrote.group.table c.mark_block.ensures.notes in
     let more : bad_count (table c.mark_block.new.blocks) ≡ bad_count t + 1 = one_more c.args.block _ (closed t) _ c.requires.clear.within c.requires.clear.good marks.bad notes in
-    pays_marked (length c.args.copies.now) (log_of d0 t) (log_of d2 (table c.mark_block.new.blocks)) c.requires.copies.few (marks.ends.failures ∙ wrote.group.ends.0)
+    pays_marked (length c.args.copies.now) (log_of d0 t) (log_of d2 (table c.mark_block.new.blocks)) c.requires.copies.within_limit (marks.ends.failures ∙ wrote.group.ends.0)
     (changes_marked (length c.args.copies.now) d0 d1 d2 (mark_costs c.args.block d1 d2 _ marks) wrote.group.ends.3) more
     (reads_marked 0 d0 d1 d2 wrote.group.reads marks.reads marks.lasts.changes marks.ends.failures)

@@ -24,8 +24,8 @@ report_copies-requires-clause-agree g c =
     let agree = c.requires.can.stands.tables.counts in
     record { counts = λ b. copied.pages.keeps.committed b ∙ agree.counts b; within = λ b le. agree.within b (subst (λ (geometry : Geometry). geometry.blocks ≤ b) copied.pages.keeps.geometry le) }
 
-pub report_copies-requires-clause-few : goal.report_copies-requires-clause-few
-report_copies-requires-clause-few g c =
+pub report_copies-requires-clause-within_limit : goal.report_copies-requires-clause-within_limit
+report_copies-requires-clause-within_limit g c =
     let copied = c.in_ok-target.ensures in
     subst (λ (geometry : Geometry). c.in_ok-target.target.first + length c.args.copies.now ≤ geometry.pages) (sym copied.pages.keeps.geometry) copied.ends.0.fits
 
@@ -87,7 +87,7 @@ returns-then-suspect g c =
           let reported = c.report_copies.ensures.reports v listed.lists (unlike v target.block t0 listed.some copied.ends.0.uncommitted) in
           moves_out c.args.spare v target d0 d1 t0 t1 t2 x y c.args.copies.now listed held copied.pages.keeps c.requires.can.stands copied.ends.0 reported agree copied.pages.newest;
       pays = pays_moved c.args.spare v target d0 d1 t0 t1 t2 x y c.args.copies.now listed held copied.pages.keeps c.requires.can.stands copied.ends.0 reported agree copied.pages.newest 1 _ (ap (λ (s : Bool). if s then 1 else 0) c.if-suspect.true) copied.pays;
-      few = let same = same_bads c.args.spare v target d0 d1 t0 t1 t2 x y c.args.copies.now listed held copied.pages.keeps c.requires.can.stands copied.ends.0 reported agree copied.pages.newest in omega (arith, same, copied.few);
+      within_limit = let same = same_bads c.args.spare v target d0 d1 t0 t1 t2 x y c.args.copies.now listed held copied.pages.keeps c.requires.can.stands copied.ends.0 reported agree copied.pages.newest in omega (arith, same, copied.within_limit);
       anew = fills_anew c.args.spare v target d0 d1 t0 t1 t2 x y c.args.copies.now listed held copied.pages.keeps c.requires.can.stands copied.ends.0 reported agree copied.pages.newest;
       ends = λ v listed.
           let reported = c.report_copies.ensures.reports v listed.lists (unlike v target.block t0 listed.some copied.ends.0.uncommitted) in (
@@ -120,7 +120,7 @@ returns g c =
           let reported = c.report_copies.ensures.reports v listed.lists (unlike v target.block t0 listed.some copied.ends.0.uncommitted) in
           moves_out c.args.spare v target d0 d1 t0 t1 t2 x y c.args.copies.now listed held copied.pages.keeps c.requires.can.stands copied.ends.0 reported agree copied.pages.newest;
       pays = pays_moved c.args.spare v target d0 d1 t0 t1 t2 x y c.args.copies.now listed held copied.pages.keeps c.requires.can.stands copied.ends.0 reported agree copied.pages.newest 0 _ (ap (λ (s : Bool). if s then 1 else 0) c.if-suspect.false) copied.pays;
-      few = let same = same_bads c.args.spare v target d0 d1 t0 t1 t2 x y c.args.copies.now listed held copied.pages.keeps c.requires.can.stands copied.ends.0 reported agree copied.pages.newest in omega (arith, same, copied.few);
+      within_limit = let same = same_bads c.args.spare v target d0 d1 t0 t1 t2 x y c.args.copies.now listed held copied.pages.keeps c.requires.can.stands copied.ends.0 reported agree copied.pages.newest in omega (arith, same, copied.within_limit);
       anew = fills_anew c.args.spare v target d0 d1 t0 t1 t2 x y c.args.copies.now listed held copied.pages.keeps c.requires.can.stands copied.ends.0 reported agree copied.pages.newest;
       ends = λ v listed.
           let reported = c.report_copies.ensures.reports v listed.lists (unlike v target.block t0 listed.some copied.ends.0.uncommitted) in (

@@ -4,6 +4,7 @@ use Rattle.nand_model.specs.Calls.{Device}
 use Rattle.nand_model.specs.declared.geometry.Geometry.{Geometry}
 use Rattle.block_state.specs.Table.{Table}
 use Rattle.block_state.specs.TableOf.{table}
+use Rattle.flash_log.specs.SummaryMaking.{HasClear}
 use Rattle.flash_log.specs.laws.FreeBlocks.{free_copied}
 use Rattle.flash_log.specs.laws.Moves.{are_held, stands_committed}
 use Rattle.flash_log.specs.laws.Steps.{step_committed}
@@ -36,7 +37,7 @@ returns-in_err-target-clause-step g c =
 pub returns-in_err-target-clause-ends : goal.returns-in_err-target-clause-ends
 returns-in_err-target-clause-ends g c =
     let p = err_from_is_err_and c.from_residual.result c.from_residual.ensures.1 in
-    λ v count listed clear. rw (p.1, p.2) ((c.in_err-target.ensures.ends c.args.spare).1)
+    λ v listed count clear. rw (p.1, p.2) ((c.in_err-target.ensures.ends c.args.spare).1)
 
 pub report_copies-requires-clause-within : goal.report_copies-requires-clause-within
 report_copies-requires-clause-within g c =
@@ -71,8 +72,8 @@ report_copies-requires-clause-agree g c =
     let agree = can.stands.tables.counts in
     record { counts = λ b. copied.pages.keeps.committed b ∙ agree.counts b; within = λ b le. agree.within b (subst (λ (x : Geometry). x.blocks ≤ b) copied.pages.keeps.geometry le) }
 
-pub report_copies-requires-clause-few : goal.report_copies-requires-clause-few
-report_copies-requires-clause-few g c =
+pub report_copies-requires-clause-within_limit : goal.report_copies-requires-clause-within_limit
+report_copies-requires-clause-within_limit g c =
     let d0 : Device = g.N.Nand.state c.args.device.now in
     let d1 : Device = g.N.Nand.state c.write_copies.new.device in
     let t0 : Table = table c.args.blocks.now in
@@ -164,8 +165,8 @@ returns-then-target-clause-pays g c =
     let agree = c.report_copies.ensures.agree in
     pays_opened c.args.spare v target d0 d1 t0 t1 t2 x y c.args.copies.now listed held copied.pages.keeps can.stands ended.0 reported agree copied.pages.newest 1 _ (ap (λ (s : Bool). if s then 1 else 0) c.if-target.true) copied.pays
 
-pub returns-then-target-clause-few : goal.returns-then-target-clause-few
-returns-then-target-clause-few g c =
+pub returns-then-target-clause-within_limit : goal.returns-then-target-clause-within_limit
+returns-then-target-clause-within_limit g c =
     let d0 : Device = g.N.Nand.state c.args.device.now in
     let d1 : Device = g.N.Nand.state c.write_copies.new.device in
     let t0 : Table = table c.args.blocks.now in
@@ -183,8 +184,8 @@ returns-then-target-clause-few g c =
     let reported = c.report_copies.ensures.reports v listed.lists (unlike v target.block t0 listed.some ended.0.uncommitted) in
     let agree = c.report_copies.ensures.agree in
     let same = same_bads c.args.spare v target d0 d1 t0 t1 t2 x y c.args.copies.now listed held copied.pages.keeps can.stands ended.0 reported agree copied.pages.newest in
-    let few = copied.few c.args.spare can.few in
-    omega (arith, same, few)
+    let within_limit = copied.within_limit c.args.spare can.within_limit in
+    omega (arith, same, within_limit)
 
 pub returns-then-target-clause-ends : goal.returns-then-target-clause-ends
 returns-then-target-clause-ends g c =
@@ -203,7 +204,7 @@ returns-then-target-clause-ends g c =
     let t2 : Table = table c.report_copies.new.blocks in
     let y = c.report_copies.new.index in
     let agree = c.report_copies.ensures.agree in
-    λ v count listed clear.
+    λ v listed count clear.
     let reported = c.report_copies.ensures.reports v listed.lists (unlike v target.block t0 listed.some ended.0.uncommitted) in (
       is_left c.args.spare v target d0 d1 t0 t1 t2 x y c.args.copies.now listed held copied.pages.keeps can.stands ended.0 reported agree copied.pages.newest,
       lies_in c.args.spare v target d0 d1 t0 t1 t2 x y c.args.copies.now listed held copied.pages.keeps can.stands ended.0 reported agree copied.pages.newest,
@@ -272,8 +273,8 @@ returns-else-target-clause-pays g c =
     let agree = c.report_copies.ensures.agree in
     pays_opened c.args.spare v target d0 d1 t0 t1 t2 x y c.args.copies.now listed held copied.pages.keeps can.stands ended.0 reported agree copied.pages.newest 0 _ (ap (λ (s : Bool). if s then 1 else 0) c.if-target.false) copied.pays
 
-pub returns-else-target-clause-few : goal.returns-else-target-clause-few
-returns-else-target-clause-few g c =
+pub returns-else-target-clause-within_limit : goal.returns-else-target-clause-within_limit
+returns-else-target-clause-within_limit g c =
     let d0 : Device = g.N.Nand.state c.args.device.now in
     let d1 : Device = g.N.Nand.state c.write_copies.new.device in
     let t0 : Table = table c.args.blocks.now in
@@ -291,8 +292,8 @@ returns-else-target-clause-few g c =
     let reported = c.report_copies.ensures.reports v listed.lists (unlike v target.block t0 listed.some ended.0.uncommitted) in
     let agree = c.report_copies.ensures.agree in
     let same = same_bads c.args.spare v target d0 d1 t0 t1 t2 x y c.args.copies.now listed held copied.pages.keeps can.stands ended.0 reported agree copied.pages.newest in
-    let few = copied.few c.args.spare can.few in
-    omega (arith, same, few)
+    let within_limit = copied.within_limit c.args.spare can.within_limit in
+    omega (arith, same, within_limit)
 
 pub returns-else-target-clause-ends : goal.returns-else-target-clause-ends
 returns-else-target-clause-ends g c =
@@ -311,10 +312,10 @@ returns-else-target-clause-ends g c =
     let t2 : Table = table c.report_copies.new.blocks in
     let y = c.report_copies.new.index in
     let agree = c.report_copies.ensures.agree in
-    λ v count listed clear.
+    λ v listed count clear.
     let reported = c.report_copies.ensures.reports v listed.lists (unlike v target.block t0 listed.some ended.0.uncommitted) in (
       is_left c.args.spare v target d0 d1 t0 t1 t2 x y c.args.copies.now listed held copied.pages.keeps can.stands ended.0 reported agree copied.pages.newest,
-      lies_behind c.args.spare v target d0 d1 t0 t1 t2 x y c.args.copies.now listed held copied.pages.keeps can.stands ended.0 reported agree copied.pages.newest count c.in-Some.block (sym c.open_block.ensures ∙ c.in-Some.is) copied.first clear c.if-target.false,
+      lies_behind c.args.spare v target d0 d1 t0 t1 t2 x y c.args.copies.now listed held copied.pages.keeps can.stands ended.0 reported agree copied.pages.newest count c.in-Some.block (sym c.open_block.ensures ∙ c.in-Some.is) copied.first (subst (λ n. HasClear (n + count) d0 t0) (sym listed.count) clear) c.if-target.false,
       none_noted c.args.spare v target d0 d1 t0 t1 t2 x y c.args.copies.now listed held copied.pages.keeps can.stands ended.0 reported agree copied.pages.newest,
       ended.1,
     )
@@ -357,7 +358,7 @@ returns-then-bad_count-spare-clause-ends g c =
     let can = c.requires.can in
     let held = are_held t0 x (c.the_counts_are_of_the_keys.ensures.none x) can.stands.tables.counts in
     let copied = rw c.in-Marked.is at c.in_ok-target.ensures in
-    λ v count listed clear. inr (inr (let more = c.if-bad_count-spare.true in let bad = c.bad_count.ensures in omega (arith, more, bad), (copied.ends c.args.spare).2))
+    λ v listed count clear. inr (inr (let more = c.if-bad_count-spare.true in let bad = c.bad_count.ensures in omega (arith, more, bad), (copied.ends c.args.spare).2))
 
 pub returns-else-bad_count-spare-clause-ends : goal.returns-else-bad_count-spare-clause-ends
 returns-else-bad_count-spare-clause-ends g c =
@@ -370,4 +371,4 @@ returns-else-bad_count-spare-clause-ends g c =
     let held = are_held t0 x (c.the_counts_are_of_the_keys.ensures.none x) can.stands.tables.counts in
     let copied = rw c.in-Marked.is at c.in_ok-target.ensures in
     let keeps = copied.pages.keeps in
-    λ v count listed clear. ((copied.ends c.args.spare).1, holds_counts t0 t1 keeps.committed keeps.marked keeps.uncommitted, (copied.ends c.args.spare).2)
+    λ v listed count clear. ((copied.ends c.args.spare).1, holds_counts t0 t1 keeps.committed keeps.marked keeps.uncommitted, (copied.ends c.args.spare).2)

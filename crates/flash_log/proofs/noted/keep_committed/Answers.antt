@@ -1,4 +1,4 @@
-use Rattle.std.proofs.Common.{◌≤◌, length, take, sym, subst, ap, arith}
+use Rattle.std.proofs.Common.{length, sym, subst, arith}
 use Rattle.std.specs.Prelude.{List}
 use Rattle.std.proofs.lemmas.List.{length-take}
 use Rattle.page_tags.specs.declared.check.CheckEntry.{CheckEntry}

@@ -1,4 +1,4 @@
-use Rattle.std.proofs.Common.{◌<◌, arith, subst}
+use Rattle.std.proofs.Common.{arith, subst}
 use Rattle.chunk_index.specs.Maps.{committed_pages}
 use Rattle.flash_log.specs.Noted.{LiesBehind}
 use Rattle.flash_log.proofs.NotedPages.{rising_more}

@@ -2,14 +2,14 @@ use Rattle.std.proofs.Common.{◌≡◌, ◌<◌, ◌+◌, ℕ, IsSome, length, 
 use Rattle.std.proofs.lemmas.Option.{slice_get-get_or}
 use Rattle.nand_model.specs.declared.geometry.Geometry.{Geometry}
 use Rattle.block_state.specs.TableOf.{table}
-use Rattle.transactions.specs.declared.copies.CopyOf.{CopyOf}
+use Rattle.chunk_index.specs.declared.form.CommittedKey.{CommittedKey}
 use Rattle.flash_log.specs.Reporting.{Reports}
 use Rattle.flash_log.proofs.Reported.{reports_none, committed_yet, reports_more}
 use Rattle.flash_log.proofs.reporting.report_copies.Goals as goal
 
 -- what lies behind the last copy
-abbrev no_copy : CopyOf
-no_copy = record { block = 0; page = 0; name = record { key = record { object = 0; chunk = 0 }; version = 0 } }
+abbrev no_copy : CommittedKey
+no_copy = record { key = record { object = 0; chunk = 0 }; at = record { block = 0; page = 0; version = 0 } }
 
 pub loop-i-init : goal.loop-i-init
 loop-i-init c = record {
@@ -29,13 +29,13 @@ pub copied-requires-clause-block : goal.copied-requires-clause-block
 copied-requires-clause-block c = subst (λ (geometry : Geometry). c.args.place.block < geometry.blocks) (sym c.loop-i.invariant.geometry) c.requires.within
 
 pub overflow_cast-at : goal.overflow_cast-at
-overflow_cast-at c = omega (arith, c.loop-i-test.true, c.requires.few, (table c.args.blocks.now).geometry.most_pages)
+overflow_cast-at c = omega (arith, c.loop-i-test.true, c.requires.within_limit, (table c.args.blocks.now).geometry.most_pages)
 
 pub overflow_add-at : goal.overflow_add-at
-overflow_add-at c = omega (arith, c.loop-i-test.true, c.requires.few, (table c.args.blocks.now).geometry.most_pages)
+overflow_add-at c = omega (arith, c.loop-i-test.true, c.requires.within_limit, (table c.args.blocks.now).geometry.most_pages)
 
 pub copied-requires-clause-page : goal.copied-requires-clause-page
-copied-requires-clause-page c = subst (λ (geometry : Geometry). c.args.place.page + c.loop-i.i < geometry.pages) (sym c.loop-i.invariant.geometry) (omega (arith, c.loop-i-test.true, c.requires.few))
+copied-requires-clause-page c = subst (λ (geometry : Geometry). c.args.place.page + c.loop-i.i < geometry.pages) (sym c.loop-i.invariant.geometry) (omega (arith, c.loop-i-test.true, c.requires.within_limit))
 
 pub loop-i-preserved : goal.loop-i-preserved
 loop-i-preserved c =

@@ -26,7 +26,7 @@ loop-block-init g c = record {
   answers = let same : bad_count (table c.close.new.self) ≡ bad_count (table c.args.blocks.now) = ap bad_count c.close.ensures in omega (arith, same);
   costs = omega arith;
   reads = refl;
-  few = subst (λ (x : Table). bad_count x ≤ c.args.spare) (sym c.close.ensures) c.requires.some.bad;
+  within_limit = subst (λ (x : Table). bad_count x ≤ c.args.spare) (sym c.close.ensures) c.requires.some.bad;
   turns = same_turns_closed (table c.args.blocks.now) _ c.close.ensures;
   apart = λ k is. ap (λ (x : Table). (x.entry k).committed) c.close.ensures ∙ c.requires.some.apart k (sym (ap (λ (x : Table). x.checkpoint) c.close.ensures) ∙ is);
 }
@@ -44,7 +44,7 @@ loop-block-preserved g c =
       answers = omega (arith, so_far.answers, tried.answers);
       costs = omega (arith, so_far.costs, tried.costs);
       reads = tried.reads ∙ so_far.reads;
-      few = search rules;
+      within_limit = search rules;
       turns = same_turns_on (table c.args.blocks.now) _ _ tried.passes.marks_stay so_far.turns tried.turn;
       apart = λ k is. tried.passes.committed k ∙ so_far.apart k (tried.turn.from k is);
     }
@@ -100,7 +100,7 @@ pub returns-in-Ok-Taken-clause-turn : goal.returns-in-Ok-Taken-clause-turn
 returns-in-Ok-Taken-clause-turn g c =
     let so_far = c.loop-block.invariant in
     let took = rw c.in-Ok-Taken.field-0-is at c.in-Ok-Taken.ensures in
-    record { turn = turn_from _ _ _ _ _ _ _ so_far.passes took.passes so_far.turns took.turn; bad = omega (arith, so_far.few, took.few) }
+    record { turn = turn_from _ _ _ _ _ _ _ so_far.passes took.passes so_far.turns took.turn; bad = omega (arith, so_far.within_limit, took.within_limit) }
 
 pub returns-in-Ok-Taken-clause-answers : goal.returns-in-Ok-Taken-clause-answers
 returns-in-Ok-Taken-clause-answers g c =
@@ -110,4 +110,4 @@ returns-in-Ok-Taken-clause-answers g c =
 pub try_block-requires-clause-some : goal.try_block-requires-clause-some
 try_block-requires-clause-some g c =
     let so_far = c.loop-block.invariant in
-    (c.args.spare, record { bad = so_far.few; uncommitted = omega (arith, so_far.passes.uncommitted, c.requires.some.uncommitted); apart = so_far.apart })
+    (c.args.spare, record { bad = so_far.within_limit; uncommitted = omega (arith, so_far.passes.uncommitted, c.requires.some.uncommitted); apart = so_far.apart })

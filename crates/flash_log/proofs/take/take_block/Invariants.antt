@@ -19,7 +19,7 @@ invariant-loop-block g l = record {
   answers : AnswersFailures 0 0 (g.N.Nand.state l.fn.device) (g.N.Nand.state l.device) (table l.fn.blocks) (table l.blocks);
   costs : (g.N.Nand.state l.device).changes + 2 * (g.N.Nand.state l.fn.device).failures ≤ (g.N.Nand.state l.fn.device).changes + 2 * (g.N.Nand.state l.device).failures;
   reads : (g.N.Nand.state l.device).reads ≡ (g.N.Nand.state l.fn.device).reads;
-  few : bad_count (table l.blocks) ≤ l.spare;
+  within_limit : bad_count (table l.blocks) ≤ l.spare;
   turns : SameTurns (table l.fn.blocks) (table l.blocks);
   apart : LiesApart (table l.blocks);
 }

@@ -48,8 +48,8 @@ returns-in-Ok-clause-ends g c =
       does.erases.ends.is,
     )
 
-pub returns-in-Ok-clause-few : goal.returns-in-Ok-clause-few
-returns-in-Ok-clause-few g c = same_bad_count (table c.args.blocks.now) _ (same_opened c.in-Some.block _ _ c.in-Ok.ensures.opens)
+pub returns-in-Ok-clause-within_limit : goal.returns-in-Ok-clause-within_limit
+returns-in-Ok-clause-within_limit g c = same_bad_count (table c.args.blocks.now) _ (same_opened c.in-Some.block _ _ c.in-Ok.ensures.opens)
 
 pub returns-in_ok-mark_block-in-Err-Failed-clause-passes : goal.returns-in_ok-mark_block-in-Err-Failed-clause-passes
 returns-in_ok-mark_block-in-Err-Failed-clause-passes g c =

@@ -1,6 +1,5 @@
-use Rattle.posix_calls.specs.Volumes.{over_pages}
 use Rattle.flash_program.proofs.Stopping.{only_a_cut_stops}
 use Rattle.flash_program.proofs.law.only_a_cut_stops_the_program.Goals as goal
 
 pub returns : goal.returns
-returns g c = only_a_cut_stops _ (λ v. over_pages v.volume) _ (λ old new command reply served. served) c.a_flash_has_one_answer_at_most.ensures
+returns g c = only_a_cut_stops _ c.a_flash_has_one_answer_at_most.ensures

@@ -16,6 +16,6 @@ returns g c =
       reply = c.ask_space-reply.result;
       mounted = mounted;
       issued = c.ask_space-reply.ensures;
-      reported = reported_alike _ _ c.ask_space-reply.result _ _ c.report_space-reported.result c.read_only.ensures c.report_space-reported.ensures;
+      reported = reported_alike _ c.ask_space-reply.result _ _ c.report_space-reported.result c.read_only.ensures c.report_space-reported.ensures;
       reads = subst (λ d. OnlyReads (device c.args.device) d) (sym (same_seen true lies.0 mounted.now (device c.abandon.result) same (sym mounted.since.reads.lasts.honest))) mounted.since.reads;
     })

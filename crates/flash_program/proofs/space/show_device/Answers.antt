@@ -12,7 +12,7 @@ returns g c = inr (record {
   answer = _;
   mounted = c.in-Ok.ensures.mounted;
   issued = c.ask_space-reply.ensures;
-  reported = reported_alone _ _ (reply_text c.ask_space-reply.result) c.report_space-reported.result c.report_space-reported.ensures;
+  reported = reported_alone _ (reply_text c.ask_space-reply.result) c.report_space-reported.result c.report_space-reported.ensures;
   unmounted = c.unmount-device.ensures.ends;
   result_is = c.shown.ensures;
 })

@@ -4,4 +4,4 @@ use Rattle.flash_tree.specs.laws.Finding.{one_end}
 use Rattle.flash_tree.proofs.law.a_list_is_gone_through_in_one_way.Goals as goal
 
 pub returns : goal.returns
-returns c = λ z flash list n a b least most. one_end z (record { least = least; most = most }) (HasNewest flash) (one_newest flash) list n a b
+returns c = λ z flash list n a b size. one_end z size (HasNewest flash) (one_newest flash) list n a b

@@ -10,10 +10,10 @@ loop-block-preserved g c =
     elim c.if-is_bad.branch [
       | then-is_bad w ↦ record {
         totaled = w.bad-is ∙ ap (λ n. n + 1) c.loop-block.invariant.totaled ∙ sym (totaled old.flash.bad c.loop-block.block (sym c.is_bad.ensures ∙ w.if-is_bad.true));
-        few = omega (arith, w.bad-is);
+        within_limit = omega (arith, w.bad-is);
       }
       | else-is_bad w ↦ record {
         totaled = w.bad-is ∙ c.loop-block.invariant.totaled ∙ sym (passed_over old.flash.bad c.loop-block.block (sym c.is_bad.ensures ∙ w.if-is_bad.false));
-        few = omega (arith, w.bad-is);
+        within_limit = omega (arith, w.bad-is);
       }
     ]

@@ -4,6 +4,6 @@ use Rattle.flash_tree.proofs.summaries.the_same_groups_leave_keys_findable.Goals
 
 pub returns : goal.returns
 returns c = record {
-  written = λ g o number seq old new k d writes same right. findable_same g old new o number seq writes right (IsKey k d) same;
-  same = λ g old new o d. findable_committed g old new (IsKey o d);
+  written = λ g old new writes same right o d. findable_same g old new writes.0 writes.1 writes.2 writes.3 right (IsKey o d) same;
+  same = λ g old new bad page o d. findable_committed g old new (IsKey o d) bad page;
 }

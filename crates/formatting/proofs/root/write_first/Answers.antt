@@ -15,5 +15,5 @@ returns-in-Stands-clause-stands g c = λ is.
     let loop = c.loop-block.invariant in
     let takes = subst (Takes mid new c.loop-block.block page.bytes.items (single_tag page.key (c.loop-block.failed + 1))) c.in-Stands.is c.in_ok-write_at.ensures.takes in
     let inside : c.loop-block.block < old.geometry.blocks = omega (arith, c.blocks-block-end.ensures, ap (λ (x : Geometry). x.blocks) c.geometry.ensures) in
-    stands_first old mid new c.loop-block.block c.loop-block.failed page loop.keeps c.write_at.ensures.keeps loop.failed loop.few inside loop.bad loop.ready c.write_at.ensures.others takes
+    stands_first old mid new c.loop-block.block c.loop-block.failed page loop.keeps c.write_at.ensures.keeps loop.failed loop.within_limit inside loop.bad loop.ready c.write_at.ensures.others takes
     (g.met.N.Nand.clean c.write_at.new.device) (g.met.N.Nand.within c.write_at.new.device)

@@ -7,7 +7,7 @@ invariant-loop-block g l = record {
   keeps : Keeps (g.N.Nand.state l.fn.device) (g.N.Nand.state l.device);
   each_failure_marks : EachFailureMarks (g.N.Nand.state l.fn.device) (g.N.Nand.state l.device);
   failed : (g.N.Nand.state l.device).failures ≡ (g.N.Nand.state l.fn.device).failures + l.failed;
-  few : l.failed ≤ l.block;
+  within_limit : l.failed ≤ l.block;
   bad : (b : ℕ) → b < l.block → (g.N.Nand.state l.device).flash.bad b ≡ true;
   ready : AreClear (g.N.Nand.state l.device) l.block;
 }

@@ -12,6 +12,6 @@ decode_check_head-requires c = omega (arith, length-take 32 c.args.page.now, c.r
 
 pub returns-else-take_pages-clause-none : goal.returns-else-take_pages-clause-none
 returns-else-take_pages-clause-none c n is head =
-    let few = few_entries n (length c.args.page.now) c.args.count c.requires.size c.requires.count is in
-    let same : n ≡ c.in_ok-n.n = one_number n c.in_ok-n.n (omega (arith, few)) (omega arith) (sym head ∙ c.in_ok-n.ensures.found) in
+    let within_limit = few_entries n (length c.args.page.now) c.args.count c.requires.size c.requires.count is in
+    let same : n ≡ c.in_ok-n.n = one_number n c.in_ok-n.n (omega (arith, within_limit)) (omega arith) (sym head ∙ c.in_ok-n.ensures.found) in
     false≢true (sym c.if-take_pages.false ∙ c.take_pages.ensures.1 (is ∙ ap (λ k. ceiling (32 * (1 + k)) (length c.args.page.now)) same))

@@ -1,6 +1,5 @@
-use Rattle.std.proofs.Common.{◌≤◌, ◌+◌, refl, sym, ◌∙◌, ap, arith}
+use Rattle.std.proofs.Common.{refl, sym, ◌∙◌}
 use Rattle.std.proofs.lemmas.Bool.{false≢true}
-use Rattle.nand_model.specs.declared.geometry.Geometry.{Geometry}
 use Rattle.mount_scan.specs.FirstPages.{IsOlderThan}
 use Rattle.mount_scan.specs.SummaryScan.{IsLeft}
 use Rattle.mount_scan.proofs.FewPages.{block_costs, block_leaves}
@@ -21,24 +20,24 @@ returns-clause-scans g c d done only next were =
     rest_read d (g.N.Nand.state c.args.device.now) c.args.block done c.args.first c.args.summarized c.args.rest.now _ only next c.in_ok-find_block.ensures.adds c.in_ok-find_block.ensures.raised c.is_erased_read-rest.ensures.0
     refl were
 
-pub returns-in_err-find_block-clause-few : goal.returns-in_err-find_block-clause-few
-returns-in_err-find_block-clause-few g c d cost only is =
+pub returns-in_err-find_block-clause-reads_bounded : goal.returns-in_err-find_block-clause-reads_bounded
+returns-in_err-find_block-clause-reads_bounded g c cost is =
     let left : IsLeft c.args.first c.args.summarized c.args.rest.now.erased = c.is_left.ensures.0 c.if-not-is_left.false in
     let other : IsOlderThan c.args.rest.now.renewed c.args.first → ⊥ = λ older. false≢true (sym c.if-is_older.false ∙ c.is_older.ensures.1 older) in
-    let reads = (each_at_most ((g.N.Nand.state c.args.device.now).flash.bad c.args.block) (g.N.Nand.state c.args.device.now).geometry.pages (g.N.Nand.state c.args.device.now) (g.N.Nand.state c.find_block.new.device) _ c.in_err-find_block.ensures.reads).most in
-    block_costs d c.args.block c.args.first c.args.summarized c.args.rest.now.erased c.args.rest.now.renewed cost (g.N.Nand.state c.args.device.now).reads (g.N.Nand.state c.find_block.new.device).reads is left other (omega (arith, reads, ap (λ (x : Geometry). x.pages) only.lasts.geometry))
+    let reads = each_at_most ((g.N.Nand.state c.args.device.now).flash.bad c.args.block) (g.N.Nand.state c.args.device.now).geometry.pages (g.N.Nand.state c.args.device.now) (g.N.Nand.state c.find_block.new.device) _ c.in_err-find_block.ensures.reads in
+    block_costs (g.N.Nand.state c.args.device.now) c.args.block c.args.first c.args.summarized c.args.rest.now.erased c.args.rest.now.renewed cost (g.N.Nand.state c.args.device.now).reads (g.N.Nand.state c.find_block.new.device).reads is left other reads.most
 
-pub returns-clause-few : goal.returns-clause-few
-returns-clause-few g c d cost only is =
+pub returns-clause-reads_bounded : goal.returns-clause-reads_bounded
+returns-clause-reads_bounded g c cost is =
     let left : IsLeft c.args.first c.args.summarized c.args.rest.now.erased = c.is_left.ensures.0 c.if-not-is_left.false in
     let other : IsOlderThan c.args.rest.now.renewed c.args.first → ⊥ = λ older. false≢true (sym c.if-is_older.false ∙ c.is_older.ensures.1 older) in
-    let reads = (each_at_most ((g.N.Nand.state c.args.device.now).flash.bad c.args.block) (g.N.Nand.state c.args.device.now).geometry.pages (g.N.Nand.state c.args.device.now) (g.N.Nand.state c.find_block.new.device) _ c.in_ok-find_block.ensures.reads).most in
-    block_costs d c.args.block c.args.first c.args.summarized c.args.rest.now.erased c.args.rest.now.renewed cost (g.N.Nand.state c.args.device.now).reads (g.N.Nand.state c.find_block.new.device).reads is left other (omega (arith, reads, ap (λ (x : Geometry). x.pages) only.lasts.geometry))
+    let reads = each_at_most ((g.N.Nand.state c.args.device.now).flash.bad c.args.block) (g.N.Nand.state c.args.device.now).geometry.pages (g.N.Nand.state c.args.device.now) (g.N.Nand.state c.find_block.new.device) _ c.in_ok-find_block.ensures.reads in
+    block_costs (g.N.Nand.state c.args.device.now) c.args.block c.args.first c.args.summarized c.args.rest.now.erased c.args.rest.now.renewed cost (g.N.Nand.state c.args.device.now).reads (g.N.Nand.state c.find_block.new.device).reads is left other reads.most
 
 pub returns-clause-left : goal.returns-clause-left
-returns-clause-left g c d cost only is =
+returns-clause-left g c cost is =
     let left : IsLeft c.args.first c.args.summarized c.args.rest.now.erased = c.is_left.ensures.0 c.if-not-is_left.false in
     let other : IsOlderThan c.args.rest.now.renewed c.args.first → ⊥ = λ older. false≢true (sym c.if-is_older.false ∙ c.is_older.ensures.1 older) in
-    let reads = (each_at_most ((g.N.Nand.state c.args.device.now).flash.bad c.args.block) (g.N.Nand.state c.args.device.now).geometry.pages (g.N.Nand.state c.args.device.now) (g.N.Nand.state c.find_block.new.device) _ c.in_ok-find_block.ensures.reads).most in
-    block_leaves d c.args.block c.args.first c.args.summarized c.args.rest.now.erased c.args.rest.now.renewed cost (g.N.Nand.state c.args.device.now).reads (g.N.Nand.state c.find_block.new.device).reads is left other (omega (arith, reads, ap (λ (x : Geometry). x.pages) only.lasts.geometry))
-    c.is_erased_read-rest.result c.is_erased_read-rest.ensures
+    let reads = each_at_most ((g.N.Nand.state c.args.device.now).flash.bad c.args.block) (g.N.Nand.state c.args.device.now).geometry.pages (g.N.Nand.state c.args.device.now) (g.N.Nand.state c.find_block.new.device) _ c.in_ok-find_block.ensures.reads in
+    block_leaves (g.N.Nand.state c.args.device.now) c.args.block c.args.first c.args.summarized c.args.rest.now.erased c.args.rest.now.renewed cost (g.N.Nand.state c.args.device.now).reads (g.N.Nand.state c.find_block.new.device).reads is left other reads.most
+    (g.N.Nand.state c.find_block.new.device) c.is_erased_read-rest.result reads.only c.is_erased_read-rest.ensures

@@ -1,7 +1,4 @@
-use Rattle.std.proofs.Common.{◌≡◌, ◌≤◌, ◌+◌, refl, sym, ◌∙◌, ap, subst, arith}
-use Rattle.nand_model.specs.Calls.{Device}
-use Rattle.nand_model.specs.declared.geometry.Geometry.{Geometry}
-use Rattle.mount_scan.proofs.WrittenTags.{HasPassed, passed_all, passed_behind, passed_more, passed_none}
+use Rattle.mount_scan.proofs.WrittenTags.{passed_behind, passed_more, passed_none}
 use Rattle.mount_scan.proofs.written.read_written_tags.Goals.{then-end+in_ok-push, else-end+in_ok-end}
 use Rattle.mount_scan.proofs.written.read_written_tags.Goals as goal
 

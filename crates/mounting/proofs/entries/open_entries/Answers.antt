@@ -39,11 +39,11 @@ returns-in-Ok-Some-clause-checked g c = λ is.
     checked_at c.go_by.result d.geometry d.flash (λ named. named.on.blocks.checkpoint) c.args.found.now.block
     (subst (IsChecked d.geometry d.flash) (opened trusted.0 trusted.1).noted keeps.checked) c.go_by.ensures.noted
 
-pub returns-in-Ok-Some-clause-few : goal.returns-in-Ok-Some-clause-few
-returns-in-Ok-Some-clause-few g c = λ is.
+pub returns-in-Ok-Some-clause-within_limit : goal.returns-in-Ok-Some-clause-within_limit
+returns-in-Ok-Some-clause-within_limit g c = λ is.
     let d = g.N.Nand.state c.args.device in
     let k = checkpoint_of c.args.found.now in
-    c.go_by.ensures.few (and_from _ _ is.0 ((trust d k _).2 (right_said d.geometry d.flash k (is.1.truth k (c.requires.whole is.0)))))
+    c.go_by.ensures.within_limit (and_from _ _ is.0 ((trust d k _).2 (right_said d.geometry d.flash k (is.1.truth k (c.requires.whole is.0)))))
 
 pub returns-in-Ok-Some-clause-fault : goal.returns-in-Ok-Some-clause-fault
 returns-in-Ok-Some-clause-fault g c = λ is.

@@ -6,8 +6,8 @@ returns-in-Some-clause-going g c =
     let reported = c.in-Some.ensures in
     record { named = c.in_ok-named.ensures.named; sizes = reported.sizes; fitting = reported.fitting; room = reported.room; blocks = c.in_ok-named.ensures.blocks; tree = reported.tree }
 
-pub returns-in-Some-clause-few : goal.returns-in-Some-clause-few
-returns-in-Some-clause-few g c = λ is.
+pub returns-in-Some-clause-within_limit : goal.returns-in-Some-clause-within_limit
+returns-in-Some-clause-within_limit g c = λ is.
     let e = c.in_ok-named.ensures in
     let on = c.in_ok-named.named.on in
     let laws : ReadLaws = record {
@@ -16,7 +16,7 @@ returns-in-Some-clause-few g c = λ is.
       one = c.a_flash_has_one_answer_at_most.ensures;
     } in
     let tree = c.in-Some.ensures.tree (honest_seen _ _ _ e.read is) in
-    reads_tree _ _ _ e.read is laws on.index on.spare on.tree tree.0 (e.few is) tree.1 tree.2
+    reads_tree _ _ _ e.read is laws on.index on.spare on.tree tree.0 (e.within_limit is) tree.1 tree.2
 
 pub returns-in-None-clause-fault : goal.returns-in-None-clause-fault
 returns-in-None-clause-fault g c = λ is spare objects sound.

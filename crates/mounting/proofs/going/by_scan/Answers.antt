@@ -90,4 +90,4 @@ returns-clause-scans g c = λ honest.
       one = c.a_flash_has_one_answer_at_most.ensures;
     } in
     let tree = e.going.tree (e.reads.lasts.honest ∙ honest) in
-    subst (ReadsAll a) (sym (ap g.N.Nand.state c.new.ensures.inner)) (reads_all a b e.reads honest laws on.index on.spare on.tree tree.0 (e.few honest) tree.1 tree.2)
+    subst (ReadsAll a) (sym (ap g.N.Nand.state c.new.ensures.inner)) (reads_all a b e.reads honest laws on.index on.spare on.tree tree.0 (e.within_limit honest) tree.1 tree.2)

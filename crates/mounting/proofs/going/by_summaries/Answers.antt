@@ -13,8 +13,8 @@ returns-in-Some-clause-checked g c = λ is.
     let d = g.N.Nand.state c.args.device in
     subst (IsChecked d.geometry d.flash) (sym c.in_ok-named.ensures.none) (record { right = is.1.truth; only = c.requires.none is })
 
-pub returns-in-Some-clause-few : goal.returns-in-Some-clause-few
-returns-in-Some-clause-few g c = λ is.
+pub returns-in-Some-clause-within_limit : goal.returns-in-Some-clause-within_limit
+returns-in-Some-clause-within_limit g c = λ is.
     let e = c.in_ok-named.ensures in
     let on = c.in_ok-named.named.on in
     let laws : ReadLaws = record {
@@ -23,7 +23,7 @@ returns-in-Some-clause-few g c = λ is.
       one = c.a_flash_has_one_answer_at_most.ensures;
     } in
     let tree = c.in-Some.ensures.tree (honest_seen _ _ _ e.read is) in
-    reads_summaries _ _ _ e.read is laws on.index on.spare on.tree tree.0 (e.few is) tree.1 tree.2
+    reads_summaries _ _ _ e.read is laws on.index on.spare on.tree tree.0 (e.within_limit is) tree.1 tree.2
 
 pub returns-in-None-clause-fault : goal.returns-in-None-clause-fault
 returns-in-None-clause-fault g c = λ is spare objects sound.

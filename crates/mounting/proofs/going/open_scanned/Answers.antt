@@ -23,8 +23,8 @@ by_scan-requires-clause-firsts g c = firsts_read (g.N.Nand.state c.args.device) 
 pub returns-in-Some-clause-read : goal.returns-in-Some-clause-read
 returns-in-Some-clause-read g c = ok_map c.by_scan.result (λ x read. read_before _ _ _ _ c.in-Ok.ensures.reads.only c.in-Ok.ensures.reads.gone read) c.by_scan.ensures.read
 
-pub returns-in-Some-clause-few : goal.returns-in-Some-clause-few
-returns-in-Some-clause-few g c =
+pub returns-in-Some-clause-within_limit : goal.returns-in-Some-clause-within_limit
+returns-in-Some-clause-within_limit g c =
     let a = g.N.Nand.state c.args.device in
     let b = g.N.Nand.state c.find_checkpoint.new.device in
     let reads = c.in-Ok.ensures.reads in
@@ -36,8 +36,8 @@ by_scan-requires-in-None-clause-firsts g c = firsts_read (g.N.Nand.state c.args.
 pub returns-clause-read : goal.returns-clause-read
 returns-clause-read g c = ok_map c.by_scan-in-None.result (λ x read. read_before _ _ _ _ c.in-Ok.ensures.reads.only c.in-Ok.ensures.reads.gone read) c.by_scan-in-None.ensures.read
 
-pub returns-clause-few : goal.returns-clause-few
-returns-clause-few g c =
+pub returns-clause-within_limit : goal.returns-clause-within_limit
+returns-clause-within_limit g c =
     let a = g.N.Nand.state c.args.device in
     let b = g.N.Nand.state c.find_checkpoint.new.device in
     let reads = c.in-Ok.ensures.reads in

@@ -52,13 +52,13 @@ returns-clause-checked g c = λ is.
     let reads = only_reads_on a (g.N.Nand.state c.find_checkpoint.new.device) e c.in-Ok.ensures.reads.only c.in-Err-by_entries.ensures.back in
     ok_map c.scan_after.result (λ x checked. checked_before a e _ reads (λ _. checked) is) (c.scan_after.ensures.checked (true_after a e reads is))
 
-pub returns-in-Ok-by_entries-clause-few : goal.returns-in-Ok-by_entries-clause-few
-returns-in-Ok-by_entries-clause-few g c =
+pub returns-in-Ok-by_entries-clause-within_limit : goal.returns-in-Ok-by_entries-clause-within_limit
+returns-in-Ok-by_entries-clause-within_limit g c =
     reads_by (g.N.Nand.state c.args.device) (g.N.Nand.state c.find_checkpoint.new.device) (g.N.Nand.state (inner_of c.in-Ok-by_entries.going.named.on.device)) c.in-Ok.ensures.reads.only
-    c.in-Ok.ensures.few c.in-Ok-by_entries.ensures.few
+    c.in-Ok.ensures.reads_bounded c.in-Ok-by_entries.ensures.within_limit
 
-pub returns-clause-few : goal.returns-clause-few
-returns-clause-few g c =
+pub returns-clause-within_limit : goal.returns-clause-within_limit
+returns-clause-within_limit g c =
     let e = g.N.Nand.state c.in-Err-by_entries.device in
     let fault = c.in-Err-by_entries.fault in
     ok_unless c.scan_after.result (EndsMount e fault) c.scan_after.ensures.ends
@@ -69,7 +69,7 @@ returns-in-None-clause-without g c =
     let a = g.N.Nand.state c.args.device in
     let b = g.N.Nand.state c.find_checkpoint.new.device in
     let reads = c.in-Ok.ensures.reads in
-    ok_all c.without_checkpoint.result (HasTrueFlash b) c.without_checkpoint.ensures.few (λ x all. without_after a b (g.N.Nand.state (inner_of x.named.on.device)) reads.only reads.most all)
+    ok_all c.without_checkpoint.result (HasTrueFlash b) c.without_checkpoint.ensures.within_limit (λ x all. without_after a b (g.N.Nand.state (inner_of x.named.on.device)) reads.only reads.most all)
 
 pub returns-in-Ok-by_entries-clause-without : goal.returns-in-Ok-by_entries-clause-without
 returns-in-Ok-by_entries-clause-without g c =

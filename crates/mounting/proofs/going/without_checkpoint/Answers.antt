@@ -25,8 +25,8 @@ returns-in-Err-clause-checked g c = λ is.
     let reads = c.in-Err.ensures.back in
     ok_map c.scan_after.result (λ x checked. checked_before a e _ reads (λ _. checked) is) (c.scan_after.ensures.checked (true_after a e reads is))
 
-pub returns-in-Err-clause-few : goal.returns-in-Err-clause-few
-returns-in-Err-clause-few g c = λ is.
+pub returns-in-Err-clause-within_limit : goal.returns-in-Err-clause-within_limit
+returns-in-Err-clause-within_limit g c = λ is.
     let a = g.N.Nand.state c.args.device in
     let e = g.N.Nand.state c.in-Err.device in
     ok_unless c.scan_after.result (EndsMount e c.in-Err.fault) c.scan_after.ensures.ends

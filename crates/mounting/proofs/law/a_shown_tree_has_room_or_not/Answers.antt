@@ -13,5 +13,5 @@ returns-clause-scarce c = λ g flash m spare objects x t is volume shown at agre
 pub returns-clause-room : goal.returns-clause-room
 returns-clause-room c = λ g flash m spare objects x t is volume shown at agree marks keeps.
     with_room g flash m spare objects x t is volume shown at agree marks keeps
-    (λ count tree. c.blocks_without_committed_pages_are_free.ensures.free x t flash (sizes_of t.geometry spare) objects count agree marks tree)
+    (λ count tree. c.blocks_without_committed_pages_are_free.ensures.free x t flash (sizes_of t.geometry spare) objects (record { counts = agree; marks = marks; tree = tree }) count)
     (c.blocks_without_committed_pages_are_free.ensures.bad t flash marks)

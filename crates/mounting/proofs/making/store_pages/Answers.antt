@@ -10,7 +10,7 @@ use Rattle.page_store.specs.StoreOf.{committed_data_map}
 use Rattle.page_store.specs.StateOf.{lent_by, state_of}
 use Rattle.tree_walk.specs.Trees.{keeps_key}
 use Rattle.mounting.proofs.Mountable.{mountable_since, store_finds, store_remembers}
-use Rattle.mounting.proofs.PagesMade.{ready, stands, few, free, store_pages}
+use Rattle.mounting.proofs.PagesMade.{ready, stands, within_limit, free, store_pages}
 use Rattle.mounting.proofs.making.store_pages.Goals as goal
 
 pub new-requires : goal.new-requires
@@ -30,12 +30,12 @@ new-requires g c = λ κs within.
       ),
     )
 
-pub new-requires-2-clause-few : goal.new-requires-2-clause-few
-new-requires-2-clause-few g c =
+pub new-requires-2-clause-within_limit : goal.new-requires-2-clause-within_limit
+new-requires-2-clause-within_limit g c =
     let on = c.args.on in
     let d = g.N.Nand.state on.device in
     let same : on.spare ≡ c.from.result = search rules in
-    rw (c.in-Ok.ensures.tables.0, c.in-Ok.ensures.spare) (subst (λ s. bad_count (table on.blocks) ≤ s) same (few (keeps_key on.tree) d (table on.blocks) on.index (numbers_of on.numbers) on.spare c.requires.read.tables c.requires.fitting c.requires.room c.requires.can.can))
+    rw (c.in-Ok.ensures.tables.0, c.in-Ok.ensures.spare) (subst (λ s. bad_count (table on.blocks) ≤ s) same (within_limit (keeps_key on.tree) d (table on.blocks) on.index (numbers_of on.numbers) on.spare c.requires.read.tables c.requires.fitting c.requires.room c.requires.can.can))
 
 pub new-requires-2-clause-free : goal.new-requires-2-clause-free
 new-requires-2-clause-free g c =

@@ -20,7 +20,7 @@ returns-in-Ok-clause-given g c =
       since = since_same a _ _ _ _ (ap (λ d. g.N.Nand.state (inner_of d)) m.same) same e.read;
       made = m.made;
       checked = λ is. subst (IsChecked a.geometry a.flash) (sym m.checkpoint) (e.checked is);
-      few = subst (ReadsAtMost a) (sym same) (record { by_checkpoint = reads_seen a _ _ e.read e.few; without_checkpoint = without_seen a _ _ e.read e.without });
+      within_limit = subst (ReadsAtMost a) (sym same) (record { by_checkpoint = reads_seen a _ _ e.read e.within_limit; without_checkpoint = without_seen a _ _ e.read e.without });
       remembers = λ honest. remembers_since a _ _ _ e.read honest m.remembers;
     }
 

@@ -20,7 +20,7 @@ returns-in-Ok-clause-given g c =
       since = read_same a _ _ _ _ (ap (λ d. g.N.Nand.state (inner_of d)) m.same) same e.read;
       made = m.made;
       checked = λ honest is. subst (IsChecked a.geometry a.flash) (sym m.checkpoint) (e.checked honest is);
-      few = subst (ReadsAllTags a) (sym same) (tags_seen a _ _ e.read e.few);
+      within_limit = subst (ReadsAllTags a) (sym same) (tags_seen a _ _ e.read e.within_limit);
       remembers = λ honest. remembers_since a _ _ _ (since_trusted _ _ _ e.read) honest m.remembers;
     }
 

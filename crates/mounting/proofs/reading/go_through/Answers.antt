@@ -20,8 +20,8 @@ returns-in-Ok-found-clause-names g c =
     said_of (λ (k : Geometry) (m : PageMap). CoversTree found.names (sizes_of k found.spare) m found.tree) g.reported pages.trust.reported (g.N.Nand.state c.args.device) (g.N.Nand.state pages.device) c.args.index.now pages.index.now c.geometry-geometry.result
     c.in-Ok.ensures.device c.in-Ok.ensures.index c.in-Ok.ensures.trust c.geometry-geometry.ensures c.in-Ok-found.ensures.names
 
-pub returns-in-Ok-found-clause-few : goal.returns-in-Ok-found-clause-few
-returns-in-Ok-found-clause-few g c =
+pub returns-in-Ok-found-clause-within_limit : goal.returns-in-Ok-found-clause-within_limit
+returns-in-Ok-found-clause-within_limit g c =
     let pages = c.in-Ok.pages in
     let found = c.in-Ok-found.tree in
     few_lent g.reported pages.trust.reported (g.N.Nand.state c.args.device) (g.N.Nand.state pages.device) (g.N.Nand.state c.find_tree-found.new.pages.device) (g.N.Nand.state c.into_device-device.result)

@@ -10,7 +10,7 @@ returns-in-Ok-clause-reason g c = λ sound size below.
 
 pub returns-in-Ok-clause-device : goal.returns-in-Ok-clause-device
 returns-in-Ok-clause-device g c = λ why.
-    subst (FailsTree (g.P.Pages.state c.root.new.pages)) (sym c.root_fault.ensures) (fails_still (of_walk c.args.below) _ _ c.root.ensures.finds why)
+    subst (FailsTree (g.P.Pages.state c.root.new.pages)) (sym c.root_fault.ensures) (fails_still (of_walk c.args.below) _ _ c.root.ensures.lookups why)
 
 pub returns-in-Err-clause-reason : goal.returns-in-Err-clause-reason
 returns-in-Err-clause-reason g c = λ sound size below. wrong_root c.args.geometry (has (g.P.Pages.state c.args.pages.now).present) c.in-Err.fault (c.in-Err.ensures.fault sound size)

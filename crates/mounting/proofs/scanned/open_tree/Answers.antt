@@ -39,13 +39,13 @@ returns-clause-names g c = λ honest.
     (c.the_opened_pages_are_the_newest.ensures.pages a (table was.blocks) was.index (numbers_of was.numbers) c.in_ok-device.ensures.opened before) before
     (c.in_ok-device-2.ensures.names before)
 
-pub returns-clause-few : goal.returns-clause-few
-returns-clause-few g c = λ honest.
+pub returns-clause-within_limit : goal.returns-clause-within_limit
+returns-clause-within_limit g c = λ honest.
     let a = g.N.Nand.state c.args.device in
     let b = g.N.Nand.state c.in_ok-device.device in
     let found = c.in_ok-device-2.found in
     let scanned = c.in_ok-device.ensures in
-    reads_scanned a b (g.N.Nand.state c.in_ok-device-2.device) found.spare found.tree scanned.reads scanned.issued (c.in_ok-device-2.ensures.few (scanned.reads.lasts.honest ∙ honest))
+    reads_scanned a b (g.N.Nand.state c.in_ok-device-2.device) found.spare found.tree scanned.reads scanned.issued (c.in_ok-device-2.ensures.within_limit (scanned.reads.lasts.honest ∙ honest))
 
 pub returns-clause-firsts : goal.returns-clause-firsts
 returns-clause-firsts g c =

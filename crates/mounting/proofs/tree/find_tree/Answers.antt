@@ -30,11 +30,11 @@ returns-in-Err-clause-fault g c = λ sound size.
     let p = g.P.Pages.state c.args.pages.now in
     let q = g.P.Pages.state c.walk.new.pages in
     let geometry = c.args.geometry in
-    let finds = c.walk.ensures.finds in
-    let below = subst (λ (m : PageMap). (spare : ℕ) → IsVolume geometry (has m) spare → WhyNoTree geometry (has m) (of_walk c.in-Err.fault)) (sym finds.present)
+    let lookups = c.walk.ensures.lookups in
+    let below = subst (λ (m : PageMap). (spare : ℕ) → IsVolume geometry (has m) spare → WhyNoTree geometry (has m) (of_walk c.in-Err.fault)) (sym lookups.present)
     (λ spare volume. wrong_below geometry (has p.present) spare c.in-Err.fault q volume (c.in-Err.ensures.fault (sizes_of geometry spare) (record { sound = sound; size = size }))) in
-    subst (λ (m : PageMap). WhyNoTree geometry (has m) c.first_fault.result) finds.present
-    (c.first_fault.ensures.reason (finds.sound ∙ sound) (size ∙ sym finds.page_bytes) below)
+    subst (λ (m : PageMap). WhyNoTree geometry (has m) c.first_fault.result) lookups.present
+    (c.first_fault.ensures.reason (lookups.sound ∙ sound) (size ∙ sym lookups.page_bytes) below)
 
 pub returns-in-Err-clause-why : goal.returns-in-Err-clause-why
 returns-in-Err-clause-why g c = c.first_fault.ensures.device (walk_fails c.in-Err.fault (g.P.Pages.state c.walk.new.pages) c.in-Err.ensures.why)

@@ -10,6 +10,6 @@ pub returns-clause-plans : goal.returns-clause-plans
 returns-clause-plans g c z s holds file =
     let m = g.S.ObjectStore.meaning in
     let here = holds_on m g.met.S.ObjectStore.lawful z s c.args.store.now c.find_place.new.store c.find_place.ensures.reads holds in
-    let at = c.in_ok-to.ensures.finds z s holds in
+    let at = c.in_ok-to.ensures.lookups z s holds in
     plans_of m z Changing s _ _ c.args.store.now c.find_place.new.store (at.act (λ to. link_at z c.args.read_only c.args.moment s c.args.number to to.object))
     c.link_at.result c.hand_on.result c.hand_on.ensures (c.link_at.ensures z s here file at.place)

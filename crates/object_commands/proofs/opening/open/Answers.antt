@@ -19,13 +19,13 @@ returns-in_err-place-clause-plans g c z s holds same =
     let m = g.S.ObjectStore.meaning in
     let p = err_from_is_err_and c.from_residual.result c.from_residual.ensures.1 in
     plans_is m z _ s _ _ c.args.store.now c.find_place.new.store (passed_all s _ ∙ passed s _ _ _ _ (sym c.cuts_what_is_only_read.ensures ∙ c.if-cuts_what_is_only_read.false)) c.from_residual.result
-    (plans_nowhere m z _ s _ _ c.args.store.now c.find_place.new.store c.from_residual.result p.0 c.in_err-place.field-0.0 p.1 p.2 (c.in_err-place.ensures.finds z s holds))
+    (plans_nowhere m z _ s _ _ c.args.store.now c.find_place.new.store c.from_residual.result p.0 c.in_err-place.field-0.0 p.1 p.2 (c.in_err-place.ensures.lookups z s holds))
 
 pub returns-clause-plans : goal.returns-clause-plans
 returns-clause-plans g c z s holds same =
     let m = g.S.ObjectStore.meaning in
     let here = holds_on m g.met.S.ObjectStore.lawful z s c.args.store.now c.find_place.new.store c.find_place.ensures.reads holds in
-    let at = c.in_ok-place.ensures.finds z s holds in
+    let at = c.in_ok-place.ensures.lookups z s holds in
     plans_of m z _ s _ _ c.args.store.now c.find_place.new.store
     (at.act (λ place. open_at z c.args.read_only c.args.moment s c.args.flags place place.object) ∙ passed_all s _ ∙ passed s _ _ _ _ (sym c.cuts_what_is_only_read.ensures ∙ c.if-cuts_what_is_only_read.false))
     c.open_at.result c.hand_on.result c.hand_on.ensures

@@ -23,6 +23,6 @@ returns g c z objects has to moment number a b from absent =
     let taken = c.units_past.ensures.units z objects has ∙ ap (λ n. entry_units n (page_slots z)) (c.entry_count-2.ensures z objects has to) in
     let free = c.free_units.ensures z objects has in
     let sum : c.saturating_add.result ≡ capacity z - charge z objects + entry_units (map.len (entries_of (map.get objects c.args.from.directory)) - 1) (page_slots z) =
-    omega (arith, c.saturating_add.ensures, free, freed, c.units_past-freed.ensures.few, capacity_few z has.numbers) in
+    omega (arith, c.saturating_add.ensures, free, freed, c.units_past-freed.ensures.within_limit, capacity_few z has.numbers) in
     ap₂ nat_le taken sum
     ∙ other_room z objects moment c.args.from.directory number a (slots_some z has.numbers) from c.args.to.directory b to absent has.fit c.if-from-to.false

@@ -19,10 +19,10 @@ returns-in_err-to-clause-plans g c z s holds same =
     let law = g.met.S.ObjectStore.lawful in
     let p = err_from_is_err_and c.from_residual-in_err-to.result c.from_residual-in_err-to.ensures.1 in
     let here = holds_on m law z s c.args.store.now c.find_place.new.store c.find_place.ensures.reads holds in
-    let from = c.in_ok-from.ensures.finds z s holds in
+    let from = c.in_ok-from.ensures.lookups z s holds in
     let act : Place → Outcome = λ from. at_place s (resolve s.objects c.args.new.now) (rename_places z c.args.read_only c.args.moment s from) in
     plans_same m law z _ s _ _ c.args.store.now c.find_place.new.store c.find_place-2.new.store c.find_place.ensures.reads (from.act act) c.from_residual-in_err-to.result
-    (plans_nowhere m z _ s _ (rename_places z c.args.read_only c.args.moment s (place_of c.in_ok-from.from)) c.find_place.new.store c.find_place-2.new.store c.from_residual-in_err-to.result p.0 c.in_err-to.field-0.0 p.1 p.2 (c.in_err-to.ensures.finds z s here))
+    (plans_nowhere m z _ s _ (rename_places z c.args.read_only c.args.moment s (place_of c.in_ok-from.from)) c.find_place.new.store c.find_place-2.new.store c.from_residual-in_err-to.result p.0 c.in_err-to.field-0.0 p.1 p.2 (c.in_err-to.ensures.lookups z s here))
 
 pub returns-clause-plans : goal.returns-clause-plans
 returns-clause-plans g c z s holds same =
@@ -30,8 +30,8 @@ returns-clause-plans g c z s holds same =
     let law = g.met.S.ObjectStore.lawful in
     let mid = holds_on m law z s c.args.store.now c.find_place.new.store c.find_place.ensures.reads holds in
     let here = holds_on m law z s c.find_place.new.store c.find_place-2.new.store c.find_place-2.ensures.reads mid in
-    let from = c.in_ok-from.ensures.finds z s holds in
-    let to = c.in_ok-to.ensures.finds z s mid in
+    let from = c.in_ok-from.ensures.lookups z s holds in
+    let to = c.in_ok-to.ensures.lookups z s mid in
     let act : Place → Outcome = λ from. at_place s (resolve s.objects c.args.new.now) (rename_places z c.args.read_only c.args.moment s from) in
     plans_of m z _ s _ _ c.args.store.now c.find_place-2.new.store (to.act (rename_places z c.args.read_only c.args.moment s (place_of c.in_ok-from.from)) ∙ from.act act)
     c.rename_places.result c.hand_on.result c.hand_on.ensures

@@ -13,7 +13,7 @@ min_of_three : (a b n : ℕ) → min (min a b) n ≡ min a (min b n)
 min_of_three a b n = omega arith
 
 pub returns-clause-count : goal.returns-clause-count
-returns-clause-count g c z s holds file same moment new few =
+returns-clause-count g c z s holds file same moment new within_limit =
     let h = handle_of c.args.description in
     let bytes = bytes_of (map.get s.objects c.args.description.object) in
     let is = c.sizes-sizes.ensures ∙ holds.has.sizes in
@@ -29,5 +29,5 @@ returns-clause-count g c z s holds file same moment new few =
     let room : c.saturating_mul-room.result ≡ units_for z s.objects bytes * z.page_bytes = exact ∙ ap₂ (λ a b. a * b) units.0 paged in
     let last = c.saturating_sub-2.ensures ∙ ap₂ (λ a b. a - b) room offset in
     let far = c.saturating_sub.ensures ∙ ap₂ (λ a b. a - b) greatest offset in
-    let all = c.min-most.ensures ∙ ap₂ min (c.min.ensures ∙ ap₂ min few most) far ∙ min_of_three _ _ _ in
+    let all = c.min-most.ensures ∙ ap₂ min (c.min.ensures ∙ ap₂ min within_limit most) far ∙ min_of_three _ _ _ in
     c.min-2.ensures ∙ ap₂ min all last ∙ sym (write_count_is z moment s h file.0 bytes new (page_some z holds.has.numbers) holds.sound.fit there)

@@ -22,17 +22,17 @@ loop-number-preserved c = λ all k two lt. elim (cases_eq k c.loop-number.number
 
 pub returns-clause-low : goal.returns-clause-low
 returns-clause-low c = λ all.
-    let few = taken_few c.args.facts.now (c.args.from - 2) (λ k two lt. all k two (omega arith)) in
-    omega (arith, few, c.len.ensures.len)
+    let within_limit = taken_few c.args.facts.now (c.args.from - 2) (λ k two lt. all k two (omega arith)) in
+    omega (arith, within_limit, c.len.ensures.len)
 
 pub returns-clause-free : goal.returns-clause-free
 returns-clause-free c = λ all. elim (cases_Bool (taken_in c.args.facts.now (btree_map_len c.args.facts.now + 2))) [
   | inl yes' ↦
-      let few = taken_few c.args.facts.now (btree_map_len c.args.facts.now + 1) (λ k two lt. elim (cases_eq k (btree_map_len c.args.facts.now + 2)) [
+      let within_limit = taken_few c.args.facts.now (btree_map_len c.args.facts.now + 1) (λ k two lt. elim (cases_eq k (btree_map_len c.args.facts.now + 2)) [
         | inl is ↦ ap (taken_in c.args.facts.now) is ∙ yes'
         | inr ne ↦ c.loop-number.invariant all k two (omega (arith, c.len.ensures.len))
       ]) in
-      absurd (omega (arith, few))
+      absurd (omega (arith, within_limit))
   | inr no' ↦ ap (λ n. taken_in c.args.facts.now (n + 2)) c.len.ensures.len ∙ no'
 ]
 

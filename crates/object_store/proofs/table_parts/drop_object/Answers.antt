@@ -14,7 +14,7 @@ pub returns-in-None-clause-counts : goal.returns-in-None-clause-counts
 returns-in-None-clause-counts c = λ objects counts can.
     let none = sym c.in-None.ensures in
     let units : units_of (sizes_in c.args.totaled.now) (reported_at c.args.totaled.now c.args.number) ≡ 0 = ap (units_of (sizes_in c.args.totaled.now)) none in
-    gone_counts objects c.args.number can.blank can.unnamed c.args.totaled.now c.args.totaled.now counts can.countable.few
+    gone_counts objects c.args.number can.blank can.unnamed c.args.totaled.now c.args.totaled.now counts can.countable.within_limit
     (record {
       sizes = refl;
       here = none;

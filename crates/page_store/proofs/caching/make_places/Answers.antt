@@ -20,9 +20,9 @@ loop-page-preserved c =
       sizes = sizes_on _ _ _ was.sizes puts.sizes;
       fewer = λ o k xs is. was.fewer o k xs (fewer_placed p.key.object p.key.chunk old c.reserve.new.self puts o k xs is);
       no_fewer = omega (arith, was.no_fewer, puts.no_fewer);
-      few = omega (arith, was.few, puts.one_more);
+      within_limit = omega (arith, was.within_limit, puts.one_more);
       places = λ fits i q lt is.
-          let free : held_count old < capacity_of old = omega (arith, fits, was.few, was.sizes.capacity, c.loop-page-test.true) in
+          let free : held_count old < capacity_of old = omega (arith, fits, was.within_limit, was.sizes.capacity, c.loop-page-test.true) in
           elim (cases_eq i c.loop-page.page-index) [
             | inr ne ↦ held_put p.key.object p.key.chunk old c.reserve.new.self puts (inr free) q.key.object q.key.chunk (was.places fits i q (omega (arith, lt, ne)) is)
             | inl e ↦
@@ -35,7 +35,7 @@ loop-page-preserved c =
         | inl e ↦ lacks_page c.reserve.new.self c.args.pages.now o k i p of (ap (slice_get c.args.pages.now) e ∙ at) (ap (option_and_then page_in) puts.here)
       ];
       others = λ fits o k none.
-          let free : held_count old < capacity_of old = omega (arith, fits, was.few, was.sizes.capacity, c.loop-page-test.true) in
+          let free : held_count old < capacity_of old = omega (arith, fits, was.within_limit, was.sizes.capacity, c.loop-page-test.true) in
           puts.room (inr free) o k (λ same there. none c.loop-page.page-index (omega arith) (record { page = p; there = at; object = sym same; chunk = sym there }))
           ∙ was.others fits o k (λ i lt. none i (omega (arith, lt)));
     }

@@ -11,7 +11,7 @@ invariant-loop-page l = record {
   sizes : KeepsSizes l.fn.cache l.cache;
   fewer : HasNoMore l.fn.cache l.cache;
   no_fewer : held_count l.fn.cache ≤ held_count l.cache;
-  few : held_count l.cache ≤ held_count l.fn.cache + l.page-index;
+  within_limit : held_count l.cache ≤ held_count l.fn.cache + l.page-index;
   places : held_count l.fn.cache + length l.pages ≤ capacity_of l.fn.cache → (i : ℕ) (p : FreshPage) → i < l.page-index → slice_get l.pages i ≡ Some p → IsSome (held l.cache p.key.object p.key.chunk);
   lacks : (o c i : ℕ) → i < l.page-index → IsPageOf l.pages o c i → cached l.cache o c ≡ None;
   others : held_count l.fn.cache + length l.pages ≤ capacity_of l.fn.cache → (o c : ℕ) → ((i : ℕ) → i < l.page-index → IsPageOf l.pages o c i → ⊥) → held l.cache o c ≡ held l.fn.cache o c;

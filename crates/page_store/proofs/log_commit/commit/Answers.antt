@@ -135,7 +135,7 @@ returns-then-is_empty-clause-ends g c =
     let same : bad_count v ≡ bad_count t = bad_empty c.args.log.now.spare lists w d t v a.index b.index a.pages none r.buffers.buffers c.args.log.now.ready c.args.log.now.stands r.reserve.1 settles settled.agree settled.counts in
     let committed = committed_empty c.args.log.now.spare lists w d t v a.index b.index a.pages none r.buffers.buffers c.args.log.now.ready c.args.log.now.stands r.reserve.1 settles settled.agree settled.counts in
     let zero_long : length a.pages ≡ 0 = ap length none in
-    let few = r.reserve.0 in
+    let within_limit = r.reserve.0 in
     record {
       unbuffered = settled.unbuffered;
       empty = settled.empty;
@@ -143,7 +143,7 @@ returns-then-is_empty-clause-ends g c =
       committed = λ _. committed;
       present = λ _ q k. shown_committed b.index d.flash b.pages settles.presents q k ∙ committed q k;
       newest = λ _. carries_empty c.args.log.now.spare lists w d t v a.index b.index a.pages none r.buffers.buffers c.args.log.now.ready c.args.log.now.stands r.reserve.1 settles settled.agree settled.counts;
-      few = omega (arith, same, few);
+      within_limit = omega (arith, same, within_limit);
       free = free_empty c.args.log.now.spare lists w d t v a.index b.index a.pages none r.buffers.buffers c.args.log.now.ready c.args.log.now.stands r.reserve.1 settles settled.agree settled.counts;
       power = λ some. absurd (omega (arith, some, zero_long));
       answered = λ some. absurd (omega (arith, some, zero_long));

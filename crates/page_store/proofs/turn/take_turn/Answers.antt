@@ -43,7 +43,7 @@ returns-clause-well g c =
     let d : BufferedLog = held c.write_in_room.new.log c.write_in_room.new.buffer in
     let same : FitsOpen (length a.pages) a.log.table → b.log ≡ a.log = λ fits.
     let many = ap length c.pages.ensures in
-    let stays = c.make_room.ensures.enough (omega (arith, fits, many)) in
+    let stays = c.make_room.ensures.sufficient (omega (arith, fits, many)) in
     stays.log in
     well_after (length a.pages) a.log b.log d.log c.write_in_room.result c.make_room.ensures.step.lasts (rw c.make_room.ensures.terms.spare at c.write_in_room.ensures).leaves.log.lasts same (rw c.make_room.ensures.terms.spare at c.write_in_room.ensures).well
 
@@ -52,4 +52,4 @@ returns-clause-ends g c =
     let a : BufferedLog = held c.args.log.now c.args.buffer.now in
     let b : BufferedLog = held c.make_room.new.self c.args.buffer.now in
     let d : BufferedLog = held c.write_in_room.new.log c.write_in_room.new.buffer in
-    turn_after c.args.log.now.spare a b d c.write_in_room.result c.args.log.now.stands c.make_room.ensures.step refl c.in_ok-make_room.ensures.ends.few (rw c.make_room.ensures.terms.spare at c.write_in_room.ensures).ends
+    turn_after c.args.log.now.spare a b d c.write_in_room.result c.args.log.now.stands c.make_room.ensures.step refl c.in_ok-make_room.ensures.ends.within_limit (rw c.make_room.ensures.terms.spare at c.write_in_room.ensures).ends

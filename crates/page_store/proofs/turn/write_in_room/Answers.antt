@@ -25,7 +25,6 @@ invariant_of-log g c =
       ready = committed.ready;
       stands = committed.stands;
       room_size = record {
-        keys = omega (arith, log.room_size.keys, pages);
         copies = omega (arith, log.room_size.copies, pages);
         entries = omega (arith, log.room_size.entries, pages);
         scratch = same_page log.room.scratch.len c.write_buffered.new.scratch _ (omega arith) ∙ omega (arith, log.room_size.scratch, bytes);
@@ -62,14 +61,14 @@ returns-in-Trusted-clause-ends g c =
     let b : BufferedLog = in_parts g.N.Nand.state c.write_buffered.new.device c.write_buffered.new.blocks c.write_buffered.new.index c.write_buffered.new.buffer in
     let done = (rw c.in-Trusted.is at c.in_ok-write_buffered.ensures).attempts c.args.log.now.spare c.args.log.now.stands c.requires.free in
     let same = c.write_buffered.ensures.bad in
-    let few = c.requires.few in
-    (done.1.0, omega (arith, same, few), answered_here c.args.log.now.spare a b c.args.log.now.ready c.args.log.now.stands (inl done.1.1))
+    let within_limit = c.requires.within_limit in
+    (done.1.0, omega (arith, same, within_limit), answered_here c.args.log.now.spare a b c.args.log.now.ready c.args.log.now.stands (inl done.1.1))
 
-pub retire-requires-clause-few : goal.retire-requires-clause-few
-retire-requires-clause-few g c =
+pub retire-requires-clause-within_limit : goal.retire-requires-clause-within_limit
+retire-requires-clause-within_limit g c =
     let same = c.write_buffered.ensures.bad in
-    let few = c.requires.few in
-    omega (arith, same, few)
+    let within_limit = c.requires.within_limit in
+    omega (arith, same, within_limit)
 
 pub retire-requires-clause-none : goal.retire-requires-clause-none
 retire-requires-clause-none g c =
@@ -107,15 +106,15 @@ returns-in_ok-retire-in-Suspect-clause-ends g c =
     let done = (rw c.in-Suspect.is at c.in_ok-write_buffered.ensures).attempts c.args.log.now.spare c.args.log.now.stands c.requires.free in
     let retired = c.in_ok-retire-in-Suspect.ensures.ends in (
       whole_then c.args.log.now.spare a b d done.1.0 c.retire.ensures.step refl refl retired.0.free retired.1,
-      retired.0.few,
+      retired.0.within_limit,
       answered_here c.args.log.now.spare a d c.args.log.now.ready c.args.log.now.stands (inr (c.in-Suspect.block, done.1.1.was, retired.0.bad)),
     )
 
-pub retire-requires-in-Failed-clause-few : goal.retire-requires-in-Failed-clause-few
-retire-requires-in-Failed-clause-few g c =
+pub retire-requires-in-Failed-clause-within_limit : goal.retire-requires-in-Failed-clause-within_limit
+retire-requires-in-Failed-clause-within_limit g c =
     let same = c.write_buffered.ensures.bad in
-    let few = c.requires.few in
-    omega (arith, same, few)
+    let within_limit = c.requires.within_limit in
+    omega (arith, same, within_limit)
 
 pub retire-requires-in-Failed-clause-none : goal.retire-requires-in-Failed-clause-none
 retire-requires-in-Failed-clause-none g c =
@@ -159,6 +158,6 @@ returns-in_ok-retire-in-Failed-clause-ends g c =
       waiting_then c.args.log.now.spare a b d done.1.0 c.retire-in-Failed.ensures.step refl retired.1,
       retired.0.free,
       omega (arith, same, more),
-      retired.0.few,
+      retired.0.within_limit,
       fits_block (length a.pages) a.log d.log c.args.log.now.ready (c.retire-in-Failed.ensures.step.lasts.geometry ∙ c.write_buffered.ensures.lasts.geometry) c.requires.fits,
     )

@@ -23,7 +23,7 @@ loop-init g c = record {
   costs = costs_none (3 * (g.N.Nand.state c.args.log.now.device).geometry.pages + 3) (g.N.Nand.state c.args.log.now.device);
   reads = omega arith;
   first = λ _. refl;
-  few = c.requires.few;
+  within_limit = c.requires.within_limit;
   free = c.requires.free;
   sizes = record { most = refl; bytes = refl };
 }
@@ -58,7 +58,7 @@ loop-preserved g c =
       costs = costs_on 0 0 (3 * a.log.device.geometry.pages + 3) a.log.device b.log.device d.log.device so_far.costs turn;
       reads = let reads = again.pays.pays.reads in omega (arith, so_far.reads, reads);
       first = λ still. absurd (had_none a.log.device b.log.device d.log.device still so_far.step.lasts.failures failed);
-      few = again.ends.3;
+      within_limit = again.ends.3;
       free = again.ends.1;
       sizes = record { most = again.sizes.most ∙ so_far.sizes.most; bytes = again.sizes.bytes ∙ so_far.sizes.bytes };
     }
@@ -164,5 +164,5 @@ returns-in_err-take_turn-clause-ends g c =
     let so_far = c.loop.invariant in
     let p = err_from_is_err_and c.from_residual.result c.from_residual.ensures.1 in
     let fault = c.in_err-take_turn.field-0.0 in
-    rw (p.1, p.2) (why_before (length a.pages) c.args.log.now.spare d.log.device a.log.table b.log.table d.log.table fault so_far.step.geometry so_far.step.committed_count so_far.few
+    rw (p.1, p.2) (why_before (length a.pages) c.args.log.now.spare d.log.device a.log.table b.log.table d.log.table fault so_far.step.geometry so_far.step.committed_count so_far.within_limit
     (subst (λ n. WhyNoRoom n c.args.log.now.spare d.log.device b.log.table d.log.table fault) (ap length so_far.same) (rw c.loop.invariant.terms.spare at c.in_err-take_turn.ensures).ends))

@@ -22,7 +22,7 @@ invariant-loop g l = record {
   costs : Costs 0 (3 * (g.N.Nand.state l.fn.log.device).geometry.pages + 3) 0 (g.N.Nand.state l.fn.log.device) (g.N.Nand.state l.log.device);
   reads : ReadsFew 0 (g.N.Nand.state l.fn.log.device) (g.N.Nand.state l.log.device);
   first : (g.N.Nand.state l.log.device).failures ≡ (g.N.Nand.state l.fn.log.device).failures → log_state l.log ≡ log_state l.fn.log;
-  few : bad_count (table l.log.blocks) ≤ l.fn.log.spare;
+  within_limit : bad_count (table l.log.blocks) ≤ l.fn.log.spare;
   free : HasFreeBlocks (table l.log.blocks) l.fn.log.spare;
   sizes : SameSizes l.fn.buffer l.buffer;
 }

@@ -13,7 +13,7 @@ itself [] = refl
 itself (x ∷ xs) = ap (λ b. b && pointwise nat_eq xs xs) (eq-eqb x x refl) ∙ itself xs
 
 pub returns-else-eq-clause-none : goal.returns-else-eq-clause-none
-returns-else-eq-clause-none c n few same =
-    let read : c.u64_at-n.result ≡ n = c.u64_at-n.ensures ∙ ap (λ (bytes : List ℕ). little_number 8 (drop 8 bytes)) same ∙ number_read n few in
+returns-else-eq-clause-none c n within_limit same =
+    let read : c.u64_at-n.result ≡ n = c.u64_at-n.ensures ∙ ap (λ (bytes : List ℕ). little_number 8 (drop 8 bytes)) same ∙ number_read n within_limit in
     let alike : c.args.bytes.now ≡ c.head_of-said.result = same ∙ ap check_head_bytes (sym read) ∙ sym c.head_of-said.ensures in
     false≢true (sym c.if-eq.false ∙ c.eq.ensures ∙ ap (λ (bytes : List ℕ). pointwise nat_eq c.args.bytes.now bytes) (sym alike) ∙ itself c.args.bytes.now)

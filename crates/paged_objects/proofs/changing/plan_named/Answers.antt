@@ -13,11 +13,11 @@ returns-in_ok-hash_names-in-Ok-clause-names g c = λ z objects has make is.
     let p : PagesState = g.P.Pages.state c.args.pages.now in
     let q : PagesState = g.P.Pages.state c.plan.new.pages in
     let new = made objects c.args.change.now in
-    let finds = c.plan.ensures.finds in
-    let after = named_after c.args.names.now z p q objects finds has in
+    let lookups = c.plan.ensures.lookups in
+    let after = named_after c.args.names.now z p q objects lookups has in
     let here : HoldsNamed c.args.names.now p z objects = record { holds = holds_in z p objects has.pages.stands; hashes = has.named } in
     let holds : HoldsObjects z (changed c.in-Ok.planned p.present) new = c.in-Ok.ensures.makes z objects here make is in
     let writes = c.in-Ok.ensures.slots z objects here make in
-    subst (λ (m : PageMap). HasNames c.hash_names.new.names z (changed c.in-Ok.planned m) new) finds.present
+    subst (λ (m : PageMap). HasNames c.hash_names.new.names z (changed c.in-Ok.planned m) new) lookups.present
     (c.in_ok-hash_names-in-Ok.ensures.hashes z objects new (record { holds = holds_in z q objects after.pages.stands; hashes = after.named }) writes
-    (subst (λ (m : PageMap). HoldsObjects z (changed c.in-Ok.planned m) new) (sym finds.present) holds) has.pages.can.numbers make.fits)
+    (subst (λ (m : PageMap). HoldsObjects z (changed c.in-Ok.planned m) new) (sym lookups.present) holds) has.pages.can.numbers make.fits)

@@ -12,7 +12,7 @@ pub returns-clause-present : goal.returns-clause-present
 returns-clause-present g c = λ sound. on_ok_weaker c.apply.result (λ is. is.present) (c.apply.ensures.makes sound)
 
 pub returns-clause-makes : goal.returns-clause-makes
-returns-clause-makes g c = λ z old new has few holds.
+returns-clause-makes g c = λ z old new has within_limit holds.
     let p : PagesState = g.P.Pages.state c.args.pages.now in
     let e = c.apply.ensures in
     took z p (g.P.Pages.state c.apply.new.self) old new (changed c.args.planned p.present) c.apply.result has holds e.goes_on (on_ok_weaker c.apply.result (λ is _. is.sound) (e.makes has.stands.sound))

@@ -29,8 +29,8 @@ returns-clause-touches g c = λ z objects h file.
     subst (λ (xs : List ℕ). IfOk c.resize.result (λ change. HoldsObjects z (changed change p.present) (with_bytes objects c.args.moment o (written xs c.args.offset [])))) bytes
     (subst (λ (xs : List ℕ). IfOk c.resize.result (λ change. HoldsObjects z (changed change p.present) (with_bytes objects c.args.moment o xs))) all
     (subst (λ (xs : List ℕ). IfOk c.resize.result (λ change. HoldsObjects z (changed change p.present) (with_bytes objects c.args.moment o (resized xs c.max.result)))) (sym bytes)
-    (subst (λ (m : PageMap). IfOk c.resize.result (λ change. HoldsObjects z (changed change m) (with_bytes objects c.args.moment o (resized (bytes_of (map.get objects o)) c.max.result)))) c.read_info.ensures.finds.present
-    (c.resize.ensures.resizes z objects (holds_on p q z objects c.read_info.ensures.finds h) file))))
+    (subst (λ (m : PageMap). IfOk c.resize.result (λ change. HoldsObjects z (changed change m) (with_bytes objects c.args.moment o (resized (bytes_of (map.get objects o)) c.max.result)))) c.read_info.ensures.looks.lookups.present
+    (c.resize.ensures.resizes z objects (holds_on p q z objects c.read_info.ensures.looks.lookups h) file))))
 
 pub returns-clause-fault : goal.returns-clause-fault
 returns-clause-fault g c = λ z objects h file fits.
@@ -39,4 +39,4 @@ returns-clause-fault g c = λ z objects h file fits.
     let o : ℕ = c.args.number in
     let len : c.in_ok-info.info.length ≡ length file.1 = c.in_ok-info.ensures.length z file.0 file.1 (file_in p z objects h o file) in
     let there : length file.1 ≤ most_file_bytes z.page_bytes = file_fits p z objects h o file in
-    c.resize.ensures.fault z objects (holds_on p q z objects c.read_info.ensures.finds h) file (grind (arith, c.max.ensures, len, there, fits))
+    c.resize.ensures.fault z objects (holds_on p q z objects c.read_info.ensures.looks.lookups h) file (grind (arith, c.max.ensures, len, there, fits))

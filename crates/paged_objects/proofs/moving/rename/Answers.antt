@@ -48,8 +48,8 @@ returns-then-from-directory-clause-fault g c = λ z objects n can source dir.
     let p : PagesState = g.P.Pages.state c.args.pages.now in
     let q : PagesState = g.P.Pages.state c.rename_within.new.pages in
     let left : Entries = map.remove dir.1 c.args.from.name.now in
-    let few : map.len left < 4294967295 = few_left z objects can c.args.directory dir c.args.from.name.now in
-    on_err _ _ c.rename_within.result (λ fault is. lacks_memory_only (map.len left) q fault (omega (arith, few)) is)
+    let within_limit : map.len left < 4294967295 = few_left z objects can c.args.directory dir c.args.from.name.now in
+    on_err _ _ c.rename_within.result (λ fault is. lacks_memory_only (map.len left) q fault (omega (arith, within_limit)) is)
     (c.rename_within.ensures.fault z dir.0 dir.1 (named_in c.args.names.now p z objects n c.args.directory dir))
 
 pub returns-clause-named : goal.returns-clause-named
@@ -84,8 +84,8 @@ pub returns-clause-fault : goal.returns-clause-fault
 returns-clause-fault g c = λ z objects n can source target.
     let p : PagesState = g.P.Pages.state c.args.pages.now in
     let q : PagesState = g.P.Pages.state c.rename_between.new.pages in
-    let few = few_entries z objects can c.args.directory target in
-    on_err _ _ c.rename_between.result (λ fault is. lacks_memory_only (map.len target.1) q fault (omega (arith, few)) is)
+    let within_limit = few_entries z objects can c.args.directory target in
+    on_err _ _ c.rename_between.result (λ fault is. lacks_memory_only (map.len target.1) q fault (omega (arith, within_limit)) is)
     (c.rename_between.ensures.fault z source.0 target.0 source.1 target.1 (named_in c.args.names.now p z objects n c.args.from.directory source) (named_in c.args.names.now p z objects n c.args.directory target))
 
 pub returns-then-from-directory-clause-slots : goal.returns-then-from-directory-clause-slots

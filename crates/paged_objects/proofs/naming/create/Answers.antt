@@ -22,17 +22,17 @@ use Rattle.paged_objects.proofs.naming.create.Goals as goal
 pub returns-in_err-slot-clause-fault : goal.returns-in_err-slot-clause-fault
 returns-in_err-slot-clause-fault g c = λ z objects h can is absent.
     let low = (new_number_is objects).low in
-    let few = new_number_few z can.numbers objects can.fit in
-    absurd (c.in_err-slot.ensures.fault absent.name (omega (arith, is, low), omega (arith, is, few)))
+    let within_limit = new_number_few z can.numbers objects can.fit in
+    absurd (c.in_err-slot.ensures.fault absent.name (omega (arith, is, low), omega (arith, is, within_limit)))
 
 pub returns-in_err-named-clause-fault : goal.returns-in_err-named-clause-fault
 returns-in_err-named-clause-fault g c = λ z objects h can is absent.
     let p : PagesState = g.P.Pages.state c.args.pages.now in
     let q : PagesState = g.P.Pages.state c.add.new.pages in
     let dir : IsDirectory objects c.args.at.directory = absent.directory in
-    let few = few_entries z objects can c.args.at.directory dir in
+    let within_limit = few_entries z objects can c.args.at.directory dir in
     let r = err_from_is_err_and c.from_residual-in_err-named.result c.from_residual-in_err-named.ensures.1 in
-    rw (r.1, r.2) (lacks_memory_only (map.len dir.1) q _ (omega (arith, few)) (c.in_err-named.ensures.fault z dir.0 dir.1 (directory_in p z objects h c.args.at.directory dir)))
+    rw (r.1, r.2) (lacks_memory_only (map.len dir.1) q _ (omega (arith, within_limit)) (c.in_err-named.ensures.fault z dir.0 dir.1 (directory_in p z objects h c.args.at.directory dir)))
 
 pub returns-clause-creates : goal.returns-clause-creates
 returns-clause-creates g c = λ z objects h is absent.
@@ -67,7 +67,7 @@ returns-clause-change g c =
     record {
       apart = c.in_ok-change.ensures.apart a.apart b.apart;
       size = c.in_ok-change.ensures.size p.page_bytes a.size b.size;
-      few = omega (arith, c.in_ok-change.ensures.few, a.few, b.few);
+      within_limit = omega (arith, c.in_ok-change.ensures.within_limit, a.within_limit, b.within_limit);
     }
 
 pub returns-clause-slots : goal.returns-clause-slots

@@ -37,8 +37,8 @@ returns-clause-fault g c = λ z objects h can absent some.
     let p : PagesState = g.P.Pages.state c.args.pages.now in
     let q : PagesState = g.P.Pages.state c.add.new.pages in
     let dir : IsDirectory objects c.args.at.directory = absent.directory in
-    let few = few_entries z objects can c.args.at.directory dir in
-    on_err _ _ c.add.result (λ fault is. lacks_memory_only (map.len dir.1) q fault (omega (arith, few)) is)
+    let within_limit = few_entries z objects can c.args.at.directory dir in
+    on_err _ _ c.add.result (λ fault is. lacks_memory_only (map.len dir.1) q fault (omega (arith, within_limit)) is)
     (c.add.ensures.fault z dir.0 dir.1 (directory_in p z objects h c.args.at.directory dir))
 
 pub returns-clause-slots : goal.returns-clause-slots

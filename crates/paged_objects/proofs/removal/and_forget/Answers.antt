@@ -17,8 +17,8 @@ returns-clause-change c = λ bytes most is.
     let none : c.in_ok-cut.cut.pages.items ≡ [] = c.in_ok-cut.ensures.pages in
     on_three (λ (both : Change). AreApart both.pages.items) (λ (both : Change). AreSized both.pages.items bytes) (λ (both : Change). length both.pages.items ≤ length c.args.change.pages.items + length c.in_ok-cut.cut.pages.items)
     (λ both. IsChange both bytes most) c.then.result
-    (λ both apart size few. record { apart = apart; size = size; few = omega (arith, few, is.few, ap (λ (ps : List FreshPage). length ps) none) })
-    (c.then.ensures.apart is.apart (none_apart c.in_ok-cut.cut.pages.items none)) (c.then.ensures.size bytes is.size (none_sized c.in_ok-cut.cut.pages.items bytes none)) c.then.ensures.few
+    (λ both apart size within_limit. record { apart = apart; size = size; within_limit = omega (arith, within_limit, is.within_limit, ap (λ (ps : List FreshPage). length ps) none) })
+    (c.then.ensures.apart is.apart (none_apart c.in_ok-cut.cut.pages.items none)) (c.then.ensures.size bytes is.size (none_sized c.in_ok-cut.cut.pages.items bytes none)) c.then.ensures.within_limit
 
 pub returns-clause-forgets : goal.returns-clause-forgets
 returns-clause-forgets c = λ z m objects holds.

@@ -23,4 +23,4 @@ returns-clause-tree g c tree are =
       sound = sound_at p objects.table objects.names tree same mounted;
     } in
     stands_for state p (table_sizes objects.table) tree c.new.result objects.table objects.names same mounted (ap state c.new.ensures.pages)
-    (c.new.ensures.at tree stored are.worn (λ _. record { named = mounted.settles; shown = subst (λ (k : Sizes). Shown k p tree) z mounted.shown }))
+    (c.new.ensures.at tree (record { stored = stored; worn = are.worn; shown = λ _. record { named = mounted.settles; shown = subst (λ (k : Sizes). Shown k p tree) z mounted.shown } }))

@@ -1,5 +1,5 @@
-use Rattle.posix_profile.specs.laws.Path.{resolve_place}
+use Rattle.posix_profile.specs.laws.Path.{resolved_place}
 use Rattle.posix_profile.proofs.law.a_path_leads_to_a_place.Goals as goal
 
 pub returns : goal.returns
-returns c = resolve_place
+returns c = resolved_place

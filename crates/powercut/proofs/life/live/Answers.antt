@@ -50,14 +50,14 @@ pub returns-clause-failures : goal.returns-clause-failures
 returns-clause-failures c = failures_listed c.args.sessions.now c.loop-session.ends.items (device c.args.nand) (device c.loop-session.last) c.loop-session.invariant.ended
 
 pub returns-clause-reserve : goal.returns-clause-reserve
-returns-clause-reserve c = λ spare tree sound reserve numbers.
+returns-clause-reserve c = λ spare tree sound stays.
     let a = device c.args.nand in
     let b = device c.loop-session.last in
     let was = c.loop-session.invariant in
-    let failed = failures_listed c.args.sessions.now c.loop-session.ends.items a b was.ended reserve.totaled in
+    let failed = failures_listed c.args.sessions.now c.loop-session.ends.items a b was.ended stays.reserve.totaled in
     (was.lived.truly sound.truth).life spare tree sound.sound (record {
-      few_bad = few_from a b spare (length (failing_in c.args.sessions.now)) was.lived.answered failed reserve.few;
-      numbers = numbers;
+      few_bad = few_from a b spare (length (failing_in c.args.sessions.now)) was.lived.answered failed stays.reserve.within_limit;
+      numbers = stays.numbers;
     })
 
 pub returns-clause-life : goal.returns-clause-life

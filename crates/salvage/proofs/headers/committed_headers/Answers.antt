@@ -10,9 +10,9 @@ loop-found-init c = record { lists = subst (ListsUpTo (committed_pages c.args.in
 pub loop-found-preserved : goal.loop-found-preserved
 loop-found-preserved c =
     let found = c.in-Some.found in
-    let few : found.key.chunk < 2 ^ 64 = omega arith in
+    let within_limit : found.key.chunk < 2 ^ 64 = omega arith in
     record {
-      lists = lists_more (committed_pages c.args.index.now) c.loop-found.last c.loop-found.headers.items found c.put_header.new.headers.items c.loop-found.invariant.last few c.loop-found.invariant.lists
+      lists = lists_more (committed_pages c.args.index.now) c.loop-found.last c.loop-found.headers.items found c.put_header.new.headers.items c.loop-found.invariant.last within_limit c.loop-found.invariant.lists
           c.in-Some.ensures c.in_ok-put_header.ensures 18446744073709551615;
       last = refl;
     }

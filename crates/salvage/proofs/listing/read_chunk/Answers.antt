@@ -12,7 +12,7 @@ returns-in_ok-read_page-in-Present-clause-lists g c = λ z is first.
     let old : PagesState = seen_by c.args.pages.now in
     let found = rw c.in-Present.is at c.in_ok-look.ensures.page is.sound in
     let page : old.present c.args.directory (1 + c.args.chunk) ≡ Some c.page.result.now = found ∙ ap Some (sym c.page.ensures.bytes) in
-    c.in_ok-read_page-in-Present.ensures.lists z old.present c.args.directory c.args.chunk page (is.size ∙ sym c.look.ensures.finds.page_bytes ∙ sym c.page.ensures.size) first
+    c.in_ok-read_page-in-Present.ensures.lists z old.present c.args.directory c.args.chunk page (is.size ∙ sym c.look.ensures.lookups.page_bytes ∙ sym c.page.ensures.size) first
 
 pub returns-in-Absent-clause-lists : goal.returns-in-Absent-clause-lists
 returns-in-Absent-clause-lists g c = λ z is first.

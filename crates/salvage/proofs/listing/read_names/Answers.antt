@@ -24,9 +24,9 @@ pub returns-in_ok-listing-in-Directory-clause-lists : goal.returns-in_ok-listing
 returns-in_ok-listing-in-Directory-clause-lists g c = λ z is.
     let old : PagesState = seen_by c.args.pages.now in
     let mid : PagesState = seen_by c.read_info.new.pages in
-    let finds = c.read_info.ensures.finds in
+    let lookups = c.read_info.ensures.lookups in
     let info = c.in-Some.info in
     let listing = c.in_ok-listing-in-Directory.listing in
     let says : SaysInfo z (has old.present) c.args.directory (Some info) = rw c.in-Some.is at c.in_ok-info.ensures.info z is in
-    let slots = c.in_ok-listing-in-Directory.ensures.lists z (still_seen z old mid finds is) in
-    directory_of z (has old.present) c.args.directory info says listing c.in-Directory.is (subst (λ (m : PageMap). ListsSlots z (has m) c.args.directory info.length listing) finds.present slots)
+    let slots = c.in_ok-listing-in-Directory.ensures.lists z (still_seen z old mid lookups is) in
+    directory_of z (has old.present) c.args.directory info says listing c.in-Directory.is (subst (λ (m : PageMap). ListsSlots z (has m) c.args.directory info.length listing) lookups.present slots)

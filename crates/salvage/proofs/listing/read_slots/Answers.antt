@@ -13,7 +13,7 @@ use Rattle.salvage.proofs.listing.read_slots.Goals as goal
 
 pub loop-chunk-init : goal.loop-chunk-init
 loop-chunk-init g c = record {
-  finds = finds_none (seen_by c.args.pages.now);
+  lookups = finds_none (seen_by c.args.pages.now);
   lost = omega arith;
   slots = λ z is.
       let old : PagesState = seen_by c.args.pages.now in
@@ -23,31 +23,31 @@ loop-chunk-init g c = record {
 
 pub loop-chunk-preserved : goal.loop-chunk-preserved
 loop-chunk-preserved g c = record {
-  finds = finds_on _ _ _ c.loop-chunk.invariant.finds c.read_chunk.ensures.finds;
+  lookups = finds_on _ _ _ c.loop-chunk.invariant.lookups c.read_chunk.ensures.lookups;
   lost =
       let n : ℕ = c.from-slots.result in
       let some : 1 ≤ n = omega (arith, c.page_bytes.ensures.least, c.from-slots.ensures) in
       let less : c.loop-chunk.chunk < div_ceil c.args.length n = subst (λ k. c.loop-chunk.chunk < k) c.div_ceil-chunk-end.ensures c.loop-chunk-test.true in
-      let few : c.min-count.result ≡ min n (c.args.length - c.loop-chunk.chunk * n) = search rules in
-      let is = is_chunk c.args.length n c.loop-chunk.chunk c.min-count.result some less few in
+      let within_limit : c.min-count.result ≡ min n (c.args.length - c.loop-chunk.chunk * n) = search rules in
+      let is = is_chunk c.args.length n c.loop-chunk.chunk c.min-count.result some less within_limit in
       let before = c.loop-chunk.invariant.lost in
       let more = c.in_ok-read_chunk.ensures.lost in
       omega (arith, before, more, is.start, is.end);
   slots = λ z seen.
       let old : PagesState = seen_by c.args.pages.now in
       let now : PagesState = seen_by c.loop-chunk.pages in
-      let finds = c.loop-chunk.invariant.finds in
+      let lookups = c.loop-chunk.invariant.lookups in
       let n : ℕ = c.from-slots.result in
       let slots : n ≡ page_slots z = c.from-slots.ensures ∙ ap (λ k. k / 272) (c.page_bytes.ensures.bytes ∙ sym seen.size) in
       let some : 1 ≤ n = omega (arith, c.page_bytes.ensures.least, c.from-slots.ensures) in
       let less : c.loop-chunk.chunk < div_ceil c.args.length n = subst (λ k. c.loop-chunk.chunk < k) c.div_ceil-chunk-end.ensures c.loop-chunk-test.true in
-      let few : c.min-count.result ≡ min n (c.args.length - c.loop-chunk.chunk * n) = search rules in
-      let is = subst (λ k. IsChunk c.args.length k c.loop-chunk.chunk c.min-count.result) slots (is_chunk c.args.length n c.loop-chunk.chunk c.min-count.result some less few) in
-      let first = subst (λ (m : PageMap). ListsSlots z (has m) c.args.directory (c.loop-chunk.chunk * page_slots z) c.loop-chunk.listing) (sym finds.present)
+      let within_limit : c.min-count.result ≡ min n (c.args.length - c.loop-chunk.chunk * n) = search rules in
+      let is = subst (λ k. IsChunk c.args.length k c.loop-chunk.chunk c.min-count.result) slots (is_chunk c.args.length n c.loop-chunk.chunk c.min-count.result some less within_limit) in
+      let first = subst (λ (m : PageMap). ListsSlots z (has m) c.args.directory (c.loop-chunk.chunk * page_slots z) c.loop-chunk.listing) (sym lookups.present)
       (subst (λ k. ListsSlots z (has old.present) c.args.directory k c.loop-chunk.listing) is.start (c.loop-chunk.invariant.slots z seen)) in
-      let reported = c.in_ok-read_chunk.ensures.lists z (still_seen z old now finds seen) first in
+      let reported = c.in_ok-read_chunk.ensures.lists z (still_seen z old now lookups seen) first in
       subst (λ k. ListsSlots z (has old.present) c.args.directory k c.read_chunk.new.listing) is.end
-      (subst (λ (m : PageMap). ListsSlots z (has m) c.args.directory (c.loop-chunk.chunk * page_slots z + c.min-count.result) c.read_chunk.new.listing) finds.present reported);
+      (subst (λ (m : PageMap). ListsSlots z (has m) c.args.directory (c.loop-chunk.chunk * page_slots z + c.min-count.result) c.read_chunk.new.listing) lookups.present reported);
 }
 
 pub returns-clause-lists : goal.returns-clause-lists
@@ -60,5 +60,5 @@ returns-clause-lists g c = λ z seen.
     let all : min c.args.length (c.loop-chunk.chunk * page_slots z) ≡ c.args.length = subst (λ k. min c.args.length (c.loop-chunk.chunk * k) ≡ c.args.length) slots (all_chunks c.args.length n c.loop-chunk.chunk some more) in
     subst (λ k. ListsSlots z (has old.present) c.args.directory k c.loop-chunk.listing) all (c.loop-chunk.invariant.slots z seen)
 
-pub returns-in_err-read_chunk-clause-finds : goal.returns-in_err-read_chunk-clause-finds
-returns-in_err-read_chunk-clause-finds g c = finds_on _ _ _ c.loop-chunk.invariant.finds c.read_chunk.ensures.finds
+pub returns-in_err-read_chunk-clause-lookups : goal.returns-in_err-read_chunk-clause-lookups
+returns-in_err-read_chunk-clause-lookups g c = finds_on _ _ _ c.loop-chunk.invariant.lookups c.read_chunk.ensures.lookups

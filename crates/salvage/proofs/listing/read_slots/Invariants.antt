@@ -9,7 +9,7 @@ use Rattle.salvage.proofs.listing.read_slots.Given as goal
 
 abbrev pub invariant-loop-chunk : goal.invariant-loop-chunk
 invariant-loop-chunk g l = record {
-  finds : OnlyFinds (seen_by l.fn.pages) (seen_by l.pages);
+  lookups : OnlyFinds (seen_by l.fn.pages) (seen_by l.pages);
   lost : l.listing.lost ≤ min l.length (l.chunk * l.slots);
   slots : (z : Sizes) → IsSeen z (seen_by l.fn.pages) → ListsSlots z (has (seen_by l.fn.pages).present) l.directory (min l.length (l.chunk * page_slots z)) l.listing;
 }

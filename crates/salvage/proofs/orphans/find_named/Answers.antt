@@ -12,21 +12,21 @@ use Rattle.salvage.proofs.orphans.find_named.Goals as goal
 
 pub loop-place-init : goal.loop-place-init
 loop-place-init g c = record {
-  finds = finds_none (seen_by c.args.pages.now);
+  lookups = finds_none (seen_by c.args.pages.now);
   naming = λ z is. naming_none z (has (seen_by c.args.pages.now).present) c.args.directories.now c.new-named.result c.new-named.ensures.empty;
 }
 
 pub loop-place-preserved : goal.loop-place-preserved
 loop-place-preserved g c = record {
-  finds = finds_on _ _ _ c.loop-place.invariant.finds c.add_named.ensures.finds;
+  lookups = finds_on _ _ _ c.loop-place.invariant.lookups c.add_named.ensures.lookups;
   naming = λ z is.
       let old : PagesState = seen_by c.args.pages.now in
       let now : PagesState = seen_by c.loop-place.pages in
-      let finds = c.loop-place.invariant.finds in
+      let lookups = c.loop-place.invariant.lookups in
       let list = c.args.directories.now in
       let d : ℕ = slice_index list c.loop-place.place in
       let at : slice_get list c.loop-place.place ≡ Some d = slice_get-get_or list c.loop-place.place 0 c.loop-place-test.true in
-      let adds = subst (λ (m : PageMap). Adds (LeadsTo z (has m) d) c.loop-place.named c.add_named.new.named) finds.present (c.in_ok-add_named.ensures.adds z (still_seen z old now finds is)) in
+      let adds = subst (λ (m : PageMap). Adds (LeadsTo z (has m) d) c.loop-place.named c.add_named.new.named) lookups.present (c.in_ok-add_named.ensures.adds z (still_seen z old now lookups is)) in
       naming_more z (has old.present) list c.loop-place.place d c.loop-place.named c.add_named.new.named (c.loop-place.invariant.naming z is) at adds;
 }
 

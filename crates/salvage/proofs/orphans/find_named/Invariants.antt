@@ -8,6 +8,6 @@ use Rattle.salvage.proofs.orphans.find_named.Given as goal
 
 abbrev pub invariant-loop-place : goal.invariant-loop-place
 invariant-loop-place g l = record {
-  finds : OnlyFinds (seen_by l.fn.pages) (seen_by l.pages);
+  lookups : OnlyFinds (seen_by l.fn.pages) (seen_by l.pages);
   naming : (z : Sizes) → IsSeen z (seen_by l.fn.pages) → IsNaming z (has (seen_by l.fn.pages).present) l.directories l.place l.named;
 }

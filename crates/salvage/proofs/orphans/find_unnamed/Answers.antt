@@ -11,7 +11,7 @@ use Rattle.salvage.proofs.orphans.find_unnamed.Goals as goal
 
 pub loop-place-init : goal.loop-place-init
 loop-place-init g c = record {
-  finds = finds_none (seen_by c.args.pages.now);
+  lookups = finds_none (seen_by c.args.pages.now);
   unnamed = λ z is.
       subst (ListsUnnamed z (has (seen_by c.args.pages.now).present) c.args.named.now c.args.objects.now 0) (sym c.new-list.ensures.items)
       (unnamed_none z (has (seen_by c.args.pages.now).present) c.args.named.now c.args.objects.now);
@@ -19,16 +19,16 @@ loop-place-init g c = record {
 
 pub loop-place-preserved : goal.loop-place-preserved
 loop-place-preserved g c = record {
-  finds = finds_on _ _ _ c.loop-place.invariant.finds c.put_unnamed.ensures.finds;
+  lookups = finds_on _ _ _ c.loop-place.invariant.lookups c.put_unnamed.ensures.lookups;
   unnamed = λ z is.
       let old : PagesState = seen_by c.args.pages.now in
       let now : PagesState = seen_by c.loop-place.pages in
-      let finds = c.loop-place.invariant.finds in
+      let lookups = c.loop-place.invariant.lookups in
       let objects = c.args.objects.now in
       let o : ℕ = slice_index objects c.loop-place.place in
       let at : slice_get objects c.loop-place.place ≡ Some o = slice_get-get_or objects c.loop-place.place 0 c.loop-place-test.true in
-      let puts = subst (λ (m : PageMap). PutsUnnamed (IsUnnamed z (has m) c.args.named.now o) o c.loop-place.list.items c.put_unnamed.new.list.items) finds.present
-      (c.in_ok-put_unnamed.ensures.puts z (still_seen z old now finds is)) in
+      let puts = subst (λ (m : PageMap). PutsUnnamed (IsUnnamed z (has m) c.args.named.now o) o c.loop-place.list.items c.put_unnamed.new.list.items) lookups.present
+      (c.in_ok-put_unnamed.ensures.puts z (still_seen z old now lookups is)) in
       unnamed_more z (has old.present) c.args.named.now objects c.loop-place.place o c.loop-place.list.items c.put_unnamed.new.list.items (c.loop-place.invariant.unnamed z is) at puts;
 }
 

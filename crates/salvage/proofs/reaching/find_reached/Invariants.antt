@@ -9,7 +9,7 @@ use Rattle.salvage.proofs.reaching.find_reached.Given as goal
 
 abbrev pub invariant-loop-place : goal.invariant-loop-place
 invariant-loop-place g l = record {
-  finds : OnlyFinds (seen_by l.fn.pages) (seen_by l.pages);
+  lookups : OnlyFinds (seen_by l.fn.pages) (seen_by l.pages);
   knows : Knows l.named;
   reaching : (z : Sizes) → IsSeen z (seen_by l.fn.pages) → IsReaching z (has (seen_by l.fn.pages).present) l.from l.place l.named.objects.items;
 }

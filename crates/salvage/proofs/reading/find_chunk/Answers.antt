@@ -10,7 +10,7 @@ returns-in-Present-clause-says g c = λ z is.
     let page : List ℕ = c.page.result.now in
     let found = rw c.in-Present.is at c.in_ok-look.ensures.page is.sound in
     let there : old.present c.args.file 0 ≡ Some page = found ∙ ap Some (sym c.page.ensures.bytes) in
-    let size : z.page_bytes ≡ length page = is.size ∙ sym c.look.ensures.finds.page_bytes ∙ sym c.page.ensures.size in
+    let size : z.page_bytes ≡ length page = is.size ∙ sym c.look.ensures.lookups.page_bytes ∙ sym c.page.ensures.size in
     says_chunk z old.present c.args.file page size there c.args.chunk c.chunk_in.result c.chunk_in.ensures.reported c.chunk_in.ensures.none
 
 pub returns-in-Absent-clause-says : goal.returns-in-Absent-clause-says

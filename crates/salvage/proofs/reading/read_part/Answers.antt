@@ -48,7 +48,7 @@ pub returns-in-Present-clause-reads : goal.returns-in-Present-clause-reads
 returns-in-Present-clause-reads g c = λ z is.
     let old : PagesState = seen_by c.args.pages.now in
     let mid : PagesState = seen_by c.find_chunk.new.pages in
-    let finds = c.find_chunk.ensures.finds in
+    let lookups = c.find_chunk.ensures.lookups in
     let reported = c.in-Some.reported in
     let offset : ℕ = c.args.offset in
     let d : ℕ = c.from-page_bytes.result in
@@ -61,10 +61,10 @@ returns-in-Present-clause-reads g c = λ z is.
     let size : d ≡ z.page_bytes = c.from-page_bytes.ensures ∙ c.page_bytes.ensures.bytes ∙ sym is.size in
     let at = place_is z says.0 offset d reported.length c.saturating_sub.result bytes size says.2.length_is c.saturating_sub.ensures c.min-bytes.ensures in
     let present : reported.present ≡ true = search rules in
-    let seen = still_seen z old mid finds is in
+    let seen = still_seen z old mid lookups is in
     let found = rw c.in-Present.is at c.in_ok-look.ensures.page seen.sound in
-    let there : old.present c.args.file chunk ≡ Some page = ap (λ (m : PageMap). m c.args.file chunk) (sym finds.present) ∙ found ∙ ap Some (sym c.page-page.ensures.bytes) in
-    let long : length page ≡ z.page_bytes = c.page-page.ensures.size ∙ c.look.ensures.finds.page_bytes ∙ sym seen.size in (
+    let there : old.present c.args.file chunk ≡ Some page = ap (λ (m : PageMap). m c.args.file chunk) (sym lookups.present) ∙ found ∙ ap Some (sym c.page-page.ensures.bytes) in
+    let long : length page ≡ z.page_bytes = c.page-page.ensures.size ∙ c.look.ensures.lookups.page_bytes ∙ sym seen.size in (
       says.0,
       says.1,
       says.2.kind,
@@ -76,7 +76,7 @@ pub returns-in-Absent-clause-reads : goal.returns-in-Absent-clause-reads
 returns-in-Absent-clause-reads g c = λ z is.
     let old : PagesState = seen_by c.args.pages.now in
     let mid : PagesState = seen_by c.find_chunk.new.pages in
-    let finds = c.find_chunk.ensures.finds in
+    let lookups = c.find_chunk.ensures.lookups in
     let reported = c.in-Some.reported in
     let offset : ℕ = c.args.offset in
     let d : ℕ = c.from-page_bytes.result in
@@ -86,7 +86,7 @@ returns-in-Absent-clause-reads g c = λ z is.
     let size : d ≡ z.page_bytes = c.from-page_bytes.ensures ∙ c.page_bytes.ensures.bytes ∙ sym is.size in
     let at = place_is z says.0 offset d reported.length c.saturating_sub.result bytes size says.2.length_is c.saturating_sub.ensures c.min-bytes.ensures in
     let present : reported.present ≡ true = search rules in
-    let seen = still_seen z old mid finds is in
+    let seen = still_seen z old mid lookups is in
     let found = rw c.in-Absent.is at c.in_ok-look.ensures.page seen.sound in
-    let none : old.present c.args.file chunk ≡ None = ap (λ (m : PageMap). m c.args.file chunk) (sym finds.present) ∙ found in
+    let none : old.present c.args.file chunk ≡ None = ap (λ (m : PageMap). m c.args.file chunk) (sym lookups.present) ∙ found in
     (says.0, says.1, says.2.kind, loses_page z old.present c.args.file says.0 offset chunk (offset % d) bytes at (sym says.2.present ∙ present) none c.if-bytes-eq0.false)

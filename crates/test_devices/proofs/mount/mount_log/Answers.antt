@@ -19,4 +19,4 @@ invariant_of-result c =
     }
 
 pub returns-clause-reserve : goal.returns-clause-reserve
-returns-clause-reserve c = c.if-not-may_stand.ensures.few refl
+returns-clause-reserve c = c.if-not-may_stand.ensures.within_limit refl

@@ -21,4 +21,4 @@ invariant_of-result c =
     }
 
 pub returns-clause-reserve : goal.returns-clause-reserve
-returns-clause-reserve c = subst (λ (t : Table). bad_count t ≤ c.args.spare) (sym c.note_checkpoint.ensures) (c.if-not-may_stand.ensures.few refl)
+returns-clause-reserve c = subst (λ (t : Table). bad_count t ≤ c.args.spare) (sym c.note_checkpoint.ensures) (c.if-not-may_stand.ensures.within_limit refl)

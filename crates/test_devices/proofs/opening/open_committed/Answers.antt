@@ -12,8 +12,8 @@ new-requires g c = λ κs within.
 pub new-requires-2-clause-committed : goal.new-requires-2-clause-committed
 new-requires-2-clause-committed g c = let made = c.in-Ok.ensures in rw (made.device, made.tables.1) ((c.forget.ensures (g.N.Nand.state c.open_noted.new.device) c.in_ok-opened.ensures.opened).newest)
 
-pub new-requires-2-clause-few : goal.new-requires-2-clause-few
-new-requires-2-clause-few g c = let made = c.in-Ok.ensures in rw (made.tables.0, made.spare) (c.if-not-may_stand.ensures.few refl)
+pub new-requires-2-clause-within_limit : goal.new-requires-2-clause-within_limit
+new-requires-2-clause-within_limit g c = let made = c.in-Ok.ensures in rw (made.tables.0, made.spare) (c.if-not-may_stand.ensures.within_limit refl)
 
 pub new-requires-2-clause-free : goal.new-requires-2-clause-free
 new-requires-2-clause-free g c = let made = c.in-Ok.ensures in rw (made.tables.0, made.spare) (c.if-not-may_stand.ensures.free refl)

@@ -13,6 +13,6 @@ returns-then-bad-spare c = λ is.
     let free = free_where_closed t closed in
     record {
       bad = search rules;
-      uncommitted = let enough : c.args.spare < free_count t + bad_count t = search rules in omega (arith, free, enough);
+      uncommitted = let sufficient : c.args.spare < free_count t + bad_count t = search rules in omega (arith, free, sufficient);
       apart = λ k at. let two : None ≡ Some k = sym none ∙ at in absurd cc;
     }

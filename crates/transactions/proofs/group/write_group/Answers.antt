@@ -9,7 +9,7 @@ returns-clause-numbers g c =
     let made = c.write_any.ensures in
     let old : Device = g.N.Nand.state c.args.device.now in
     record {
-      numbers = made.numbers;
-      truth = group_true old _ (table c.args.blocks.now) _ _ (g.S.PageSource.name c.args.source.now (table c.args.blocks.now).next_group) _ _ made.some c.requires.ready made.lasts made.ends made.table
-          (λ short. search rules) made.groups (λ honest. (made.writes honest).grows) made.stays.bad c.requires.ordinary (λ honest other. made.summaries honest (λ some. other));
+      numbers = made.group.numbers;
+      truth = group_true old _ (table c.args.blocks.now) _ _ (g.S.PageSource.name c.args.source.now (table c.args.blocks.now).next_group) _ _ made.some c.requires.ready made.lasts made.group.ends made.group.table
+          (λ short. search rules) made.group.groups (λ honest. (made.group.writes honest).grows) made.group.stays.bad c.requires.ordinary (λ honest other. made.group.summaries honest (λ some. other));
     }

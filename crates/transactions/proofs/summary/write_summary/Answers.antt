@@ -11,7 +11,7 @@ returns-clause-adds g c = λ honest writes.
     let made = c.write_any.ensures in
     let old : Device = g.N.Nand.state c.args.device.now in
     summary_written g.S.PageSource c.args.source.now old (g.N.Nand.state c.write_any.new.device) (table c.args.blocks.now) writes c.requires.ready
-    (made.writes honest) made.stays c.write_any.result (made.groups honest writes.summary.block writes.open_block)
+    (made.group.writes honest) made.group.stays c.write_any.result (made.group.groups honest writes.summary.block writes.open_block)
 
 pub returns-clause-numbers : goal.returns-clause-numbers
 returns-clause-numbers g c =
@@ -19,8 +19,8 @@ returns-clause-numbers g c =
     let old : Device = g.N.Nand.state c.args.device.now in
     let t : Table = table c.args.blocks.now in
     record {
-      numbers = made.numbers;
-      truth = true_summary old (g.N.Nand.state c.write_any.new.device) t (table c.write_any.new.blocks) made.lasts (ends_noted _ t _ c.write_any.result made.table)
+      numbers = made.group.numbers;
+      truth = true_summary old (g.N.Nand.state c.write_any.new.device) t (table c.write_any.new.blocks) made.lasts (ends_noted _ t _ c.write_any.result made.group.table)
           (λ honest. none_waits old t _ c.requires.ready (c.requires.summary honest).open_block)
           (λ honest. ((c.requires.summary honest).summary, returns-clause-adds g c honest (c.requires.summary honest)));
     }

@@ -16,7 +16,7 @@ use Rattle.tree_walk.proofs.directory.read_slots.Goals as goal
 
 pub loop-chunk-init : goal.loop-chunk-init
 loop-chunk-init g c = record {
-  finds = finds_none (g.P.Pages.state c.args.pages.now);
+  lookups = finds_none (g.P.Pages.state c.args.pages.now);
   power = refl;
   issued = omega arith;
   slots = λ sound z size.
@@ -27,23 +27,23 @@ loop-chunk-init g c = record {
 
 pub loop-chunk-preserved : goal.loop-chunk-preserved
 loop-chunk-preserved g c = record {
-  finds = finds_on _ _ _ c.loop-chunk.invariant.finds c.take_chunk.ensures.finds;
+  lookups = finds_on _ _ _ c.loop-chunk.invariant.lookups c.take_chunk.ensures.lookups;
   power = c.in_ok-take_chunk.ensures.power ∙ c.loop-chunk.invariant.power;
   issued = omega (arith, c.loop-chunk.invariant.issued, c.take_chunk.ensures.issued);
   slots = λ sound z size.
       let old : PagesState = g.P.Pages.state c.args.pages.now in
-      let finds = c.loop-chunk.invariant.finds in
+      let lookups = c.loop-chunk.invariant.lookups in
       let n : ℕ = c.from-slots.result in
       let slots : n ≡ page_slots z = c.from-slots.ensures ∙ ap (λ k. k / 272) (c.page_bytes.ensures.bytes ∙ sym size) in
       let some : 1 ≤ n = omega (arith, c.page_bytes.ensures.least, c.from-slots.ensures) in
       let less : c.loop-chunk.chunk < div_ceil c.args.length n = subst (λ k. c.loop-chunk.chunk < k) c.div_ceil-chunk-end.ensures c.loop-chunk-test.true in
-      let few : c.min-count.result ≡ min n (c.args.length - c.loop-chunk.chunk * n) = search rules in
-      let is = subst (λ k. IsChunk c.args.length k c.loop-chunk.chunk c.min-count.result) slots (is_chunk c.args.length n c.loop-chunk.chunk c.min-count.result some less few) in
-      let first = subst (λ (m : PageMap). HasSlots z m c.args.directory (c.loop-chunk.chunk * page_slots z) c.loop-chunk.seen) (sym finds.present)
+      let within_limit : c.min-count.result ≡ min n (c.args.length - c.loop-chunk.chunk * n) = search rules in
+      let is = subst (λ k. IsChunk c.args.length k c.loop-chunk.chunk c.min-count.result) slots (is_chunk c.args.length n c.loop-chunk.chunk c.min-count.result some less within_limit) in
+      let first = subst (λ (m : PageMap). HasSlots z m c.args.directory (c.loop-chunk.chunk * page_slots z) c.loop-chunk.seen) (sym lookups.present)
       (subst (λ k. HasSlots z old.present c.args.directory k c.loop-chunk.seen) is.start (c.loop-chunk.invariant.slots sound z size)) in
-      let reported = c.in_ok-take_chunk.ensures.reported (finds.sound ∙ sound) z (size ∙ sym finds.page_bytes) first in
+      let reported = c.in_ok-take_chunk.ensures.reported (lookups.sound ∙ sound) z (size ∙ sym lookups.page_bytes) first in
       subst (λ k. HasSlots z old.present c.args.directory k c.take_chunk.new.seen) is.end
-      (subst (λ (m : PageMap). HasSlots z m c.args.directory (c.loop-chunk.chunk * page_slots z + c.min-count.result) c.take_chunk.new.seen) finds.present reported);
+      (subst (λ (m : PageMap). HasSlots z m c.args.directory (c.loop-chunk.chunk * page_slots z + c.min-count.result) c.take_chunk.new.seen) lookups.present reported);
 }
 
 pub returns-in_err-take_chunk-clause-issued : goal.returns-in_err-take_chunk-clause-issued
@@ -59,19 +59,19 @@ returns-in_err-take_chunk-clause-issued g c = λ z size.
 pub returns-in_err-take_chunk-clause-fault : goal.returns-in_err-take_chunk-clause-fault
 returns-in_err-take_chunk-clause-fault g c = λ sound z size.
     let old : PagesState = g.P.Pages.state c.args.pages.now in
-    let finds = c.loop-chunk.invariant.finds in
+    let lookups = c.loop-chunk.invariant.lookups in
     let n : ℕ = c.from-slots.result in
     let slots : n ≡ page_slots z = c.from-slots.ensures ∙ ap (λ k. k / 272) (c.page_bytes.ensures.bytes ∙ sym size) in
     let some : 1 ≤ n = omega (arith, c.page_bytes.ensures.least, c.from-slots.ensures) in
     let less : c.loop-chunk.chunk < div_ceil c.args.length n = subst (λ k. c.loop-chunk.chunk < k) c.div_ceil-chunk-end.ensures c.loop-chunk-test.true in
-    let few : c.min-count.result ≡ min n (c.args.length - c.loop-chunk.chunk * n) = search rules in
-    let is = subst (λ k. IsChunk c.args.length k c.loop-chunk.chunk c.min-count.result) slots (is_chunk c.args.length n c.loop-chunk.chunk c.min-count.result some less few) in
-    let first = subst (λ (m : PageMap). HasSlots z m c.args.directory (c.loop-chunk.chunk * page_slots z) c.loop-chunk.seen) (sym finds.present)
+    let within_limit : c.min-count.result ≡ min n (c.args.length - c.loop-chunk.chunk * n) = search rules in
+    let is = subst (λ k. IsChunk c.args.length k c.loop-chunk.chunk c.min-count.result) slots (is_chunk c.args.length n c.loop-chunk.chunk c.min-count.result some less within_limit) in
+    let first = subst (λ (m : PageMap). HasSlots z m c.args.directory (c.loop-chunk.chunk * page_slots z) c.loop-chunk.seen) (sym lookups.present)
     (subst (λ k. HasSlots z old.present c.args.directory k c.loop-chunk.seen) is.start (c.loop-chunk.invariant.slots sound z size)) in
     let p = err_from_is_err_and c.from_residual.result c.from_residual.ensures.1 in
     rw (p.1, p.2) (reports_as (BreaksUpTo z (g.P.Pages.state c.loop-chunk.pages).present (record { directory = c.args.directory; number = c.loop-chunk.chunk }) c.min-count.result) (IsBrokenIn z old.present c.args.directory c.args.length)
-    (λ broken lacks. subst (λ (m : PageMap). IsBrokenIn z m c.args.directory c.args.length broken) finds.present (lacks c.args.length is.most)) (g.P.Pages.state c.take_chunk.new.pages) _
-    (c.in_err-take_chunk.ensures.fault (finds.sound ∙ sound) z (size ∙ sym finds.page_bytes) is.some first))
+    (λ broken lacks. subst (λ (m : PageMap). IsBrokenIn z m c.args.directory c.args.length broken) lookups.present (lacks c.args.length is.most)) (g.P.Pages.state c.take_chunk.new.pages) _
+    (c.in_err-take_chunk.ensures.fault (lookups.sound ∙ sound) z (size ∙ sym lookups.page_bytes) is.some first))
 
 pub returns-clause-issued : goal.returns-clause-issued
 returns-clause-issued g c = λ z size.
@@ -104,5 +104,5 @@ returns-clause-hashes g c = λ sound z size.
     let all : min c.args.length (c.loop-chunk.chunk * page_slots z) ≡ c.args.length = subst (λ k. min c.args.length (c.loop-chunk.chunk * k) ≡ c.args.length) slots (all_chunks c.args.length n c.loop-chunk.chunk some more) in
     let h = subst (λ k. HasSlots z old.present c.args.directory k c.loop-chunk.seen) all (c.loop-chunk.invariant.slots sound z size) in
     let each = subst (λ (hs : List ℕ). HoldsEach c.add_hashes.new.names c.args.directory c.args.length hs) c.deref.ensures.value c.in_ok-add_hashes.ensures.there in
-    let few : z.page_bytes ≤ 4096 = omega (arith, size, c.page_bytes.ensures.bytes, c.page_bytes.ensures.most) in
-    has_hashes z old.present c.args.directory c.args.length c.loop-chunk.seen c.add_hashes.new.names few h each
+    let within_limit : z.page_bytes ≤ 4096 = omega (arith, size, c.page_bytes.ensures.bytes, c.page_bytes.ensures.most) in
+    has_hashes z old.present c.args.directory c.args.length c.loop-chunk.seen c.add_hashes.new.names within_limit h each

@@ -15,7 +15,7 @@ returns-in-Present-clause-fault g c = λ sound z size some first.
     let at = c.args.at in
     let page : old.present at.directory (1 + at.number) ≡ Some c.page.result.now =
     subst (λ (k : Key). old.present k.object k.chunk ≡ Some c.page.result.now) c.key.ensures.key (found ∙ ap Some (sym c.page.ensures.bytes)) in
-    c.take_page.ensures.fault (g.P.Pages.state c.find.new.self) z old.present page (size ∙ sym c.find.ensures.finds.page_bytes ∙ sym c.page.ensures.size) first
+    c.take_page.ensures.fault (g.P.Pages.state c.find.new.self) z old.present page (size ∙ sym c.find.ensures.lookups.page_bytes ∙ sym c.page.ensures.size) first
 
 pub returns-in-Present-clause-why : goal.returns-in-Present-clause-why
 returns-in-Present-clause-why g c = c.take_page.ensures.why (g.P.Pages.state c.find.new.self)

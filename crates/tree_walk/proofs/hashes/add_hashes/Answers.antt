@@ -11,8 +11,8 @@ loop-place-preserved c =
     let hashes : List ℕ = c.args.hashes.now in
     let place : ℕ = c.loop-place.place in
     let hash : ℕ = slice_index hashes place in
-    let few : c.min-place-end.result ≡ min (length hashes) c.args.count = search rules in
-    let within : place < length hashes = grind (arith, few, c.loop-place-test.true) in
+    let within_limit : c.min-place-end.result ≡ min (length hashes) c.args.count = search rules in
+    let within : place < length hashes = grind (arith, within_limit, c.loop-place-test.true) in
     let at : slice_get hashes place ≡ Some hash = slice_get-get_or hashes place 0 within in
     let adds = c.in_ok-add.ensures.ok in
     record {
@@ -23,6 +23,6 @@ loop-place-preserved c =
 pub returns-clause-there : goal.returns-clause-there
 returns-clause-there c = λ s h lt is.
     let hashes : List ℕ = c.args.hashes.now in
-    let few : c.min-place-end.result ≡ min (length hashes) c.args.count = search rules in
+    let within_limit : c.min-place-end.result ≡ min (length hashes) c.args.count = search rules in
     let within : s < length hashes = slice_get_within hashes s h is in
-    c.loop-place.invariant.there s h (grind (arith, few, within, lt, c.loop-place-test.false)) is
+    c.loop-place.invariant.there s h (grind (arith, within_limit, within, lt, c.loop-place-test.false)) is

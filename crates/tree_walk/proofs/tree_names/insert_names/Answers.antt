@@ -66,10 +66,10 @@ returns-clause-builds c = λ m objects shown builds.
     let tree : Tree = c.args.tree.now in
     let slots = slots_of z size m tree objects shown.tree_of shown.shows in
     let so_far = c.loop-place.invariant.builds m objects builds.0 shown builds.1 builds.2 in
-    let enough : length slots.0 ≤ c.loop-place.place =
+    let sufficient : length slots.0 ≤ c.loop-place.place =
     omega (arith, c.loop-place-test.false, ap length c.names-names.ensures, ap length slots.1.pairs_are, length-map slots.0 name_of) in
     let same = all_came objects slots.0 c.loop-place.place so_far.0 so_far.1 (λ d o name names.
     let on = listed z size m tree objects shown.tree_of shown.shows d (Dir names.moment names.entries) names.directory_is in
     let s = slots.1.every on.0 d o name (slice_get_within (objects_listed tree) on.0 d on.1) on.1 names in
-    (s.0, s.1, omega (arith, slice_get_within slots.0 s.0 s.1 s.2, enough), s.2, s.3, s.4, s.5)) in
+    (s.0, s.1, omega (arith, slice_get_within slots.0 s.0 s.1 s.2, sufficient), s.2, s.3, s.4, s.5)) in
     subst (λ x. Builds c.loop-place.builder x) same so_far.2

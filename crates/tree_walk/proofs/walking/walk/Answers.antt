@@ -23,40 +23,40 @@ step-requires-clause-knows g c = c.loop-place.invariant.knows
 
 pub loop-place-init : goal.loop-place-init
 loop-place-init g c = record {
-  finds = finds_none (g.P.Pages.state c.args.pages.now);
+  lookups = finds_none (g.P.Pages.state c.args.pages.now);
   power = refl;
   knows = c.in_ok-walk.ensures.begins.knows;
   going = λ z seen. begins_going z (has (g.P.Pages.state c.args.pages.now).present) c.in_ok-walk.walk c.in_ok-walk.ensures.begins;
   hashes = λ z seen o head there. absurd (c.in_ok-walk.ensures.begins.heads o head there);
-  few = λ z seen. omega arith;
+  within_limit = λ z seen. omega arith;
 }
 
 pub loop-place-preserved : goal.loop-place-preserved
 loop-place-preserved g c = record {
-  finds = finds_on _ _ _ c.loop-place.invariant.finds c.step.ensures.finds;
+  lookups = finds_on _ _ _ c.loop-place.invariant.lookups c.step.ensures.lookups;
   power = c.in_ok-step.ensures.power ∙ c.loop-place.invariant.power;
   knows = c.in_ok-step.ensures.knows;
   going = λ z seen.
       let old : PagesState = g.P.Pages.state c.args.pages.now in
       let now : PagesState = g.P.Pages.state c.loop-place.pages in
-      let finds = c.loop-place.invariant.finds in
-      let going = subst (λ (m : PageMap). IsGoing z (has m) c.loop-place.place c.loop-place.walk) (sym finds.present) (c.loop-place.invariant.going z seen) in
-      subst (λ (m : PageMap). IsGoing z (has m) (c.loop-place.place + 1) c.step.new.self) finds.present
-      (c.in_ok-step.ensures.goes z (still_seen z old now finds seen) going);
+      let lookups = c.loop-place.invariant.lookups in
+      let going = subst (λ (m : PageMap). IsGoing z (has m) c.loop-place.place c.loop-place.walk) (sym lookups.present) (c.loop-place.invariant.going z seen) in
+      subst (λ (m : PageMap). IsGoing z (has m) (c.loop-place.place + 1) c.step.new.self) lookups.present
+      (c.in_ok-step.ensures.goes z (still_seen z old now lookups seen) going);
   hashes = λ z seen.
       let old : PagesState = g.P.Pages.state c.args.pages.now in
       let now : PagesState = g.P.Pages.state c.loop-place.pages in
-      let finds = c.loop-place.invariant.finds in
-      let covers = subst (λ (m : PageMap). CoversHeads c.loop-place.names z m c.loop-place.walk.heads) (sym finds.present) (c.loop-place.invariant.hashes z seen) in
-      subst (λ (m : PageMap). CoversHeads c.step.new.names z m c.step.new.self.heads) finds.present
-      (c.in_ok-step.ensures.hashes z (still_seen z old now finds seen) covers);
-  few = λ z seen.
+      let lookups = c.loop-place.invariant.lookups in
+      let covers = subst (λ (m : PageMap). CoversHeads c.loop-place.names z m c.loop-place.walk.heads) (sym lookups.present) (c.loop-place.invariant.hashes z seen) in
+      subst (λ (m : PageMap). CoversHeads c.step.new.names z m c.step.new.self.heads) lookups.present
+      (c.in_ok-step.ensures.hashes z (still_seen z old now lookups seen) covers);
+  within_limit = λ z seen.
       let old : PagesState = g.P.Pages.state c.args.pages.now in
       let now : PagesState = g.P.Pages.state c.loop-place.pages in
-      let finds = c.loop-place.invariant.finds in
-      let going = subst (λ (m : PageMap). IsGoing z (has m) c.loop-place.place c.loop-place.walk) (sym finds.present) (c.loop-place.invariant.going z seen) in
-      let more = c.in_ok-step.ensures.issued z (still_seen z old now finds seen) going in
-      let before = c.loop-place.invariant.few z seen in
+      let lookups = c.loop-place.invariant.lookups in
+      let going = subst (λ (m : PageMap). IsGoing z (has m) c.loop-place.place c.loop-place.walk) (sym lookups.present) (c.loop-place.invariant.going z seen) in
+      let more = c.in_ok-step.ensures.issued z (still_seen z old now lookups seen) going in
+      let before = c.loop-place.invariant.within_limit z seen in
       omega (arith, more, before);
 }
 
@@ -64,12 +64,12 @@ pub returns-in_err-step-clause-fault : goal.returns-in_err-step-clause-fault
 returns-in_err-step-clause-fault g c = λ z seen.
     let old : PagesState = g.P.Pages.state c.args.pages.now in
     let now : PagesState = g.P.Pages.state c.loop-place.pages in
-    let finds = c.loop-place.invariant.finds in
+    let lookups = c.loop-place.invariant.lookups in
     let going = c.loop-place.invariant.going z seen in
     let p = err_from_is_err_and c.from_residual-in_err-step.result c.from_residual-in_err-step.ensures.1 in
     rw (p.1, p.2) (reports_as (StopsOn z (has now.present) c.loop-place.walk c.loop-place.place) (IsWrongBy z (has old.present))
-    (λ b stop. wrong_by_stop z (has old.present) c.loop-place.place c.loop-place.walk going b (subst (λ (m : PageMap). StopsOn z (has m) c.loop-place.walk c.loop-place.place b) finds.present stop))
-    (g.P.Pages.state c.step.new.pages) _ (c.in_err-step.ensures.stops z (still_seen z old now finds seen)))
+    (λ b stop. wrong_by_stop z (has old.present) c.loop-place.place c.loop-place.walk going b (subst (λ (m : PageMap). StopsOn z (has m) c.loop-place.walk c.loop-place.place b) lookups.present stop))
+    (g.P.Pages.state c.step.new.pages) _ (c.in_err-step.ensures.stops z (still_seen z old now lookups seen)))
 
 pub returns-in_err-walk-clause-fault : goal.returns-in_err-walk-clause-fault
 returns-in_err-walk-clause-fault g c = λ z seen.
@@ -116,7 +116,7 @@ returns-clause-tree g c = λ z seen.
 pub returns-clause-issued : goal.returns-clause-issued
 returns-clause-issued g c = λ z seen.
     let walk = c.loop-place.walk in
-    let few = c.loop-place.invariant.few z seen in
+    let within_limit = c.loop-place.invariant.within_limit z seen in
     let whole : take c.loop-place.place walk.objects.items ≡ walk.objects.items = take_all c.loop-place.place walk.objects.items (omega (arith, c.loop-place-test.false, c.len.ensures)) in
     let same = ap (sum_by (reported_pages z walk.heads)) whole in
-    omega (arith, few, same)
+    omega (arith, within_limit, same)

@@ -63,7 +63,7 @@ returns-in-Ok-found-clause-found g c = λ honest.
     subst (λ (x : Geometry). IfSome (broken_in found) (IsFoundFirst x (has (known_pages d.honest m)))) geometry reported in
     let known : IfSome (broken_in found) (IsFoundFirst a.geometry (has m)) =
     subst (λ h. IfSome (broken_in found) (IsFoundFirst a.geometry (has (known_pages h m)))) honest_d on in
-    let looked : OnlyReads b (g.N.Nand.state c.find-found.new.pages.device) = subst (λ x. OnlyReads x (g.N.Nand.state c.find-found.new.pages.device)) same c.in-Ok-found.ensures.finds.device in
+    let looked : OnlyReads b (g.N.Nand.state c.find-found.new.pages.device) = subst (λ x. OnlyReads x (g.N.Nand.state c.find-found.new.pages.device)) same c.in-Ok-found.ensures.lookups.device in
     let back : g.N.Nand.state c.find-found.new.pages.device ≡ e = ap g.N.Nand.state (sym c.into_parts-device.ensures.device) in
     let before : OnlyReads a e = only_reads_on a b e reads (subst (OnlyReads b) back looked) in
     let place : IfOk c.diagnosis-diagnosis.result (λ (x : Diagnosis). IfSome (broken_in found) (LiesWhereLow a.flash x.place)) =

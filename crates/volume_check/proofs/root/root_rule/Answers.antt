@@ -10,5 +10,5 @@ returns-in-Ok-Present-clause-none g c = λ seen.
     let old : PagesState = g.P.Pages.state c.args.pages.now in
     let found = rw c.in-Ok-Present.field-0-is at c.in-Ok-Present.ensures.page seen.sound in
     let page : old.present root_number 0 ≡ Some c.page.result.now = found ∙ ap Some (sym c.page.ensures.bytes) in
-    root_there c.args.geometry old.present c.page.result.now page (seen.size ∙ sym c.find.ensures.finds.page_bytes ∙ sym c.page.ensures.size) c.header_rule.result
+    root_there c.args.geometry old.present c.page.result.now page (seen.size ∙ sym c.find.ensures.lookups.page_bytes ∙ sym c.page.ensures.size) c.header_rule.result
     (subst (λ b. IfNone c.header_rule.result (IsRootOn c.page.result.now b)) c.blocks-in-Ok-Present.ensures c.header_rule.ensures.none)

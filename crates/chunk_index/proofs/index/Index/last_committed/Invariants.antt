@@ -6,7 +6,7 @@ use Rattle.chunk_index.proofs.index.Index.last_committed.Given as goal
 abbrev pub invariant-loop-object : goal.invariant-loop-object
 invariant-loop-object l = record {
   passes : PassesUpTo l.self l.last l.passed;
-  few : l.passed.count ≤ l.count;
+  within_limit : l.passed.count ≤ l.count;
 }
 
 abbrev pub decreases-loop-object : goal.decreases-loop-object

@@ -23,15 +23,15 @@ returns-in-Trusted-clause-pays g c =
 pub returns-in-Trusted-clause-ends : goal.returns-in-Trusted-clause-ends
 returns-in-Trusted-clause-ends g c =
     let moved = rw c.in-Trusted.is at c.in_ok-move_committed.ensures in
-    let reserve = moved.few in
+    let reserve = moved.within_limit in
     let same = c.move_committed.ensures.terms.spare in (
       collected_open c.args.block moved.ends.1.0 c.args.self.now.spare (g.N.Nand.state c.move_committed.new.self.device) (table c.args.self.now.blocks) (table c.move_committed.new.self.blocks) c.move_committed.new.self.index c.requires.some
           moved.ends.1.1 moved.ends.0.uncommitted (omega (arith, reserve, same)) moved.step.stands,
       moved.ends.2,
     )
 
-pub retire-requires-clause-few : goal.retire-requires-clause-few
-retire-requires-clause-few g c = (rw c.in-Suspect.is at c.in_ok-move_committed.ensures).few
+pub retire-requires-clause-within_limit : goal.retire-requires-clause-within_limit
+retire-requires-clause-within_limit g c = (rw c.in-Suspect.is at c.in_ok-move_committed.ensures).within_limit
 
 pub retire-requires-clause-none : goal.retire-requires-clause-none
 retire-requires-clause-none g c = (rw c.in-Suspect.is at c.in_ok-move_committed.ensures).ends.3

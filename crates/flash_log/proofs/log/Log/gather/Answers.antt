@@ -43,7 +43,7 @@ returns-in_err-move_behind-clause-step g c =
     let wrote = subst (λ n. PaysOpen n b e c.move_behind.result) same moved.pays in
     let clear = subst (λ n. HasClear (n + c.args.count) b.device b.table) (committed ∙ sym same) opened.ends.0 in
     let ended = moved.ends c.args.count clear in
-    let few = c.requires.fits in
+    let within_limit = c.requires.fits in
     step
 
 pub returns-in_err-move_behind-clause-pays : goal.returns-in_err-move_behind-clause-pays
@@ -65,7 +65,7 @@ returns-in_err-move_behind-clause-pays g c =
     let wrote = subst (λ n. PaysOpen n b e c.move_behind.result) same moved.pays in
     let clear = subst (λ n. HasClear (n + c.args.count) b.device b.table) (committed ∙ sym same) opened.ends.0 in
     let ended = moved.ends c.args.count clear in
-    let few = c.requires.fits in
+    let within_limit = c.requires.fits in
     let p = err_from_is_err_and c.from_residual-in_err-move_behind.result c.from_residual-in_err-move_behind.ensures.1 in
     rw p.1 (pays_short (a.table.entry v).committed c.args.count a b e _ p.0 opened.step.lasts rises next (subst (λ r. PaysOpen (a.table.entry v).committed b e r) c.in_err-move_behind.was wrote))
 
@@ -88,7 +88,7 @@ returns-in_err-move_behind-clause-ends g c =
     let wrote = subst (λ n. PaysOpen n b e c.move_behind.result) same moved.pays in
     let clear = subst (λ n. HasClear (n + c.args.count) b.device b.table) (committed ∙ sym same) opened.ends.0 in
     let ended = moved.ends c.args.count clear in
-    let few = c.requires.fits in
+    let within_limit = c.requires.fits in
     let p = err_from_is_err_and c.from_residual-in_err-move_behind.result c.from_residual-in_err-move_behind.ensures.1 in
     let why = subst (OpenEnds v c.args.count mid.spare b e) c.in_err-move_behind.was ended in
     rw (p.1, p.2) (rw (sym opened.terms.spare) why)
@@ -112,7 +112,7 @@ retire-requires-clause-none g c =
     let wrote = subst (λ n. PaysOpen n b e c.move_behind.result) same moved.pays in
     let clear = subst (λ n. HasClear (n + c.args.count) b.device b.table) (committed ∙ sym same) opened.ends.0 in
     let ended = moved.ends c.args.count clear in
-    let few = c.requires.fits in
+    let within_limit = c.requires.fits in
     let w : ℕ = c.in-Some-Suspect.copies in
     let is : c.move_behind.result ≡ Ok (Some (places.Suspect c.in-Some-Suspect.copies)) = c.in_ok-move_behind.was ∙ ap Ok (c.in-Some-Suspect.is ∙ ap Some c.in-Some-Suspect.field-0-is) in
     let ends_is = subst (OpenEnds v c.args.count mid.spare b e) is ended in
@@ -137,7 +137,7 @@ retire-requires-clause-block g c =
     let wrote = subst (λ n. PaysOpen n b e c.move_behind.result) same moved.pays in
     let clear = subst (λ n. HasClear (n + c.args.count) b.device b.table) (committed ∙ sym same) opened.ends.0 in
     let ended = moved.ends c.args.count clear in
-    let few = c.requires.fits in
+    let within_limit = c.requires.fits in
     let w : ℕ = c.in-Some-Suspect.copies in
     let is : c.move_behind.result ≡ Ok (Some (places.Suspect c.in-Some-Suspect.copies)) = c.in_ok-move_behind.was ∙ ap Ok (c.in-Some-Suspect.is ∙ ap Some c.in-Some-Suspect.field-0-is) in
     let ends_is = subst (OpenEnds v c.args.count mid.spare b e) is ended in
@@ -165,7 +165,7 @@ collect-requires-clause-good g c =
     let wrote = subst (λ n. PaysOpen n b e c.move_behind.result) same moved.pays in
     let clear = subst (λ n. HasClear (n + c.args.count) b.device b.table) (committed ∙ sym same) opened.ends.0 in
     let ended = moved.ends c.args.count clear in
-    let few = c.requires.fits in
+    let within_limit = c.requires.fits in
     let is : c.move_behind.result ≡ Ok None = c.in_ok-move_behind.was ∙ ap Ok c.in-None.is in
     let ends_is = subst (OpenEnds v c.args.count mid.spare b e) is ended in
     ends_is.1.good v (omega (arith, same, c.requires.some)) (opened.holds.good v c.requires.some c.requires.good)
@@ -189,7 +189,7 @@ collect-requires-clause-some g c =
     let wrote = subst (λ n. PaysOpen n b e c.move_behind.result) same moved.pays in
     let clear = subst (λ n. HasClear (n + c.args.count) b.device b.table) (committed ∙ sym same) opened.ends.0 in
     let ended = moved.ends c.args.count clear in
-    let few = c.requires.fits in
+    let within_limit = c.requires.fits in
     let is : c.move_behind.result ≡ Ok None = c.in_ok-move_behind.was ∙ ap Ok c.in-None.is in
     let ends_is = subst (OpenEnds v c.args.count mid.spare b e) is ended in
     let still = ends_is.1.committed v in omega (arith, still, same, c.requires.some)
@@ -213,7 +213,7 @@ returns-in-Some-Trusted-clause-step g c =
     let wrote = subst (λ n. PaysOpen n b e c.move_behind.result) same moved.pays in
     let clear = subst (λ n. HasClear (n + c.args.count) b.device b.table) (committed ∙ sym same) opened.ends.0 in
     let ended = moved.ends c.args.count clear in
-    let few = c.requires.fits in
+    let within_limit = c.requires.fits in
     step
 
 pub returns-in-Some-Trusted-clause-pays : goal.returns-in-Some-Trusted-clause-pays
@@ -235,7 +235,7 @@ returns-in-Some-Trusted-clause-pays g c =
     let wrote = subst (λ n. PaysOpen n b e c.move_behind.result) same moved.pays in
     let clear = subst (λ n. HasClear (n + c.args.count) b.device b.table) (committed ∙ sym same) opened.ends.0 in
     let ended = moved.ends c.args.count clear in
-    let few = c.requires.fits in
+    let within_limit = c.requires.fits in
     let is : c.move_behind.result ≡ Ok (Some places.Trusted) = c.in_ok-move_behind.was ∙ ap Ok (c.in-Some-Trusted.is ∙ ap Some c.in-Some-Trusted.field-0-is) in
     pays_trusted (a.table.entry v).committed c.args.count a b e opened.step.lasts rises next (subst (λ r. PaysOpen (a.table.entry v).committed b e r) is wrote)
 
@@ -258,10 +258,10 @@ returns-in-Some-Trusted-clause-ends g c =
     let wrote = subst (λ n. PaysOpen n b e c.move_behind.result) same moved.pays in
     let clear = subst (λ n. HasClear (n + c.args.count) b.device b.table) (committed ∙ sym same) opened.ends.0 in
     let ended = moved.ends c.args.count clear in
-    let few = c.requires.fits in
+    let within_limit = c.requires.fits in
     let is : c.move_behind.result ≡ Ok (Some places.Trusted) = c.in_ok-move_behind.was ∙ ap Ok (c.in-Some-Trusted.is ∙ ap Some c.in-Some-Trusted.field-0-is) in
     let ends_is = subst (OpenEnds v c.args.count mid.spare b e) is ended in
-    let reserve = c.in_ok-move_behind.ensures.few in
+    let reserve = c.in_ok-move_behind.ensures.within_limit in
     let spare = moved.terms.spare ∙ opened.terms.spare in
     gathered_behind v c.args.count log.spare b e end.index (omega (arith, same, c.requires.some)) ends_is.1 (omega (arith, reserve, spare)) step.stands ends_is.3
 
@@ -284,7 +284,7 @@ returns-in-Some-Suspect-clause-step g c =
     let wrote = subst (λ n. PaysOpen n b e c.move_behind.result) same moved.pays in
     let clear = subst (λ n. HasClear (n + c.args.count) b.device b.table) (committed ∙ sym same) opened.ends.0 in
     let ended = moved.ends c.args.count clear in
-    let few = c.requires.fits in
+    let within_limit = c.requires.fits in
     let w : ℕ = c.in-Some-Suspect.copies in
     let is : c.move_behind.result ≡ Ok (Some (places.Suspect c.in-Some-Suspect.copies)) = c.in_ok-move_behind.was ∙ ap Ok (c.in-Some-Suspect.is ∙ ap Some c.in-Some-Suspect.field-0-is) in
     let last = c.retire.new.self in
@@ -312,7 +312,7 @@ returns-in-Some-Suspect-clause-out g c =
     let wrote = subst (λ n. PaysOpen n b e c.move_behind.result) same moved.pays in
     let clear = subst (λ n. HasClear (n + c.args.count) b.device b.table) (committed ∙ sym same) opened.ends.0 in
     let ended = moved.ends c.args.count clear in
-    let few = c.requires.fits in
+    let within_limit = c.requires.fits in
     let w : ℕ = c.in-Some-Suspect.copies in
     let is : c.move_behind.result ≡ Ok (Some (places.Suspect c.in-Some-Suspect.copies)) = c.in_ok-move_behind.was ∙ ap Ok (c.in-Some-Suspect.is ∙ ap Some c.in-Some-Suspect.field-0-is) in
     let ends_is = subst (OpenEnds v c.args.count mid.spare b e) is ended in
@@ -342,7 +342,7 @@ returns-in-Some-Suspect-clause-pays g c =
     let wrote = subst (λ n. PaysOpen n b e c.move_behind.result) same moved.pays in
     let clear = subst (λ n. HasClear (n + c.args.count) b.device b.table) (committed ∙ sym same) opened.ends.0 in
     let ended = moved.ends c.args.count clear in
-    let few = c.requires.fits in
+    let within_limit = c.requires.fits in
     let w : ℕ = c.in-Some-Suspect.copies in
     let is : c.move_behind.result ≡ Ok (Some (places.Suspect c.in-Some-Suspect.copies)) = c.in_ok-move_behind.was ∙ ap Ok (c.in-Some-Suspect.is ∙ ap Some c.in-Some-Suspect.field-0-is) in
     let last = c.retire.new.self in
@@ -370,7 +370,7 @@ returns-in-Some-Suspect-clause-ends g c =
     let wrote = subst (λ n. PaysOpen n b e c.move_behind.result) same moved.pays in
     let clear = subst (λ n. HasClear (n + c.args.count) b.device b.table) (committed ∙ sym same) opened.ends.0 in
     let ended = moved.ends c.args.count clear in
-    let few = c.requires.fits in
+    let within_limit = c.requires.fits in
     let w : ℕ = c.in-Some-Suspect.copies in
     let is : c.move_behind.result ≡ Ok (Some (places.Suspect c.in-Some-Suspect.copies)) = c.in_ok-move_behind.was ∙ ap Ok (c.in-Some-Suspect.is ∙ ap Some c.in-Some-Suspect.field-0-is) in
     let ends_is = subst (OpenEnds v c.args.count mid.spare b e) is ended in
@@ -379,7 +379,7 @@ returns-in-Some-Suspect-clause-ends g c =
     let then = c.retire.ensures in
     let spare = moved.terms.spare ∙ opened.terms.spare in
     let pages = ap (λ (x : Geometry). x.pages) (then.step.geometry ∙ moved.step.geometry ∙ opened.step.geometry) in
-    rw (sym spare) (gathered_retired v w (a.table.entry v).committed c.args.count end.spare b e f c.retire.result (sym same) c.requires.some ends_is.1 (omega (arith, pages, few)) then.ends)
+    rw (sym spare) (gathered_retired v w (a.table.entry v).committed c.args.count end.spare b e f c.retire.result (sym same) c.requires.some ends_is.1 (omega (arith, pages, within_limit)) then.ends)
 
 pub returns-in-None-clause-step : goal.returns-in-None-clause-step
 returns-in-None-clause-step g c =
@@ -400,7 +400,7 @@ returns-in-None-clause-step g c =
     let wrote = subst (λ n. PaysOpen n b e c.move_behind.result) same moved.pays in
     let clear = subst (λ n. HasClear (n + c.args.count) b.device b.table) (committed ∙ sym same) opened.ends.0 in
     let ended = moved.ends c.args.count clear in
-    let few = c.requires.fits in
+    let within_limit = c.requires.fits in
     let last = c.collect.new.self in
     let f = log_of (g.N.Nand.state last.device) (table last.blocks) in
     let then = c.collect.ensures in
@@ -426,7 +426,7 @@ returns-in-None-clause-out g c =
     let wrote = subst (λ n. PaysOpen n b e c.move_behind.result) same moved.pays in
     let clear = subst (λ n. HasClear (n + c.args.count) b.device b.table) (committed ∙ sym same) opened.ends.0 in
     let ended = moved.ends c.args.count clear in
-    let few = c.requires.fits in
+    let within_limit = c.requires.fits in
     let is : c.move_behind.result ≡ Ok None = c.in_ok-move_behind.was ∙ ap Ok c.in-None.is in
     let index = moved.none is ∙ opened.index in
     subst (λ i. MovesOut v i c.collect.new.self.index) index c.collect.ensures.out
@@ -450,7 +450,7 @@ returns-in-None-clause-pays g c =
     let wrote = subst (λ n. PaysOpen n b e c.move_behind.result) same moved.pays in
     let clear = subst (λ n. HasClear (n + c.args.count) b.device b.table) (committed ∙ sym same) opened.ends.0 in
     let ended = moved.ends c.args.count clear in
-    let few = c.requires.fits in
+    let within_limit = c.requires.fits in
     let is : c.move_behind.result ≡ Ok None = c.in_ok-move_behind.was ∙ ap Ok c.in-None.is in
     let ends_is = subst (OpenEnds v c.args.count mid.spare b e) is ended in
     let last = c.collect.new.self in
@@ -481,7 +481,7 @@ returns-in-None-clause-ends g c =
     let wrote = subst (λ n. PaysOpen n b e c.move_behind.result) same moved.pays in
     let clear = subst (λ n. HasClear (n + c.args.count) b.device b.table) (committed ∙ sym same) opened.ends.0 in
     let ended = moved.ends c.args.count clear in
-    let few = c.requires.fits in
+    let within_limit = c.requires.fits in
     let is : c.move_behind.result ≡ Ok None = c.in_ok-move_behind.was ∙ ap Ok c.in-None.is in
     let ends_is = subst (OpenEnds v c.args.count mid.spare b e) is ended in
     let last = c.collect.new.self in
@@ -490,4 +490,4 @@ returns-in-None-clause-ends g c =
     let spare = moved.terms.spare ∙ opened.terms.spare in
     let still : (e.table.entry v).committed ≡ (a.table.entry v).committed = ends_is.1.committed v ∙ same in
     let pages = ap (λ (x : Geometry). x.pages) (then.step.geometry ∙ moved.step.geometry ∙ opened.step.geometry) in
-    rw (sym spare) (gathered_again v (a.table.entry v).committed c.args.count end.spare e f c.collect.result still (omega (arith, pages, few)) then.ends)
+    rw (sym spare) (gathered_again v (a.table.entry v).committed c.args.count end.spare e f c.collect.result still (omega (arith, pages, within_limit)) then.ends)

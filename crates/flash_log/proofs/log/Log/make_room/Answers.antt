@@ -29,13 +29,13 @@ returns-in_err-open_next-clause-pays g c =
     let opened = c.in_err-open_next.ensures.pays in
     let p = err_from_is_err_and c.from_residual.result c.from_residual.ensures.1 in
     rw p.1 (pays_next c.args.self.now.spare c.args.count (log_of (g.N.Nand.state c.args.self.now.device) (table c.args.self.now.blocks)) (log_of (g.N.Nand.state c.open_next.new.self.device) (table c.open_next.new.self.blocks)) _ _
-    c.requires.few (c.if-has_uncommitted.ensures.0 refl) opened tt opened.pays.reads)
+    c.requires.within_limit (c.if-has_uncommitted.ensures.0 refl) opened tt opened.pays.reads)
 
 pub returns-then-has_uncommitted-clause-pays : goal.returns-then-has_uncommitted-clause-pays
 returns-then-has_uncommitted-clause-pays g c =
     let opened = c.in_ok-open_next.ensures.pays in
     pays_next c.args.self.now.spare c.args.count (log_of (g.N.Nand.state c.args.self.now.device) (table c.args.self.now.blocks)) (log_of (g.N.Nand.state c.open_next.new.self.device) (table c.open_next.new.self.blocks)) _ _
-    c.requires.few (c.if-has_uncommitted.ensures.0 refl) opened opened.pays.answers opened.pays.reads
+    c.requires.within_limit (c.if-has_uncommitted.ensures.0 refl) opened opened.pays.answers opened.pays.reads
 
 pub returns-then-has_uncommitted-clause-ends : goal.returns-then-has_uncommitted-clause-ends
 returns-then-has_uncommitted-clause-ends g c =
@@ -43,7 +43,7 @@ returns-then-has_uncommitted-clause-ends g c =
     record {
       fits = fits_clear c.args.count _ (table c.open_next.new.self.blocks) opened.ends.0;
       number = λ _. opened.ends.1;
-      few = let reserve = opened.few in let same = opened.terms.spare in omega (arith, reserve, same);
+      within_limit = let reserve = opened.within_limit in let same = opened.terms.spare in omega (arith, reserve, same);
       free = λ _. free_next c.args.self.now.spare c.args.count _ (table c.args.self.now.blocks) (table c.open_next.new.self.blocks) opened.holds opened.ends.0 (c.if-has_uncommitted.ensures.0 refl);
       power = λ _. opened.ends.0.clear.power;
     }

@@ -21,7 +21,6 @@ invariant_of-self-clause-room_size g c =
     let pages = ap (λ (x : Geometry). x.pages) geometry in
     let bytes = ap (λ (x : Geometry). x.bytes) geometry in
     record {
-      keys = omega (arith, room_size.keys, same.keys, pages);
       copies = omega (arith, room_size.copies, same.copies, pages);
       entries = omega (arith, room_size.entries, same.entries, pages);
       scratch = same_page c.list.new.self.scratch.len c.move_listed.new.scratch _ (omega arith) ∙ omega (arith, room_size.scratch, same.scratch, bytes);
@@ -32,16 +31,8 @@ invariant_of-self-clause-mountable g c =
     let log = c.args.self.now in
     mountable_after log.origin.first log.spare (log_of (g.N.Nand.state log.device) (table log.blocks)) (log_of (g.N.Nand.state c.move_listed.new.device) (table c.move_listed.new.blocks)) log.index c.move_listed.new.index c.move_listed.ensures.step log.mountable
 
-pub list-requires-clause-keys : goal.list-requires-clause-keys
-list-requires-clause-keys g c =
-    let tables = c.args.self.now.stands.tables in
-    let fits = tables.fits c.args.block in
-    let count = tables.counts.counts c.args.block in
-    let pages = ap (λ (x : Geometry). x.pages) c.args.self.now.ready.geometry in
-    omega (arith, fits, count, pages, c.args.self.now.room_size.keys)
-
-pub list-requires-clause-copies : goal.list-requires-clause-copies
-list-requires-clause-copies g c =
+pub list-requires : goal.list-requires
+list-requires g c =
     let tables = c.args.self.now.stands.tables in
     let fits = tables.fits c.args.block in
     let count = tables.counts.counts c.args.block in

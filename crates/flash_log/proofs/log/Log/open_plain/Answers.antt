@@ -20,8 +20,8 @@ returns-clause-ends g c =
     let took = c.in_ok-allocate_block.ensures in
     let fresh = fresh_taken c.in_ok-allocate_block.field-0 (g.N.Nand.state log.device) (g.N.Nand.state mid.device) (table log.blocks) (table mid.blocks) took.passes took.step.ready took.ends.0 took.ends.1 in
     let group = took.passes.next_group in
-    λ count few. (
-      clear_fresh_block c.in_ok-allocate_block.field-0 count (g.N.Nand.state mid.device) (table mid.blocks) fresh (subst (λ (x : Geometry). count ≤ x.pages) (sym took.passes.geometry) few),
+    λ count within_limit. (
+      clear_fresh_block c.in_ok-allocate_block.field-0 count (g.N.Nand.state mid.device) (table mid.blocks) fresh (subst (λ (x : Geometry). count ≤ x.pages) (sym took.passes.geometry) within_limit),
       λ less. omega (arith, group, less),
     )
 

@@ -28,8 +28,8 @@ invariant_of-self g c =
       mountable = mountable_after self.origin.first self.spare (log_of d t) (log_of d u) self.index self.index (step_closed self.spare d t u self.index c.close.ensures self.ready self.stands) self.mountable;
     }
 
-pub retire_all-requires-clause-few : goal.retire_all-requires-clause-few
-retire_all-requires-clause-few g c = subst (λ (s : Table). bad_count s ≤ c.args.self.now.spare) (sym c.close.ensures) c.requires.few
+pub retire_all-requires-clause-within_limit : goal.retire_all-requires-clause-within_limit
+retire_all-requires-clause-within_limit g c = subst (λ (s : Table). bad_count s ≤ c.args.self.now.spare) (sym c.close.ensures) c.requires.within_limit
 
 pub retire_all-requires-clause-good : goal.retire_all-requires-clause-good
 retire_all-requires-clause-good g c =
@@ -76,7 +76,8 @@ returns-clause-ends g c =
 pub returns-clause-empty : goal.returns-clause-empty
 returns-clause-empty g c = λ none.
     let empty = ap (λ (s : Table). (s.entry c.args.block).committed) c.close.ensures ∙ none in
-    record { changes = c.retire_all.ensures.empty empty; why = c.retire_all.ensures.needs_none empty }
+    let alone = c.retire_all.ensures.empty empty in
+    record { changes = alone.changes; why = alone.why }
 
 pub retire_all-requires-clause-none : goal.retire_all-requires-clause-none
 retire_all-requires-clause-none g c = ap (λ (x : Table). x.checkpoint) c.close.ensures ∙ c.requires.none

@@ -23,7 +23,7 @@ loop-suspect-init g c =
     record {
       terms = e.terms;
       retiring = record { step = e.step; moved = e.out; pays = e.pays; anew = e.anew; out = e.ends.0; power = e.ends.1 };
-      empty = e.empty;
+      empty = λ none. ((e.empty none).changes, e.moves_none none);
     }
 
 pub returns-in_err-suspect-2-clause-step : goal.returns-in_err-suspect-2-clause-step
@@ -122,8 +122,14 @@ returns-clause-ends g c =
 pub returns-in_err-suspect-2-clause-empty : goal.returns-in_err-suspect-2-clause-empty
 returns-in_err-suspect-2-clause-empty g c = λ committed. absurd (some_none c.in-Some.next (sym c.in-Some.is ∙ (c.loop-suspect.invariant.empty committed).1))
 
-pub returns-in_err-suspect-2-clause-needs_none : goal.returns-in_err-suspect-2-clause-needs_none
-returns-in_err-suspect-2-clause-needs_none g c = λ committed. absurd (some_none c.in-Some.next (sym c.in-Some.is ∙ (c.loop-suspect.invariant.empty committed).1))
+pub returns-in_err-suspect-clause-empty : goal.returns-in_err-suspect-clause-empty
+returns-in_err-suspect-clause-empty g c = λ none.
+    let p = err_from_is_err_and c.from_residual.result c.from_residual.ensures.1 in
+    let alone = c.in_err-suspect.ensures.empty none in
+    record { changes = alone.changes; why = rw (p.1, p.2) alone.why }
+
+pub returns-clause-empty : goal.returns-clause-empty
+returns-clause-empty g c = λ none. record { changes = (c.loop-suspect.invariant.empty none).0; why = tt }
 
 pub retire_one-requires-in-Some-clause-none : goal.retire_one-requires-in-Some-clause-none
 retire_one-requires-in-Some-clause-none g c = none_after _ _ _ _ c.loop-suspect.invariant.retiring.step.numbers.truth c.requires.none

@@ -67,7 +67,6 @@ invariant_of-self-2-clause-room_size g c =
     let size = c.allocate_block.new.self.room_size in
     let geometry = c.write_into.ensures.leaves.keeps.lasts.geometry in
     record {
-      keys = let pages = ap (λ (z : Geometry). z.pages) geometry in omega (arith, size.keys, pages);
       copies = let pages = ap (λ (z : Geometry). z.pages) geometry in omega (arith, size.copies, pages);
       entries = let pages = ap (λ (z : Geometry). z.pages) geometry in omega (arith, size.entries, pages);
       scratch = let bytes = ap (λ (z : Geometry). z.bytes) geometry in same_page c.allocate_block.new.self.room.scratch.len c.write_into.new.scratch _ (omega arith) ∙ omega (arith, size.scratch, bytes);

@@ -19,13 +19,13 @@ use Rattle.flash_log.proofs.IndexStays.{holds_counts, holds_here}
 use Rattle.flash_log.proofs.SummaryLists.{is_list, step_listed}
 use Rattle.flash_log.proofs.log.Log.summarize.Goals as goal
 
-pub list_entries-requires-clause-keys : goal.list_entries-requires-clause-keys
-list_entries-requires-clause-keys g c =
+pub list_entries-requires-clause-copies : goal.list_entries-requires-clause-copies
+list_entries-requires-clause-copies g c =
     let tables = c.args.self.now.stands.tables in
     let fits = tables.fits c.args.written.block in
     let count = tables.counts.counts c.args.written.block in
     let pages = ap (λ (x : Geometry). x.pages) c.args.self.now.ready.geometry in
-    omega (arith, fits, count, pages, c.args.self.now.room_size.keys)
+    omega (arith, fits, count, pages, c.args.self.now.room_size.copies)
 
 pub list_entries-requires-clause-entries : goal.list_entries-requires-clause-entries
 list_entries-requires-clause-entries g c =
@@ -77,9 +77,9 @@ write_listed-requires-clause-lists g c =
     let count = log.stands.tables.counts.counts c.args.written.block in
     let listed = c.list_entries.ensures.count in
     let entries : c.in-Some.source.entries.now ≡ c.list_entries.new.self.entries.items = c.in-Some.ensures.entries ∙ c.deref.ensures.value in
-    let few : length c.in-Some.source.entries.now ≤ (table log.blocks).geometry.pages = let same = ap (λ (l : List CheckEntry). length l) entries in omega (arith, fits, count, listed, same) in
+    let within_limit : length c.in-Some.source.entries.now ≤ (table log.blocks).geometry.pages = let same = ap (λ (l : List CheckEntry). length l) entries in omega (arith, fits, count, listed, same) in
     λ honest. is_list log.spare log.index (g.N.Nand.state log.device) (table log.blocks) c.args.block c.args.written c.in-Some.source log.ready log.stands c.requires.fresh c.requires.written
-    c.in-Some.ensures.head.0 c.in-Some.ensures.head.1 (subst (λ (l : List CheckEntry). ListsEntries c.args.written.block (committed_pages log.index) l) (sym entries) c.list_entries.ensures.lists) few can honest
+    c.in-Some.ensures.head.0 c.in-Some.ensures.head.1 (subst (λ (l : List CheckEntry). ListsEntries c.args.written.block (committed_pages log.index) l) (sym entries) c.list_entries.ensures.lists) within_limit can honest
 
 pub returns-clause-step : goal.returns-clause-step
 returns-clause-step g c =
@@ -91,11 +91,11 @@ returns-clause-step g c =
     let count = log.stands.tables.counts.counts c.args.written.block in
     let listed = c.list_entries.ensures.count in
     let entries : c.in-Some.source.entries.now ≡ c.list_entries.new.self.entries.items = c.in-Some.ensures.entries ∙ c.deref.ensures.value in
-    let few : length c.in-Some.source.entries.now ≤ t.geometry.pages = let same = ap (λ (l : List CheckEntry). length l) entries in omega (arith, fits, count, listed, same) in
+    let within_limit : length c.in-Some.source.entries.now ≤ t.geometry.pages = let same = ap (λ (l : List CheckEntry). length l) entries in omega (arith, fits, count, listed, same) in
     let lists = subst (λ (l : List CheckEntry). ListsEntries c.args.written.block (committed_pages log.index) l) (sym entries) c.list_entries.ensures.lists in
     let held = are_held t log.index (c.the_counts_are_of_the_keys.ensures.none log.index) log.stands.tables.counts in
     let step = step_listed log.spare log.index d (g.N.Nand.state c.write_listed.new.device) t (table c.write_listed.new.blocks) c.args.block c.args.written c.in-Some.source log.ready log.stands held
-    c.requires.fresh c.requires.written c.in-Some.ensures.head lists few can c.write_listed.ensures.does in
+    c.requires.fresh c.requires.written c.in-Some.ensures.head lists within_limit can c.write_listed.ensures.does in
     step
 
 pub invariant_of-self-2-clause-ready : goal.invariant_of-self-2-clause-ready
@@ -111,11 +111,11 @@ invariant_of-self-2-clause-stands g c =
     let count = log.stands.tables.counts.counts c.args.written.block in
     let listed = c.list_entries.ensures.count in
     let entries : c.in-Some.source.entries.now ≡ c.list_entries.new.self.entries.items = c.in-Some.ensures.entries ∙ c.deref.ensures.value in
-    let few : length c.in-Some.source.entries.now ≤ t.geometry.pages = let same = ap (λ (l : List CheckEntry). length l) entries in omega (arith, fits, count, listed, same) in
+    let within_limit : length c.in-Some.source.entries.now ≤ t.geometry.pages = let same = ap (λ (l : List CheckEntry). length l) entries in omega (arith, fits, count, listed, same) in
     let lists = subst (λ (l : List CheckEntry). ListsEntries c.args.written.block (committed_pages log.index) l) (sym entries) c.list_entries.ensures.lists in
     let held = are_held t log.index (c.the_counts_are_of_the_keys.ensures.none log.index) log.stands.tables.counts in
     let step = step_listed log.spare log.index d (g.N.Nand.state c.write_listed.new.device) t (table c.write_listed.new.blocks) c.args.block c.args.written c.in-Some.source log.ready log.stands held
-    c.requires.fresh c.requires.written c.in-Some.ensures.head lists few can c.write_listed.ensures.does in
+    c.requires.fresh c.requires.written c.in-Some.ensures.head lists within_limit can c.write_listed.ensures.does in
     step.stands
 
 pub invariant_of-self-2-clause-room_size : goal.invariant_of-self-2-clause-room_size
@@ -126,7 +126,6 @@ invariant_of-self-2-clause-room_size g c =
     let pages = ap (λ (x : Geometry). x.pages) geometry in
     let bytes = ap (λ (x : Geometry). x.bytes) geometry in
     record {
-      keys = omega (arith, room_size.keys, same.keys, pages);
       copies = omega (arith, room_size.copies, same.copies, pages);
       entries = omega (arith, room_size.entries, same.entries, pages);
       scratch = same_page c.list_entries.new.self.scratch.len c.write_listed.new.scratch _ (omega arith) ∙ omega (arith, room_size.scratch, same.scratch, bytes);
@@ -142,18 +141,18 @@ invariant_of-self-2-clause-mountable g c =
     let count = log.stands.tables.counts.counts c.args.written.block in
     let listed = c.list_entries.ensures.count in
     let entries : c.in-Some.source.entries.now ≡ c.list_entries.new.self.entries.items = c.in-Some.ensures.entries ∙ c.deref.ensures.value in
-    let few : length c.in-Some.source.entries.now ≤ t.geometry.pages = let same = ap (λ (l : List CheckEntry). length l) entries in omega (arith, fits, count, listed, same) in
+    let within_limit : length c.in-Some.source.entries.now ≤ t.geometry.pages = let same = ap (λ (l : List CheckEntry). length l) entries in omega (arith, fits, count, listed, same) in
     let lists = subst (λ (l : List CheckEntry). ListsEntries c.args.written.block (committed_pages log.index) l) (sym entries) c.list_entries.ensures.lists in
     let held = are_held t log.index (c.the_counts_are_of_the_keys.ensures.none log.index) log.stands.tables.counts in
     let step = step_listed log.spare log.index d (g.N.Nand.state c.write_listed.new.device) t (table c.write_listed.new.blocks) c.args.block c.args.written c.in-Some.source log.ready log.stands held
-    c.requires.fresh c.requires.written c.in-Some.ensures.head lists few can c.write_listed.ensures.does in
+    c.requires.fresh c.requires.written c.in-Some.ensures.head lists within_limit can c.write_listed.ensures.does in
     mountable_after log.origin.first log.spare (log_of d t) (log_of (g.N.Nand.state c.write_listed.new.device) (table c.write_listed.new.blocks)) log.index log.index step log.mountable
 
 pub returns-clause-ends : goal.returns-clause-ends
 returns-clause-ends g c =
-    let few = c.if-source-pages.false in
+    let within_limit = c.if-source-pages.false in
     let pages : c.pages.result ≡ (table c.args.self.now.blocks).geometry.pages = c.pages.ensures ∙ ap (λ (x : Geometry). x.pages) c.geometry-geometry.ensures in
-    c.write_listed.ensures.ends c.args.count c.args.self.now.spare (omega (arith, few, pages, c.requires.count))
+    c.write_listed.ensures.ends c.args.count c.args.self.now.spare (omega (arith, within_limit, pages, c.requires.count))
 
 pub returns-in_default-clause-writes : goal.returns-in_default-clause-writes
 returns-in_default-clause-writes g c = λ honest room is.
@@ -185,10 +184,10 @@ pub returns-clause-writes : goal.returns-clause-writes
 returns-clause-writes g c = λ honest room is.
     let log = c.args.self.now in
     let did = c.write_listed.ensures in
-    let few = c.if-source-pages.false in
+    let within_limit = c.if-source-pages.false in
     let pages : c.pages.result ≡ (table log.blocks).geometry.pages = c.pages.ensures ∙ ap (λ (x : Geometry). x.pages) c.geometry-geometry.ensures in
     let ended = subst (SummaryEnds c.args.count log.spare (log_of (g.N.Nand.state log.device) (table log.blocks)) (log_of (g.N.Nand.state c.write_listed.new.device) (table c.write_listed.new.blocks))) is
-    (did.ends c.args.count log.spare (omega (arith, few, pages, c.requires.count))) in
+    (did.ends c.args.count log.spare (omega (arith, within_limit, pages, c.requires.count))) in
     let both : Some c.args.block ≡ Some ended.0.block = sym c.requires.fresh.open_block ∙ did.does.open_block ended.0.block ended.0.clear.open_block in
     let same : ended.0.block ≡ c.args.block = cc in
     record {

@@ -4,10 +4,10 @@ use Rattle.log_tests.proofs.worked_index.Store.buffer.Goals as goal
 pub invariant_of-self : goal.invariant_of-self
 invariant_of-self g c =
     let self = c.args.self.now in
-    let few = below_same 8 self.index c.prepare.new.self c.prepare.ensures.present self.few in
+    let within_limit = below_same 8 self.index c.prepare.new.self c.prepare.ensures.present self.within_limit in
     record {
       agree = agree_same _ c.prepare.new.self c.place.new.self c.place.ensures.committed (agree_same _ self.index c.prepare.new.self c.prepare.ensures.committed self.agree);
-      few = below_placed 8 c.args.page c.args.key.object c.args.key.chunk c.prepare.new.self c.place.new.self c.place.ensures.places c.requires.page few;
+      within_limit = below_placed 8 c.args.page c.args.key.object c.args.key.chunk c.prepare.new.self c.place.new.self c.place.ensures.places c.requires.page within_limit;
       eight = self.eight;
       pages = self.pages;
     }

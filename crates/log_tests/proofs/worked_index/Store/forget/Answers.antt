@@ -4,4 +4,4 @@ use Rattle.log_tests.proofs.worked_index.Store.forget.Goals as goal
 pub invariant_of-self : goal.invariant_of-self
 invariant_of-self c =
     let self = c.args.self.now in
-    record { agree = agree_same _ self.index c.forget.new.self c.forget.ensures.committed self.agree; few = below_cut 8 c.args.object _ self.index c.forget.new.self c.forget.ensures.cuts self.few; eight = self.eight; pages = self.pages }
+    record { agree = agree_same _ self.index c.forget.new.self c.forget.ensures.committed self.agree; within_limit = below_cut 8 c.args.object _ self.index c.forget.new.self c.forget.ensures.cuts self.within_limit; eight = self.eight; pages = self.pages }

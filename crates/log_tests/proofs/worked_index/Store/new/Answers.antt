@@ -10,5 +10,5 @@ invariant_of-result-clause-agree g c =
     let made = IfOk-at_ok _ c.expect-blocks.ensures c.new-2.ensures in
     c.new-3.ensures.agree (table c.expect-blocks.result) (λ b. ap (λ (t : Table). (t.entry b).committed) made)
 
-pub invariant_of-result-clause-few : goal.invariant_of-result-clause-few
-invariant_of-result-clause-few g c = below_empty 8 _ c.new-3.ensures.empty
+pub invariant_of-result-clause-within_limit : goal.invariant_of-result-clause-within_limit
+invariant_of-result-clause-within_limit g c = below_empty 8 _ c.new-3.ensures.empty

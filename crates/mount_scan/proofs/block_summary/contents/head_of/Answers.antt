@@ -28,6 +28,6 @@ returns-else-head-blocks-clause-none c head begins =
     let same : c.in_ok-head.head ≡ head = one_head c.in_ok-head.head head c.in_ok-head.ensures.valid begins.valid (sym c.in_ok-head.ensures.found ∙ begins.said) in
     elim c.else-head-blocks.branch [
       | else-head-blocks-via-then-head-blocks+then-head-pages+else-take_pages w ↦ false≢true (sym w.if-take_pages.false ∙ w.take_pages.ensures.1 (begins.size ∙ ap (λ (h : SummaryHead). ceiling (32 * (1 + h.entries)) c.args.geometry.now.bytes) (sym same)))
-      | else-head-blocks-via-then-head-blocks+else-head-pages w ↦ absurd (omega (arith, w.if-head-pages.false, w.pages.ensures, begins.few, ap (λ (h : SummaryHead). h.entries) same))
+      | else-head-blocks-via-then-head-blocks+else-head-pages w ↦ absurd (omega (arith, w.if-head-pages.false, w.pages.ensures, begins.within_limit, ap (λ (h : SummaryHead). h.entries) same))
       | else-head-blocks-via-else-head-blocks w ↦ absurd (omega (arith, w.if-head-blocks.false, c.blocks-2.ensures, begins.block, ap (λ (h : SummaryHead). h.block) same))
     ]

@@ -84,9 +84,9 @@ pub returns-in-Write-clause-reports : goal.returns-in-Write-clause-reports
 returns-in-Write-clause-reports c = λ objects reports can makes led.
     let make = subst (CanMake (table_sizes c.args.self.now) objects) c.in-Write.is makes in
     let far = make.sensible.1 in
-    let few = greatest_length_few (table_sizes c.args.self.now) can.numbers in
+    let within_limit = greatest_length_few (table_sizes c.args.self.now) can.numbers in
     subst (λ change. Counts c.write.new.self.totaled (made objects change)) (sym c.in-Write.is)
-    (c.write.ensures.reports objects c.in-Write.bytes.now reports make.sensible.0 (omega arith) (omega (arith, far, few)) (can_count (table_sizes c.args.self.now) objects can)
+    (c.write.ensures.reports objects c.in-Write.bytes.now reports make.sensible.0 (omega arith) (omega (arith, far, within_limit)) (can_count (table_sizes c.args.self.now) objects can)
     (fits_countable (table_sizes c.args.self.now) (with_bytes objects c.in-Write.moment c.in-Write.number (written (bytes_of (map.get objects c.in-Write.number)) c.in-Write.offset c.in-Write.bytes.now)) can.numbers make.fits))
 
 pub returns-in-Resize-clause-reports : goal.returns-in-Resize-clause-reports

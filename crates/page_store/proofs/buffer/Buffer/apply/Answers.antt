@@ -14,8 +14,8 @@ put_all-requires-clause-prepared c = λ o k i of. c.cut_all.ensures.prepared o k
 pub returns-clause-committed : goal.returns-clause-committed
 returns-clause-committed c = committed_on _ _ _ c.cut_all.ensures.committed c.put_all.ensures.committed
 
-pub returns-clause-few : goal.returns-clause-few
-returns-clause-few c = let room = c.cut_all.ensures.room c.args.change.pages.items c.requires.pages.apart in omega (arith, room, c.put_all.ensures.few)
+pub returns-clause-within_limit : goal.returns-clause-within_limit
+returns-clause-within_limit c = let room = c.cut_all.ensures.room c.args.change.pages.items c.requires.pages.apart in omega (arith, room, c.put_all.ensures.within_limit)
 
 pub returns-clause-buffered : goal.returns-clause-buffered
 returns-clause-buffered c = λ i p is.

@@ -22,7 +22,7 @@ place-requires-then-slot-len c =
     let last : FreshPage = c.in-Some.last in
     let split : buffered c.args.self.now ≡ init ++ last ∷ [] = rw c.in-Some.is at c.pop.ensures.items in
     let at : slice_get (buffered c.args.self.now) (length init) ≡ Some last = ap (λ (xs : List FreshPage). slice_get xs (length init)) split ∙ push_last init last in
-    record { prepared = c.place.ensures.prepared _ _ (ready_prepared c.args.index.now _ _ (buffered_ready c.args.index.now _ _ (length init) ((holding _ _ c.requires.buffers).reported _ _ (length init) (here (buffered c.args.self.now) (length init) last at)))); number = omega (arith, c.requires.slot, c.args.self.now.few, c.args.self.now.small) }
+    record { prepared = c.place.ensures.prepared _ _ (ready_prepared c.args.index.now _ _ (buffered_ready c.args.index.now _ _ (length init) ((holding _ _ c.requires.buffers).reported _ _ (length init) (here (buffered c.args.self.now) (length init) last at)))); number = omega (arith, c.requires.slot, c.args.self.now.within_limit, c.args.self.now.small) }
 
 pub invariant_of-self-then-slot-len : goal.invariant_of-self-then-slot-len
 invariant_of-self-then-slot-len c =
@@ -33,7 +33,7 @@ invariant_of-self-then-slot-len c =
     let len : length (buffered self) ≡ length init + 1 = ap length split ∙ length-append init (last ∷ []) in
     record {
       small = self.small;
-      few = omega (arith, len, length-set init c.args.slot last, self.few);
+      within_limit = omega (arith, len, length-set init c.args.slot last, self.within_limit);
       room = search rules;
       next_room = self.next_room;
       sized = moved_sized (buffered self) init last c.args.slot self.page_bytes split self.sized;
@@ -49,7 +49,7 @@ invariant_of-self-else-slot-len c =
     let len : length (buffered self) ≡ length init + 1 = ap length split ∙ length-append init (last ∷ []) in
     record {
       small = self.small;
-      few = omega (arith, len, self.few);
+      within_limit = omega (arith, len, self.within_limit);
       room = search rules;
       next_room = self.next_room;
       sized = left_sized (buffered self) init last self.page_bytes split self.sized;

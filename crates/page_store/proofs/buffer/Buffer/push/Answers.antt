@@ -8,7 +8,7 @@ use Rattle.page_store.proofs.Putting.{pushed_buffers, pushed_puts, pushed_sized}
 use Rattle.page_store.proofs.buffer.Buffer.push.Goals as goal
 
 pub overflow_cast-len : goal.overflow_cast-len
-overflow_cast-len c = omega (arith, c.len.ensures, c.args.self.now.small, c.args.self.now.few, c.requires.room)
+overflow_cast-len c = omega (arith, c.len.ensures, c.args.self.now.small, c.args.self.now.within_limit, c.requires.room)
 
 pub place-requires-clause-number : goal.place-requires-clause-number
 place-requires-clause-number c = omega (arith, c.len.ensures, c.args.self.now.small, c.requires.room)
@@ -18,7 +18,7 @@ invariant_of-self c =
     let self = c.args.self.now in
     record {
       small = self.small;
-      few = omega (arith, length-append (buffered self) (c.args.page ∷ []), c.requires.room, ap length c.push_reserved.ensures.items);
+      within_limit = omega (arith, length-append (buffered self) (c.args.page ∷ []), c.requires.room, ap length c.push_reserved.ensures.items);
       room = omega (arith, self.room, c.push_reserved.ensures.capacity);
       next_room = self.next_room;
       sized = rw c.push_reserved.ensures.items (pushed_sized (buffered self) c.args.page self.page_bytes self.sized c.requires.size);

@@ -20,7 +20,7 @@ invariant_of-self c =
     let self = c.args.self.now in
     record {
       small = self.small;
-      few = omega (arith, length-set (buffered self) c.in-InBuffer.slot c.args.page, self.few);
+      within_limit = omega (arith, length-set (buffered self) c.in-InBuffer.slot c.args.page, self.within_limit);
       room = self.room;
       next_room = self.next_room;
       sized = filled_sized (buffered self) c.args.page c.in-InBuffer.slot self.page_bytes self.sized c.requires.size;

@@ -76,7 +76,7 @@ returns-in_err-is_committed-clause-room g c = λ fits.
     let p = c.prepare.new.self in
     let same = c.prepare.ensures.same in
     commits_not (state_of self) (state_of p) (state_of c.make_room.new.self) same
-    (c.make_room.ensures.enough (fits_on self.log.index p.log.index self.buffer p.buffer c.args.change.pages.items c.deref-2.result.now same.current same.buffer c.deref-2.ensures.value fits))
+    (c.make_room.ensures.sufficient (fits_on self.log.index p.log.index self.buffer p.buffer c.args.change.pages.items c.deref-2.result.now same.current same.buffer c.deref-2.ensures.value fits))
 
 pub returns-in_err-is_committed-clause-ends : goal.returns-in_err-is_committed-clause-ends
 returns-in_err-is_committed-clause-ends g c =
@@ -120,7 +120,7 @@ returns-clause-room g c = λ fits.
     let m : StoreState = state_of c.make_room.new.self in
     commits_not_after (state_of self) m (state_of c.make.new.self)
     (commits_not (state_of self) (state_of p) m same
-    (c.make_room.ensures.enough (fits_on self.log.index p.log.index self.buffer p.buffer c.args.change.pages.items c.deref-2.result.now same.current same.buffer c.deref-2.ensures.value fits)))
+    (c.make_room.ensures.sufficient (fits_on self.log.index p.log.index self.buffer p.buffer c.args.change.pages.items c.deref-2.result.now same.current same.buffer c.deref-2.ensures.value fits)))
     c.make.ensures.same c.make.ensures.committed_map
 
 pub returns-clause-ends : goal.returns-clause-ends
@@ -140,10 +140,10 @@ returns-clause-ends g c =
           let reported : m.log.device.honest ≡ true = (lasts_made a b m m before (same_here m) c.make_room.ensures.keeps.lasts).device.honest ∙ honest in
           c.make.ensures.current reported o k ∙ changed_same c.args.change (current_in m) (current_in a) o k (room.current o k ∙ current_before a b m n before after o k);
       buffered = c.make.ensures.buffered;
-      few =
+      within_limit =
           let same = ap (λ (x : Buffer). length (buffered x)) before.buffer in
           let fewer = room.fewer in
-          omega (arith, c.make.ensures.few, fewer, same, few_new m.index c.args.change.pages.items);
+          omega (arith, c.make.ensures.within_limit, fewer, same, few_new m.index c.args.change.pages.items);
       places = λ fits i q is uncut.
           let pages = c.deref.ensures.value in
           let had = c.in_ok-prepare.ensures.places (subst (λ (ps : List FreshPage). held_count self.cache + length ps ≤ capacity_of self.cache) (sym pages) fits) i q (subst (λ (ps : List FreshPage). slice_get ps i ≡ Some q) (sym pages) is) in

@@ -29,7 +29,7 @@ invariant_of-self-2 g c =
       buffer_size = e.sizes.1 ∙ self.buffer_size;
       cache_size = c.drop_cuts.ensures.sizes.page_bytes ∙ self.cache_size;
       place = λ i is. absurd (let two : places.Nowhere ≡ places.Buffered i = is in cc);
-      few = self.few;
+      within_limit = self.within_limit;
       free = self.free;
       newest = λ whole honest. newest_committed_page flash self.log.index y e.committed (self.newest whole honest);
       shown = λ whole honest o k xs is. e.cuts flash o k ∙ shown_cut cuts (present_data self.log.index (buffered self.buffer) flash) self.cache c.drop_cuts.new.cache (self.shown whole honest) c.drop_cuts.ensures.fewer c.drop_cuts.ensures.lacks o k xs is;

@@ -32,7 +32,7 @@ invariant_of-self-in-Ok g c =
       buffer_size = self.buffer_size ∙ sym bytes;
       cache_size = c.load_committed.ensures.sizes.page_bytes ∙ self.cache_size ∙ sym bytes;
       place = λ i is. absurd (let two : places.Cached c.args.key ≡ places.Buffered i = is in cc);
-      few = self.few;
+      within_limit = self.within_limit;
       free = self.free;
       newest = λ whole. newest_read _ _ self.log.index reads (self.newest whole);
       shown = λ whole. shown_read _ _ self.log.index (buffered self.buffer) c.args.key c.args.at self.cache c.load_committed.new.cache reads c.requires c.load_committed.ensures.caches (self.shown whole);
@@ -51,7 +51,7 @@ invariant_of-self-in-Err g c =
       buffer_size = self.buffer_size ∙ sym bytes;
       cache_size = c.load_committed.ensures.sizes.page_bytes ∙ self.cache_size ∙ sym bytes;
       place = self.place;
-      few = self.few;
+      within_limit = self.within_limit;
       free = self.free;
       newest = λ whole. newest_read _ _ self.log.index reads (self.newest whole);
       shown = λ whole. shown_read _ _ self.log.index (buffered self.buffer) c.args.key c.args.at self.cache c.load_committed.new.cache reads c.requires c.load_committed.ensures.caches (self.shown whole);

@@ -32,7 +32,7 @@ invariant_of-self-2 g c =
       buffer_size = e.sizes.1 ∙ self.buffer_size;
       cache_size = c.drop_committed.ensures.sizes.page_bytes ∙ c.drop_cuts.ensures.sizes.page_bytes ∙ self.cache_size;
       place = λ i is. absurd (let two : places.Nowhere ≡ places.Buffered i = is in cc);
-      few = self.few;
+      within_limit = self.within_limit;
       free = self.free;
       newest = λ whole honest. newest_committed_page (g.N.Nand.state self.log.device).flash self.log.index y e.committed (self.newest whole honest);
       shown = λ whole honest o k xs is. e.changes flash o k

@@ -21,8 +21,8 @@ returns-then-has_room-clause-carried g c = λ whole honest.
     let self = c.args.self.now in
     inl (store_finds self.log.spare (g.N.Nand.state self.log.device) (table self.log.blocks) self.log.index c.the_counts_are_of_the_keys.ensures.none self.log.ready self.log.stands.tables (self.newest whole honest))
 
-pub returns-then-has_room-clause-enough : goal.returns-then-has_room-clause-enough
-returns-then-has_room-clause-enough g c = λ _. record { log = refl; index = refl; commits = refl }
+pub returns-then-has_room-clause-sufficient : goal.returns-then-has_room-clause-sufficient
+returns-then-has_room-clause-sufficient g c = λ _. record { log = refl; index = refl; commits = refl }
 
 pub returns-then-has_room-clause-ends : goal.returns-then-has_room-clause-ends
 returns-then-has_room-clause-ends g c = record {
@@ -51,7 +51,7 @@ returns-in-Ok-clause-ends g c =
       whole = done.whole;
       committed_map = inr done.committed_map;
       current = done.current;
-      room = room_after new.log.index (buffered new.buffer) c.args.pages.now _ done.empty (subst (λ n. length c.args.pages.now ≤ n) (sym most) c.requires.few);
+      room = room_after new.log.index (buffered new.buffer) c.args.pages.now _ done.empty (subst (λ n. length c.args.pages.now ≤ n) (sym most) c.requires.within_limit);
       fewer = omega (arith, none);
       cache = λ not. absurd (let two : true ≡ false = not in cc);
       keeps_open = inr done.keeps_open;

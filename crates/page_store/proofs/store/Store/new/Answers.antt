@@ -20,7 +20,7 @@ invariant_of-result g c =
       buffer_size = e.buffer.1 ∙ ap (λ (k : Geometry). k.bytes) sizes;
       cache_size = e.cache.0 ∙ ap (λ (k : Geometry). k.bytes) sizes;
       place = λ i is. absurd (let two : places.Nowhere ≡ places.Buffered i = is in cc);
-      few = λ _. c.requires.few;
+      within_limit = λ _. c.requires.within_limit;
       free = λ _. c.requires.free;
       newest = λ _ honest. c.requires.committed honest;
       shown = λ _ _ o k xs is. absurd (let two : None ≡ Some xs = sym (ap (option_and_then page_in) (e.cache.1 o k)) ∙ is in cc);

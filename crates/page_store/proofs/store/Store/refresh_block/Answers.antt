@@ -22,8 +22,8 @@ use Rattle.page_store.proofs.Refreshed.{current_refreshed, found_moved, committe
 use Rattle.page_store.proofs.Steps.{known_on, numbered_on}
 use Rattle.page_store.proofs.store.Store.refresh_block.Goals as goal
 
-pub refresh-requires-clause-few : goal.refresh-requires-clause-few
-refresh-requires-clause-few g c = c.args.self.now.few c.if-self.false
+pub refresh-requires-clause-within_limit : goal.refresh-requires-clause-within_limit
+refresh-requires-clause-within_limit g c = c.args.self.now.within_limit c.if-self.false
 
 pub returns-in-Ok-clause-keeps : goal.returns-in-Ok-clause-keeps
 returns-in-Ok-clause-keeps g c =
@@ -174,7 +174,7 @@ invariant_of-self g c =
       buffer_size = self.buffer_size ∙ sym bytes;
       cache_size = self.cache_size ∙ sym bytes;
       place = self.place;
-      few = λ whole. subst (λ s. bad_count u ≤ s) (sym r.terms.spare) r.ends.few;
+      within_limit = λ whole. subst (λ s. bad_count u ≤ s) (sym r.terms.spare) r.ends.within_limit;
       free = λ whole. subst (HasFreeBlocks u) (sym r.terms.spare) (r.ends.free (self.free whole));
       newest = λ whole honest. now whole (sym r.step.lasts.honest ∙ honest);
       shown = λ whole honest.
@@ -197,7 +197,7 @@ invariant_of-self-in-Err g c =
       buffer_size = self.buffer_size ∙ sym bytes;
       cache_size = self.cache_size ∙ sym bytes;
       place = self.place;
-      few = λ whole. absurd (true≢false whole);
+      within_limit = λ whole. absurd (true≢false whole);
       free = λ whole. absurd (true≢false whole);
       newest = λ whole honest. absurd (true≢false whole);
       shown = λ whole honest. absurd (true≢false whole);

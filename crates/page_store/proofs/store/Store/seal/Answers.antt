@@ -14,7 +14,7 @@ returns-in-Ok-clause-seals g c =
     let s = c.args.self in
     let e = c.seal.ensures in
     sealed_done (state_of s) (lent_by s)
-    (g.N.Nand.state c.seal.new.self.device) (table c.seal.new.self.blocks) s.log.ready s.log.stands c.if-self.false s.newest c.the_counts_are_of_the_keys.ensures.none e.seals e.marks s.log.mountable (λ before. let reserve = c.in-Ok.ensures.few before in let same = e.terms.spare in omega (arith, reserve, same)) c.in-Ok.ensures.ends
+    (g.N.Nand.state c.seal.new.self.device) (table c.seal.new.self.blocks) s.log.ready s.log.stands c.if-self.false s.newest c.the_counts_are_of_the_keys.ensures.none e.seals e.marks s.log.mountable (λ before. let reserve = c.in-Ok.ensures.within_limit before in let same = e.terms.spare in omega (arith, reserve, same)) c.in-Ok.ensures.ends
 
 pub returns-clause-seals : goal.returns-clause-seals
 returns-clause-seals g c =

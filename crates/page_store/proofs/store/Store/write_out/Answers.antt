@@ -41,7 +41,7 @@ invariant_of-self g c =
       buffer_size = k.buffer_sizes.1 ∙ w.buffer.0.bytes ∙ self.buffer_size ∙ sym bytes;
       cache_size = k.sizes.page_bytes ∙ self.cache_size ∙ sym bytes;
       place = λ i is. absurd (let two : places.Nowhere ≡ places.Buffered i = is in cc);
-      few = λ _. subst (λ s. bad_count (table c.commit.new.log.blocks) ≤ s) (sym w.terms.spare) done.few;
+      within_limit = λ _. subst (λ s. bad_count (table c.commit.new.log.blocks) ≤ s) (sym w.terms.spare) done.within_limit;
       free = λ _. subst (HasFreeBlocks (table c.commit.new.log.blocks)) (sym w.terms.spare) done.free;
       newest = λ whole honest.
           let before = sym w.log.lasts.honest ∙ honest in
@@ -63,7 +63,7 @@ returns-in-Err-clause-carried g c = λ whole honest.
     either_known (log_of d (table self.log.blocks)) self.log.index d.honest (g.N.Nand.state c.commit.new.log.device) self.log.spare (committed_data self.log.index d.flash) (present_data self.log.index (buffered self.buffer) d.flash) ((c.commit.ensures.carries honest).newest carried)
 
 pub commit-requires-clause-reserve : goal.commit-requires-clause-reserve
-commit-requires-clause-reserve g c = (c.args.self.now.few c.if-self.false, c.args.self.now.free c.if-self.false)
+commit-requires-clause-reserve g c = (c.args.self.now.within_limit c.if-self.false, c.args.self.now.free c.if-self.false)
 
 pub commit-requires-clause-buffers : goal.commit-requires-clause-buffers
 commit-requires-clause-buffers g c =

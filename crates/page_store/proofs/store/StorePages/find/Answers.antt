@@ -21,7 +21,7 @@ invariant_of-self g c =
       place = λ i same.
           let one : c.in-InBuffer.place ≡ i = cc in
           subst (λ n. n < length (buffered self.buffer)) one (place_within (buffered self.buffer) c.in-InBuffer.place _ (self.buffers.there _ _ c.in-InBuffer.place is));
-      few = self.few;
+      within_limit = self.within_limit;
       free = self.free;
       newest = self.newest;
       shown = self.shown;
@@ -34,8 +34,8 @@ returns-in-InBuffer-clause-page g c = λ sound.
     buffered_lent (g.N.Nand.state self.log.device) self.log.index (buffered self.buffer) self.scratch.items c.args.key.object c.args.key.chunk c.in-InBuffer.place self.broken is
     (place_within (buffered self.buffer) c.in-InBuffer.place _ (self.buffers.there _ _ c.in-InBuffer.place is)) sound
 
-pub returns-in-OnFlash-clause-finds : goal.returns-in-OnFlash-clause-finds
-returns-in-OnFlash-clause-finds g c =
+pub returns-in-OnFlash-clause-lookups : goal.returns-in-OnFlash-clause-lookups
+returns-in-OnFlash-clause-lookups g c =
     let self = c.args.self.now in
     let new = c.find_committed.new.self in
     finds_seen (state_of self) (state_of new) (lent_by self) (lent_by new) c.find_committed.ensures.looks

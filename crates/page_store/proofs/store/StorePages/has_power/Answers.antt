@@ -30,7 +30,7 @@ invariant_of-self g c =
                   (
                     self.place,
                     (
-                      self.few,
+                      self.within_limit,
                       (
                         self.free,
                         (

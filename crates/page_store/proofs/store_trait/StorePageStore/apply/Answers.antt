@@ -100,9 +100,9 @@ returns-clause-fault g c = λ sound.
     let e = c.change.ensures in
     let honest = sound_honest a.log.device.honest a.broken sound in
     let whole = sound_whole a.log.device.honest a.broken sound in
-    let few : length (buffered self.buffer) ≤ most_pages self.buffer = self.buffer.few in
+    let within_limit : length (buffered self.buffer) ≤ most_pages self.buffer = self.buffer.within_limit in
     let most : most_pages self.buffer ≡ a.log.device.geometry.pages / 4 = self.most in
-    change_reported a b (lent_by self) (lent_by new) self.log.ready.geometry e.lasts.device.geometry e.lasts.spare new.log.ready (omega (arith, most)) few (self.few whole)
+    change_reported a b (lent_by self) (lent_by new) self.log.ready.geometry e.lasts.device.geometry e.lasts.spare new.log.ready (omega (arith, most)) within_limit (self.within_limit whole)
     (c.the_counts_add_up_to_the_committed_keys.ensures.all a.log.table a.index self.log.stands.tables.counts) (λ o k at is. has_page a.log.device a.index o k at honest (self.newest whole honest) is)
     c.args.change c.change.result whole e.ends
 
@@ -116,4 +116,4 @@ returns-clause-buffers g c =
     let new = c.change.new.self in
     when_changed {A = BuffersPages c.args.change.pages.items (seen_of (state_of c.args.self.now) (lent_by c.args.self.now)) (seen_of (state_of new) (lent_by new))} c.args.change c.change.result (state_of c.args.self.now)
     (state_of new) c.change.ensures.ends
-    (λ is. record { power = is.whole.power; buffered = is.few; near = λ i p there. near_buffered _ _ (is.buffered i p there) })
+    (λ is. record { power = is.whole.power; buffered = is.within_limit; near = λ i p there. near_buffered _ _ (is.buffered i p there) })

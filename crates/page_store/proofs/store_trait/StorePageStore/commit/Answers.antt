@@ -93,9 +93,9 @@ returns-clause-fault g c = λ sound.
     let e = c.write_out.ensures in
     let honest = sound_honest a.log.device.honest a.broken sound in
     let whole = sound_whole a.log.device.honest a.broken sound in
-    let few : length (buffered self.buffer) ≤ most_pages self.buffer = self.buffer.few in
+    let within_limit : length (buffered self.buffer) ≤ most_pages self.buffer = self.buffer.within_limit in
     let most : most_pages self.buffer ≡ a.log.device.geometry.pages / 4 = self.most in
-    commit_reported a b (lent_by self) (lent_by new) self.log.ready.geometry e.keeps.lasts.device.geometry e.keeps.lasts.spare new.log.ready (omega (arith, most)) few (self.few whole)
+    commit_reported a b (lent_by self) (lent_by new) self.log.ready.geometry e.keeps.lasts.device.geometry e.keeps.lasts.spare new.log.ready (omega (arith, most)) within_limit (self.within_limit whole)
     (c.the_counts_add_up_to_the_committed_keys.ensures.all a.log.table a.index self.log.stands.tables.counts) (λ o k at is. has_page a.log.device a.index o k at honest (self.newest whole honest) is)
     c.write_out.result whole e.ends
 

@@ -7,5 +7,5 @@ pub loop-object-init : goal.loop-object-init
 loop-object-init c =
     let start = ap (sum_by (names_in c.args.number)) (c.into_iter-object-iterator.ensures.into_iter_gives ∙ c.values-object-items.ensures.rest) in
     let all = pairs_count c.args.objects.now c.args.number c.values-object-items.ensures.ordered in
-    let few = pairs_few (sizes_of c.args.sizes) c.args.objects.now c.args.number c.values-object-items.ensures.ordered c.args.sizes.least_page c.args.sizes.greatest_page c.args.sizes.few_blocks c.args.sizes.greatest_block c.requires in
-    record { small = omega (arith, start, few); reported = omega (arith, start, all) }
+    let within_limit = pairs_few (sizes_of c.args.sizes) c.args.objects.now c.args.number c.values-object-items.ensures.ordered c.args.sizes.least_page c.args.sizes.greatest_page c.args.sizes.few_blocks c.args.sizes.greatest_block c.requires in
+    record { small = omega (arith, start, within_limit); reported = omega (arith, start, all) }

@@ -81,7 +81,7 @@ returns-clause-exact g c z s is reported =
     elim c.match-commit.branch [
       | in-Ok w ↦ subst (λ (q : PagesState). KeepsOnly z q (settled s.objects)) (sym (ap state c.into_pages-2.ensures))
           (subst (λ (objects : Objects). KeepsOnly z (state b.pages) objects) at.2.settles
-          (commit_exact state z at.0.objects a b has (all_named z at.0 at.1.sound.well_formed at.2.closed) c.commit.result _ w.in-Ok.is (c.commit.ensures.commits z at.0.objects has) (λ sound. g.met.P.PageStore.few b.pages sound (goes.worn ∙ is.1.worn ∙ is.0))))
+          (commit_exact state z at.0.objects a b has (all_named z at.0 at.1.sound.well_formed at.2.closed) c.commit.result _ w.in-Ok.is (c.commit.ensures.commits z at.0.objects has) (λ sound. g.met.P.PageStore.within_limit b.pages sound (goes.worn ∙ is.1.worn ∙ is.0))))
       | in-Err w ↦ let two : replies.Error errors.EIO ≡ replies.Done = sym w.reply-is ∙ reported in absurd cc
     ]
 

@@ -10,8 +10,11 @@ use Rattle.pages.specs.State.{PagesState}
 use Rattle.posix_calls.proofs.page_volume.PageVolume.new.Goals as goal
 
 pub returns-clause-at : goal.returns-clause-at
-returns-clause-at g c tree stored worn shown =
+returns-clause-at g c tree has =
     let state = g.P.Pages.state in
+    let stored = has.stored in
+    let worn = has.worn in
+    let shown = has.shown in
     let z = table_sizes c.args.objects.table in
     let made = c.over.ensures in
     let pages : state c.over.result.store.pages ≡ state c.args.objects.pages = ap (λ o. state o.pages) made.0 in
@@ -27,7 +30,7 @@ returns-clause-at g c tree stored worn shown =
       handles = made.1 ∙ c.requires;
       sound = stored.sound;
       worn = ap (λ (p : PagesState). p.worn) pages ∙ worn ∙ sym made.2;
-      few = λ writes. g.met.P.PageStore.few c.over.result.store.pages (ap (λ (p : PagesState). p.sound) pages ∙ stored.stands.sound) (ap (λ (p : PagesState). p.worn) pages ∙ worn ∙ sym made.2 ∙ writes);
+      within_limit = λ writes. g.met.P.PageStore.within_limit c.over.result.store.pages (ap (λ (p : PagesState). p.sound) pages ∙ stored.stands.sound) (ap (λ (p : PagesState). p.worn) pages ∙ worn ∙ sym made.2 ∙ writes);
       reading = λ only fd handle is. let two : None ≡ Some handle = sym (map.get-empty nat_cmp fd) ∙ is in absurd cc;
       named = λ only. (shown (sym made.2 ∙ only)).named;
       shown = λ only. subst (λ (p : PagesState). Shown z p tree) (sym pages) (shown (sym made.2 ∙ only)).shown;

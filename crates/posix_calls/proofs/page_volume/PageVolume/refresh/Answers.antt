@@ -18,7 +18,7 @@ returns-in-Ok g c =
     let store = c.refresh-refreshed.new.self in
     let lent = c.store_mut.ensures.store in
     let e = c.in-Ok.ensures in
-    refreshed g.P.Pages.state g.met.P.PageStore.few c.args.block c.args.self.now store (sym c.stopped.ensures ∙ c.if-stopped.false) (sym c.read_only.ensures ∙ c.if-read_only.false)
+    refreshed g.P.Pages.state g.met.P.PageStore.within_limit c.args.block c.args.self.now store (sym c.stopped.ensures ∙ c.if-stopped.false) (sym c.read_only.ensures ∙ c.if-read_only.false)
     (e.table ∙ ap (λ (s : PagedObjects g.row.P.Denot). s.table) lent) (e.names ∙ ap (λ (s : PagedObjects g.row.P.Denot). s.names) lent)
     (subst (λ (s : PagedObjects g.row.P.Denot). Refreshes c.args.block (g.P.Pages.state s.pages) (g.P.Pages.state store.pages) (Ok c.in-Ok.field-0)) lent e.pages)
 
@@ -28,6 +28,6 @@ returns-in-Err g c =
     let lent = c.store_mut.ensures.store in
     let e = c.in-Err.ensures in
     subst (λ (v : Volume (PagedObjects g.row.P.Denot)). IsRefreshed g.P.Pages.state c.args.block c.args.self.now (Err errors.EIO) (record { volume = v })) (sym c.stop.ensures)
-    (ended g.P.Pages.state g.met.P.PageStore.few c.args.block c.args.self.now store (sym c.stopped.ensures ∙ c.if-stopped.false) (sym c.read_only.ensures ∙ c.if-read_only.false)
+    (ended g.P.Pages.state g.met.P.PageStore.within_limit c.args.block c.args.self.now store (sym c.stopped.ensures ∙ c.if-stopped.false) (sym c.read_only.ensures ∙ c.if-read_only.false)
     (e.table ∙ ap (λ (s : PagedObjects g.row.P.Denot). s.table) lent) (e.names ∙ ap (λ (s : PagedObjects g.row.P.Denot). s.names) lent) c.in-Err.field-0
     (subst (λ (s : PagedObjects g.row.P.Denot). Refreshes c.args.block (g.P.Pages.state s.pages) (g.P.Pages.state store.pages) (Err c.in-Err.field-0)) lent e.pages))

@@ -11,5 +11,5 @@ returns-clause-runs g c =
       r.1,
       r.2,
       runs_pages g.P.Pages.state c.args.commands.now r.0 c.args.replies.now.items c.run.new.replies.items c.args.self.now (record { volume = c.run.new.self }) c.run.ensures.lasts.1
-          g.met.P.PageStore.few c.run.ensures.lasts.0.worn c.run.ensures.keeps r.3,
+          g.met.P.PageStore.within_limit c.run.ensures.lasts.0.worn c.run.ensures.keeps r.3,
     )

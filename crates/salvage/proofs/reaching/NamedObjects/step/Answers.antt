@@ -16,7 +16,7 @@ pub returns-in-Some-clause-knows : goal.returns-in-Some-clause-knows
 returns-in-Some-clause-knows g c = on_ok_weaker c.put_all.result (λ (puts : Puts (objects_in c.deref.result.now) c.args.self.now c.put_all.new.self). puts.knows) c.put_all.ensures.puts
 
 pub returns-in-Some-clause-goes : goal.returns-in-Some-clause-goes
-returns-in-Some-clause-goes g c = λ z from is r.
+returns-in-Some-clause-goes g c = λ from z is r.
     let old : PagesState = seen_by c.args.pages.now in
     let list = c.args.self.now.objects.items in
     let object : ℕ = c.index-object.result.now in
@@ -32,7 +32,7 @@ returns-in-Some-clause-goes g c = λ z from is r.
     c.put_all.ensures.puts
 
 pub returns-in-None-clause-goes : goal.returns-in-None-clause-goes
-returns-in-None-clause-goes g c = λ z from is r.
+returns-in-None-clause-goes g c = λ from z is r.
     let old : PagesState = seen_by c.args.pages.now in
     let list = c.args.self.now.objects.items in
     let object : ℕ = c.index-object.result.now in

@@ -12,16 +12,16 @@ use Rattle.salvage.proofs.Carried.{carried, goes_by}
 use Rattle.salvage.proofs.salvage.Salvage.open.Goals as goal
 
 pub returns-in-Ok-new-clause-tree : goal.returns-in-Ok-new-clause-tree
-returns-in-Ok-new-clause-tree g c = λ honest spare objects tree.
+returns-in-Ok-new-clause-tree g c = λ is.
     let a : Device = g.N.Nand.state c.args.device in
     let b : Device = g.N.Nand.state c.has_whole_tree-device.result.0 in
     let d : Device = g.N.Nand.state c.find_pages.new.device in
     let left = c.in-Ok-new.left in
     let reads : OnlyReads a d = c.reads_change_nothing.ensures.more a b d c.has_whole_tree-device.ensures.reads c.find_pages.ensures.reads in
-    let reported : IfOk c.has_whole_tree-device.result.1 (λ whole. whole ≡ true) = c.has_whole_tree-device.ensures.tree honest spare objects tree in
+    let reported : IfOk c.has_whole_tree-device.result.1 (λ whole. whole ≡ true) = c.has_whole_tree-device.ensures.tree is in
     let whole : c.in-Ok.whole ≡ true = subst (λ (r : Result Bool SalvageFault). IfOk r (λ w. w ≡ true)) c.in-Ok.is reported in
-    let still : d.honest ≡ true = reads.lasts.honest ∙ honest in
-    carried IsNewestMap a d (g.N.Nand.state (device_in left)) c.in-Ok-find_pages.found.index (index_in left) reads honest
+    let still : d.honest ≡ true = reads.lasts.honest ∙ is.honest in
+    carried IsNewestMap a d (g.N.Nand.state (device_in left)) c.in-Ok-find_pages.found.index (index_in left) reads is.honest
     (ap g.N.Nand.state c.in-Ok-new.ensures.device) c.in-Ok-new.ensures.index (c.in-Ok-find_pages.ensures.whole still whole)
 
 pub returns-in-Ok-new-clause-pages : goal.returns-in-Ok-new-clause-pages

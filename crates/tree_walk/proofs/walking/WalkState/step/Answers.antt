@@ -47,9 +47,9 @@ returns-clause-issued g c = λ z seen going.
     let object : ℕ = c.index-object.result.now in
     let visited = c.in_ok-visited.visited in
     let at : slice_get list c.args.place ≡ Some object = slice_get-get_or list c.args.place object c.requires.within ∙ ap Some (sym c.index-object.ensures) in
-    let few = c.in_ok-visited.ensures.issued z seen.size in
+    let within_limit = c.in_ok-visited.ensures.issued z seen.size in
     when_done (Visits object visited was c.take.new.self) (new.issued + pages_before z was c.args.place ≤ old.issued + pages_before z c.take.new.self (c.args.place + 1)) c.take.result
-    (λ t. let more = pages_more z c.args.place object was visited c.take.new.self going.once at t in omega (arith, more, few)) c.take.ensures.takes
+    (λ t. let more = pages_more z c.args.place object was visited c.take.new.self going.once at t in omega (arith, more, within_limit)) c.take.ensures.takes
 
 pub returns-clause-stops : goal.returns-clause-stops
 returns-clause-stops g c = λ z seen. result_lacks_memory (StopsOn z (has (g.P.Pages.state c.args.pages.now).present) c.args.self.now c.args.place) (g.P.Pages.state c.visit.new.pages) c.take.result c.take.ensures.why

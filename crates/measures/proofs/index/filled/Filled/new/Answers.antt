@@ -7,5 +7,5 @@ use Rattle.measures.proofs.index.filled.Filled.new.Goals as goal
 pub invariant_of-result-clause-agree : goal.invariant_of-result-clause-agree
 invariant_of-result-clause-agree c = c.new-3.ensures.agree (table c.in_ok-blocks.blocks) (λ b. ap (λ (t : Table). (t.entry b).committed) c.in_ok-blocks.ensures)
 
-pub invariant_of-result-clause-few : goal.invariant_of-result-clause-few
-invariant_of-result-clause-few c = below_empty 64 _ c.new-3.ensures.empty
+pub invariant_of-result-clause-within_limit : goal.invariant_of-result-clause-within_limit
+invariant_of-result-clause-within_limit c = below_empty 64 _ c.new-3.ensures.empty

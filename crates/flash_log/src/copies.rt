@@ -1,26 +1,27 @@
-// Pages that stand on the device, to be written again.
-ghost use Rattle.std.specs.Prelude.{◌≡◌, ◌↔◌, ◌<◌, ◌≤◌, ◌+◌, ℕ, List, [], length, true, IfOk, OnErr, IsTrue};
-ghost use Rattle.nand_model.specs.Calls.{bytes_of};
+// Committed pages of the device, to be written again.
+ghost use Rattle.std.specs.Prelude.{◌≡◌, ◌↔◌, ◌<◌, ◌≤◌, ◌+◌, ℕ, List, length, true, IfOk, OnErr, IsTrue};
 ghost use Rattle.nand_model.specs.Changes.{OnlyReads};
-ghost use Rattle.transactions.specs.Copying.{IsTagOf, HasItsName};
+ghost use Rattle.flash_log.specs.CopySource.{data_of, IsTagOf, HasItsName, copied_name};
 
-use crate::source::{LentPage, PageName, PageSource, SourceFault};
+use chunk_index::CommittedKey;
 use nand_model::{Gone, Nand, PageKind};
 use page_tags::Tag;
+use transactions::{LentPage, PageName, PageSource, SourceFault};
 
-/// A page that is copied, with its name.
-#[derive(Clone, Copy, Debug, PartialEq, Eq)]
-pub struct CopyOf {
-    pub block: u32,
-    pub page: u32,
-    pub name: PageName,
+/// Pages of the device, to be written again in their versions. A page that does not have its name on the device is Lost.
+#[derive(Clone, Copy)]
+pub(crate) struct Copies<'a> {
+    pub(crate) places: &'a [CommittedKey],
 }
 
-/// Pages that stand on the device, to be written again in their versions. A page that does not have its name on the
-/// device is Lost.
-#[derive(Clone, Copy)]
-pub struct Copies<'a> {
-    pub places: &'a [CopyOf],
+/// The name of the copy of a page: its key, in its version.
+fn copied_name(of: CommittedKey) -> PageName
+    ensures { result ≡ copied_name of }
+{
+    PageName {
+        key: of.key,
+        version: of.at.version,
+    }
 }
 
 /// Whether these bytes are a tag of a page of this name.
@@ -34,20 +35,19 @@ fn is_tag_of(tag: &[u8; 48], name: PageName) -> bool
 }
 
 /// Reads a page that is to be copied. The answer is whether it is written under its name.
-fn reads_back<N: Nand>(device: &mut N, of: CopyOf, page: &mut [u8]) -> Result<bool, Gone>
-    requires block { of.block < (N.state device.old).geometry.blocks }
-    requires page { of.page < (N.state device.old).geometry.pages }
+fn reads_back<N: Nand>(device: &mut N, of: CommittedKey, page: &mut [u8]) -> Result<bool, Gone>
+    requires block { of.at.block < (N.state device.old).geometry.blocks }
+    requires page { of.at.page < (N.state device.old).geometry.pages }
     requires size { length page.old ≡ (N.state device.old).geometry.bytes }
     ensures reads { OnlyReads (N.state device.old) (N.state device.new) }
     ensures issued { (N.state device.new).reads ≤ (N.state device.old).reads + 1 }
     ensures gone { OnErr result ((N.state device.new).gone ≡ true) }
     ensures there { (N.state device.old).honest ≡ true → IfOk result (λ there. IsTrue there ↔ HasItsName (N.state device.old).flash of) }
-    ensures bytes { (N.state device.old).honest ≡ true
-        → IfOk result (λ there. IsTrue there → page.new ≡ bytes_of ((N.state device.old).flash.page of.block of.page) []) }
+    ensures bytes { (N.state device.old).honest ≡ true → IfOk result (λ there. IsTrue there → page.new ≡ data_of (N.state device.old).flash of) }
 {
     let mut tag = [0; 48];
-    match device.read_page(of.block, of.page, page, &mut tag)? {
-        PageKind::Written => Ok(is_tag_of(&tag, of.name)),
+    match device.read_page(of.at.block, of.at.page, page, &mut tag)? {
+        PageKind::Written => Ok(is_tag_of(&tag, copied_name(of))),
         PageKind::Erased => Ok(false),
         PageKind::Uncorrectable => Ok(false),
     }
@@ -55,8 +55,8 @@ fn reads_back<N: Nand>(device: &mut N, of: CopyOf, page: &mut [u8]) -> Result<bo
 
 impl PageSource for Copies<'_> {
     ghost use Rattle.std.specs.Prelude.{length};
-    ghost use Rattle.transactions.specs.Copying.{copy_name, copy_bytes, HasCopy, CanCopy};
-    ghost use Rattle.transactions.specs.laws.Copying.{copy_stays, copy_same};
+    ghost use Rattle.flash_log.specs.CopySource.{copy_name, copy_bytes, HasCopy, CanCopy};
+    ghost use Rattle.flash_log.specs.laws.CopySource.{copy_stays, copy_same};
 
     ghost count = { λ s. length s.places.now };
 
@@ -94,7 +94,7 @@ impl PageSource for Copies<'_> {
         let _ = group;
         let of = self.places[i as usize];
         match reads_back(device, of, page) {
-            Ok(true) => Ok(of.name),
+            Ok(true) => Ok(copied_name(of)),
             Ok(false) => Err(SourceFault::Lost),
             Err(_) => Err(SourceFault::Gone),
         }

@@ -2,10 +2,10 @@ use Rattle.std.proofs.Common.{◌≡◌, ◌↔◌, ℕ, List, sym, ◌∙◌, a
 use Rattle.page_tags.specs.Tags.{IsTag, tag_bytes}
 use Rattle.page_tags.specs.laws.Tag.{same_tag}
 use Rattle.page_tags.specs.declared.tag.Tag.{Tag}
-use Rattle.transactions.specs.Copying.{IsTagOf}
+use Rattle.flash_log.specs.CopySource.{IsTagOf}
 use Rattle.transactions.specs.Sources.{name_of}
 use Rattle.transactions.specs.declared.source.PageName.{PageName}
-use Rattle.transactions.proofs.copies.is_tag_of.Goals as goal
+use Rattle.flash_log.proofs.copies.is_tag_of.Goals as goal
 
 -- bytes have one tag, and so one name
 named_by : (name : PageName) (bytes : List ℕ) (t : Tag) → IsTag t → bytes ≡ tag_bytes t → (name_of t ≡ name) ↔ IsTagOf name bytes

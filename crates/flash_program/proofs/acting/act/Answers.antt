@@ -1,5 +1,5 @@
 use Rattle.std.proofs.Common.{refl}
-use Rattle.flash_program.proofs.acting.perform.Goals as goal
+use Rattle.flash_program.proofs.acting.act.Goals as goal
 
 pub returns-in-Format : goal.returns-in-Format
 returns-in-Format g c = rw c.in-Format.is (c.make_image.ensures, refl)

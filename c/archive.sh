@@ -52,7 +52,7 @@ made_of() {
         sha256sum
 }
 
-# A toolchain folder whose clang is the kit's, and keeps its input where it is to be kept, and takes the flag that is given in place of -O3.
+# A toolchain folder whose clang is the kit's, saves its input in the file of KEEP, and takes the flag of OPTIMIZE in place of -O3.
 # rattle clears the environment: paths and flags are in the script.
 make_toolchain() {
     local tool

@@ -1,15 +1,13 @@
 -- What the functions do to a slot of a salvage, and to the device behind it.
 use Rattle.std.specs.Prelude.{◌≡◌, ◌≢◌, ◌⊎◌, ◌≤ℤ◌, ℕ, true, false, Result, Ok, Err, ℤ, pos}
-use Rattle.flash_tree.specs.Mount.{Answers, IsTreeOf}
 use Rattle.mounting.specs.NewestMaps.{IsNewestMap}
 use Rattle.nand_model.specs.Calls.{Device}
 use Rattle.nand_model.specs.Changes.{OnlyReads}
 use Rattle.nand_model.specs.declared.nand.Nand.{Ghosts}
 use Rattle.pages.specs.State.{PagesState}
 use Rattle.port_nand.specs.declared.sizes.OpenFault.{OpenFault}
-use Rattle.posix_profile.specs.State.{Objects}
 use Rattle.posix_profile.specs.declared.reply.Errno.TheVariants as errors
-use Rattle.salvage.specs.Opened.{GoesBy, WhyNotOpened}
+use Rattle.salvage.specs.Opened.{AnswersTree, GoesBy, WhyNotOpened}
 use Rattle.salvage.specs.StateOf.{device_in, lost_in, state}
 use Rattle.salvage.specs.declared.fault.SalvageFault.{SalvageFault}
 use Rattle.salvage.specs.declared.salvage.Salvage.{Salvage}
@@ -21,8 +19,7 @@ use Rattle.flash_c.specs.declared.salvage_slot.SalvageSlot.{SalvageSlot}
 -- shows a volume; else by the pages that survive, with exactly the places of those that are lost.
 pub record IsOpened {N : Type 0} {nand : Ghosts N} (device : Device) (s : Salvage N nand) : Type 0 where
   pub reads : OnlyReads device (nand.state (device_in s))
-  pub tree : device.honest ≡ true → (spare : ℕ) (objects : Objects) → Answers device.geometry device.flash (IsTreeOf spare objects)
-      → IsNewestMap device.flash (state s).present
+  pub tree : AnswersTree device → IsNewestMap device.flash (state s).present
   pub pages : device.honest ≡ true → GoesBy device.geometry device.flash (state s).present (lost_in s)
 
 -- the device was not opened: it was only read, and the number is that of the fault, which has its reason

@@ -9,9 +9,10 @@ ghost use Rattle.posix_profile.specs.declared.reply.Reply.{Reply};
 ghost use Rattle.posix_calls.specs.Volumes.{over_pages};
 ghost use Rattle.posix_calls.specs.Calls.{IsCalled};
 ghost use Rattle.posix_calls.specs.Describing.{IsDescribed};
-ghost use Rattle.page_store.specs.PagesOf.{mounted_pages};
 
-use nand_model::Nand;
+use nand_model::{Nand, TrustedNand};
+use page_store::FlashPages;
+use pages::Pages;
 use posix_calls::{Errno, Info, Reply, StampedRequest, Volume};
 
 /// What serves commands.
@@ -38,9 +39,9 @@ pub(crate) trait Serve {
 
 /// A volume of any device serves as `posix_calls` says.
 impl<N: Nand> Serve for Volume<N> {
-    ghost serves = { λ old command reply new. IsCalled mounted_pages (over_pages old) command reply (over_pages new) };
+    ghost serves = { λ old command reply new. IsCalled ⟦<FlashPages<TrustedNand<N>> as Pages>⟧.state (over_pages old) command reply (over_pages new) };
 
-    ghost describes = { λ v. IsDescribed mounted_pages (over_pages v) };
+    ghost describes = { λ v. IsDescribed ⟦<FlashPages<TrustedNand<N>> as Pages>⟧.state (over_pages v) };
 
     fn serve(&mut self, issued: &StampedRequest<'_>) -> Reply {
         self.ask(issued)

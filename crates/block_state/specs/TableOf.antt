@@ -1,4 +1,4 @@
--- What the table of a program stands for.
+-- What the table of a program represents.
 use Rattle.block_state.specs.Table.{Table, entry_at}
 use Rattle.block_state.specs.declared.blocks.Blocks.{Blocks}
 

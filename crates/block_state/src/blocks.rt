@@ -131,7 +131,7 @@ impl Blocks {
         self.next_group
     }
 
-    /// Goes on from greater numbers, such as stand on a flash.
+    /// Goes on from greater numbers, such as are on a flash.
     pub fn raise(&mut self, next: NextNumbers)
         ensures { (table self.new) ≡ record (table self.old) { next_seq = max (table self.old).next_seq next.seq; next_group = max (table self.old).next_group next.group } }
     {
@@ -216,7 +216,7 @@ impl Blocks {
     #[tactic(auto, using(crate::specs::laws::Table::whole_set))]
     pub fn release(&mut self, block: u32)
         requires block { block < (table self.old).geometry.blocks }
-        requires some { 1 ≤ ((table self.old).entry block).committed }
+        requires has_committed { 1 ≤ ((table self.old).entry block).committed }
         ensures { SetsEntry block (record ((table self.old).entry block) { committed = ((table self.old).entry block).committed - 1 }) (table self.old) (table self.new) }
     {
         let entry = self.entry(block);

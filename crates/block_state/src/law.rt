@@ -6,7 +6,7 @@ ghost use Rattle.block_state.specs.Committed.{bad_count, free_count, uncommitted
 /// Where blocks are scarce, a good block holds committed pages, and the one that holds the fewest has at most so many that
 /// they can be moved with room to spare.
 pub fn a_block_can_be_collected()
-    ensures some { (t : Table) (spare most : ℕ) → HasSpare t spare most → IsScarce t spare → NoneCommitted t t.geometry.blocks → ⊥ }
+    ensures uncommitted { (t : Table) (spare most : ℕ) → HasSpare t spare most → IsScarce t spare → NoneCommitted t t.geometry.blocks → ⊥ }
     ensures within_limit { (t : Table) (spare most b : ℕ) → HasSpare t spare most → IsScarce t spare → IsFewest t t.geometry.blocks b → (t.entry b).committed ≤ most }
 {}
 

@@ -24,23 +24,23 @@ use Rattle.chunk_index.specs.Maps.{committed_pages, count_committed_in}
 use Rattle.chunk_index.proofs.Finding.{find_at}
 
 -- a key stands in a list
-pub data Stands (k : CommittedKey) : List CommittedKey → Type 0 where
-  first : {ks : List CommittedKey} → Stands k (k ∷ ks)
-  later : {j : CommittedKey} {ks : List CommittedKey} → Stands k ks → Stands k (j ∷ ks)
+pub data IsIn (k : CommittedKey) : List CommittedKey → Type 0 where
+  first : {ks : List CommittedKey} → IsIn k (k ∷ ks)
+  later : {j : CommittedKey} {ks : List CommittedKey} → IsIn k ks → IsIn k (j ∷ ks)
 
-pub stands_left : (k : CommittedKey) (xs ys : List CommittedKey) → Stands k xs → Stands k (xs ++ ys)
-stands_left k [] ys s = elim s [ ]
-stands_left k (x ∷ xs) ys first = first
-stands_left k (x ∷ xs) ys (later s) = later (stands_left k xs ys s)
+pub is_in_left : (k : CommittedKey) (xs ys : List CommittedKey) → IsIn k xs → IsIn k (xs ++ ys)
+is_in_left k [] ys s = elim s [ ]
+is_in_left k (x ∷ xs) ys first = first
+is_in_left k (x ∷ xs) ys (later s) = later (is_in_left k xs ys s)
 
-pub stands_right : (k : CommittedKey) (xs ys : List CommittedKey) → Stands k ys → Stands k (xs ++ ys)
-stands_right k [] ys s = s
-stands_right k (x ∷ xs) ys s = later (stands_right k xs ys s)
+pub is_in_right : (k : CommittedKey) (xs ys : List CommittedKey) → IsIn k ys → IsIn k (xs ++ ys)
+is_in_right k [] ys s = s
+is_in_right k (x ∷ xs) ys s = later (is_in_right k xs ys s)
 
-pub stands_place : (k : CommittedKey) (xs : List CommittedKey) → Stands k xs → (i : ℕ) × (slice_get xs i ≡ Some k)
-stands_place k [] s = elim s [ ]
-stands_place k (x ∷ xs) first = (0, refl)
-stands_place k (x ∷ xs) (later s) = let at = stands_place k xs s in (suc at.0, at.1)
+pub is_in_place : (k : CommittedKey) (xs : List CommittedKey) → IsIn k xs → (i : ℕ) × (slice_get xs i ≡ Some k)
+is_in_place k [] s = elim s [ ]
+is_in_place k (x ∷ xs) first = (0, refl)
+is_in_place k (x ∷ xs) (later s) = let at = is_in_place k xs s in (suc at.0, at.1)
 
 -- what holds of each of two lists holds of both, one after the other
 pub each_append : (P : CommittedKey → Type 0) (xs ys : List CommittedKey) → ((i : ℕ) (k : CommittedKey) → slice_get xs i ≡ Some k → P k) → ((i : ℕ) (k : CommittedKey) → slice_get ys i ≡ Some k → P k)
@@ -95,38 +95,38 @@ listed_is_committed x b = all_are x b x.shelf.objects.entries (λ j o z at. btre
 
 -- ---- and each key that is committed there is listed
 
-stands_key : (b o : ℕ) (e : KeyEntry) (p : CommittedPage) → e.committed ≡ Some p → p.block ≡ b → Stands (record { key = record { object = o; chunk = chunk e }; at = p }) (key_in b o e)
-stands_key b o e p some at =
+is_in_key : (b o : ℕ) (e : KeyEntry) (p : CommittedPage) → e.committed ≡ Some p → p.block ≡ b → IsIn (record { key = record { object = o; chunk = chunk e }; at = p }) (key_in b o e)
+is_in_key b o e p some at =
     let this : CommittedKey = record { key = record { object = o; chunk = e.chunk }; at = p } in
     let listed : key_in b o e ≡ (if p.block == b then this ∷ [] else []) = ap (λ q. option_map_or (λ p. if p.block == b then record { key = record { object = o; chunk = e.chunk }; at = p } ∷ [] else []) q []) some in
     let one : (if p.block == b then this ∷ [] else []) ≡ this ∷ [] = grind (arith, nat_tests, at) in
-    subst (Stands this) (sym (listed ∙ one)) first
+    subst (IsIn this) (sym (listed ∙ one)) first
 
-stands_object : (b o c : ℕ) (p : CommittedPage) → p.block ≡ b → (es : List KeyEntry) → committed_of (find_by chunk es c) ≡ Some p → Stands (record { key = record { object = o; chunk = c }; at = p }) (keys_of b o es)
-stands_object b o c p at [] is = absurd cc
-stands_object b o c p at (e ∷ es) is = elim (cases_eq (chunk e) c) [
+is_in_object : (b o c : ℕ) (p : CommittedPage) → p.block ≡ b → (es : List KeyEntry) → committed_of (find_by chunk es c) ≡ Some p → IsIn (record { key = record { object = o; chunk = c }; at = p }) (keys_of b o es)
+is_in_object b o c p at [] is = absurd cc
+is_in_object b o c p at (e ∷ es) is = elim (cases_eq (chunk e) c) [
   | inl same ↦
       let here : find_by chunk (e ∷ es) c ≡ Some e = grind (arith, nat_tests, same) in
-      stands_left _ (key_in b o e) (keys_of b o es) (subst (λ l. Stands (record { key = record { object = o; chunk = l }; at = p }) (key_in b o e)) same (stands_key b o e p (sym (ap committed_of here) ∙ is) at))
+      is_in_left _ (key_in b o e) (keys_of b o es) (subst (λ l. IsIn (record { key = record { object = o; chunk = l }; at = p }) (key_in b o e)) same (is_in_key b o e p (sym (ap committed_of here) ∙ is) at))
   | inr ne ↦
       let there : find_by chunk (e ∷ es) c ≡ find_by chunk es c = grind (arith, nat_tests, ne) in
-      stands_right _ (key_in b o e) (keys_of b o es) (stands_object b o c p at es (sym (ap committed_of there) ∙ is))
+      is_in_right _ (key_in b o e) (keys_of b o es) (is_in_object b o c p at es (sym (ap committed_of there) ∙ is))
 ]
 
-stands_all : (b o c : ℕ) (p : CommittedPage) → p.block ≡ b → (xs : List (ℕ × ObjectEntries)) → committed_of (option_and_then (entry_of c) (lookup (is_at (nat_cmp o)) xs)) ≡ Some p → Stands (record { key = record { object = o; chunk = c }; at = p }) (keys_in b xs)
-stands_all b o c p at [] is = absurd cc
-stands_all b o c p at (x ∷ xs) is = elim (cases_eq x.0 o) [
+is_in_all : (b o c : ℕ) (p : CommittedPage) → p.block ≡ b → (xs : List (ℕ × ObjectEntries)) → committed_of (option_and_then (entry_of c) (lookup (is_at (nat_cmp o)) xs)) ≡ Some p → IsIn (record { key = record { object = o; chunk = c }; at = p }) (keys_in b xs)
+is_in_all b o c p at [] is = absurd cc
+is_in_all b o c p at (x ∷ xs) is = elim (cases_eq x.0 o) [
   | inl same ↦
       let here : lookup (is_at (nat_cmp o)) (x ∷ xs) ≡ Some x.1 = grind (arith, nat_tests, same) in
-      stands_left _ (keys_of b x.0 x.1.entries.items) (keys_in b xs) (subst (λ n. Stands (record { key = record { object = n; chunk = c }; at = p }) (keys_of b x.0 x.1.entries.items)) same
-      (stands_object b x.0 c p at x.1.entries.items (sym (ap (λ v. committed_of (option_and_then (entry_of c) v)) here) ∙ is)))
+      is_in_left _ (keys_of b x.0 x.1.entries.items) (keys_in b xs) (subst (λ n. IsIn (record { key = record { object = n; chunk = c }; at = p }) (keys_of b x.0 x.1.entries.items)) same
+      (is_in_object b x.0 c p at x.1.entries.items (sym (ap (λ v. committed_of (option_and_then (entry_of c) v)) here) ∙ is)))
   | inr ne ↦
       let there : lookup (is_at (nat_cmp o)) (x ∷ xs) ≡ lookup (is_at (nat_cmp o)) xs = grind (arith, nat_tests, ne) in
-      stands_right _ (keys_of b x.0 x.1.entries.items) (keys_in b xs) (stands_all b o c p at xs (sym (ap (λ v. committed_of (option_and_then (entry_of c) v)) there) ∙ is))
+      is_in_right _ (keys_of b x.0 x.1.entries.items) (keys_in b xs) (is_in_all b o c p at xs (sym (ap (λ v. committed_of (option_and_then (entry_of c) v)) there) ∙ is))
 ]
 
 pub committed_is_listed : (x : Index) (b o c : ℕ) (p : CommittedPage) → committed_pages x o c ≡ Some p → p.block ≡ b → (i : ℕ) × (slice_get (block_keys x b) i ≡ Some (record { key = record { object = o; chunk = c }; at = p }))
-committed_is_listed x b o c p is at = stands_place _ (block_keys x b) (stands_all b o c p at x.shelf.objects.entries is)
+committed_is_listed x b o c p is at = is_in_place _ (block_keys x b) (is_in_all b o c p at x.shelf.objects.entries is)
 
 -- ---- counts
 

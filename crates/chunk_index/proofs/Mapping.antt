@@ -2,9 +2,7 @@
 use Rattle.std.proofs.Common.{◌≡◌, ℕ, false, Option, Some, None, Result, Ok, Err, IsSome, OnOk, OnErr, refl, sym, ap, subst, ◌∙◌, arith, inl, inr}
 use Rattle.std.proofs.lemmas.Bool.{cases_eq}
 use Rattle.chunk_index.specs.declared.entry.KeyEntry.{KeyEntry}
-use Rattle.chunk_index.specs.declared.form.Form.{Form}
-use Rattle.chunk_index.specs.declared.form.Form.TheVariants as forms
-use Rattle.chunk_index.specs.Entries.{state_of, is_same_state, same_of, weight}
+use Rattle.chunk_index.specs.Entries.{same_of, weight}
 use Rattle.chunk_index.specs.Shelves.{ObjectMap, look, total, AltersKey, SameEntries}
 use Rattle.chunk_index.proofs.Shelving.{look_chunk}
 

@@ -14,20 +14,20 @@ use Rattle.chunk_index.proofs.Keys.{listed_is_committed, committed_is_listed, co
 use Rattle.chunk_index.proofs.Once.{listed_once}
 
 -- what stands in one order stands in the other
-stands_too : (xs ys : List CommittedKey) → IsPermutation xs ys → (i : ℕ) (k : CommittedKey) → slice_get xs i ≡ Some k → (j : ℕ) × (slice_get ys j ≡ Some k)
-stands_too xs ys same i k is =
+is_in_too : (xs ys : List CommittedKey) → IsPermutation xs ys → (i : ℕ) (k : CommittedKey) → slice_get xs i ≡ Some k → (j : ℕ) × (slice_get ys j ≡ Some k)
+is_in_too xs ys same i k is =
     let there = Contains-permutation xs ys k same (i, slice_get_within xs i k is, get_or_from_slice_get xs i k k is) in
     (there.0, slice_get-get_or ys there.0 k there.1 ∙ ap (λ (l : CommittedKey). Some l) there.2)
 
 pub reordered_is_committed : (x : Index) (b : ℕ) (ks : List CommittedKey) → IsPermutation (block_keys x b) ks → (i : ℕ) (k : CommittedKey) → slice_get ks i ≡ Some k → IsCommittedKey x b k
 reordered_is_committed x b ks same i k is =
-    let from = stands_too ks (block_keys x b) (IsPermutation-sym (block_keys x b) ks same) i k is in
+    let from = is_in_too ks (block_keys x b) (IsPermutation-sym (block_keys x b) ks same) i k is in
     listed_is_committed x b from.0 k from.1
 
 pub committed_is_reordered : (x : Index) (b : ℕ) (ks : List CommittedKey) → IsPermutation (block_keys x b) ks → (k : CommittedKey) → IsCommittedKey x b k → (i : ℕ) × (slice_get ks i ≡ Some k)
 committed_is_reordered x b ks same k committed =
     let from = committed_is_listed x b k.key.object k.key.chunk k.at committed.0 committed.1 in
-    stands_too (block_keys x b) ks same from.0 k from.1
+    is_in_too (block_keys x b) ks same from.0 k from.1
 
 pub count_of_reordered : (x : Index) (b : ℕ) (ks : List CommittedKey) → IsPermutation (block_keys x b) ks → length ks ≡ count_committed_in x b
 count_of_reordered x b ks same = length_permutation (block_keys x b) ks same ∙ count_of_list x b

@@ -27,7 +27,7 @@ use Rattle.flash_tree.specs.Places.{ComesBefore}
 use Rattle.chunk_index.specs.Committed.{KeyRises, IsListOf, HasCommitted}
 use Rattle.chunk_index.specs.Maps.{CommittedMap, committed_pages, CountsAgree}
 use Rattle.chunk_index.proofs.Finding.{find_at}
-use Rattle.chunk_index.proofs.Keys.{Stands, first, later, stands_left, stands_right, stands_place, each_append}
+use Rattle.chunk_index.proofs.Keys.{IsIn, first, later, is_in_left, is_in_right, is_in_place, each_append}
 use Rattle.chunk_index.proofs.Totals.{committed_one, all_counted}
 
 -- ---- lists of keys
@@ -163,33 +163,33 @@ rising_all (x ∷ xs) rise =
 
 -- ---- each is committed, and each that is committed stands there
 
-stands_object : (o c : ℕ) (p : CommittedPage) (es : List KeyEntry) → committed_of (find_by chunk es c) ≡ Some p → Stands (record { key = record { object = o; chunk = c }; at = p }) (object_keys o es)
-stands_object o c p [] is = absurd cc
-stands_object o c p (e ∷ es) is = elim (cases_eq (chunk e) c) [
+is_in_object : (o c : ℕ) (p : CommittedPage) (es : List KeyEntry) → committed_of (find_by chunk es c) ≡ Some p → IsIn (record { key = record { object = o; chunk = c }; at = p }) (object_keys o es)
+is_in_object o c p [] is = absurd cc
+is_in_object o c p (e ∷ es) is = elim (cases_eq (chunk e) c) [
   | inl same ↦
       let here : find_by chunk (e ∷ es) c ≡ Some e = grind (arith, nat_tests, same) in
       let some : e.committed ≡ Some p = sym (ap committed_of here) ∙ is in
       let listed : committed_key o e ≡ Some (record { key = record { object = o; chunk = c }; at = p }) =
       ap (option_map (λ (q : CommittedPage). record { key = record { object = o; chunk = e.chunk }; at = q })) some ∙ ap (λ l. Some (record { key = record { object = o; chunk = l }; at = p })) same in
-      subst (λ v. Stands (record { key = record { object = o; chunk = c }; at = p }) (cons_option v (object_keys o es))) (sym listed) first
+      subst (λ v. IsIn (record { key = record { object = o; chunk = c }; at = p }) (cons_option v (object_keys o es))) (sym listed) first
   | inr ne ↦
       let there : find_by chunk (e ∷ es) c ≡ find_by chunk es c = grind (arith, nat_tests, ne) in
-      behind (committed_key o e) (stands_object o c p es (sym (ap committed_of there) ∙ is))
+      behind (committed_key o e) (is_in_object o c p es (sym (ap committed_of there) ∙ is))
 ] where
-  behind : (v : Option CommittedKey) → Stands (record { key = record { object = o; chunk = c }; at = p }) (object_keys o es) → Stands (record { key = record { object = o; chunk = c }; at = p }) (cons_option v (object_keys o es))
+  behind : (v : Option CommittedKey) → IsIn (record { key = record { object = o; chunk = c }; at = p }) (object_keys o es) → IsIn (record { key = record { object = o; chunk = c }; at = p }) (cons_option v (object_keys o es))
   behind None s = s
   behind (Some x) s = later s
 
-stands_all : (o c : ℕ) (p : CommittedPage) (xs : List (ℕ × ObjectEntries)) → committed_of (option_and_then (entry_of c) (lookup (is_at (nat_cmp o)) xs)) ≡ Some p → Stands (record { key = record { object = o; chunk = c }; at = p }) (all_keys xs)
-stands_all o c p [] is = absurd cc
-stands_all o c p (x ∷ xs) is = elim (cases_eq x.0 o) [
+is_in_all : (o c : ℕ) (p : CommittedPage) (xs : List (ℕ × ObjectEntries)) → committed_of (option_and_then (entry_of c) (lookup (is_at (nat_cmp o)) xs)) ≡ Some p → IsIn (record { key = record { object = o; chunk = c }; at = p }) (all_keys xs)
+is_in_all o c p [] is = absurd cc
+is_in_all o c p (x ∷ xs) is = elim (cases_eq x.0 o) [
   | inl same ↦
       let here : lookup (is_at (nat_cmp o)) (x ∷ xs) ≡ Some x.1 = grind (arith, nat_tests, same) in
-      stands_left _ (object_keys x.0 x.1.entries.items) (all_keys xs) (subst (λ n. Stands (record { key = record { object = n; chunk = c }; at = p }) (object_keys x.0 x.1.entries.items)) same
-      (stands_object x.0 c p x.1.entries.items (sym (ap (λ v. committed_of (option_and_then (entry_of c) v)) here) ∙ is)))
+      is_in_left _ (object_keys x.0 x.1.entries.items) (all_keys xs) (subst (λ n. IsIn (record { key = record { object = n; chunk = c }; at = p }) (object_keys x.0 x.1.entries.items)) same
+      (is_in_object x.0 c p x.1.entries.items (sym (ap (λ v. committed_of (option_and_then (entry_of c) v)) here) ∙ is)))
   | inr ne ↦
       let there : lookup (is_at (nat_cmp o)) (x ∷ xs) ≡ lookup (is_at (nat_cmp o)) xs = grind (arith, nat_tests, ne) in
-      stands_right _ (object_keys x.0 x.1.entries.items) (all_keys xs) (stands_all o c p xs (sym (ap (λ v. committed_of (option_and_then (entry_of c) v)) there) ∙ is))
+      is_in_right _ (object_keys x.0 x.1.entries.items) (all_keys xs) (is_in_all o c p xs (sym (ap (λ v. committed_of (option_and_then (entry_of c) v)) there) ∙ is))
 ]
 
 module _ (x : Index) where
@@ -244,7 +244,7 @@ committed_counted t x agree = (
   all_keys x.shelf.objects.entries,
   record {
     each = listed_committed x;
-    all = λ o c p is. stands_place _ (all_keys x.shelf.objects.entries) (stands_all o c p x.shelf.objects.entries is);
+    all = λ o c p is. is_in_place _ (all_keys x.shelf.objects.entries) (is_in_all o c p x.shelf.objects.entries is);
     rise = rising_all x.shelf.objects.entries (objects_rise x);
   },
   length_all x.shelf.objects.entries ∙ sym (all_counted t x agree),

@@ -45,38 +45,38 @@ once_more q xs not once (suc i) (suc j) p at there = ap suc (once i j p at there
 -- ---- the places of keys in another list
 
 module _ (zs : List CommittedKey) where
-  abbrev Stand : List CommittedKey → Type 0
-  Stand ks = (i : ℕ) (k : CommittedKey) → slice_get ks i ≡ Some k → (j : ℕ) × (slice_get zs j ≡ Some k)
+  abbrev AreIn : List CommittedKey → Type 0
+  AreIn ks = (i : ℕ) (k : CommittedKey) → slice_get ks i ≡ Some k → (j : ℕ) × (slice_get zs j ≡ Some k)
 
-  places : (ks : List CommittedKey) → Stand ks → List ℕ
-  places [] stand = []
-  places (k ∷ ks) stand = (stand 0 k refl).0 ∷ places ks (λ i l at. stand (suc i) l at)
+  places : (ks : List CommittedKey) → AreIn ks → List ℕ
+  places [] are_in = []
+  places (k ∷ ks) are_in = (are_in 0 k refl).0 ∷ places ks (λ i l at. are_in (suc i) l at)
 
-  length-places : (ks : List CommittedKey) (stand : Stand ks) → length (places ks stand) ≡ length ks
+  length-places : (ks : List CommittedKey) (are_in : AreIn ks) → length (places ks are_in) ≡ length ks
   unfolding places
-  length-places [] stand = refl
-  length-places (k ∷ ks) stand = ap suc (length-places ks (λ i l at. stand (suc i) l at))
+  length-places [] are_in = refl
+  length-places (k ∷ ks) are_in = ap suc (length-places ks (λ i l at. are_in (suc i) l at))
 
-  place_at : (ks : List CommittedKey) (stand : Stand ks) (i j : ℕ) → slice_get (places ks stand) i ≡ Some j → (k : CommittedKey) × (slice_get ks i ≡ Some k) × (slice_get zs j ≡ Some k)
+  place_at : (ks : List CommittedKey) (are_in : AreIn ks) (i j : ℕ) → slice_get (places ks are_in) i ≡ Some j → (k : CommittedKey) × (slice_get ks i ≡ Some k) × (slice_get zs j ≡ Some k)
   unfolding places
-  place_at [] stand i j at = absurd cc
-  place_at (k ∷ ks) stand zero j at = let same : (stand 0 k refl).0 ≡ j = cc in (k, refl, subst (λ n. slice_get zs n ≡ Some k) same (stand 0 k refl).1)
-  place_at (k ∷ ks) stand (suc i) j at = place_at ks (λ n l is. stand (suc n) l is) i j at
+  place_at [] are_in i j at = absurd cc
+  place_at (k ∷ ks) are_in zero j at = let same : (are_in 0 k refl).0 ≡ j = cc in (k, refl, subst (λ n. slice_get zs n ≡ Some k) same (are_in 0 k refl).1)
+  place_at (k ∷ ks) are_in (suc i) j at = place_at ks (λ n l is. are_in (suc n) l is) i j at
 
 module _ (x : Index) (b : ℕ) (ks : List CommittedKey) (each : (i : ℕ) (k : CommittedKey) → slice_get ks i ≡ Some k → IsCommittedKey x b k) (once : HasKeysOnce ks) (count : length ks ≡ count_committed_in x b) where
   abbrev all : List CommittedKey
   all = block_keys x b
 
-  stand : Stand all ks
-  stand i k at = let committed = each i k at in committed_is_listed x b k.key.object k.key.chunk k.at committed.0 committed.1
+  are_in : AreIn all ks
+  are_in i k at = let committed = each i k at in committed_is_listed x b k.key.object k.key.chunk k.at committed.0 committed.1
 
   abbrev xs : List ℕ
-  xs = places all ks stand
+  xs = places all ks are_in
 
   one_place : Once xs
   one_place i j q at there =
-      let first = place_at all ks stand i q at in
-      let then = place_at all ks stand j q there in
+      let first = place_at all ks are_in i q at in
+      let then = place_at all ks are_in j q there in
       let both : Some first.0 ≡ Some then.0 = sym first.2 ∙ then.2 in
       let same : first.0 ≡ then.0 = cc in
       once i j first.0 then.0 first.1 then.1 (ap (λ (k : CommittedKey). k.key) same)
@@ -88,18 +88,18 @@ module _ (x : Index) (b : ℕ) (ks : List CommittedKey) (each : (i : ℕ) (k : C
     | inr not ↦
         let below : (q : ℕ) → list_any (nat_eq q) (j ∷ xs) ≡ true → q < length all = λ q is. within q (place_of (j ∷ xs) q is) in
         let within_limit = length-le_from_distinct_below (j ∷ xs) (length all) (distinct (j ∷ xs) (once_more j xs not one_place)) below in
-        let same : length xs ≡ length ks = length-places all ks stand in
+        let same : length xs ≡ length ks = length-places all ks are_in in
         absurd (omega (arith, within_limit, same, count, count_of_list x b))
   ] where
     within : (q : ℕ) → (i : ℕ) × (slice_get (j ∷ xs) i ≡ Some q) → q < length all
     within q (zero, at) = let same : j ≡ q = cc in omega (arith, same, lt)
-    within q (suc i, at) = let there = place_at all ks stand i q at in slice_get_within all q there.0 there.2
+    within q (suc i, at) = let there = place_at all ks are_in i q at in slice_get_within all q there.0 there.2
 
   pub counted_is_listed : (k : CommittedKey) → IsCommittedKey x b k → (i : ℕ) × (slice_get ks i ≡ Some k)
   counted_is_listed k committed =
       let at = committed_is_listed x b k.key.object k.key.chunk k.at committed.0 committed.1 in
       let from = place_of xs at.0 (taken at.0 (slice_get_within all at.0 k at.1)) in
-      let there = place_at all ks stand from.0 at.0 from.1 in
+      let there = place_at all ks are_in from.0 at.0 from.1 in
       let both : Some there.0 ≡ Some k = sym there.2 ∙ at.1 in
       let same : there.0 ≡ k = cc in
       (from.0, there.1 ∙ ap Some same)

@@ -1,19 +1,26 @@
 -- Pages that become committed, one after another.
-use Rattle.std.specs.Prelude.{◌≡◌, ◌<◌, ◌^◌, ℕ, List, slice_get, Some, None}
+use Rattle.std.specs.Prelude.{◌≡◌, ◌<◌, ◌^◌, ℕ, List, map, slice_get, Some, None}
 use Rattle.mount_scan.specs.declared.page_copy.PageCopy.{PageCopy}
 use Rattle.page_tags.specs.declared.check.CheckEntry.{CheckEntry}
 use Rattle.chunk_index.specs.declared.form.CommittedKey.{CommittedKey}
+use Rattle.chunk_index.specs.declared.placed_pages.PlacedPages.{PlacedPages}
+use Rattle.chunk_index.specs.declared.placed_pages.PlacedPages.TheVariants as placed_pages
 use Rattle.chunk_index.specs.Entries.{committed_at}
 use Rattle.chunk_index.specs.Newest.{page_of}
 use Rattle.chunk_index.specs.Shelves.{ObjectMap, look, Differs, AltersKey}
 
 -- the key of a page that a scan found, with the page
-abbrev pub found_key : PageCopy → CommittedKey
-found_key f = record { key = record { object = f.object; chunk = f.chunk }; at = page_of f }
+abbrev pub copy_key : PageCopy → CommittedKey
+copy_key f = record { key = record { object = f.object; chunk = f.chunk }; at = page_of f }
 
 -- the key of an entry of a checkpoint, with the page that it reports
 abbrev pub entry_key : CheckEntry → CommittedKey
 entry_key e = record { key = record { object = e.object; chunk = e.chunk }; at = record { block = e.block; page = e.page; version = e.version } }
+
+-- the keys of the pages, each with where its page lies in which version
+abbrev pub keys_of : PlacedPages → List CommittedKey
+keys_of (placed_pages.Copies copies) = map copy_key copies.now
+keys_of (placed_pages.Entries entries) = map entry_key entries.now
 
 -- the page is of chunk c of object o
 abbrev pub IsPageOf : ℕ → ℕ → CommittedKey → Type 0

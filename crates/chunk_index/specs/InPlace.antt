@@ -18,7 +18,7 @@ goes g e = is_none (settled_by g e e.state)
 abbrev pub goes_of : WrittenGroup → Option KeyEntry → Bool
 goes_of g v = option_map_or (goes g) v false
 
--- what stands in an entry's place once it was settled: what it becomes, or, until it is taken out, an entry that goes
+-- what is in an entry's place once it was settled: what it becomes, or, until it is taken out, an entry that goes
 abbrev pub left : WrittenGroup → KeyEntry → KeyEntry
 left g e = unwrap_or (settled_by g e e.state) e
 

@@ -15,7 +15,7 @@ pub record IsAt {X : Type 0} (f : X → ℕ) (xs : List X) (n i : ℕ) : Type 0 
   pub within : i < length xs
   pub number : (d : X) → f (get_or xs i d) ≡ n
 
--- an element with the number n would stand at place i: lesser numbers before it, greater ones from it on
+-- an element with the number n would be at place i: lesser numbers before it, greater ones from it on
 pub record IsGapFor {X : Type 0} (f : X → ℕ) (xs : List X) (n i : ℕ) : Type 0 where
   pub within : i ≤ length xs
   pub lesser : (j : ℕ) (d : X) → j < i → f (get_or xs j d) < n

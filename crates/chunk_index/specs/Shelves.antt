@@ -41,7 +41,7 @@ pub record SameEntries (old new : ObjectMap) : Type 0 where
   pub looks : (o c : ℕ) → look new o c ≡ look old o c
   pub weighs : (f : KeyEntry → ℕ) → total f new ≡ total f old
 
--- the key stands in the list
+-- the key is in the list
 abbrev pub IsListed : List Key → ℕ → ℕ → Type 0
 IsListed keys o c = (i : ℕ) × (i < length keys) × ((d : Key) → ((get_or keys i d).object ≡ o) × ((get_or keys i d).chunk ≡ c))
 

@@ -1,7 +1,7 @@
 // The index of pages whose places are known.
-ghost use Rattle.std.specs.Prelude.{◌≡◌, ◌<◌, ◌≤◌, ◌^◌, ℕ, length, map, None, Some, IfOk, OnOk};
+ghost use Rattle.std.specs.Prelude.{◌≡◌, ◌<◌, ◌≤◌, ◌^◌, ℕ, length, None, Some, IfOk, OnOk};
 ghost use Rattle.block_state.specs.TableOf.{table};
-ghost use Rattle.chunk_index.specs.Adding.{AddsFirst, AddsKey, AreAbsent, AreOfOtherKeys, AreInPages, AreLow, AreWithin};
+ghost use Rattle.chunk_index.specs.Adding.{AddsFirst, AddsKey, AreAbsent, AreOfOtherKeys, AreInPages, AreLow, AreWithin, keys_of};
 ghost use Rattle.chunk_index.specs.Counts.{Recounts};
 ghost use Rattle.chunk_index.specs.Entries.{as_committed};
 ghost use Rattle.chunk_index.specs.Committed.{IsListOf, KeyRises};
@@ -11,7 +11,7 @@ ghost use Rattle.chunk_index.specs.Shelves.{look, SameEntries};
 use crate::entry::{KeyEntry, State};
 use crate::form::CommittedKey;
 use crate::index::Index;
-use crate::placed::Placed;
+use crate::placed_pages::PlacedPages;
 use block_state::Blocks;
 use std::alloc::{AllocError, Global};
 
@@ -19,17 +19,17 @@ impl Index {
     /// The index of a list of pages in the order of their keys, with the blocks: these pages are committed, and in the counts of their
     /// blocks. It goes over the list twice: every other object gets room first, so that the nodes of the shelf fill up. Where all
     /// objects came in order, a node would stay half full once it was split.
-    pub fn from_committed<P: Placed>(
+    pub fn from_committed(
         alloc: Global,
-        pages: &[P],
+        pages: PlacedPages,
         blocks: Blocks,
     ) -> Result<(Index, Blocks), AllocError>
-        requires rise { KeyRises (map P.committed_key pages.now) }
-        requires within { AreWithin (table blocks).geometry.blocks (map P.committed_key pages.now) }
-        requires pages { AreInPages (table blocks).geometry.pages (map P.committed_key pages.now) }
-        requires low { AreLow (map P.committed_key pages.now) }
+        requires rise { KeyRises (keys_of pages) }
+        requires within { AreWithin (table blocks).geometry.blocks (keys_of pages) }
+        requires pages { AreInPages (table blocks).geometry.pages (keys_of pages) }
+        requires low { AreLow (keys_of pages) }
         requires none { (b : ℕ) → ((table blocks).entry b).committed ≡ 0 }
-        ensures list { IfOk result (λ made. IsListOf (committed_pages made.0) (map P.committed_key pages.now)) }
+        ensures list { IfOk result (λ made. IsListOf (committed_pages made.0) (keys_of pages.entry)) }
         ensures shown { IfOk result (λ made. (o c : ℕ) → present made.0 o c ≡ as_committed (committed_pages made.0 o c)) }
         ensures agree { IfOk result (λ made. CountsAgree (table made.1) made.0) }
         ensures counts { IfOk result (λ made. Recounts (λ b. 0) (count_committed_in made.0) (table blocks) (table made.1)) }
@@ -42,12 +42,12 @@ impl Index {
     }
 
     /// Sees that every other object of a list in the order of keys has room for its pages: the first one, the third and so on.
-    fn reserve_every_other<P: Placed>(&mut self, pages: &[P]) -> Result<(), AllocError>
+    fn reserve_every_other(&mut self, pages: PlacedPages) -> Result<(), AllocError>
         ensures { SameEntries self.old.shelf.objects self.new.shelf.objects }
     {
         let mut reserves = false;
         for at in 0..pages.len() {
-            reserves = reserves != is_first_of_object(pages, at);
+            reserves = reserves != pages.is_first_of_object(at);
             if reserves {
                 self.reserve_at(pages, at)?;
             }
@@ -56,23 +56,23 @@ impl Index {
     }
 
     /// Adds some pages whose keys have no entries.
-    pub(crate) fn add_some<P: Placed>(
+    pub(crate) fn add_some(
         &mut self,
-        pages: &[P],
+        pages: PlacedPages,
         blocks: &mut Blocks,
     ) -> Result<(), AllocError>
-        requires once { AreOfOtherKeys (map P.committed_key pages.now) }
-        requires within { AreWithin (table blocks.old).geometry.blocks (map P.committed_key pages.now) }
-        requires pages { AreInPages (table blocks.old).geometry.pages (map P.committed_key pages.now) }
-        requires low { AreLow (map P.committed_key pages.now) }
-        requires absent { AreAbsent (map P.committed_key pages.now) self.old.shelf.objects }
+        requires once { AreOfOtherKeys (keys_of pages) }
+        requires within { AreWithin (table blocks.old).geometry.blocks (keys_of pages) }
+        requires pages { AreInPages (table blocks.old).geometry.pages (keys_of pages) }
+        requires low { AreLow (keys_of pages) }
+        requires absent { AreAbsent (keys_of pages) self.old.shelf.objects }
         requires agree { CountsAgree (table blocks.old) self.old }
-        ensures adds { OnOk result (AddsFirst (map P.committed_key pages.now) (length pages.now) self.old.shelf.objects self.new.shelf.objects) }
+        ensures adds { OnOk result (AddsFirst (keys_of pages.entry) (length (keys_of pages.entry)) self.old.shelf.objects self.new.shelf.objects) }
         ensures agree { OnOk result (CountsAgree (table blocks.new) self.new) }
         ensures counts { OnOk result (Recounts (count_committed_in self.old) (count_committed_in self.new) (table blocks.old) (table blocks.new)) }
     {
         for at in 0..pages.len() {
-            let page = pages[at].committed_key();
+            let page = pages.at(at);
             self.reserve_at(pages, at)?;
             self.add_committed(page, blocks)?;
         }
@@ -80,15 +80,15 @@ impl Index {
     }
 
     /// Sees that an object has room for its pages, if the page at a place is its first one of these.
-    fn reserve_at<P: Placed>(&mut self, pages: &[P], at: usize) -> Result<(), AllocError>
-        requires { at < length pages.now }
+    fn reserve_at(&mut self, pages: PlacedPages, at: usize) -> Result<(), AllocError>
+        requires { at < length (keys_of pages) }
         ensures { SameEntries self.old.shelf.objects self.new.shelf.objects }
     {
-        if !is_first_of_object(pages, at) {
+        if !pages.is_first_of_object(at) {
             return Ok(());
         }
         self.shelf
-            .reserve(object_of(&pages[at]), object_end(pages, at) - at)
+            .reserve(pages.at(at).key.object, pages.object_end(at) - at)
     }
 
     /// Adds the page of a key that has no entry, and counts it in its block.
@@ -111,30 +111,4 @@ impl Index {
         self.move_to(page.key, entry, page.at, blocks);
         Ok(())
     }
-}
-
-/// The object that a page is of.
-fn object_of<P: Placed>(page: &P) -> u64 {
-    page.committed_key().key.object
-}
-
-/// Whether the page before the one at a place, if any, is of another object.
-fn is_first_of_object<P: Placed>(pages: &[P], at: usize) -> bool
-    requires { at < length pages.now }
-{
-    at == 0 || object_of(&pages[at - 1]) != object_of(&pages[at])
-}
-
-/// Where the pages end that are of the same object as the one at a place.
-fn object_end<P: Placed>(pages: &[P], at: usize) -> usize
-    requires { at < length pages.now }
-    ensures { at ≤ result }
-{
-    let object = object_of(&pages[at]);
-    for end in at..pages.len() {
-        if object_of(&pages[end]) != object {
-            return end;
-        }
-    }
-    pages.len()
 }

@@ -17,7 +17,7 @@ mod next;
 mod object;
 mod packed;
 mod passing;
-mod placed;
+mod placed_pages;
 mod retain;
 mod settle;
 mod shelf;
@@ -30,4 +30,4 @@ pub use law::{
     the_counts_add_up_to_the_committed_keys, the_counts_are_of_the_keys,
     the_list_of_a_block_is_whole, the_sorted_list_of_a_block_is_whole,
 };
-pub use placed::Placed;
+pub use placed_pages::PlacedPages;

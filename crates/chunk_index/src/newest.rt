@@ -11,6 +11,7 @@ ghost use Rattle.chunk_index.specs.Newest.{LieInPages, LieLow, LieWithin, Indexe
 ghost use Rattle.chunk_index.specs.Found.{HasPages};
 
 use crate::index::Index;
+use crate::placed_pages::PlacedPages;
 use block_state::Blocks;
 use mount_scan::{BUCKETS, FoundPages};
 use std::alloc::{AllocError, Global};
@@ -53,7 +54,7 @@ impl Index {
         let mut left = newest;
         for at in 0..BUCKETS {
             let bucket = left.take(at);
-            self.add_some(bucket.pages(), blocks)?;
+            self.add_some(PlacedPages::Copies(bucket.pages()), blocks)?;
         }
         Ok(())
     }

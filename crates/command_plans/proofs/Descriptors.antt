@@ -13,7 +13,7 @@ use Rattle.posix_profile.specs.laws.Map.{get_here, get_there, removed_none, get_
 use Rattle.command_plans.specs.declared.table.OpenDescription.{OpenDescription}
 use Rattle.command_plans.specs.declared.table.DescriptorTable.{DescriptorTable}
 use Rattle.posix_profile.specs.WellFormed.{IsOpen}
-use Rattle.command_plans.specs.Tables.{handle_of, handles_from, handles_in, StandsFor}
+use Rattle.command_plans.specs.Tables.{handle_of, handles_from, handles_in, RefersTo}
 
 abbrev Slots : Type 0
 Slots = List (Option OpenDescription)
@@ -111,5 +111,5 @@ none_besides table fd o size none is =
     let was = remove_cases nat_cmp_total map.nat_cmp-IsAntisymmetric (handles_in table) fd is.0 is.1 is.2 in
     none is.0 is.1 (let low = table_low table is.0 is.1 was.1 in omega arith) was.0 was.1 is.3
 
-pub other_open : (handles : Handles) (fd other o : ℕ) → other ≢ fd → StandsFor handles other o → IsOpen (map.remove handles fd) o
+pub other_open : (handles : Handles) (fd other o : ℕ) → other ≢ fd → RefersTo handles other o → IsOpen (map.remove handles fd) o
 other_open handles fd other o ne is = (other, is.0, get_removed nat_cmp_total map.nat_cmp-IsAntisymmetric handles fd other ne ∙ is.1, is.2)

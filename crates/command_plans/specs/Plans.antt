@@ -22,16 +22,16 @@ use Rattle.command_plans.specs.declared.plan.StoreWork.{StoreWork}
 use Rattle.command_plans.specs.declared.plan.StoreWork.TheVariants as work
 use Rattle.command_plans.specs.declared.plan.Plan.{Plan}
 
--- The store stands for the objects of a state that its volume can have.
+-- The store represents the objects of a state that its volume can have.
 pub record Holds {S : Type 0} (m : Meaning S) (z : Sizes) (s : State) (a : S) : Type 0 where
   pub has : Has m z s.objects a
   pub sound : IsSound z s
 
 -- the descriptors after a change
-abbrev pub handled : Handles → HandleChange → Handles
-handled handles handle_changes.Nothing = handles
-handled handles (handle_changes.Remove fd) = map.remove handles fd
-handled handles (handle_changes.Put fd description) = map.insert handles fd (handle_of description)
+abbrev pub handles_after : Handles → HandleChange → Handles
+handles_after handles handle_changes.Nothing = handles
+handles_after handles (handle_changes.Remove fd) = map.remove handles fd
+handles_after handles (handle_changes.Put fd description) = map.insert handles fd (handle_of description)
 
 -- the descriptor is one that there is
 abbrev pub InRange : HandleChange → Type 0
@@ -83,7 +83,7 @@ Suits Syncing reply work.Commit = reply ≡ replies.Done
 
 -- what a plan leads to
 abbrev pub planned : State → Plan → Outcome
-planned s plan = record { reply = plan.reply; state = record { objects = worked s.objects plan.work; handles = handled s.handles plan.handles } }
+planned s plan = record { reply = plan.reply; state = record { objects = worked s.objects plan.work; handles = handles_after s.handles plan.handles } }
 
 -- The plan leads to what is meant, and can be carried out.
 pub record IsPlan (z : Sizes) (class : Class) (s : State) (meant : Outcome) (plan : Plan) : Type 0 where
@@ -129,5 +129,5 @@ Did m objects work.Commit a b = m.commits objects a b
 
 -- how it ends
 abbrev pub Works : {S : Type 0} (m : Meaning S) → Objects → StoreWork → S → S → Result (Unit {0}) StoreFault → Type 0
-Works m objects w a b (Ok done) = m.stands b (worked objects w) × Did m objects w a b
+Works m objects w a b (Ok done) = m.represents b (worked objects w) × Did m objects w a b
 Works m objects w a b (Err fault) = Faults m objects (worked objects w) a b fault

@@ -25,7 +25,7 @@ fn entry_units(count: u64, slots: u64) -> u64
 /// Entries of a directory in one page.
 fn slots_of(sizes: VolumeSizes) -> u64
     ensures slots { result ≡ page_slots (sizes_of sizes) }
-    ensures some { 0 < result }
+    ensures positive { 0 < result }
 {
     sizes.page_slots()
 }

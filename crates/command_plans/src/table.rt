@@ -10,7 +10,7 @@ use posix_profile::OpenFlags;
 use std::alloc::{AllocError, Global};
 use volume_terms::DESCRIPTORS;
 
-/// What an open descriptor stands for. The offset is in bytes.
+/// What an open descriptor refers to. The offset is in bytes.
 #[derive(Clone, Copy, Debug, PartialEq, Eq)]
 pub struct OpenDescription {
     pub object: u64,
@@ -18,7 +18,7 @@ pub struct OpenDescription {
     pub offset: u64,
 }
 
-/// What the descriptors stand for.
+/// What the descriptors refer to.
 #[derive(Drop)]
 pub struct DescriptorTable {
     slots: Vec<Option<OpenDescription>>,
@@ -26,7 +26,7 @@ pub struct DescriptorTable {
 }
 
 impl DescriptorTable {
-    ghost use Rattle.command_plans.specs.Tables.{handle_of, handles_in, StandsFor, StandsForOther};
+    ghost use Rattle.command_plans.specs.Tables.{handle_of, handles_in, RefersTo, RefersToOther};
 
     /// No descriptor is open.
     pub fn new(alloc: Global) -> Result<DescriptorTable, AllocError>
@@ -45,7 +45,7 @@ impl DescriptorTable {
         Ok(DescriptorTable { slots })
     }
 
-    /// What the descriptor stands for, if it is open.
+    /// What the descriptor refers to, if it is open.
     pub fn get(&self, fd: u32) -> Option<OpenDescription>
         ensures { option_map handle_of result ≡ map.get (handles_in self.now) fd }
     {
@@ -56,7 +56,7 @@ impl DescriptorTable {
         }
     }
 
-    /// The descriptor stands for this. One that there is not stays as it is.
+    /// The descriptor refers to this. One that there is not stays as it is.
     pub fn put(&mut self, fd: u32, description: OpenDescription)
         ensures puts { fd < descriptors → handles_in self.new ≡ map.insert (handles_in self.old) fd (handle_of description) }
         ensures stays { 64 ≤ fd → handles_in self.new ≡ handles_in self.old }
@@ -94,9 +94,9 @@ impl DescriptorTable {
         None
     }
 
-    /// Whether the descriptor stands for the object.
-    fn stands_for(&self, fd: u32, number: u64) -> bool
-        ensures { MatchBool result (StandsFor (handles_in self.now) fd number) (StandsForOther (handles_in self.now) fd number) }
+    /// Whether the descriptor refers to the object.
+    fn refers_to(&self, fd: u32, number: u64) -> bool
+        ensures { MatchBool result (RefersTo (handles_in self.now) fd number) (RefersToOther (handles_in self.now) fd number) }
     {
         match self.get(fd) {
             Some(description) => description.object == number,
@@ -104,24 +104,24 @@ impl DescriptorTable {
         }
     }
 
-    /// Whether some descriptor stands for the object.
+    /// Whether some descriptor refers to the object.
     pub fn is_open(&self, number: u64) -> bool
         ensures { MatchBool result (IsOpen (handles_in self.now) number) (IsOpen (handles_in self.now) number → ⊥) }
     {
         for fd in 0..DESCRIPTORS {
-            if self.stands_for(fd, number) {
+            if self.refers_to(fd, number) {
                 return true;
             }
         }
         false
     }
 
-    /// Whether a descriptor other than this one stands for the object.
+    /// Whether a descriptor other than this one represents the object.
     pub fn is_open_besides(&self, fd: u32, number: u64) -> bool
         ensures { MatchBool result (IsOpen (map.remove (handles_in self.now) fd) number) (IsOpen (map.remove (handles_in self.now) fd) number → ⊥) }
     {
         for other in 0..DESCRIPTORS {
-            if other != fd && self.stands_for(other, number) {
+            if other != fd && self.refers_to(other, number) {
                 return true;
             }
         }

@@ -11,7 +11,7 @@ use Rattle.command_tests.specs.Committed.{committed_meaning}
 
 -- the maps have what the store has
 pub maps_have : (z : Sizes) (objects : Objects) (a : CommittedObjects) → Has committed_meaning z objects a → Has plain_meaning z objects a.objects
-maps_have z objects a has = record { numbers = has.numbers; sizes = has.sizes; stands = has.stands; forest = has.forest; fit = has.fit }
+maps_have z objects a has = record { numbers = has.numbers; sizes = has.sizes; represents = has.represents; forest = has.forest; fit = has.fit }
 
 -- what the maps find, the store finds
 pub store_finds : {A : Type 0} (meant : A) (a b : CommittedObjects) (r : Result A StoreFault) → Finds plain_meaning meant a.objects b.objects r → Finds committed_meaning meant a b r

@@ -9,7 +9,7 @@ use Rattle.command_tests.specs.declared.fuse.LastCall.TheVariants as fates
 use Rattle.command_tests.specs.Fuses.{LeftBy, IsLost, IsUnread, fused_meaning}
 
 pub inner_has : {S T : Type 0} (m : Meaning S) (inner : T → S) (calls : T → ℕ) (last : T → LastCall) (z : Sizes) (objects : Objects) (a : T) → Has (fused_meaning m inner calls last) z objects a → Has m z objects (inner a)
-inner_has m inner calls last z objects a has = record { numbers = has.numbers; sizes = has.sizes; stands = has.stands; forest = has.forest; fit = has.fit }
+inner_has m inner calls last z objects a has = record { numbers = has.numbers; sizes = has.sizes; represents = has.represents; forest = has.forest; fit = has.fit }
 
 left_before : {S : Type 0} (m : Meaning S) (law : IsLawful m) (fate : LastCall) (a : S) (old now : Objects) → LeftBy m fate old now a a
 left_before m law fates.Done a old now = inl (law.reads_nothing a)

@@ -8,7 +8,7 @@ use Rattle.command_tests.specs.declared.committed.CommittedObjects.{CommittedObj
 abbrev pub committed_meaning : Meaning CommittedObjects
 committed_meaning = record {
   sizes = λ a. numbers_of a.objects;
-  stands = λ a objects. objects_of a.objects ≡ objects;
+  represents = λ a objects. objects_of a.objects ≡ objects;
   shows = λ a tree. Unit {0};
   has_power = λ a. true;
   lasts = λ a b. numbers_of b.objects ≡ numbers_of a.objects;

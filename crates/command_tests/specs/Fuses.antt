@@ -1,4 +1,4 @@
--- What a store with a fuse stands for.
+-- What a store with a fuse represents.
 use Rattle.std.specs.Prelude.{◌≡◌, ◌⊎◌, ◌<◌, ◌≤◌, ℕ}
 use Rattle.posix_profile.specs.State.{Objects}
 use Rattle.object_store.specs.Stores.{Meaning}
@@ -33,7 +33,7 @@ pub record IsUnread {S : Type 0} (m : Meaning S) (calls : ℕ) (a b : S) : Type 
 abbrev pub fused_meaning : {S T : Type 0} (m : Meaning S) (inner : T → S) (calls : T → ℕ) (last : T → LastCall) → Meaning T
 fused_meaning m inner calls last = record {
   sizes = λ a. m.sizes (inner a);
-  stands = λ a objects. m.stands (inner a) objects;
+  represents = λ a objects. m.represents (inner a) objects;
   shows = λ a tree. m.shows (inner a) tree;
   has_power = λ a. m.has_power (inner a);
   lasts = λ a b. m.lasts (inner a) (inner b) × Spends calls last a b;

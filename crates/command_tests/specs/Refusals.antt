@@ -1,11 +1,11 @@
--- What a store that refuses memory stands for.
+-- What a store that refuses memory represents.
 use Rattle.object_store.specs.Stores.{Meaning}
 
 -- as the store inside: a call that is refused leaves it as it was, as one that only reads does
 abbrev pub refusing_meaning : {S T : Type 0} (m : Meaning S) (inner : T → S) → Meaning T
 refusing_meaning m inner = record {
   sizes = λ a. m.sizes (inner a);
-  stands = λ a objects. m.stands (inner a) objects;
+  represents = λ a objects. m.represents (inner a) objects;
   shows = λ a tree. m.shows (inner a) tree;
   has_power = λ a. m.has_power (inner a);
   lasts = λ a b. m.lasts (inner a) (inner b);

@@ -1,8 +1,8 @@
 // Worked lines: requests and replies.
-use line_shell::{Line, ScriptFault, Serve, ShellFault, parse, read_script, shell, write_reply};
+use line_shell::{Line, ScriptFault, ShellFault, parse, read_script, shell, write_reply};
 use posix_profile::{
-    Access, Bytes, Command, Errno, FilePath, Info, Kind, NameList, OpenFlags, Reply, SpaceInfo,
-    Stamped, Whence,
+    Access, Answers, Bytes, Command, Errno, FilePath, Info, Kind, NameList, OpenFlags, Reply,
+    SpaceInfo, Stamped, Whence,
 };
 use std::alloc::{AllocError, Global};
 use std::io::{self, BufReader, ErrorKind, Read, Write};
@@ -318,10 +318,12 @@ impl Counter {
     }
 }
 
-impl Serve for Counter {
+impl Answers for Counter {
     ghost serves = { λ old command reply new. Unit {0} };
 
-    fn call(&mut self, command: &Stamped) -> Reply {
+    ghost shows = { λ _ _ _ _. ⊥ };
+
+    fn answer(&mut self, command: &Stamped) -> Reply {
         self.calls = self.calls.saturating_add(1);
         match &command.command {
             Command::Mkdir { path: _ } => {
@@ -336,6 +338,8 @@ impl Serve for Counter {
             _ => Reply::Error(Errno::EIO),
         }
     }
+
+    ghost sound = { λ v z read_only s shown. absurd shown };
 }
 
 /// What a shell answers over an input, and how it ends.
@@ -525,13 +529,17 @@ struct Turns {
     calls: u32,
 }
 
-impl Serve for Turns {
+impl Answers for Turns {
     ghost serves = { λ old command reply new. Unit {0} };
 
-    fn call(&mut self, _command: &Stamped) -> Reply {
+    ghost shows = { λ _ _ _ _. ⊥ };
+
+    fn answer(&mut self, _command: &Stamped) -> Reply {
         self.calls = self.calls.wrapping_add(1);
         Reply::Wrote(self.calls)
     }
+
+    ghost sound = { λ v z read_only s shown. absurd shown };
 }
 
 /// With the tool that refuses one allocation after another, the shell ends with NoMemory, and the replies before are out.

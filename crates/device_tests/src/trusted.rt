@@ -2,7 +2,7 @@
 
 use nand_model::{Geometry, MemNand, Nand, PageKind, TrustedNand};
 
-/// What is programmed through it is read through it, and stands on the device that is given back.
+/// What is programmed through it is read through it, and is on the device that is given back.
 #[test]
 fn calls_are_those_of_the_device(rt: HostRuntime) {
     let geometry = Geometry::new(512, 32, 8).expect(&rt, "a geometry");

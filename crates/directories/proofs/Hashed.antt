@@ -15,7 +15,7 @@ use Rattle.name_index.specs.declared.index.NameIndex.{NameIndex}
 use Rattle.volume_terms.specs.Sizes.{Sizes, page_slots}
 use Rattle.posix_profile.specs.State.{Name, Entries}
 use Rattle.pages.specs.Changes.{AreSized}
-use Rattle.pages.specs.Maps.{PageMap, without_cuts, changed, IsFirstOf}
+use Rattle.pages.specs.Maps.{PageMap, without_cuts, after_change, IsFirstOf}
 use Rattle.pages.specs.laws.Maps.{page_elsewhere, first_here}
 use Rattle.pages.specs.declared.change.Change.{Change}
 use Rattle.directories.specs.Directories.{SlotOf}
@@ -32,18 +32,18 @@ module _ (z : Sizes) (some : 1 ≤ page_slots z) (old new : NameIndex) (more : H
   no_other : (o : ℕ) → o ≡ d → SaysNoDirectory change.pages.items o → ⊥
   no_other o same says =
       let of = says.1.0 in
-      let first : changed change m o 0 ≡ Some of.page.bytes.items = first_here change.pages.items (without_cuts change.cuts.items m) o 0 says.0 of.page of.there of.object of.chunk says.1.1 in
-      let there : changed change m o 0 ≡ Some (header_bytes w.fields) = subst (λ k. changed change m k 0 ≡ Some (header_bytes w.fields)) (sym same) w.has_header.0 in
+      let first : after_change change m o 0 ≡ Some of.page.bytes.items = first_here change.pages.items (without_cuts change.cuts.items m) o 0 says.0 of.page of.there of.object of.chunk says.1.1 in
+      let there : after_change change m o 0 ≡ Some (header_bytes w.fields) = subst (λ k. after_change change m k 0 ≡ Some (header_bytes w.fields)) (sym same) w.has_header.0 in
       let two : Some of.page.bytes.items ≡ Some (header_bytes w.fields) = sym first ∙ there in
       let one : of.page.bytes.items ≡ header_bytes w.fields = cc in
       let len : length of.page.bytes.items ≡ z.page_bytes = sized says.0 of.page of.there in
       says.2 w.fields (record { valid = subst (λ n. IsHeader n w.fields) (sym len) w.has_header.1; encodes = one }) w.kind
 
-  written_here : (s : ℕ) (e : Entry) → s < later → (at : SlotOf z (changed change m) d s e) → (i : ℕ) → IsFirstOf change.pages.items d (1 + s / page_slots z) i → Holds new d (fnv1a e.name) s
+  written_here : (s : ℕ) (e : Entry) → s < later → (at : SlotOf z (after_change change m) d s e) → (i : ℕ) → IsFirstOf change.pages.items d (1 + s / page_slots z) i → Holds new d (fnv1a e.name) s
   written_here s e less at i first =
       let n : ℕ = page_slots z in
       let p : FreshPage = first.0.page in
-      let here : changed change m d (1 + s / n) ≡ Some p.bytes.items = first_here change.pages.items (without_cuts change.cuts.items m) d (1 + s / n) i p first.0.there first.0.object first.0.chunk first.1 in
+      let here : after_change change m d (1 + s / n) ≡ Some p.bytes.items = first_here change.pages.items (without_cuts change.cuts.items m) d (1 + s / n) i p first.0.there first.0.object first.0.chunk first.1 in
       let two : Some p.bytes.items ≡ Some at.0 = sym here ∙ at.1 in
       let one : p.bytes.items ≡ at.0 = cc in
       let chunk : p.key.chunk ≡ 1 + s / n = first.0.chunk in
@@ -54,7 +54,7 @@ module _ (z : Sizes) (some : 1 ≤ page_slots z) (old new : NameIndex) (more : H
       (at.2, ap (λ (xs : List ℕ). take 272 (drop (272 * (s % n)) xs)) one ∙ at.3) (subst (λ k. k < 2 ^ 32) (sym number) small) in
       subst (λ k. Holds new d (fnv1a e.name) k) number (subst (λ o. Holds new o (fnv1a e.name) ((p.key.chunk - 1) * n + s % n)) first.0.object held)
 
-  pub hashes_on : HasHashes old z m d before → HasHashes new z (changed change m) d later
+  pub hashes_on : HasHashes old z m d before → HasHashes new z (after_change change m) d later
   hashes_on had s e less at = elim (first_or_none change.pages.items d (1 + s / page_slots z)) [
     | inl x ↦ written_here s e less at x.0 x.1
     | inr none ↦

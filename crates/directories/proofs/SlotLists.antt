@@ -10,7 +10,7 @@ use Rattle.volume_terms.specs.laws.Same.{same_lists}
 use Rattle.posix_profile.specs.State.{Name, Entries}
 use Rattle.flash_tree.specs.Tree.{ReadsDir}
 use Rattle.pages.specs.Changes.{AreApart, IsChange, IsOnlyOf}
-use Rattle.pages.specs.Maps.{PageMap, IsPageOf, has, no_pages, without_cuts, changed}
+use Rattle.pages.specs.Maps.{PageMap, IsPageOf, has, no_pages, without_cuts, after_change}
 use Rattle.pages.specs.State.{PagesState}
 use Rattle.pages.specs.laws.Changes.{changed_same, others_keep}
 use Rattle.pages.specs.laws.Maps.{first_here, here, page_elsewhere}
@@ -60,27 +60,27 @@ get_drop (suc m) [] k = refl
 get_drop (suc m) (x ∷ xs) k = let on : suc (m + k) ≡ suc m + k = omega arith in get_drop m xs k ∙ ap (slice_get (x ∷ xs)) on
 
 -- the page of a key of a change
-page_at : (change : Change) (m : PageMap) → AreApart change.pages.items → (o c i : ℕ) (of : IsPageOf change.pages.items o c i) → changed change m o c ≡ Some of.page.bytes.items
-page_at change m apart o c i of = subst (λ k. changed change m k c ≡ Some of.page.bytes.items) of.object
-    (subst (λ k. changed change m of.page.key.object k ≡ Some of.page.bytes.items) of.chunk (here change m apart i of.page of.there))
+page_at : (change : Change) (m : PageMap) → AreApart change.pages.items → (o c i : ℕ) (of : IsPageOf change.pages.items o c i) → after_change change m o c ≡ Some of.page.bytes.items
+page_at change m apart o c i of = subst (λ k. after_change change m k c ≡ Some of.page.bytes.items) of.object
+    (subst (λ k. after_change change m of.page.key.object k ≡ Some of.page.bytes.items) of.chunk (here change m apart i of.page of.there))
 
 -- pages that have the slots of a list, and are zero past the last of them, are those of the list
 module _ (z : Sizes) (m : PageMap) (change : Change) (d bytes most : ℕ) (is : IsChange change bytes most) (size : z.page_bytes ≡ bytes) (slots : List Entry)
-    (zeros : EndsInZeros z change d (length slots)) (each : (k : ℕ) (e : Entry) → slice_get slots k ≡ Some e → SlotOf z (changed change m) d k e) where
+    (zeros : EndsInZeros z change d (length slots)) (each : (k : ℕ) (e : Entry) → slice_get slots k ≡ Some e → SlotOf z (after_change change m) d k e) where
   pub writes_slots : WritesSlots z change d slots
   writes_slots c i of =
       let n : ℕ = page_slots z in
       let page : List ℕ = of.page.bytes.items in
       let es : List Entry = take n (drop (c * n) slots) in
       let len : length page ≡ z.page_bytes = is.size i of.page of.there ∙ sym size in
-      let at : changed change m d (1 + c) ≡ Some page = page_at change m is.apart d (1 + c) i of in
+      let at : after_change change m d (1 + c) ≡ Some page = page_at change m is.apart d (1 + c) i of in
       let count : length es ≡ min n (length slots - c * n) = length-take n (drop (c * n) slots) ∙ ap (min n) (length-drop (c * n) slots) in
       let within_limit : length es ≤ n = grind (arith, count) in
       let same : length es ≡ min (length slots - c * n) n = grind (arith, count) in
       let whole = page_is es page
       (λ k e found.
       let t = get_take n (drop (c * n) slots) k e found in
-      slot_in_page z (changed change m) d c k e page t.0 at (each (c * n + k) e (sym (get_drop (c * n) slots k) ∙ t.1)))
+      slot_in_page z (after_change change m) d c k e page t.0 at (each (c * n + k) e (sym (get_drop (c * n) slots k) ∙ t.1)))
       (λ j le. zeros c i of j (subst (λ k. 272 * k ≤ j) same le))
       (omega (arith, within_limit, len)) in
       let made : List ℕ = flat_map slot_bytes es in
@@ -134,7 +134,7 @@ push_elsewhere z slots e c other = same_page z slots (slots ++ e ∷ []) (length
 -- ---- two changes, one after the other
 
 -- what a change writes by itself
-written_is : (z : Sizes) (change : Change) (d : ℕ) (slots : List Entry) → WritesSlots z change d slots → (c : ℕ) (xs : List ℕ) → changed change no_pages d (1 + c) ≡ Some xs → xs ≡ slots_page z slots c
+written_is : (z : Sizes) (change : Change) (d : ℕ) (slots : List Entry) → WritesSlots z change d slots → (c : ℕ) (xs : List ℕ) → after_change change no_pages d (1 + c) ≡ Some xs → xs ≡ slots_page z slots c
 written_is z change d slots writes c xs there = elim (first_or_none change.pages.items d (1 + c)) [
   | inl x ↦
       let of = x.1.0 in
@@ -148,32 +148,32 @@ written_is z change d slots writes c xs there = elim (first_or_none change.pages
       absurd cc
 ]
 
-module _ (z : Sizes) (first second both : Change) (apart : AreApart both.pages.items) (same : (m : PageMap) (o c : ℕ) → changed both m o c ≡ changed second (changed first m) o c) (d : ℕ) where
-  both_at : (c i : ℕ) (of : IsPageOf both.pages.items d (1 + c) i) → changed second (changed first no_pages) d (1 + c) ≡ Some of.page.bytes.items
+module _ (z : Sizes) (first second both : Change) (apart : AreApart both.pages.items) (same : (m : PageMap) (o c : ℕ) → after_change both m o c ≡ after_change second (after_change first m) o c) (d : ℕ) where
+  both_at : (c i : ℕ) (of : IsPageOf both.pages.items d (1 + c) i) → after_change second (after_change first no_pages) d (1 + c) ≡ Some of.page.bytes.items
   both_at c i of = sym (same no_pages d (1 + c)) ∙ page_at both no_pages apart d (1 + c) i of
 
   -- the later one is of another object
   pub writes_first : (other : ℕ) → IsOnlyOf second other → d ≢ other → (slots : List Entry) → WritesSlots z first d slots → WritesSlots z both d slots
   writes_first other only apart_of slots writes c i of =
-      written_is z first d slots writes c of.page.bytes.items (sym (others_keep second other only (changed first no_pages) d (1 + c) apart_of) ∙ both_at c i of)
+      written_is z first d slots writes c of.page.bytes.items (sym (others_keep second other only (after_change first no_pages) d (1 + c) apart_of) ∙ both_at c i of)
 
   -- the earlier one is
   pub writes_second : (other : ℕ) → IsOnlyOf first other → d ≢ other → (slots : List Entry) → WritesSlots z second d slots → WritesSlots z both d slots
   writes_second other only apart_of slots writes c i of = written_is z second d slots writes c of.page.bytes.items
-      (sym (changed_same second (changed first no_pages) no_pages d (1 + c) (others_keep first other only no_pages d (1 + c) apart_of)) ∙ both_at c i of)
+      (sym (changed_same second (after_change first no_pages) no_pages d (1 + c) (others_keep first other only no_pages d (1 + c) apart_of)) ∙ both_at c i of)
 
   -- both are of the object
   pub writes_both : (mid new : List Entry) → WritesSlots z first d mid → WritesSlots z second d new → ((c : ℕ) → (HasKey second d (1 + c) → ⊥) → slots_page z new c ≡ slots_page z mid c) → WritesSlots z both d new
   writes_both mid new by_first by_second others c i of = elim (first_or_none second.pages.items d (1 + c)) [
     | inl x ↦
         let page = x.1.0 in
-        let at = first_here second.pages.items (without_cuts second.cuts.items (changed first no_pages)) d (1 + c) x.0 page.page page.there page.object page.chunk x.1.1 in
+        let at = first_here second.pages.items (without_cuts second.cuts.items (after_change first no_pages)) d (1 + c) x.0 page.page page.there page.object page.chunk x.1.1 in
         let two : Some of.page.bytes.items ≡ Some page.page.bytes.items = sym (both_at c i of) ∙ at in
         let one : of.page.bytes.items ≡ page.page.bytes.items = cc in
         one ∙ by_second c x.0 page
     | inr none ↦
-        let left = sym (page_elsewhere second.pages.items (without_cuts second.cuts.items (changed first no_pages)) d (1 + c) none) ∙ both_at c i of in
-        let stood = cuts_leave second.cuts.items (changed first no_pages) d (1 + c) of.page.bytes.items left in
+        let left = sym (page_elsewhere second.pages.items (without_cuts second.cuts.items (after_change first no_pages)) d (1 + c) none) ∙ both_at c i of in
+        let stood = cuts_leave second.cuts.items (after_change first no_pages) d (1 + c) of.page.bytes.items left in
         written_is z first d mid by_first c of.page.bytes.items stood ∙ sym (others c (λ key. none key.0 key.1))
   ]
 
@@ -206,16 +206,16 @@ module _ (z : Sizes) (within_limit : z.page_bytes ≤ 4096) (m : PageMap) (o bef
         new_is = ap (λ k. take k (set r.slots taken.place last_of.0)) (sym one);
       }
 
-  left_each : (k : ℕ) (y : Entry) → slice_get left_slots k ≡ Some y → SlotOf z (changed taken.change m) o k y
-  left_each = fewer_each z m (changed taken.change m) o before entries r within_limit t.head.length totaled taken.place t.entry t.there last_of.0 last_of.1 t.loses.filled t.loses.others
+  left_each : (k : ℕ) (y : Entry) → slice_get left_slots k ≡ Some y → SlotOf z (after_change taken.change m) o k y
+  left_each = fewer_each z m (after_change taken.change m) o before entries r within_limit t.head.length totaled taken.place t.entry t.there last_of.0 last_of.1 t.loses.filled t.loses.others
 
   pub left_writes : (bytes most : ℕ) → IsChange taken.change bytes most → z.page_bytes ≡ bytes → WritesSlots z taken.change o left_slots
   left_writes bytes most is size = writes_slots z m taken.change o bytes most is size left_slots (subst (EndsInZeros z taken.change o) (sym left_len) t.loses.zeros) left_each
 
   -- it is the list of the slots that are read afterwards
-  pub left_are : (now : PageMap) → now ≡ changed taken.change m → (slots : List Entry) → length slots ≡ taken.last → ((k : ℕ) (y : Entry) → slice_get slots k ≡ Some y → SlotOf z now o k y) → left_slots ≡ slots
+  pub left_are : (now : PageMap) → now ≡ after_change taken.change m → (slots : List Entry) → length slots ≡ taken.last → ((k : ℕ) (y : Entry) → slice_get slots k ≡ Some y → SlotOf z now o k y) → left_slots ≡ slots
   left_are now same slots len each = same_lists left_slots slots (left_len ∙ t.counts ∙ sym len)
-      (λ i x y a b. one_entry z within_limit (changed taken.change m) o i x y (left_each i x a) (subst (λ (k : PageMap). SlotOf z k o i y) same (each i y b)))
+      (λ i x y a b. one_entry z within_limit (after_change taken.change m) o i x y (left_each i x a) (subst (λ (k : PageMap). SlotOf z k o i y) same (each i y b)))
 
 -- ---- what is reported of a result
 

@@ -13,13 +13,13 @@ use Rattle.volume_terms.specs.laws.List.{slice_get_there}
 use Rattle.posix_profile.specs.State.{Name, Entries}
 use Rattle.posix_profile.specs.laws.Map.{cases_key, get_removed, removed_none}
 use Rattle.posix_profile.specs.laws.Name.{name_same}
-use Rattle.pages.specs.Maps.{PageMap, changed}
+use Rattle.pages.specs.Maps.{PageMap, after_change}
 use Rattle.pages.specs.State.{PagesState}
 use Rattle.pages.specs.laws.State.{finds_none}
 use Rattle.pages.specs.declared.change.Change.{Change}
 use Rattle.directories.specs.Directories.{DirIn, ReadsDirectory, SlotOf}
 use Rattle.directories.specs.Heads.{IsHeadOf, SaysHead}
-use Rattle.directories.specs.Named.{NamedIn, FindsHeld, ReportsHeld, StandsAt, IsFoundAt, IsSought}
+use Rattle.directories.specs.Named.{NamedIn, FindsHeld, ReportsHeld, IsAtSlot, IsFoundAt, IsSought}
 use Rattle.directories.specs.Slots.{Finds}
 use Rattle.directories.specs.Taking.{TakesName, IsMovedTo}
 use Rattle.directories.specs.Writes.{LosesSlot}
@@ -80,37 +80,37 @@ module _ (names : NameIndex) (p : PagesState) (z : Sizes) (o moment : ℕ) (entr
     taken_name loses = record { entry = found.0; there = found.1; name_is = found.2; last_is = last_is; head = shorter; counts = refl; loses = loses }
 
     pub name_removed : z.page_bytes ≤ 4096 → LosesSlot z p.present change o shorter l.place
-        → ReadsDirectory z (changed change p.present) o later (map.remove entries name) d.reads.fields.spare
+        → ReadsDirectory z (after_change change p.present) o later (map.remove entries name) d.reads.fields.spare
     name_removed within_limit loses =
-        subst (λ (k : Name). ReadsDirectory z (changed change p.present) o later (map.remove entries k) d.reads.fields.spare) found.2
-        (reads_fewer z p.present (changed change p.present) o moment later entries d.reads shorter loses.header says.spare refl within_limit (sym last_is) l.place found.0 found.1 loses.filled loses.others)
+        subst (λ (k : Name). ReadsDirectory z (after_change change p.present) o later (map.remove entries k) d.reads.fields.spare) found.2
+        (reads_fewer z p.present (after_change change p.present) o moment later entries d.reads shorter loses.header says.spare refl within_limit (sym last_is) l.place found.0 found.1 loses.filled loses.others)
 
   -- a name that was taken was there
   pub was_named : (name : Name) (taken : Taken) → TakesName z p.present o d.reads.slots name taken → (object : ℕ) × (map.get entries name ≡ Some object)
   was_named name taken t = (t.entry.object, subst (λ (k : Name). map.get entries k ≡ Some t.entry.object) t.name_is (leads d.reads.slots d.reads.once entries d.reads.entries_are taken.place t.entry t.there))
 
   -- where another name is then
-  module _ (within_limit : z.page_bytes ≤ 4096) (from to : Name) (taken : Taken) (t : TakesName z p.present o d.reads.slots from taken) (q : PagesState) (same : q.present ≡ changed taken.change p.present)
+  module _ (within_limit : z.page_bytes ≤ 4096) (from to : Name) (taken : Taken) (t : TakesName z p.present o d.reads.slots from taken) (q : PagesState) (same : q.present ≡ after_change taken.change p.present)
       (later : ℕ) (then_in : DirIn q z o later (map.remove entries from)) (count : length then_in.reads.slots ≡ taken.last) where
-    there_then : (i : ℕ) (e : Entry) → i < taken.last → e.name ≡ to → SlotOf z (changed taken.change p.present) o i e → StandsAt then_in.reads.slots (map.remove entries from) to (Some i)
+    there_then : (i : ℕ) (e : Entry) → i < taken.last → e.name ≡ to → SlotOf z (after_change taken.change p.present) o i e → IsAtSlot then_in.reads.slots (map.remove entries from) to (Some i)
     there_then i e less named at = (
       e,
       slot_is q z o later (map.remove entries from) then_in within_limit i e (omega (arith, less, count)) (subst (λ (m : PageMap). SlotOf z m o i e) (sym same) at),
       named,
     )
 
-    pub stands_then : (found : Option Located) (place : Option ℕ) → IsFoundAt d.reads.slots entries to found → IsMovedTo found taken.place taken.last place → StandsAt then_in.reads.slots (map.remove entries from) to place
-    stands_then None None is moved = elim (cases_key nat_list_cmp_total name_same from to) [
+    pub at_slot_then : (found : Option Located) (place : Option ℕ) → IsFoundAt d.reads.slots entries to found → IsMovedTo found taken.place taken.last place → IsAtSlot then_in.reads.slots (map.remove entries from) to place
+    at_slot_then None None is moved = elim (cases_key nat_list_cmp_total name_same from to) [
       | inl here ↦ subst (λ (k : Name). map.get (map.remove entries from) k ≡ None) here (removed_none nat_list_cmp_total name_same entries from)
       | inr other ↦ get_removed nat_list_cmp_total name_same entries from to (λ e. other (sym e)) ∙ is
     ]
-    stands_then None (Some i) is moved = absurd moved
-    stands_then (Some l) None is moved =
+    at_slot_then None (Some i) is moved = absurd moved
+    at_slot_then (Some l) None is moved =
         let both : Some is.0 ≡ Some t.entry = sym is.1 ∙ ap (slice_get d.reads.slots) moved ∙ t.there in
         let one : is.0 ≡ t.entry = cc in
         let here : from ≡ to = sym t.name_is ∙ sym (ap (λ (x : Entry). x.name) one) ∙ is.2 in
         subst (λ (k : Name). map.get (map.remove entries from) k ≡ None) here (removed_none nat_list_cmp_total name_same entries from)
-    stands_then (Some l) (Some i) is moved = elim moved.1 [
+    at_slot_then (Some l) (Some i) is moved = elim moved.1 [
       | inl last ↦
           let within = slice_get_within d.reads.slots taken.place t.entry t.there in
           let apart : taken.last ≢ taken.place = λ e. moved.0 (last.0 ∙ e) in
@@ -118,12 +118,12 @@ module _ (names : NameIndex) (p : PagesState) (z : Sizes) (o moment : ℕ) (entr
           let f = t.loses.filled (omega (arith, less, t.counts)) in
           let stood : SlotOf z p.present o t.head.length is.0 = subst (λ k. SlotOf z p.present o k is.0) (last.0 ∙ sym t.counts) (d.reads.each l.place is.0 is.1) in
           let one : f.0 ≡ is.0 = one_entry z within_limit p.present o t.head.length f.0 is.0 f.1 stood in
-          subst (λ k. StandsAt then_in.reads.slots (map.remove entries from) to (Some k)) (sym last.1)
+          subst (λ k. IsAtSlot then_in.reads.slots (map.remove entries from) to (Some k)) (sym last.1)
           (there_then taken.place f.0 less (ap (λ (x : Entry). x.name) one ∙ is.2) f.2)
       | inr other ↦
           let within = slice_get_within d.reads.slots l.place is.0 is.1 in
           let less : l.place < taken.last = omega (arith, within, t.last_is, other.0) in
-          subst (λ k. StandsAt then_in.reads.slots (map.remove entries from) to (Some k)) (sym other.1)
+          subst (λ k. IsAtSlot then_in.reads.slots (map.remove entries from) to (Some k)) (sym other.1)
           (there_then l.place is.0 less is.2 (t.loses.others l.place is.0 moved.0 (omega (arith, less, t.counts)) (d.reads.each l.place is.0 is.1)))
     ]
 

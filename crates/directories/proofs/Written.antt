@@ -11,7 +11,7 @@ use Rattle.page_tags.specs.Slots.{Entry, slot_bytes}
 use Rattle.flash_tree.specs.Slots.{IsTreeSlot}
 use Rattle.volume_terms.specs.Sizes.{Sizes, page_slots}
 use Rattle.volume_terms.specs.laws.List.{zero_at}
-use Rattle.pages.specs.Maps.{PageMap, has, IsPageOf, IsCut, changed, takes, with_pages, without_cuts}
+use Rattle.pages.specs.Maps.{PageMap, has, IsPageOf, IsCut, after_change, takes, with_pages, without_cuts}
 use Rattle.pages.specs.laws.Maps.{here, elsewhere, cut_cases, cut_here}
 use Rattle.pages.specs.laws.Changes.{pages_same}
 use Rattle.pages.specs.Changes.{AreApart, AreSized, IsChange, IsOnlyOf}
@@ -100,34 +100,34 @@ module _ (d bytes : ℕ) (slot_page head_page : FreshPage) (head : DirectoryHead
   two_slot_key = (0, subst (λ (ps : List FreshPage). IsPageOf ps d slot_page.key.chunk 0) (sym pages) (record { page = slot_page; there = refl; object = slot_is.object_is; chunk = refl }))
 
   module _ (old : PageMap) where
-    placed : (i : ℕ) (p : FreshPage) → slice_get (both slot_page head_page) i ≡ Some p → changed change old p.key.object p.key.chunk ≡ Some p.bytes.items
+    placed : (i : ℕ) (p : FreshPage) → slice_get (both slot_page head_page) i ≡ Some p → after_change change old p.key.object p.key.chunk ≡ Some p.bytes.items
     placed i p at = here change old two_apart i p (ap (λ (ps : List FreshPage). slice_get ps i) pages ∙ at)
 
     -- the header
-    pub two_has : (z : Sizes) → z.page_bytes ≡ bytes → HasHead z (changed change old) d head
+    pub two_has : (z : Sizes) → z.page_bytes ≡ bytes → HasHead z (after_change change old) d head
     two_has z size = record {
-      has = subst (λ n. changed change old d 0 ≡ Some (header_bytes (fields_in n head))) (sym size)
-          (subst (λ (xs : List ℕ). changed change old d 0 ≡ Some xs) head_is.head_is.encodes
-          (subst (λ o. changed change old o 0 ≡ Some head_page.bytes.items) head_is.object_is
-          (subst (λ c. changed change old head_page.key.object c ≡ Some head_page.bytes.items) head_is.chunk_is (placed 1 head_page refl))));
+      has = subst (λ n. after_change change old d 0 ≡ Some (header_bytes (fields_in n head))) (sym size)
+          (subst (λ (xs : List ℕ). after_change change old d 0 ≡ Some xs) head_is.head_is.encodes
+          (subst (λ o. after_change change old o 0 ≡ Some head_page.bytes.items) head_is.object_is
+          (subst (λ c. after_change change old head_page.key.object c ≡ Some head_page.bytes.items) head_is.chunk_is (placed 1 head_page refl))));
       valid = subst (λ n. IsHeader n (fields_in n head)) (sym size) head_is.head_is.valid;
     }
 
     module _ (z : Sizes) (writing : Writing) (entry : Entry) (slot : IsSlotPage z old d writing entry slot_page) where
-      newest : changed change old d (1 + writing.number / page_slots z) ≡ Some slot_page.bytes.items
-      newest = subst (λ o. changed change old o (1 + writing.number / page_slots z) ≡ Some slot_page.bytes.items) slot.object_is
-          (subst (λ c. changed change old slot_page.key.object c ≡ Some slot_page.bytes.items) slot.chunk_is (placed 0 slot_page refl))
+      newest : after_change change old d (1 + writing.number / page_slots z) ≡ Some slot_page.bytes.items
+      newest = subst (λ o. after_change change old o (1 + writing.number / page_slots z) ≡ Some slot_page.bytes.items) slot.object_is
+          (subst (λ c. after_change change old slot_page.key.object c ≡ Some slot_page.bytes.items) slot.chunk_is (placed 0 slot_page refl))
 
       -- the slot
-      pub two_slot : SlotOf z (changed change old) d writing.number entry
+      pub two_slot : SlotOf z (after_change change old) d writing.number entry
       two_slot = (slot_page.bytes.items, newest, slot.here.0, slot.here.1)
 
       -- the other slots
-      pub two_keeps : KeepsSlots z old (changed change old) d (min writing.before writing.afterwards) writing.number
+      pub two_keeps : KeepsSlots z old (after_change change old) d (min writing.before writing.afterwards) writing.number
       two_keeps k e other less is = elim (cases_eq (k / page_slots z) (writing.number / page_slots z)) [
         | inl same ↦
             let at = slot.committed k e other (grind (arith, less)) (grind (arith, less)) same is in
-            (slot_page.bytes.items, subst (λ n. changed change old d (1 + n) ≡ Some slot_page.bytes.items) (sym same) newest, at.0, at.1)
+            (slot_page.bytes.items, subst (λ n. after_change change old d (1 + n) ≡ Some slot_page.bytes.items) (sym same) newest, at.0, at.1)
         | inr apart ↦ (
           is.0,
           elsewhere change old d (1 + k / page_slots z)
@@ -153,7 +153,7 @@ module _ (d bytes : ℕ) (slot_page head_page : FreshPage) (head : DirectoryHead
       ]
 
     -- the pages of the other slots
-    pub two_pages : (z : Sizes) (number : ℕ) → slot_page.key.chunk ≡ 1 + number / page_slots z → KeepsPages z old (changed change old) d number
+    pub two_pages : (z : Sizes) (number : ℕ) → slot_page.key.chunk ≡ 1 + number / page_slots z → KeepsPages z old (after_change change old) d number
     two_pages z number chunk c some other = elsewhere change old d c
         (λ i of. elim (one_of slot_page head_page d c i (subst (λ (ps : List FreshPage). IsPageOf ps d c i) pages of)) [
           | inl x ↦ other (omega (arith, x.2, chunk))
@@ -195,17 +195,17 @@ module _ (d bytes : ℕ) (head_page : FreshPage) (head : DirectoryHead) (head_is
   one_head = (0, at_head)
 
   module _ (old : PageMap) (z : Sizes) (size : z.page_bytes ≡ bytes) where
-    pub one_has : HasHead z (changed change old) d head
+    pub one_has : HasHead z (after_change change old) d head
     one_has = record {
-      has = subst (λ n. changed change old d 0 ≡ Some (header_bytes (fields_in n head))) (sym size)
-          (subst (λ (xs : List ℕ). changed change old d 0 ≡ Some xs) head_is.head_is.encodes
-          (subst (λ o. changed change old o 0 ≡ Some head_page.bytes.items) head_is.object_is
-          (subst (λ c. changed change old head_page.key.object c ≡ Some head_page.bytes.items) head_is.chunk_is
+      has = subst (λ n. after_change change old d 0 ≡ Some (header_bytes (fields_in n head))) (sym size)
+          (subst (λ (xs : List ℕ). after_change change old d 0 ≡ Some xs) head_is.head_is.encodes
+          (subst (λ o. after_change change old o 0 ≡ Some head_page.bytes.items) head_is.object_is
+          (subst (λ c. after_change change old head_page.key.object c ≡ Some head_page.bytes.items) head_is.chunk_is
           (here change old one_change.apart 0 head_page (ap (λ (ps : List FreshPage). slice_get ps 0) pages)))));
       valid = subst (λ n. IsHeader n (fields_in n head)) (sym size) head_is.head_is.valid;
     }
 
-    pub one_keeps : (count : ℕ) → KeepsSlots z old (changed change old) d count count
+    pub one_keeps : (count : ℕ) → KeepsSlots z old (after_change change old) d count count
     one_keeps count k e other less is = (
       is.0,
       elsewhere change old d (1 + k / page_slots z)
@@ -219,7 +219,7 @@ module _ (d bytes : ℕ) (head_page : FreshPage) (head : DirectoryHead) (head_is
   one_zeros z count c i of j le = absurd (omega (arith, (only_head d (1 + c) i of).2, head_is.chunk_is))
 
   -- the pages of slots
-  pub one_pages : (old : PageMap) (c : ℕ) → 1 ≤ c → changed change old d c ≡ old d c
+  pub one_pages : (old : PageMap) (c : ℕ) → 1 ≤ c → after_change change old d c ≡ old d c
   one_pages old c some = elsewhere change old d c (λ i of. omega (arith, (only_head d c i of).2, head_is.chunk_is, some)) (no_cut change.cuts.items cuts d c)
 
 -- ---- a cut behind the slots
@@ -227,7 +227,7 @@ module _ (d bytes : ℕ) (head_page : FreshPage) (head : DirectoryHead) (head_is
 module _ (d from : ℕ) (change cut_change : Change) (pages : cut_change.pages.items ≡ change.pages.items) (cuts : change.cuts.items ≡ []) (cut : Cut) (of_d : cut.object ≡ d) (from_is : cut.from ≡ from)
     (one : cut_change.cuts.items ≡ cut ∷ []) (old : PageMap) where
   -- before the cut nothing else changes
-  pub before_cut : (c : ℕ) → c < from → changed cut_change old d c ≡ changed change old d c
+  pub before_cut : (c : ℕ) → c < from → after_change cut_change old d c ≡ after_change change old d c
   before_cut c less =
       ap (λ (ps : List FreshPage). with_pages ps (without_cuts cut_change.cuts.items old) d c) pages
       ∙ pages_same change.pages.items (without_cuts cut_change.cuts.items old) (without_cuts change.cuts.items old) d c
@@ -240,10 +240,10 @@ module _ (d from : ℕ) (change cut_change : Change) (pages : cut_change.pages.i
         | inr other ↦ cond-false (takes cut d c) _ _ other.0
       ]
 
-  pub cut_keeps_slot : (z : Sizes) (k : ℕ) (e : Entry) → 1 + k / page_slots z < from → SlotOf z (changed change old) d k e → SlotOf z (changed cut_change old) d k e
+  pub cut_keeps_slot : (z : Sizes) (k : ℕ) (e : Entry) → 1 + k / page_slots z < from → SlotOf z (after_change change old) d k e → SlotOf z (after_change cut_change old) d k e
   cut_keeps_slot z k e less is = (is.0, before_cut (1 + k / page_slots z) less ∙ is.1, is.2, is.3)
 
-  pub cut_keeps_head : (z : Sizes) (head : DirectoryHead) → 0 < from → HasHead z (changed change old) d head → HasHead z (changed cut_change old) d head
+  pub cut_keeps_head : (z : Sizes) (head : DirectoryHead) → 0 < from → HasHead z (after_change change old) d head → HasHead z (after_change cut_change old) d head
   cut_keeps_head z head less h = record { has = before_cut 0 less ∙ h.has; valid = h.valid }
 
 pub cut_change_is : (change cut_change : Change) (bytes most : ℕ) → cut_change.pages.items ≡ change.pages.items → IsChange change bytes most → IsChange cut_change bytes most
@@ -360,17 +360,17 @@ slot_of_bytes z m d i bytes e is valid same = (is.0, is.1, valid, sym is.2 ∙ s
 
 module _ (z : Sizes) (old : PageMap) (d : ℕ) (head : DirectoryHead) (i : ℕ) (change cut_change : Change) (pages : cut_change.pages.items ≡ change.pages.items) (uncut : change.cuts.items ≡ [])
     (n : ℕ) (slots : n ≡ page_slots z) (some : 1 ≤ n) (cuts : CutsBehind d n head.length cut_change) where
-  slot_stays : (k : ℕ) (e : Entry) → k < head.length → SlotOf z (changed change old) d k e → SlotOf z (changed cut_change old) d k e
+  slot_stays : (k : ℕ) (e : Entry) → k < head.length → SlotOf z (after_change change old) d k e → SlotOf z (after_change cut_change old) d k e
   slot_stays k e less is = elim cuts [
     | inl none ↦ (is.0, same_change none.1 (1 + k / page_slots z) ∙ is.1, is.2, is.3)
     | inr cut ↦ cut_keeps_slot d (1 + head.length / n) change cut_change pages uncut cut.1.0 cut.1.2 cut.1.3 cut.1.1 old z k e
         (subst (λ m. 1 + k / m < 1 + head.length / n) slots (below_whole k head.length n some cut.0 less)) is
   ] where
-    same_change : cut_change.cuts.items ≡ [] → (c : ℕ) → changed cut_change old d c ≡ changed change old d c
+    same_change : cut_change.cuts.items ≡ [] → (c : ℕ) → after_change cut_change old d c ≡ after_change change old d c
     same_change none c = ap (λ (ps : List FreshPage). with_pages ps (without_cuts cut_change.cuts.items old) d c) pages
         ∙ ap (λ (xs : List Cut). with_pages change.pages.items (without_cuts xs old) d c) (none ∙ sym uncut)
 
-  head_stays : HasHead z (changed change old) d head → HasHead z (changed cut_change old) d head
+  head_stays : HasHead z (after_change change old) d head → HasHead z (after_change cut_change old) d head
   head_stays h = elim cuts [
     | inl none ↦ record {
       has = ap (λ (ps : List FreshPage). with_pages ps (without_cuts cut_change.cuts.items old) d 0) pages
@@ -390,12 +390,12 @@ module _ (z : Sizes) (old : PageMap) (d : ℕ) (head : DirectoryHead) (i : ℕ) 
 
 -- what lies behind the slots is gone, where that was so of one slot more
 module _ (z : Sizes) (old : PageMap) (d len : ℕ) (change cut_change : Change) (pages : cut_change.pages.items ≡ change.pages.items) (uncut : change.cuts.items ≡ [])
-    (n : ℕ) (slots : n ≡ page_slots z) (some : 1 ≤ n) (cuts : CutsBehind d n len cut_change) (keeps : (m : PageMap) → KeepsBehind z m (changed change m) d len) where
-  as_written : (c : ℕ) → changed cut_change old d c ≡ changed change (without_cuts cut_change.cuts.items old) d c
+    (n : ℕ) (slots : n ≡ page_slots z) (some : 1 ≤ n) (cuts : CutsBehind d n len cut_change) (keeps : (m : PageMap) → KeepsBehind z m (after_change change m) d len) where
+  as_written : (c : ℕ) → after_change cut_change old d c ≡ after_change change (without_cuts cut_change.cuts.items old) d c
   as_written c = ap (λ (ps : List FreshPage). with_pages ps (without_cuts cut_change.cuts.items old) d c) pages
       ∙ ap (λ (xs : List Cut). with_pages change.pages.items (without_cuts xs (without_cuts cut_change.cuts.items old)) d c) (sym uncut)
 
-  pub only_behind : HasOnly z old d (len + 1) → HasOnly z (changed cut_change old) d len
+  pub only_behind : HasOnly z old d (len + 1) → HasOnly z (after_change cut_change old) d len
   only_behind only c behind = as_written c ∙ keeps (without_cuts cut_change.cuts.items old) c behind ∙ elim cuts [
     | inl none ↦ ap (λ (xs : List Cut). without_cuts xs old d c) none.1
         ∙ only c (subst (λ k. div_ceil (len + 1) k < c) slots (one_more_page len n c some none.0 (subst (λ k. div_ceil len k < c) (sym slots) behind)))

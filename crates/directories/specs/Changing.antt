@@ -7,12 +7,12 @@ use Rattle.page_tags.specs.declared.slot.Slot.{Slot}
 use Rattle.name_index.specs.declared.index.NameIndex.{NameIndex}
 use Rattle.volume_terms.specs.Sizes.{Sizes, page_slots}
 use Rattle.posix_profile.specs.State.{Entries}
-use Rattle.pages.specs.Maps.{changed}
+use Rattle.pages.specs.Maps.{after_change}
 use Rattle.pages.specs.State.{PagesState}
 use Rattle.pages.specs.declared.change.Change.{Change}
 use Rattle.directories.specs.Directories.{DirIn, Directory, HasOnly, ReadsDirectory}
 use Rattle.directories.specs.Hashing.{WritesPast}
-use Rattle.directories.specs.Named.{NamedIn, StandsAt}
+use Rattle.directories.specs.Named.{NamedIn, IsAtSlot}
 use Rattle.directories.specs.SlotLists.{PutsSlot, IsWithout, IsPut, IsMoved, WritesSlots}
 use Rattle.directories.specs.Taking.{TakesName}
 use Rattle.directories.specs.declared.renaming.Route.{Route}
@@ -53,9 +53,9 @@ OfNamed names p o A =
     (z : Sizes) (before : ℕ) (entries : Entries) (d : NamedIn names p z o before entries)
     → A (record { sizes = z; pages = p.present; object = o; moment = before; entries = entries; reads = d.reads })
 
--- the same of a directory in which the slot's name stands at this place, or nowhere, and of its entries with the slot
+-- the same of a directory in which the slot's name is at this place, or nowhere, and of its entries with the slot
 abbrev pub OfPut : PagesState → ℕ → Slot → Option ℕ → (Directory → Entries → Type 0) → Type 0
-OfPut p o slot place A = OfDir p o (λ d. StandsAt d.reads.slots d.entries slot.name.now place → A d (with_slot d.entries slot))
+OfPut p o slot place A = OfDir p o (λ d. IsAtSlot d.reads.slots d.entries slot.name.now place → A d (with_slot d.entries slot))
 
 -- this holds where both ends of a route are directories of whose names the index has the hashes: of the entries of its target
 abbrev pub OfRoute : NameIndex → PagesState → Route → (Entries → Type 0) → Type 0
@@ -68,7 +68,7 @@ pages_of d = div_ceil (map.len d.entries) (page_slots d.sizes)
 
 -- after the change the object is the directory with these entries, and with the spare blocks that were there
 abbrev pub Becomes : Directory → ℕ → Entries → Change → Type 0
-Becomes d moment new change = ReadsDirectory d.sizes (changed change d.pages) d.object moment new d.reads.fields.spare
+Becomes d moment new change = ReadsDirectory d.sizes (after_change change d.pages) d.object moment new d.reads.fields.spare
 
 -- the object has no page behind those of the directory's slots
 abbrev pub Ends : Directory → Type 0
@@ -76,7 +76,7 @@ Ends d = HasOnly d.sizes d.pages d.object (map.len d.entries)
 
 -- after the change it has none behind those of so many slots as there are of these entries
 abbrev pub EndsAfter : Directory → Entries → Change → Type 0
-EndsAfter d new change = HasOnly d.sizes (changed change d.pages) d.object (map.len new)
+EndsAfter d new change = HasOnly d.sizes (after_change change d.pages) d.object (map.len new)
 
 -- each slot behind those of the directory, up to so many, lies on a page of the change
 abbrev pub WritesNew : Directory → ℕ → Change → Type 0
@@ -86,7 +86,7 @@ WritesNew d count change = WritesPast d.sizes change d.object (map.len d.entries
 abbrev pub PutsIn : Directory → Entry → Change → Type 0
 PutsIn d entry change = PutsSlot d.sizes change d.object entry d.reads.slots
 
--- the name's slot goes from the directory's: the last one stands in its place
+-- the name's slot goes from the directory's: the last one is in its place
 abbrev pub TakesFrom : Directory → List ℕ → Taken → Type 0
 TakesFrom d name taken = TakesName d.sizes d.pages d.object d.reads.slots name taken
 

@@ -35,7 +35,7 @@ SlotOf z m d i entry = SlotIs z (has m) d i entry
 abbrev pub HasOnly : Sizes → PageMap → ℕ → ℕ → Type 0
 HasOnly z m d count = (c : ℕ) → div_ceil count (page_slots z) < c → m d c ≡ None
 
--- the page of each of so many slots that stands on the page of slot i is there
+-- the page of each of so many slots that is on the page of slot i is there
 abbrev pub HasBeside : Sizes → PageMap → ℕ → ℕ → ℕ → Type 0
 HasBeside z m d count i = (k : ℕ) → k < count → k / page_slots z ≡ i / page_slots z → (page : List ℕ) × (m d (1 + k / page_slots z) ≡ Some page)
 
@@ -56,7 +56,7 @@ ReportsName z p d name found = (h : IsHeaded p d) × LeadsFrom (SlotOf z p.prese
 abbrev pub ReportsSlot : Sizes → PageMap → ℕ → ℕ → List ℕ → Option ℕ → Type 0
 ReportsSlot z m d i name found = (e : Entry) × SlotOf z m d i e × NamedBy e name found
 
--- the header is there, and so is the page on which the next slot would stand beside others
+-- the header is there, and so is the page on which the next slot would be beside others
 abbrev pub ReportsEnd : Sizes → PagesState → ℕ → Type 0
 ReportsEnd z p d = (h : IsHeaded p d) × HasBeside z p.present d h.fields.length h.fields.length
 

@@ -10,7 +10,7 @@ use Rattle.name_index.specs.Hashes.{fnv1a}
 use Rattle.name_index.specs.Names.{Holds}
 use Rattle.name_index.specs.declared.index.NameIndex.{NameIndex}
 use Rattle.volume_terms.specs.Sizes.{Sizes, page_slots}
-use Rattle.pages.specs.Maps.{PageMap, has, changed, IsFirstOf}
+use Rattle.pages.specs.Maps.{PageMap, has, after_change, IsFirstOf}
 use Rattle.pages.specs.declared.change.Change.{Change}
 use Rattle.directories.specs.Slots.{SlotAt}
 use Rattle.directories.specs.Writes.{HasKey}
@@ -35,7 +35,7 @@ WritesPast z change d from to = (s : ℕ) → from ≤ s → s < to → HasKey c
 -- After the change the object is a directory, each of whose slots from a number on lies on a page of the change.
 pub record WritesNewSlots (z : Sizes) (m : PageMap) (change : Change) (d before later : ℕ) : Type 0 where
   pub fields : Fields
-  pub has_header : HasHeader z (has (changed change m)) d fields
+  pub has_header : HasHeader z (has (after_change change m)) d fields
   pub kind : fields.kind ≡ kinds.Directory
   pub within_limit : later < 2 ^ 32
   pub written : WritesPast z change d before later
@@ -48,4 +48,4 @@ HashesPage names pages n page = 1 ≤ page.key.chunk → (SaysNoDirectory pages 
 -- pages after the change, and of how many slots there are then
 abbrev pub OfNewSlots : ℕ → Change → NameIndex → (Sizes → PageMap → ℕ → ℕ → Type 0) → Type 0
 OfNewSlots bytes change names A =
-    (z : Sizes) (m : PageMap) (d before later : ℕ) → z.page_bytes ≡ bytes → WritesNewSlots z m change d before later → HasHashes names z m d before → A z (changed change m) d later
+    (z : Sizes) (m : PageMap) (d before later : ℕ) → z.page_bytes ≡ bytes → WritesNewSlots z m change d before later → HasHashes names z m d before → A z (after_change change m) d later

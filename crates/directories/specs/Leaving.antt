@@ -4,7 +4,7 @@ use Rattle.page_tags.specs.Slots.{Entry}
 use Rattle.flash_tree.specs.declared.place.FreshPage.{FreshPage}
 use Rattle.name_index.specs.Hashes.{fnv1a}
 use Rattle.volume_terms.specs.Sizes.{Sizes, page_slots}
-use Rattle.pages.specs.Maps.{PageMap, with_pages, changed, IsPageOf, IsFirstOf}
+use Rattle.pages.specs.Maps.{PageMap, with_pages, after_change, IsPageOf, IsFirstOf}
 use Rattle.pages.specs.declared.change.Change.{Change}
 use Rattle.directories.specs.Directories.{SlotOf}
 use Rattle.directories.specs.Writes.{HasKey}
@@ -25,7 +25,7 @@ WritesNoName z pages d slot = (i : ℕ) → IsPageOf pages d (1 + slot / page_sl
 -- whatever the pages were before, the name in the slot after the change has this hash, which is another than the name's
 pub record LeavesName (z : Sizes) (change : Change) (d hash : ℕ) (left : LeftSlot) : Type 0 where
   pub other : left.hash ≢ hash
-  pub written : (m : PageMap) (e : Entry) → SlotOf z (changed change m) d left.slot e → fnv1a e.name ≡ left.hash
+  pub written : (m : PageMap) (e : Entry) → SlotOf z (after_change change m) d left.slot e → fnv1a e.name ≡ left.hash
 
 -- each slot that may have the name, and that lies on a page of the change, has a name with its hash afterwards
 abbrev pub KeepsHash : (ℕ → Type 0) → Sizes → Change → ℕ → ℕ → Type 0

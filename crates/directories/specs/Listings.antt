@@ -18,7 +18,7 @@ pub record TakesEntry (entry : Entry) (old new : Entries) : Type 0 where
 abbrev pub ReportsNames : Sizes → PageMap → ℕ → List (List ℕ) → Type 0
 ReportsNames z m d names = (moment : ℕ) × (entries : Entries) × ReadsDir z (has m) d moment entries × (names ≡ map.keys entries)
 
--- the first n slots of the directory, in which no name stands twice, are these entries
+-- the first n slots of the directory, in which no name is there twice, are these entries
 pub record ReadsFirst (z : Sizes) (m : PageMap) (d n : ℕ) (entries : Entries) : Type 0 where
   pub slots : List Entry
   pub size : length slots ≡ n

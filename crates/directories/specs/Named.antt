@@ -28,7 +28,7 @@ pub record NamedIn (names : NameIndex) (p : PagesState) (z : Sizes) (o moment : 
 abbrev pub IsHeld : NameIndex → ℕ → List ℕ → ℕ → Type 0
 IsHeld names directory name slot = Holds names directory (fnv1a name) slot
 
--- each of the slots is held under the hash of the name, and none stands twice in the list
+-- each of the slots is held under the hash of the name, and none is there twice in the list
 pub record AreHeld (names : NameIndex) (directory : ℕ) (name slots : List ℕ) : Type 0 where
   pub held : (i s : ℕ) → slice_get slots i ≡ Some s → IsHeld names directory name s
   pub once : (i j s : ℕ) → slice_get slots i ≡ Some s → slice_get slots j ≡ Some s → i ≡ j
@@ -61,9 +61,9 @@ ReportsHeldChange names z p d name None = ReportsHeld names z p d name None
 ReportsHeldChange names z p d name (Some change) = (object : ℕ) × ReportsHeld names z p d name (Some object)
 
 -- the slots are those of the entries: the name is in this one of them, or it is none of the entries
-abbrev pub StandsAt : List Entry → Entries → List ℕ → Option ℕ → Type 0
-StandsAt slots entries name None = map.get entries name ≡ None
-StandsAt slots entries name (Some i) = (e : Entry) × (slice_get slots i ≡ Some e) × (e.name ≡ name)
+abbrev pub IsAtSlot : List Entry → Entries → List ℕ → Option ℕ → Type 0
+IsAtSlot slots entries name None = map.get entries name ≡ None
+IsAtSlot slots entries name (Some i) = (e : Entry) × (slice_get slots i ≡ Some e) × (e.name ≡ name)
 
 -- the same of a slot that leads to an object
 abbrev pub IsFoundAt : List Entry → Entries → List ℕ → Option Located → Type 0

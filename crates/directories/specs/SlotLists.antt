@@ -9,7 +9,7 @@ use Rattle.pages.specs.declared.change.Change.{Change}
 use Rattle.directories.specs.Directories.{DirIn}
 use Rattle.directories.specs.Writes.{HasKey}
 
--- the bytes of page c of a directory with these slots: those that stand on it, in their order, and zeros behind them
+-- the bytes of page c of a directory with these slots: those that are on it, in their order, and zeros behind them
 abbrev pub slots_page : Sizes → List Entry → ℕ → List ℕ
 slots_page z slots c =
     let bytes : List ℕ = flat_map slot_bytes (take (page_slots z) (drop (c * page_slots z) slots)) in
@@ -23,13 +23,13 @@ WritesSlots z change d slots = (c i : ℕ) → (of : IsPageOf change.pages.items
 abbrev pub IsPushed : Entry → List Entry → List Entry → Type 0
 IsPushed entry old new = new ≡ old ++ entry ∷ []
 
--- the entry stands in place of the one with its name, or behind all where none has it
+-- the entry is in place of the one with its name, or behind all where none has it
 abbrev pub IsPut : Entry → List Entry → List Entry → Type 0
 IsPut entry old new =
     ((i : ℕ) × (e : Entry) × (slice_get old i ≡ Some e) × (e.name ≡ entry.name) × (new ≡ set old i entry))
     ⊎ (((i : ℕ) (e : Entry) → slice_get old i ≡ Some e → e.name ≢ entry.name) × IsPushed entry old new)
 
--- the entry with the name is gone: the last one stands in its place, and there is one less
+-- the entry with the name is gone: the last one is in its place, and there is one less
 pub record IsWithout (name : List ℕ) (old new : List Entry) : Type 0 where
   pub place : ℕ
   pub entry : Entry

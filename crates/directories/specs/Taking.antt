@@ -8,7 +8,7 @@ use Rattle.directories.specs.declared.head.DirectoryHead.{DirectoryHead}
 use Rattle.directories.specs.declared.lookup.Located.{Located}
 use Rattle.directories.specs.declared.taking.Taken.{Taken}
 
--- the name's slot goes: the last one stands in its place
+-- the name's slot goes: the last one is in its place
 pub record TakesName (z : Sizes) (m : PageMap) (d : ℕ) (slots : List Entry) (name : List ℕ) (taken : Taken) : Type 0 where
   pub entry : Entry
   pub there : slice_get slots taken.place ≡ Some entry
@@ -18,7 +18,7 @@ pub record TakesName (z : Sizes) (m : PageMap) (d : ℕ) (slots : List Entry) (n
   pub counts : head.length ≡ taken.last
   pub loses : LosesSlot z m taken.change d head taken.place
 
--- where a slot is after one at a place was taken, which the last one stands in then
+-- where a slot is after one at a place was taken, which the last one is in then
 abbrev pub IsMovedTo : Option Located → ℕ → ℕ → Option ℕ → Type 0
 IsMovedTo None place last None = Unit {0}
 IsMovedTo None place last (Some moved) = ⊥

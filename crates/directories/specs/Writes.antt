@@ -6,7 +6,7 @@ use Rattle.page_tags.specs.SlotEntry.{entry_of}
 use Rattle.page_tags.specs.Slots.{Entry}
 use Rattle.page_tags.specs.declared.slot.Slot.{Slot}
 use Rattle.volume_terms.specs.Sizes.{Sizes, page_slots, slot_length}
-use Rattle.pages.specs.Maps.{PageMap, IsPageOf, changed}
+use Rattle.pages.specs.Maps.{PageMap, IsPageOf, after_change}
 use Rattle.pages.specs.State.{PagesState}
 use Rattle.flash_tree.specs.declared.place.FreshPage.{FreshPage}
 use Rattle.flash_tree.specs.declared.place.Key.{Key}
@@ -25,7 +25,7 @@ pub record IsSlotsPage (d bytes : ℕ) (page : FreshPage) : Type 0 where
   pub chunk_is : 1 ≤ page.key.chunk
   pub size : length page.bytes.items ≡ bytes
 
--- The page of the slot that is written: this entry stands there, the other slots that stay are those that stood there, and what lies
+-- The page of the slot that is written: this entry is there, the other slots that stay are those that were there, and what lies
 -- past the last slot is zero.
 pub record IsSlotPage (z : Sizes) (old : PageMap) (d : ℕ) (writing : Writing) (entry : Entry) (page : FreshPage) : Type 0 where
   pub object_is : page.key.object ≡ d
@@ -65,11 +65,11 @@ IsSlotBytes z m d i bytes = (page : List ℕ) × (m d (1 + i / page_slots z) ≡
 abbrev pub EndsInZeros : Sizes → Change → ℕ → ℕ → Type 0
 EndsInZeros z change d count = (c i : ℕ) → (of : IsPageOf change.pages.items d (1 + c) i) → (j : ℕ) → slot_length * min (count - c * page_slots z) (page_slots z) ≤ j → slice_index of.page.bytes.items j ≡ 0
 
--- after the change the directory has this header, and the last slot stands in place of the one that went; the others stay
+-- after the change the directory has this header, and the last slot is in place of the one that went; the others stay
 pub record LosesSlot (z : Sizes) (old : PageMap) (change : Change) (d : ℕ) (head : DirectoryHead) (i : ℕ) : Type 0 where
-  pub header : HasHead z (changed change old) d head
-  pub filled : i < head.length → (e : Entry) × SlotOf z old d head.length e × SlotOf z (changed change old) d i e
-  pub others : KeepsSlots z old (changed change old) d head.length i
+  pub header : HasHead z (after_change change old) d head
+  pub filled : i < head.length → (e : Entry) × SlotOf z old d head.length e × SlotOf z (after_change change old) d i e
+  pub others : KeepsSlots z old (after_change change old) d head.length i
   pub zeros : EndsInZeros z change d head.length
 
 -- the change cuts the directory behind the pages of so many slots, n on a page, exactly where the last of these pages is full
@@ -79,36 +79,36 @@ CutsBehind d n len change = ((len % n ≢ 0) × (change.cuts.items ≡ []))
 
 -- the key has the page that it had before the change
 abbrev pub KeepsKey : PageMap → ℕ → ℕ → Change → Type 0
-KeepsKey m o c change = changed change m o c ≡ m o c
+KeepsKey m o c change = after_change change m o c ≡ m o c
 
--- the page of each slot that stays and stands on the page of the one that is written is there
+-- the page of each slot that stays and is on the page of the one that is written is there
 abbrev pub HasPageOf : Sizes → PageMap → ℕ → Writing → Type 0
 HasPageOf z m d writing = HasBeside z m d (min writing.before writing.afterwards) writing.number
 
 -- after the change the directory has this header, and the slots that it had
 abbrev pub WritesHead : Sizes → PageMap → ℕ → DirectoryHead → Change → Type 0
 WritesHead z old d head change =
-    HasHead z (changed change old) d head × ((count : ℕ) → KeepsSlots z old (changed change old) d count count) × ((count : ℕ) → EndsInZeros z change d count)
+    HasHead z (after_change change old) d head × ((count : ℕ) → KeepsSlots z old (after_change change old) d count count) × ((count : ℕ) → EndsInZeros z change d count)
 
 -- after the change the directory has this header and this slot, the others that stay are those that it had, and past the last all is zero
 abbrev pub WritesSlot : ObjectIn → Writing → Slot → DirectoryHead → Change → Type 0
 WritesSlot it writing slot head change =
-    HasHead it.sizes (changed change it.pages) it.object head
-    × SlotOf it.sizes (changed change it.pages) it.object writing.number (entry_of slot)
-    × KeepsSlots it.sizes it.pages (changed change it.pages) it.object (min writing.before writing.afterwards) writing.number
+    HasHead it.sizes (after_change change it.pages) it.object head
+    × SlotOf it.sizes (after_change change it.pages) it.object writing.number (entry_of slot)
+    × KeepsSlots it.sizes it.pages (after_change change it.pages) it.object (min writing.before writing.afterwards) writing.number
     × EndsInZeros it.sizes change it.object writing.afterwards
 
 -- after the change the directory has one slot more than the header says, which is this one, and its moment; the others are those that it had
 abbrev pub PushesSlot : ObjectIn → DirectoryHead → Slot → ℕ → Change → Type 0
 PushesSlot it head slot moment change =
-    HasHead it.sizes (changed change it.pages) it.object (record { spare = head.spare; length = head.length + 1; moment = moment })
-    × SlotOf it.sizes (changed change it.pages) it.object head.length (entry_of slot)
-    × KeepsSlots it.sizes it.pages (changed change it.pages) it.object head.length head.length
+    HasHead it.sizes (after_change change it.pages) it.object (record { spare = head.spare; length = head.length + 1; moment = moment })
+    × SlotOf it.sizes (after_change change it.pages) it.object head.length (entry_of slot)
+    × KeepsSlots it.sizes it.pages (after_change change it.pages) it.object head.length head.length
     × EndsInZeros it.sizes change it.object (head.length + 1)
 
 -- of a sound store: where the directory had no page behind those of so many slots, it has none behind those of so many others after the change
 abbrev pub Shortens : {E : Type 0} → PagesState → ℕ → ℕ → ℕ → Result Change E → Type 0
-Shortens p d from to result = OfPages p (λ z old. HasOnly z old d from → IfOk result (λ change. HasOnly z (changed change old) d to))
+Shortens p d from to result = OfPages p (λ z old. HasOnly z old d from → IfOk result (λ change. HasOnly z (after_change change old) d to))
 
 -- the bytes are so many slots of the key's page, if there are any, and zeros behind them
 abbrev pub HasFirstSlots : PagesState → Key → ℕ → List ℕ → Type 0

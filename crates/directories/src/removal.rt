@@ -4,7 +4,7 @@ ghost use Rattle.volume_terms.specs.Sizes.{Sizes};
 ghost use Rattle.pages.specs.Afterwards.{IsSizedBy};
 ghost use Rattle.pages.specs.Changes.{IsChange, IsOnlyOf};
 ghost use Rattle.pages.specs.Faults.{MayLack, SaysWhy, MayLackMemory, SaysWhyMaking};
-ghost use Rattle.pages.specs.Maps.{PageMap, changed};
+ghost use Rattle.pages.specs.Maps.{PageMap, after_change};
 ghost use Rattle.pages.specs.State.{OnlyFinds, KeepsPower};
 ghost use Rattle.directories.specs.Writes.{HasKey, IsSlotBytes, KeepsBehind, LosesSlot, CutsBehind, KeepsKey, WritesHead, Shortens};
 ghost use Rattle.directories.specs.Stores.{later, OfPages, OfSlotted, OfSlotAt};
@@ -68,7 +68,7 @@ fn shorten<P: Pages>(
     ensures only { IfOk result (λ change. IsOnlyOf change directory) }
     ensures head { IfOk result (λ change. HasKey change directory 0) }
     ensures shortens { OfPages (later earlier.entry (P.state pages.old)) (λ z old. IfOk result (λ change. LosesSlot z old change directory shorter place)) }
-    ensures pages { OfSound (P.state pages.old) (λ z. (m : PageMap) → IfOk result (λ change. KeepsBehind z m (changed change m) directory shorter.length)) }
+    ensures pages { OfSound (P.state pages.old) (λ z. (m : PageMap) → IfOk result (λ change. KeepsBehind z m (after_change change m) directory shorter.length)) }
     ensures why { IfErr result (SaysWhyMaking (P.state pages.new)) }
     ensures fault { OfSlotted (later earlier.entry (P.state pages.old)) directory (shorter.length + 1) (IfErr result (MayLackMemory (P.state pages.new))) }
 {
@@ -87,7 +87,7 @@ fn cut_behind(
     slots: u32,
     length: u32,
 ) -> Result<Change, AllocError>
-    requires some { 1 ≤ slots }
+    requires not_empty { 1 ≤ slots }
     requires uncut { change.cuts.items ≡ [] }
     ensures pages { IfOk result (λ cut. cut.pages.items ≡ change.pages.items) }
     ensures cuts { IfOk result (CutsBehind directory slots length) }
@@ -123,7 +123,7 @@ fn fill<P: Pages>(
     ensures only { IfOk result (λ change. IsOnlyOf change directory) }
     ensures head { IfOk result (λ change. HasKey change directory 0) }
     ensures fills { OfPages (later earlier.entry (P.state pages.old)) (λ z old. IfOk result (λ change. LosesSlot z old change directory shorter place)) }
-    ensures pages { OfSound (P.state pages.old) (λ z. (m : PageMap) → IfOk result (λ change. KeepsBehind z m (changed change m) directory shorter.length)) }
+    ensures pages { OfSound (P.state pages.old) (λ z. (m : PageMap) → IfOk result (λ change. KeepsBehind z m (after_change change m) directory shorter.length)) }
     ensures why { IfErr result (SaysWhyMaking (P.state pages.new)) }
     ensures fault { OfSlotted (later earlier.entry (P.state pages.old)) directory (shorter.length + 1) (IfErr result (MayLackMemory (P.state pages.new))) }
 {

@@ -7,7 +7,7 @@ ghost use Rattle.volume_terms.specs.Sizes.{page_slots};
 ghost use Rattle.pages.specs.Afterwards.{IsSizedBy};
 ghost use Rattle.pages.specs.Changes.{IsChange, IsOnlyOf};
 ghost use Rattle.pages.specs.Faults.{SaysWhyChanging, LooksUp};
-ghost use Rattle.pages.specs.Maps.{PageMap, changed};
+ghost use Rattle.pages.specs.Maps.{PageMap, after_change};
 ghost use Rattle.pages.specs.State.{OnlyFinds, KeepsPower};
 ghost use Rattle.directories.specs.Directories.{IsNamed};
 ghost use Rattle.directories.specs.Faults.{MayLackRoom, MayLackRoomIn};
@@ -161,7 +161,7 @@ fn push_slot<P: Pages>(
     ensures head { IfOk result (λ change. HasKey change directory 0) }
     ensures slot { OfSound (P.state pages.old) (λ z. IfOk result (λ change. HasKey change directory (1 + head.length / page_slots z))) }
     ensures pushes { OfObject (later earlier.entry (P.state pages.old)) directory (λ it. IfOk result (PushesSlot it head slot.now moment)) }
-    ensures pages { OfSound (P.state pages.old) (λ z. (m : PageMap) → IfOk result (λ change. KeepsPages z m (changed change m) directory head.length)) }
+    ensures pages { OfSound (P.state pages.old) (λ z. (m : PageMap) → IfOk result (λ change. KeepsPages z m (after_change change m) directory head.length)) }
     ensures why { IfErr result (SaysWhyChanging (P.state pages.new)) }
     ensures fault { OfSlotted (later earlier.entry (P.state pages.old)) directory head.length (IfErr result (MayLackRoom head.length (P.state pages.new))) }
 {

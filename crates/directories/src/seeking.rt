@@ -4,7 +4,7 @@ ghost use Rattle.page_tags.specs.Slots.{Entry};
 ghost use Rattle.posix_profile.specs.State.{Entries};
 ghost use Rattle.pages.specs.Faults.{MayLack, SaysWhy};
 ghost use Rattle.pages.specs.State.{OnlyFinds, KeepsPower};
-ghost use Rattle.directories.specs.Named.{IssuesHeld, FindsHeld, StandsAt, IsFoundAt, ReportsSought, IsHeld, IsSoughtIn};
+ghost use Rattle.directories.specs.Named.{IssuesHeld, FindsHeld, IsAtSlot, IsFoundAt, ReportsSought, IsHeld, IsSoughtIn};
 ghost use Rattle.directories.specs.Stores.{OfSlots, OfSlotted};
 ghost use Rattle.directories.specs.Changing.{OfDir};
 ghost use Rattle.pages.specs.Sound.{OfSound};
@@ -24,7 +24,7 @@ pub(crate) struct Sought {
 impl Sought {
     /// The number of the slot that has the name.
     pub(crate) fn place(&self) -> Option<u32>
-        ensures { (slots : List Entry) (entries : Entries) (name : List ℕ) → IsFoundAt slots entries name self.now.found → StandsAt slots entries name result }
+        ensures { (slots : List Entry) (entries : Entries) (name : List ℕ) → IsFoundAt slots entries name self.now.found → IsAtSlot slots entries name result }
     {
         match self.found {
             Some(found) => Some(found.place),

@@ -88,7 +88,7 @@ pub(crate) fn take_name<P: Pages>(
     }))
 }
 
-/// The change that takes a name from a directory, found through an index of its names: the last slot stands in its place
+/// The change that takes a name from a directory, found through an index of its names: the last slot is in its place
 /// then, and a page without slots goes. There is none where the directory has no such name.
 pub fn remove<P: Pages>(
     alloc: Global,

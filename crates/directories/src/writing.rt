@@ -6,7 +6,7 @@ ghost use Rattle.volume_terms.specs.Sizes.{page_slots, slot_length};
 ghost use Rattle.pages.specs.Afterwards.{IsSizedBy};
 ghost use Rattle.pages.specs.Changes.{IsChange, IsOnlyOf};
 ghost use Rattle.pages.specs.Faults.{MayLackMemory, SaysWhyMaking};
-ghost use Rattle.pages.specs.Maps.{PageMap, changed};
+ghost use Rattle.pages.specs.Maps.{PageMap, after_change};
 ghost use Rattle.pages.specs.State.{OnlyFinds, KeepsPower};
 ghost use Rattle.directories.specs.Writes.{IsSlotsPage, IsSlotPage, HasKey, KeepsPages, HasPageOf, WritesSlot, HasFirstSlots};
 ghost use Rattle.directories.specs.Stores.{later, OfPages, OfSlotted, OfSource, OfObject};
@@ -111,7 +111,7 @@ pub(crate) fn write<P: Pages>(
     ensures head { IfOk result (λ change. HasKey change directory 0) }
     ensures slot { OfSound (P.state pages.old) (λ z. IfOk result (λ change. HasKey change directory (1 + writing.number / page_slots z))) }
     ensures writes { OfObject (later earlier.entry (P.state pages.old)) directory (λ it. IfOk result (WritesSlot it writing slot.now head)) }
-    ensures pages { OfSound (P.state pages.old) (λ z. (m : PageMap) → IfOk result (λ change. KeepsPages z m (changed change m) directory writing.number)) }
+    ensures pages { OfSound (P.state pages.old) (λ z. (m : PageMap) → IfOk result (λ change. KeepsPages z m (after_change change m) directory writing.number)) }
     ensures beside { OfPages (later earlier.entry (P.state pages.old)) (λ z old. OnOk result (HasPageOf z old directory writing)) }
     ensures why { IfErr result (SaysWhyMaking (P.state pages.new)) }
     ensures fault { OfSlotted (later earlier.entry (P.state pages.old)) directory writing.before (IfErr result (MayLackMemory (P.state pages.new))) }

@@ -10,7 +10,7 @@ use Rattle.page_store.specs.Checked.{HasTrueFlash, IsConsistent}
 use Rattle.pages.specs.State.{PagesState}
 use Rattle.posix_calls.specs.PageVolumes.{pages_of, is_read_only}
 use Rattle.posix_calls.specs.declared.page_volume.PageVolume.{PageVolume}
-use Rattle.paged_objects.specs.Standing.{volume_of}
+use Rattle.paged_objects.specs.Representing.{volume_of}
 use Rattle.plain_volume.specs.Lists.{IsMadeOf, ListsShown, shown_of}
 use Rattle.plain_volume.specs.declared.list.TreeList.{TreeList}
 use Rattle.plain_volume.specs.Views.{PlainView}

@@ -28,7 +28,7 @@ use Rattle.exerciser.specs.declared.seen.Seen.TheVariants as seens
 abbrev pub IsAnswered : Device → MountFault → Type 0
 IsAnswered device fault = (up : Device) × (back : Device) × PowersUp device up × OnlyReads up back × WhyNotMounted back fault
 
--- A volume shows the tree that the device's flash stands for, with no descriptor open.
+-- A volume shows the tree that the device's flash represents, with no descriptor open.
 pub record ShowsFlash {V : Type 0} (shows : V → Sizes → Bool → State → Type 0) (device : Device) (v : V) : Type 0 where
   pub spare : ℕ
   pub objects : Objects
@@ -37,11 +37,11 @@ pub record ShowsFlash {V : Type 0} (shows : V → Sizes → Bool → State → T
   pub answers : Answers device.geometry device.flash (IsTreeOf spare objects)
   pub shown : shows v sizes read_only (at_mount objects)
 
--- what a mount shows of the tree is what the device's flash stands for, where that flash is true
+-- what a mount shows of the tree is what the device's flash represents, where that flash is true
 abbrev pub IsTreeOn : Device → PlainView → Type 0
 IsTreeOn device tree = HasTrueFlash device → (spare : ℕ) × Answers device.geometry device.flash (IsTreeOf spare (shown_of tree))
 
--- Where the device's flash is true it stands for a tree that a session on the tree before, whose commands were answered so, may not leave.
+-- Where the device's flash is true it represents a tree that a session on the tree before, whose commands were answered so, may not leave.
 abbrev pub IsTornOn : Device → PlainView → List Stamped → List Reply → Type 0
 IsTornOn device before commands answered =
     HasTrueFlash device → (spare : ℕ) × (objects : Objects) × Answers device.geometry device.flash (IsTreeOf spare objects) × IsLeast before commands answered (λ x. x ≡ objects) None
@@ -65,7 +65,7 @@ CountsCalls end calls (Err faults.Unread) = ⊥
 CountsCalls end calls (Err faults.Torn) = ⊥
 CountsCalls end calls (Err faults.Write) = ⊥
 
--- where the device's flash is true it stands for a tree
+-- where the device's flash is true it represents a tree
 abbrev pub HasTree : Device → Type 0
 HasTree device = HasTrueFlash device → (spare : ℕ) × (objects : Objects) × Answers device.geometry device.flash (IsTreeOf spare objects)
 
@@ -81,7 +81,7 @@ pub record IsUndone (first : Device) (session : Session) : Type 0 where
   pub refused : end.mounted ≢ Err mounts.NoMemory
   pub undone : end.mounted ≡ Ok tt → end.unmounted ≢ Some replies.Done
 
--- The session, cut or not, may leave a device that stands for a tree.
+-- The session, cut or not, may leave a device that represents a tree.
 pub record IsUnread (first : Device) (session : Session) : Type 0 where
   pub now : Session
   pub last : Device

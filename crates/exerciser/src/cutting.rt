@@ -15,7 +15,7 @@ ghost use Rattle.exerciser.specs.declared.seen.Seen.TheVariants as seens;
 
 use crate::drawing::draw;
 use crate::fault::CutFault;
-use crate::looking::{Standing, begin, count_calls, live_once, look};
+use crate::looking::{KnownDevice, begin, count_calls, live_once, look};
 use crate::reporting::tell;
 use crate::seen::Seen;
 use nand_model::{MemNand, Nand};
@@ -78,22 +78,22 @@ struct Exercised {
 /// Does a session that is cut at a random call, and mounts the device after it.
 fn exercise(
     alloc: Global,
-    standing: Standing,
+    known_device: KnownDevice,
     session: &mut Session,
     generator: &mut Lcg128Xsl64,
     pages: u32,
 ) -> Result<Exercised, CutFault>
     ensures same { uncut session.new ≡ uncut session.old }
     ensures fuse { IfOk result (λ done. fuse_of session.new.fuse ≡ Some (done.operation, drawn_fates pages (answers generator.old))) }
-    ensures random { IfOk result (λ done. IsDrawnAmong (device standing.device) (uncut session.old) (next_u64 (answers generator.old)).0 done.operation) }
+    ensures random { IfOk result (λ done. IsDrawnAmong (device known_device.device) (uncut session.old) (next_u64 (answers generator.old)).0 done.operation) }
     ensures left { OnOk result (answers generator.new ≡ words_after_session pages (answers generator.old)) }
-    ensures ended { IfOk result (λ done. IsEnded session.new done.end (device standing.device) (device done.device)) }
-    ensures truth { IfOk result (λ done. IsTrueOn (device standing.device) → IsTrueOn (device done.device)) }
-    ensures seen { IfOk result (λ done. IsSeen standing.tree session.old.commands.items done.end.replies.items done.seen) }
-    ensures mounts { IfOk result (λ done. MountsAs (device done.device) standing.tree session.old.commands.items done.end.replies.items done.seen) }
-    ensures fault { IfErr result (WhyUndone (device standing.device) session.old) }
+    ensures ended { IfOk result (λ done. IsEnded session.new done.end (device known_device.device) (device done.device)) }
+    ensures truth { IfOk result (λ done. IsTrueOn (device known_device.device) → IsTrueOn (device done.device)) }
+    ensures seen { IfOk result (λ done. IsSeen known_device.tree session.old.commands.items done.end.replies.items done.seen) }
+    ensures mounts { IfOk result (λ done. MountsAs (device done.device) known_device.tree session.old.commands.items done.end.replies.items done.seen) }
+    ensures fault { IfErr result (WhyUndone (device known_device.device) session.old) }
 {
-    let Standing { device, tree } = standing;
+    let KnownDevice { device, tree } = known_device;
     let operation = draw_fuse(alloc, &device, session, generator, pages)?;
     let (device, end) = live_once(alloc, device, session)?;
     let seen = look(alloc, &device, &tree, &session.commands, &end)?;
@@ -106,13 +106,13 @@ fn exercise(
 }
 
 /// Where the sessions go on after this, if they do.
-fn go_on(device: MemNand, seen: Seen) -> Result<Standing, CutFault>
-    ensures device { IfOk result (λ standing. standing.device ≡ device) }
-    ensures committed { IfOk result (λ standing. (count : ℕ) × (seen ≡ seens.Committed count standing.tree)) }
+fn go_on(device: MemNand, seen: Seen) -> Result<KnownDevice, CutFault>
+    ensures device { IfOk result (λ known_device. known_device.device ≡ device) }
+    ensures committed { IfOk result (λ known_device. (count : ℕ) × (seen ≡ seens.Committed count known_device.tree)) }
     ensures torn { IfErr result (λ e. IsTorn seen × (e ≡ faults.Torn)) }
 {
     match seen {
-        Seen::Committed(_, tree) => Ok(Standing { device, tree }),
+        Seen::Committed(_, tree) => Ok(KnownDevice { device, tree }),
         Seen::Torn(_) | Seen::Mount(_) => Err(CutFault::Torn),
     }
 }
@@ -140,12 +140,12 @@ pub fn cut<W: Write>(
     };
     let mut generator = Lcg128Xsl64::seed_from_u64(seed);
     let pages = nand.geometry().pages();
-    let mut standing = begin(alloc, nand)?;
+    let mut known_device = begin(alloc, nand)?;
     for before in 0..u64::from(sessions) {
-        let done = exercise(alloc, standing, &mut session, &mut generator, pages)?;
+        let done = exercise(alloc, known_device, &mut session, &mut generator, pages)?;
         let finding = done.seen.finding();
         tell(writer, before + 1, done.operation, finding, commands)?;
-        standing = go_on(done.device, done.seen)?;
+        known_device = go_on(done.device, done.seen)?;
     }
     Ok(())
 }

@@ -32,7 +32,7 @@ use volume_terms::VolumeSizes;
 
 /// A device and the tree that a mount of it shows.
 #[derive(Drop)]
-pub(crate) struct Standing {
+pub(crate) struct KnownDevice {
     pub(crate) device: MemNand,
     pub(crate) tree: PlainTree,
 }
@@ -91,9 +91,9 @@ fn mount(alloc: Global, mut nand: MemNand) -> Result<Volume<MemNand>, (MemNand, 
 }
 
 /// The device with the tree that it shows. A copy of it is mounted.
-pub(crate) fn begin(alloc: Global, nand: MemNand) -> Result<Standing, CutFault>
-    ensures device { IfOk result (λ standing. device standing.device ≡ device nand) }
-    ensures tree { IfOk result (λ standing. IsTreeOn (device nand) standing.tree) }
+pub(crate) fn begin(alloc: Global, nand: MemNand) -> Result<KnownDevice, CutFault>
+    ensures device { IfOk result (λ known_device. device known_device.device ≡ device nand) }
+    ensures tree { IfOk result (λ known_device. IsTreeOn (device nand) known_device.tree) }
     ensures fault { IfErr result (WhyNotBegun (device nand)) }
 {
     let copy = nand.copy()?;
@@ -101,7 +101,7 @@ pub(crate) fn begin(alloc: Global, nand: MemNand) -> Result<Standing, CutFault>
         Ok(mut volume) => {
             let reported = read(alloc, nand.geometry(), &mut volume)?;
             match made_of(alloc, &reported)? {
-                Some(tree) => Ok(Standing { device: nand, tree }),
+                Some(tree) => Ok(KnownDevice { device: nand, tree }),
                 None => Err(CutFault::Unread),
             }
         }

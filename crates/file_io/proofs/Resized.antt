@@ -9,7 +9,7 @@ use Rattle.page_tags.specs.declared.header.ObjectKind.TheVariants as kinds
 use Rattle.posix_profile.specs.Changes.{resized}
 use Rattle.volume_terms.specs.Sizes.{Sizes}
 use Rattle.volume_terms.specs.laws.List.{push_last}
-use Rattle.pages.specs.Maps.{PageMap, with_pages, without_cuts, changed}
+use Rattle.pages.specs.Maps.{PageMap, with_pages, without_cuts, after_change}
 use Rattle.pages.specs.laws.Maps.{page_here, cut_here, cut_elsewhere}
 use Rattle.pages.specs.State.{PagesState}
 use Rattle.pages.specs.declared.change.Change.{Change}
@@ -78,10 +78,10 @@ tail_grows o d len limit n bits all pages (inr none) of hold i k p is chunk = ab
 module _ (p : PagesState) (z : Sizes) (o before : ℕ) (all : List ℕ) (f : FileIn p z o before all) (d : ℕ) (size : d ≡ z.page_bytes) (some : 1 ≤ d)
     (len : ℕ) (len_is : len ≡ length all) (was : List ℕ) (was_is : was ≡ f.reads.fields.bits) (n moment : ℕ) where
   -- a file that has the length and the moment already
-  pub resize_same : n ≡ len → f.reads.fields.moment ≡ moment → (change : Change) → change.pages.items ≡ [] → change.cuts.items ≡ [] → Becomes z p.present (changed change p.present) o f.reads.fields 0 0 moment (resized all n)
+  pub resize_same : n ≡ len → f.reads.fields.moment ≡ moment → (change : Change) → change.pages.items ≡ [] → change.cuts.items ≡ [] → Becomes z p.present (after_change change p.present) o f.reads.fields 0 0 moment (resized all n)
   resize_same is when change no_pages no_cuts =
       let stays = λ (c : ℕ). keeps change no_pages no_cuts c in
-      becomes p z o before moment all (resized all n) f d size some (changed change p.present) f.reads.fields (stays 0 ∙ f.reads.has.0)
+      becomes p z o before moment all (resized all n) f d size some (after_change change p.present) f.reads.fields (stays 0 ∙ f.reads.has.0)
       (subst (λ x. IsHeader x f.reads.fields) (sym size) f.reads.has.1) f.reads.kind when (f.reads.size ∙ sym len_is ∙ sym is ∙ sym (length-resized all n))
       (λ k. inr (inl (record {
         page = stays (1 + k);
@@ -91,7 +91,7 @@ module _ (p : PagesState) (z : Sizes) (o before : ℕ) (all : List ℕ) (f : Fil
       })))
       0 0 (λ k low high. absurd (omega (arith, high))) (λ k is. inl is)
     where
-      keeps : (change : Change) → change.pages.items ≡ [] → change.cuts.items ≡ [] → (c : ℕ) → changed change p.present o c ≡ p.present o c
+      keeps : (change : Change) → change.pages.items ≡ [] → change.cuts.items ≡ [] → (c : ℕ) → after_change change p.present o c ≡ p.present o c
       keeps change no_pages no_cuts c =
           ap (λ (xs : List FreshPage). with_pages xs (without_cuts change.cuts.items p.present) o c) no_pages ∙ ap (λ (xs : List Cut). without_cuts xs p.present o c) no_cuts
 
@@ -152,7 +152,7 @@ module _ (p : PagesState) (z : Sizes) (o before : ℕ) (all : List ℕ) (f : Fil
       | inr high ↦ let two : true ≡ false = sym is ∙ unset_past k high in absurd cc
     ]
 
-    pub resize_new : Becomes z p.present (changed change p.present) o f.reads.fields 0 0 moment (resized all n)
+    pub resize_new : Becomes z p.present (after_change change p.present) o f.reads.fields 0 0 moment (resized all n)
     resize_new =
         let IsOne : ℕ → Type 0 = IsTail d len was limit in
         let pushed = header_push o (IsTail d len was limit) pages q of (λ tail. omega (arith, tail.chunk)) object chunk in
@@ -160,10 +160,10 @@ module _ (p : PagesState) (z : Sizes) (o before : ℕ) (all : List ℕ) (f : Fil
         let held = tail_grows o d len limit n was all pages grown of hold in
         let hold' = subst (λ (xs : List FreshPage). HoldChunks d (resized all n) xs) (sym items) (hold_push d (resized all n) pages q held (λ k is. absurd (omega (arith, is, chunk)))) in
         let there : slice_get change.pages.items (length pages) ≡ Some q = ap (λ (xs : List FreshPage). slice_get xs (length pages)) items ∙ push_last pages q in
-        let at : changed change p.present o 0 ≡ Some (header_bytes (file_fields n moment bits)) =
-        ap (λ k. changed change p.present k 0) (sym object) ∙ ap (λ k. changed change p.present q.key.object k) (sym chunk)
+        let at : after_change change p.present o 0 ≡ Some (header_bytes (file_fields n moment bits)) =
+        ap (λ k. after_change change p.present k 0) (sym object) ∙ ap (λ k. after_change change p.present q.key.object k) (sym chunk)
         ∙ page_here change.pages.items (without_cuts change.cuts.items p.present) of'.apart (length pages) q there ∙ ap Some header in
-        becomes p z o before moment all (resized all n) f d size some (changed change p.present) (file_fields n moment bits) at valid refl refl (sym (length-resized all n))
+        becomes p z o before moment all (resized all n) f d size some (after_change change p.present) (file_fields n moment bits) at valid refl refl (sym (length-resized all n))
         (resize_chunks p z o before all f d size some len len_is was was_is n limit ((n + d - 1) / d) (ceil_low n d some) (ceil_high n d some) (λ more. grows (omega (arith, more, len_is))) (λ less. stays (omega (arith, less, len_is)))
         (OrHeader (IsTail d len was limit)) change.pages.items of' (but_header (IsTail d len was limit)) (λ c is. inl is) hold' bits (λ k low. others k (inl low)) (without_cuts change.cuts.items p.present)
         (λ k low. uncut_before (1 + k) (omega (arith, low))) past)

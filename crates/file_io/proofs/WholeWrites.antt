@@ -10,7 +10,7 @@ use Rattle.posix_profile.specs.Changes.{written}
 use Rattle.volume_terms.specs.Sizes.{Sizes}
 use Rattle.volume_terms.specs.laws.List.{push_last}
 use Rattle.volume_terms.specs.laws.Rounding.{ceiling_le}
-use Rattle.pages.specs.Maps.{PageMap, without_cuts, changed, IsCut}
+use Rattle.pages.specs.Maps.{PageMap, without_cuts, after_change, IsCut}
 use Rattle.pages.specs.laws.Maps.{page_here}
 use Rattle.pages.specs.Changes.{IsOnlyOf}
 use Rattle.pages.specs.State.{PagesState}
@@ -109,14 +109,14 @@ module _ (p : PagesState) (z : Sizes) (o before : ℕ) (all : List ℕ) (f : Fil
   -- a write that leaves the header as it was
   pub write_same : (change : Change) → change.pages.items ≡ pages → change.cuts.items ≡ [] → f.reads.fields.moment ≡ moment → off + length bytes ≤ len
       → ((k : ℕ) → off / d ≤ k → k < (off + length bytes - 1) / d + 1 → is_present was (1 + k) ≡ true)
-      → Becomes z p.present (changed change p.present) o f.reads.fields (off / d) ((off + length bytes - 1) / d + 1) moment (written all off bytes)
+      → Becomes z p.present (after_change change p.present) o f.reads.fields (off / d) ((off + length bytes - 1) / d + 1) moment (written all off bytes)
   write_same change items cuts when fits set =
       let IsOne : ℕ → Type 0 = IsWritten d len was (off / d) ((off + length bytes - 1) / d + 1) in
       let m : PageMap = without_cuts change.cuts.items p.present in
       let same = λ (c : ℕ). uncut change.cuts.items cuts p.present o c in
       let of' = subst (λ (xs : List FreshPage). AreOf o (IsWritten d len was (off / d) ((off + length bytes - 1) / d + 1)) xs) (sym items) of in
       let hold' = subst (λ (xs : List FreshPage). HoldChunks d (written all off bytes) xs) (sym items) hold in
-      becomes p z o before moment all (written all off bytes) f d size some (changed change p.present) f.reads.fields
+      becomes p z o before moment all (written all off bytes) f d size some (after_change change p.present) f.reads.fields
       (none_of o IsOne change.pages.items of' m 0 (among_chunks d len was (off / d) ((off + length bytes - 1) / d + 1) 0 refl) ∙ same 0 ∙ f.reads.has.0)
       (subst (λ n. IsHeader n f.reads.fields) (sym size) f.reads.has.1) f.reads.kind when (f.reads.size ∙ sym len_is ∙ omega (arith, fits, len_is, length-written all off bytes))
       (write_chunks p z o before all f d size some len len_is was was_is off bytes any IsOne change.pages.items of' (λ c first is. is) (λ c is. is) hold' f.reads.fields.bits
@@ -128,7 +128,7 @@ module _ (p : PagesState) (z : Sizes) (o before : ℕ) (all : List ℕ) (f : Fil
       → q.bytes.items ≡ header_bytes (file_fields long moment bits) → IsHeader d (file_fields long moment bits) → long ≡ max len (off + length bytes)
       → ((k : ℕ) → off / d ≤ k → k < (off + length bytes - 1) / d + 1 → is_present bits (1 + k) ≡ true)
       → ((k : ℕ) → (k < off / d) ⊎ ((off + length bytes - 1) / d + 1 ≤ k) → is_present bits (1 + k) ≡ is_present was (1 + k))
-      → Becomes z p.present (changed change p.present) o f.reads.fields (off / d) ((off + length bytes - 1) / d + 1) moment (written all off bytes)
+      → Becomes z p.present (after_change change p.present) o f.reads.fields (off / d) ((off + length bytes - 1) / d + 1) moment (written all off bytes)
   write_new change q long bits items cuts object chunk header valid long_is marked others =
       let IsOne : ℕ → Type 0 = IsWritten d len was (off / d) ((off + length bytes - 1) / d + 1) in
       let m : PageMap = without_cuts change.cuts.items p.present in
@@ -137,9 +137,9 @@ module _ (p : PagesState) (z : Sizes) (o before : ℕ) (all : List ℕ) (f : Fil
       let of' = subst (λ (xs : List FreshPage). AreOf o (OrHeader IsOne) xs) (sym items) pushed in
       let hold' = subst (λ (xs : List FreshPage). HoldChunks d (written all off bytes) xs) (sym items) (hold_push d (written all off bytes) pages q hold (λ k is. absurd (omega (arith, is, chunk)))) in
       let there : slice_get change.pages.items (length pages) ≡ Some q = ap (λ (xs : List FreshPage). slice_get xs (length pages)) items ∙ push_last pages q in
-      let at : changed change p.present o 0 ≡ Some (header_bytes (file_fields long moment bits)) =
-      ap (λ k. changed change p.present k 0) (sym object) ∙ ap (λ k. changed change p.present q.key.object k) (sym chunk) ∙ page_here change.pages.items m of'.apart (length pages) q there ∙ ap Some header in
-      becomes p z o before moment all (written all off bytes) f d size some (changed change p.present) (file_fields long moment bits) at valid refl refl
+      let at : after_change change p.present o 0 ≡ Some (header_bytes (file_fields long moment bits)) =
+      ap (λ k. after_change change p.present k 0) (sym object) ∙ ap (λ k. after_change change p.present q.key.object k) (sym chunk) ∙ page_here change.pages.items m of'.apart (length pages) q there ∙ ap Some header in
+      becomes p z o before moment all (written all off bytes) f d size some (after_change change p.present) (file_fields long moment bits) at valid refl refl
       (long_is ∙ omega (arith, len_is, length-written all off bytes))
       (write_chunks p z o before all f d size some len len_is was was_is off bytes any (OrHeader IsOne) change.pages.items of' (but_header IsOne) (λ c is. inl is) hold' bits marked others m same)
       (off / d) ((off + length bytes - 1) / d + 1) marked (λ k is. new_bit k bits is marked others)

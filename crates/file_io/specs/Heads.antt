@@ -7,7 +7,7 @@ use Rattle.pages.specs.State.{PagesState}
 use Rattle.file_io.specs.Files.{FileIn, HasCommittedPages, HasFileHeader, HasLastPage}
 use Rattle.file_io.specs.declared.file_head.FileHead.{FileHead}
 
--- the presence bits, which stand in its page
+-- the presence bits, which are in its page
 abbrev pub bits_in : FileHead → List ℕ
 bits_in head = drop 32 head.page.items
 

@@ -5,7 +5,7 @@ use Rattle.posix_profile.specs.Changes.{resized, written}
 use Rattle.volume_terms.specs.Sizes.{Sizes}
 use Rattle.flash_tree.specs.declared.place.FreshPage.{FreshPage}
 use Rattle.pages.specs.Changes.{IsChange}
-use Rattle.pages.specs.Maps.{IsPageOf, changed}
+use Rattle.pages.specs.Maps.{IsPageOf, after_change}
 use Rattle.pages.specs.State.{PagesState}
 use Rattle.pages.specs.declared.change.Change.{Change}
 use Rattle.file_io.specs.Chunks.{IsAmong, IsWritten, end_chunk, first_chunk}
@@ -29,13 +29,13 @@ HasNoHeader o change = (i : ℕ) → IsPageOf change.pages.items o 0 i → ⊥
 -- After the change the object is the file with this length, with zeros where it grew, changed at this moment. Its header names no chunk that
 -- it did not name before.
 abbrev pub MakesLength : {p : PagesState} {z : Sizes} {o before : ℕ} {all : List ℕ} → FileIn p z o before all → ℕ → ℕ → Change → Type 0
-MakesLength {p = p} {z = z} {o = o} {all = all} f len moment change = Becomes z p.present (changed change p.present) o f.reads.fields 0 0 moment (resized all len)
+MakesLength {p = p} {z = z} {o = o} {all = all} f len moment change = Becomes z p.present (after_change change p.present) o f.reads.fields 0 0 moment (resized all len)
 
 -- After the change the object is the file with these bytes over it from a place on, changed at this moment. Its header names each chunk that
 -- the bytes go over, and of others none that it did not name before.
 abbrev pub MakesWritten : {p : PagesState} {z : Sizes} {o before : ℕ} {all : List ℕ} → FileIn p z o before all → ℕ → List ℕ → ℕ → Change → Type 0
 MakesWritten {p = p} {z = z} {o = o} {all = all} f off bytes moment change =
-    Becomes z p.present (changed change p.present) o f.reads.fields (first_chunk z.page_bytes off) (end_chunk z.page_bytes off (length bytes)) moment (written all off bytes)
+    Becomes z p.present (after_change change p.present) o f.reads.fields (first_chunk z.page_bytes off) (end_chunk z.page_bytes off (length bytes)) moment (written all off bytes)
 
 -- this holds where a write of n bytes from a place on changes nothing that the header says: at the moment of the last change, within the
 -- file, and over chunks that the header names

@@ -19,7 +19,7 @@ fn read_part<P: Pages>(
     end: u64,
     buffer: &mut [u8],
 ) -> Result<(), PageFault>
-    requires some { offset < end }
+    requires not_empty { offset < end }
     requires room { end ≤ offset + length buffer.old }
     requires meets { MeetsChunk (P.state pages.old).page_bytes index offset end }
     ensures looks { LooksUp (MayLack (P.state pages.old)) (P.state pages.old) (P.state pages.new) result }

@@ -1,11 +1,15 @@
 -- Reads and writes at an offset, in a slot.
-use Rattle.std.proofs.Common.{◌≡◌, ◌∙◌, ℤ, true, false, sym, ap, subst}
+use Rattle.std.proofs.Common.{◌≡◌, ◌∙◌, ◌≤ℤ◌, ℤ, pos, int_lt, true, false, arith, sym, ap, subst}
 use Rattle.posix_profile.specs.declared.command.Stamped.{Stamped}
 use Rattle.posix_profile.specs.declared.reply.Reply.{Reply}
 use Rattle.flash_c.specs.Lending.{with_session}
 use Rattle.flash_c.specs.Placed.{Visit, PlacedRead, PlacedWrite, GoesBack, IsReadAt, IsWrittenAt, ReadsAtIn, WritesAtIn}
 use Rattle.flash_c.specs.declared.session.Session.{Session}
 use Rattle.flash_c.specs.declared.slot.Slot.{Slot}
+
+-- a number that is not below zero
+pub at_least_zero : (n : ℤ) → int_lt n (pos 0) ≡ false → pos 0 ≤ℤ n
+at_least_zero n is = search (arith, is)
 
 pub back_as : {S : Type 0} (serves : S → Stamped → Reply → S → Type 0) (old : S) (visit : Visit) (n m : ℤ) (new : S) → n ≡ m → GoesBack serves old visit n new → GoesBack serves old visit m new
 back_as serves old visit n m new same = subst (λ (k : ℤ). GoesBack serves old visit k new) same

@@ -12,6 +12,7 @@ pub mod SalvageLending
 pub mod SalvageSlots
 pub mod Salvaged
 pub mod Salvaging
+pub mod Serving
 pub mod Sessions
 pub mod Slots
 pub mod Volumes

@@ -1,4 +1,4 @@
-// The numbers that stand for flags, and for where a seek counts from.
+// The numbers that represent flags, and for where a seek counts from.
 ghost use Rattle.std.specs.Prelude.{◌≡◌};
 ghost use Rattle.flash_c.specs.Flags.{is_set, access_of, open_flags, whence};
 

@@ -23,7 +23,6 @@ mod salvage_session;
 mod salvage_slot;
 mod salvaged;
 mod salvaging;
-mod serve;
 mod session;
 mod slot;
 mod volumes;

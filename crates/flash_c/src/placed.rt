@@ -1,25 +1,25 @@
-// Reads and writes at an offset of their own, over anything that serves commands: the descriptor's offset is set, and set back.
+// Reads and writes at an offset of their own: the descriptor's offset is set, and set back.
 ghost use Rattle.std.specs.Prelude.{◌≡◌};
+ghost use Rattle.flash_c.specs.Serving.{serves};
 ghost use Rattle.flash_c.specs.Placed.{Seeks, GoesTo, GoesBack, IsReadAt, IsWrittenAt, ReadsAtIn, WritesAtIn, placed_read, placed_write};
 
 use crate::numbers::error_number;
-use crate::serve::Serve;
 use crate::session::{Session, count, read};
 use crate::slot::Slot;
 use crate::writing::write;
 use posix_calls::{Errno, Request, StampedRequest, Whence};
 
 /// Moves the offset of a descriptor and returns it.
-fn seek<S: Serve>(session: &mut S, fd: u32, offset: i64, whence: Whence) -> i64
-    ensures { Seeks S.serves session.old ((record { fd = fd; offset = offset }), whence) result session.new }
+fn seek(session: &mut Session, fd: u32, offset: i64, whence: Whence) -> i64
+    ensures { Seeks serves session.old ((record { fd = fd; offset = offset }), whence) result session.new }
 {
     let request = Request::Seek { fd, offset, whence };
     count(session, &StampedRequest { moment: 0, request })
 }
 
 /// Sets the offset of a descriptor, and returns what it was.
-fn go_to<S: Serve>(session: &mut S, fd: u32, offset: i64) -> Result<i64, i64>
-    ensures { GoesTo S.serves session.old (record { fd = fd; offset = offset }) result session.new }
+fn go_to(session: &mut Session, fd: u32, offset: i64) -> Result<i64, i64>
+    ensures { GoesTo serves session.old (record { fd = fd; offset = offset }) result session.new }
 {
     let was = seek(session, fd, 0, Whence::Cur);
     if was < 0 {
@@ -33,16 +33,16 @@ fn go_to<S: Serve>(session: &mut S, fd: u32, offset: i64) -> Result<i64, i64>
 }
 
 /// Sets the offset of a descriptor back, and returns the number of what was done meanwhile.
-fn go_back<S: Serve>(session: &mut S, fd: u32, was: i64, number: i64) -> i64
-    ensures { GoesBack S.serves session.old (record { fd = fd; was = was; number = number }) result session.new }
+fn go_back(session: &mut Session, fd: u32, was: i64, number: i64) -> i64
+    ensures { GoesBack serves session.old (record { fd = fd; was = was; number = number }) result session.new }
 {
     let back = seek(session, fd, was, Whence::Set);
     if back < 0 { back } else { number }
 }
 
 /// Reads into the buffer at an offset. A read of no bytes goes before, so that the errors of a read come before those of a seek.
-pub(crate) fn read_at<S: Serve>(session: &mut S, fd: u32, buffer: &mut [u8], offset: i64) -> i64
-    ensures { IsReadAt S.serves session.old (placed_read fd offset buffer.old result buffer.new) session.new }
+pub(crate) fn read_at(session: &mut Session, fd: u32, buffer: &mut [u8], offset: i64) -> i64
+    ensures { IsReadAt serves session.old (placed_read fd offset buffer.old result buffer.new) session.new }
 {
     let none = read(session, fd, &mut []);
     if none < 0 {
@@ -58,14 +58,14 @@ pub(crate) fn read_at<S: Serve>(session: &mut S, fd: u32, buffer: &mut [u8], off
 }
 
 /// Writes bytes at an offset. A write of no bytes goes before, so that the errors of a write come before those of a seek.
-pub(crate) fn write_at<S: Serve>(
-    session: &mut S,
+pub(crate) fn write_at(
+    session: &mut Session,
     moment: u64,
     fd: u32,
     bytes: &[u8],
     offset: i64,
 ) -> i64
-    ensures { IsWrittenAt S.serves session.old (placed_write moment fd offset bytes.now) result session.new }
+    ensures { IsWrittenAt serves session.old (placed_write moment fd offset bytes.now) result session.new }
 {
     let none = write(session, moment, fd, &[]);
     if none < 0 {
@@ -83,7 +83,7 @@ pub(crate) fn write_at<S: Serve>(
 /// Reads at an offset: puts the bytes at the front of the buffer and returns how many. The descriptor's offset stays.
 #[unsafe(no_mangle)]
 pub extern "C" fn flash_pread(slot: &mut Slot, fd: u32, buffer: &mut [u8], offset: i64) -> i64
-    ensures { ReadsAtIn ⟦<Session as Serve>⟧.serves slot.old
+    ensures { ReadsAtIn serves slot.old
         (placed_read fd offset buffer.old result buffer.new) slot.new }
 {
     if !slot.is_full() {
@@ -101,7 +101,7 @@ pub extern "C" fn flash_pwrite(
     offset: i64,
     moment: u64,
 ) -> i64
-    ensures { WritesAtIn ⟦<Session as Serve>⟧.serves slot.old
+    ensures { WritesAtIn serves slot.old
         (placed_write moment fd offset bytes.now) result slot.new }
 {
     if !slot.is_full() {

@@ -1,15 +1,15 @@
-// A session of commands, over anything that serves them: what each kind of command returns.
+// A session of commands: what each kind of command returns.
 ghost use Rattle.std.specs.Prelude.{◌≡◌};
 ghost use Rattle.posix_profile.specs.Requests.{stamped_of};
 ghost use Rattle.posix_profile.specs.declared.reply.Reply.{Reply};
 ghost use Rattle.flash_c.specs.Numbers.{done_number, count_number};
 ghost use Rattle.flash_c.specs.Describing.{stat_reply, IsFstat};
+ghost use Rattle.flash_c.specs.Serving.{describes, serves};
 ghost use Rattle.flash_c.specs.Questions.{IsRead, IsStat, IsListed, IsRoom, listing_of};
 
 use crate::filling::{FlashInfo, FlashSpace, put_info, put_space};
 use crate::names::put_names;
 use crate::numbers::{count_number, done_number, error_number, signed};
-use crate::serve::Serve;
 use nand_model::TrustedNand;
 use page_store::FlashPages;
 use port_nand::{FilePort, PortDevice};
@@ -27,41 +27,51 @@ pub struct Session {
     pub(crate) volume: Volume<FileNand>,
 }
 
-impl Serve for Session {
-    ghost serves = { λ old command reply new. ⟦<Volume<FileNand> as Serve>⟧.serves old.volume command reply new.volume };
+impl Session {
+    ghost use Rattle.std.specs.Prelude.{length};
+    ghost use Rattle.object_commands.specs.Reads.{LeavesRest, asked_of, read_reply, reading};
 
-    ghost describes = { λ session. ⟦<Volume<FileNand> as Serve>⟧.describes session.volume };
-
-    fn serve(&mut self, issued: &StampedRequest<'_>) -> Reply {
-        self.volume.serve(issued)
+    /// Does a command and replies to it.
+    pub(crate) fn serve(&mut self, issued: &StampedRequest<'_>) -> Reply
+        ensures { serves self.old (stamped_of issued.now) result self.new }
+    {
+        self.volume.ask(issued)
     }
 
-    fn read_into(&mut self, fd: u32, buffer: &mut [u8]) -> Result<usize, Errno> {
-        Serve::read_into(&mut self.volume, fd, buffer)
+    /// Reads at a descriptor's offset into a buffer.
+    fn read_into(&mut self, fd: u32, buffer: &mut [u8]) -> Result<usize, Errno>
+        ensures size { length buffer.new ≡ length buffer.old }
+        ensures rest { LeavesRest buffer.old buffer.new result }
+        ensures served { serves self.old (reading fd (asked_of buffer.old)) (read_reply buffer.new result) self.new }
+    {
+        self.volume.read_into(fd, buffer)
     }
 
-    fn describe(&self, fd: u32) -> Result<Info, Errno> {
-        Serve::describe(&self.volume, fd)
+    /// What Stat reports of the object that a descriptor refers to.
+    fn describe(&self, fd: u32) -> Result<Info, Errno>
+        ensures { describes self.now fd result }
+    {
+        self.volume.describe(fd)
     }
 }
 
 /// Does a command that only succeeds or fails.
-pub(crate) fn done<S: Serve>(session: &mut S, issued: &StampedRequest<'_>) -> i32
-    ensures { (reply : Reply) × S.serves session.old (stamped_of issued.now) reply session.new × (result ≡ done_number reply) }
+pub(crate) fn done(session: &mut Session, issued: &StampedRequest<'_>) -> i32
+    ensures { (reply : Reply) × serves session.old (stamped_of issued.now) reply session.new × (result ≡ done_number reply) }
 {
     done_number(&session.serve(issued))
 }
 
 /// Does a command that counts.
-pub(crate) fn count<S: Serve>(session: &mut S, issued: &StampedRequest<'_>) -> i64
-    ensures { (reply : Reply) × S.serves session.old (stamped_of issued.now) reply session.new × (result ≡ count_number reply) }
+pub(crate) fn count(session: &mut Session, issued: &StampedRequest<'_>) -> i64
+    ensures { (reply : Reply) × serves session.old (stamped_of issued.now) reply session.new × (result ≡ count_number reply) }
 {
     count_number(&session.serve(issued))
 }
 
 /// Reads at a descriptor's offset into the buffer.
-pub(crate) fn read<S: Serve>(session: &mut S, fd: u32, buffer: &mut [u8]) -> i64
-    ensures { IsRead S.serves session.old (record { fd = fd; before = buffer.old; number = result; after = buffer.new }) session.new }
+pub(crate) fn read(session: &mut Session, fd: u32, buffer: &mut [u8]) -> i64
+    ensures { IsRead serves session.old (record { fd = fd; before = buffer.old; number = result; after = buffer.new }) session.new }
 {
     match session.read_into(fd, buffer) {
         Ok(count) => signed(count as u64),
@@ -70,8 +80,8 @@ pub(crate) fn read<S: Serve>(session: &mut S, fd: u32, buffer: &mut [u8]) -> i64
 }
 
 /// Reports what a path leads to in the struct.
-pub(crate) fn stat<S: Serve>(session: &mut S, path: &[u8], info: &mut FlashInfo) -> i32
-    ensures { IsStat S.serves session.old (record { path = path.now; before = info.old; number = result; after = info.new }) session.new }
+pub(crate) fn stat(session: &mut Session, path: &[u8], info: &mut FlashInfo) -> i32
+    ensures { IsStat serves session.old (record { path = path.now; before = info.old; number = result; after = info.new }) session.new }
 {
     let request = Request::Stat { path };
     put_info(info, &session.serve(&StampedRequest { moment: 0, request }))
@@ -87,16 +97,16 @@ fn stat_reply(reported: Result<Info, Errno>) -> Reply
     }
 }
 
-/// Reports what a descriptor stands for in the struct.
-pub(crate) fn fstat<S: Serve>(session: &S, fd: u32, info: &mut FlashInfo) -> i32
-    ensures { IsFstat S.describes session.now (record { fd = fd; before = info.old; number = result; after = info.new }) }
+/// Reports what a descriptor refers to in the struct.
+pub(crate) fn fstat(session: &Session, fd: u32, info: &mut FlashInfo) -> i32
+    ensures { IsFstat describes session.now (record { fd = fd; before = info.old; number = result; after = info.new }) }
 {
     put_info(info, &stat_reply(session.describe(fd)))
 }
 
 /// Puts the names of a directory in the buffer.
-pub(crate) fn list<S: Serve>(session: &mut S, path: &[u8], buffer: &mut [u8]) -> i64
-    ensures { IsListed S.serves session.old (listing_of path.now buffer.old result buffer.new) session.new }
+pub(crate) fn list(session: &mut Session, path: &[u8], buffer: &mut [u8]) -> i64
+    ensures { IsListed serves session.old (listing_of path.now buffer.old result buffer.new) session.new }
 {
     let request = Request::List { path };
     put_names(
@@ -106,8 +116,8 @@ pub(crate) fn list<S: Serve>(session: &mut S, path: &[u8], buffer: &mut [u8]) ->
 }
 
 /// Reports the room of the volume in the struct.
-pub(crate) fn space<S: Serve>(session: &mut S, space: &mut FlashSpace) -> i32
-    ensures { IsRoom S.serves session.old (record { before = space.old; number = result; after = space.new }) session.new }
+pub(crate) fn space(session: &mut Session, space: &mut FlashSpace) -> i32
+    ensures { IsRoom serves session.old (record { before = space.old; number = result; after = space.new }) session.new }
 {
     let request = Request::Space;
     put_space(

@@ -1,10 +1,11 @@
 // A write that goes on until all is written.
 ghost use Rattle.std.specs.Prelude.{◌≡◌, ◌≤◌, ◌<◌, ◌⊎◌, ℕ, IfSome, IfNone};
 ghost use Rattle.posix_profile.specs.declared.reply.Reply.TheVariants as replies;
+ghost use Rattle.flash_c.specs.Serving.{serves};
 ghost use Rattle.flash_c.specs.Sessions.{write_number, IsWritten};
 
 use crate::numbers::{count_number, signed};
-use crate::serve::Serve;
+use crate::session::Session;
 use posix_calls::{Reply, Request, StampedRequest};
 
 /// How many bytes were written, or the error where none were.
@@ -20,7 +21,7 @@ fn write_number(done: usize, reply: &Reply) -> i64
 
 /// How many bytes were written, where these are some and more are left. `left` counts those that were to be written.
 fn goes_on(reply: &Reply, left: usize) -> Option<usize>
-    ensures some { IfSome result (λ count. (reply.now ≡ replies.Wrote count) × (0 < count) × (count < left)) }
+    ensures wrote { IfSome result (λ count. (reply.now ≡ replies.Wrote count) × (0 < count) × (count < left)) }
     ensures none { IfNone result ((count : ℕ) → reply.now ≡ replies.Wrote count → (count ≡ 0) ⊎ (left ≤ count)) }
 {
     match reply {
@@ -30,8 +31,8 @@ fn goes_on(reply: &Reply, left: usize) -> Option<usize>
 }
 
 /// Writes bytes at the offset of a descriptor, by as many commands as it takes.
-pub(crate) fn write<S: Serve>(session: &mut S, moment: u64, fd: u32, bytes: &[u8]) -> i64
-    ensures { IsWritten S.serves (record { moment = moment; fd = fd; bytes = bytes.now }) session.old result session.new }
+pub(crate) fn write(session: &mut Session, moment: u64, fd: u32, bytes: &[u8]) -> i64
+    ensures { IsWritten serves (record { moment = moment; fd = fd; bytes = bytes.now }) session.old result session.new }
 {
     let mut done = 0usize;
     'writes: loop {

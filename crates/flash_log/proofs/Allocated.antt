@@ -10,7 +10,7 @@ use Rattle.transactions.specs.Handing.{HandsOut}
 use Rattle.transactions.specs.Ready.{IsReady}
 use Rattle.flash_log.specs.Copying.{KeepsCounts, KeepsDataAt}
 use Rattle.flash_log.specs.Passing.{Passes}
-use Rattle.flash_log.specs.Standing.{AreHeld, KeepsFree, Stands}
+use Rattle.flash_log.specs.Consistency.{AreHeld, KeepsFree, IsConsistentLog}
 use Rattle.flash_log.specs.Steps.{Step}
 use Rattle.flash_log.specs.Taking.{TakeEnds, Takes, TakesNone}
 use Rattle.flash_log.specs.declared.take.TakeFault.{TakeFault}
@@ -18,16 +18,16 @@ use Rattle.flash_log.specs.laws.Erased.{erased_here}
 use Rattle.flash_log.specs.laws.FreeBlocks.{free_still}
 use Rattle.flash_log.specs.laws.Keeping.{same_here, keeps_passes}
 use Rattle.flash_log.specs.laws.CommittedPages.{committed_where, data_where}
-use Rattle.flash_log.specs.laws.Moves.{are_held, stands_still, stands_committed}
+use Rattle.flash_log.specs.laws.Moves.{are_held, consistent_still, consistent_committed}
 use Rattle.flash_log.specs.laws.Steps.{step_committed}
 
 module _ (spare : ℕ) (d0 d1 : Device) (t u : Table) (x : Index) (law : (b : ℕ) → count_committed_in x b ≡ 0 → HoldsNone (committed_pages x) b)
-    (lasts : Lasts d0 d1) (ready : IsReady d1 u) (numbers : HandsOut d0 d1 t u) (passes : Passes d0 d1 t u) (stands : Stands spare d0 t x) where
+    (lasts : Lasts d0 d1) (can_write : IsReady d1 u) (numbers : HandsOut d0 d1 t u) (passes : Passes d0 d1 t u) (consistent : IsConsistentLog spare d0 t x) where
   keeps : KeepsCounts d0 d1 t u
-  keeps = keeps_passes d0 d1 t t u (same_here t) lasts ready numbers (λ is. is) (erased_here d0 t) passes
+  keeps = keeps_passes d0 d1 t t u (same_here t) lasts can_write numbers (λ is. is) (erased_here d0 t) passes
 
   held : AreHeld t x
-  held = are_held t x law stands.tables.counts
+  held = are_held t x law consistent.tables.counts
 
   stored : d0.honest ≡ true → KeepsDataAt t d0.flash d1.flash
   stored honest = data_where d0.flash d1.flash t (passes.newest honest)
@@ -45,24 +45,24 @@ module _ (spare : ℕ) (d0 d1 : Device) (t u : Table) (x : Index) (law : (b : �
         let zero_there = none_committed in
         omega (arith, none, zero_there)
 
-    stands_taken : Stands spare d1 u x
-    stands_taken = stands_still spare d0 d1 t u x held keeps stands written (λ honest power. committed_where d0.flash d1.flash t (passes.newest honest))
+    consistent_taken : IsConsistentLog spare d1 u x
+    consistent_taken = consistent_still spare d0 d1 t u x held keeps consistent written (λ honest power. committed_where d0.flash d1.flash t (passes.newest honest))
 
     free_where_taken : KeepsFree spare d0 d1 x x
-    free_where_taken = free_still spare d0 d1 t u x held keeps stands stands_taken.tables (λ honest. committed_where d0.flash d1.flash t (passes.newest honest))
+    free_where_taken = free_still spare d0 d1 t u x held keeps consistent consistent_taken.tables (λ honest. committed_where d0.flash d1.flash t (passes.newest honest))
 
     pub step_taken : Step spare (log_of d0 t) (log_of d1 u) x x
-    step_taken = step_committed spare d0 d1 t u x held keeps stands stands_taken stored passes.found free_where_taken
+    step_taken = step_committed spare d0 d1 t u x held keeps consistent consistent_taken stored passes.found free_where_taken
 
   -- none was
-  stands_none : TakesNone t u → Stands spare d1 u x
-  stands_none none = stands_committed spare d0 d1 t u x held keeps stands none.open_block (λ honest power. committed_where d0.flash d1.flash t (passes.newest honest))
+  consistent_none : TakesNone t u → IsConsistentLog spare d1 u x
+  consistent_none none = consistent_committed spare d0 d1 t u x held keeps consistent none.open_block (λ honest power. committed_where d0.flash d1.flash t (passes.newest honest))
 
   free_where_none : TakesNone t u → KeepsFree spare d0 d1 x x
-  free_where_none none = free_still spare d0 d1 t u x held keeps stands (stands_none none).tables (λ honest. committed_where d0.flash d1.flash t (passes.newest honest))
+  free_where_none none = free_still spare d0 d1 t u x held keeps consistent (consistent_none none).tables (λ honest. committed_where d0.flash d1.flash t (passes.newest honest))
 
   pub step_untaken : TakesNone t u → Step spare (log_of d0 t) (log_of d1 u) x x
-  step_untaken none = step_committed spare d0 d1 t u x held keeps stands (stands_none none) stored passes.found (free_where_none none)
+  step_untaken none = step_committed spare d0 d1 t u x held keeps consistent (consistent_none none) stored passes.found (free_where_none none)
 
   -- whether one was or not
   pub step_tried : (result : Result ℕ TakeFault) → TakeEnds spare d1 t u result → Step spare (log_of d0 t) (log_of d1 u) x x

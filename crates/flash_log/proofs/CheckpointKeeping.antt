@@ -21,13 +21,13 @@ use Rattle.transactions.specs.Marking.{NotesMark}
 use Rattle.transactions.specs.Opening.{MayLose}
 use Rattle.transactions.specs.Ready.{IsReady}
 use Rattle.flash_log.specs.Passing.{Passes}
-use Rattle.flash_log.specs.Standing.{AreHeld, Stands}
+use Rattle.flash_log.specs.Consistency.{AreHeld, IsConsistentLog}
 use Rattle.flash_log.specs.Taking.{LiesApart}
 use Rattle.flash_log.specs.laws.Erased.{erased_here, erased_marked, erased_on}
 use Rattle.flash_log.specs.laws.Found.{findable_here, findable_still, found_here, found_marked, found_on}
 use Rattle.flash_log.specs.CheckpointKeeping.{IsExact, KeepsPages, Seals, ShowsExactly, StaysChecked}
 use Rattle.flash_log.specs.CheckpointWriting.{Leaves}
-use Rattle.flash_log.proofs.IndexStays.{LeavesIndex, stands_left, data_left, free_left}
+use Rattle.flash_log.proofs.IndexStays.{LeavesIndex, is_in_left, data_left, free_left}
 use Rattle.posix_profile.specs.State.{Objects}
 
 -- ---- two steps in turn
@@ -56,7 +56,7 @@ numbers_on a b c t u v before after first then = record {
 pub keeps_on : (a b c : LogState) → KeepsPages a b → KeepsPages b c → KeepsPages a c
 keeps_on a b c first then = record {
   lasts = lasts_on a.device b.device c.device first.lasts then.lasts;
-  ready = then.ready;
+  can_write = then.can_write;
   numbers = numbers_on a.device b.device c.device a.table b.table c.table first.lasts then.lasts first.numbers then.numbers;
   geometry = then.geometry ∙ first.geometry;
   committed = λ k. then.committed k ∙ first.committed k;
@@ -83,9 +83,9 @@ leaves_on right block a b c first then = record {
 
 -- a block is taken
 pub keeps_taken : (d e : Device) (t u : Table) → Lasts d e → IsReady e u → HandsOut d e t u → Passes d e t u → KeepsPages (log_of d t) (log_of e u)
-keeps_taken d e t u lasts ready hands passes = record {
+keeps_taken d e t u lasts can_write hands passes = record {
   lasts = lasts;
-  ready = ready;
+  can_write = can_write;
   numbers = hands.numbers;
   geometry = passes.geometry;
   committed = passes.committed;
@@ -99,9 +99,9 @@ keeps_taken d e t u lasts ready hands passes = record {
 
 -- nothing is done
 pub keeps_here : (d : Device) (t : Table) → IsReady d t → HandsNumbers d d t t → KeepsPages (log_of d t) (log_of d t)
-keeps_here d t ready numbers = record {
+keeps_here d t can_write numbers = record {
   lasts = lasts_here d;
-  ready = ready;
+  can_write = can_write;
   numbers = numbers;
   geometry = refl;
   committed = λ b. refl;
@@ -165,9 +165,9 @@ module _ (v : ℕ) (d e : Device) (t u : Table) (result : Result (Unit {0}) Gone
   ]
 
   pub keeps_marked : IsReady e u → HandsOut d e t u → (d.honest ≡ true → KeepsElsewhere v d.flash e.flash) → KeepsPages (log_of d t) (log_of e u)
-  keeps_marked ready hands elsewhere = record {
+  keeps_marked can_write hands elsewhere = record {
     lasts = marks.lasts;
-    ready = ready;
+    can_write = can_write;
     numbers = hands.numbers;
     geometry = notes.sets.geometry;
     committed = marked_committed;
@@ -185,8 +185,8 @@ module _ (v : ℕ) (d e : Device) (t u : Table) (result : Result (Unit {0}) Gone
 
   -- what a mark leaves of a block that was closed
   pub leaves_marked : IsReady e u → HandsOut d e t u → (d.honest ≡ true → KeepsElsewhere v d.flash e.flash) → t.open_block ≡ None → MayLose v t → Leaves (Unit {0}) v (log_of d t) (log_of e u)
-  leaves_marked ready hands elsewhere closed first = record {
-    keeps = keeps_marked ready hands elsewhere;
+  leaves_marked can_write hands elsewhere closed first = record {
+    keeps = keeps_marked can_write hands elsewhere;
     checked = λ _. hands.truth.checked;
     reads = let same = same_failures result marks.ends in let reads = marks.reads in omega (arith, same, reads);
     open_block = notes.open_block ∙ closed;
@@ -198,12 +198,12 @@ module _ (v : ℕ) (d e : Device) (t u : Table) (result : Result (Unit {0}) Gone
 
 -- ---- so what stands of a log stands
 
-module _ (spare : ℕ) (x : Index) (d e : Device) (t u : Table) (held : AreHeld t x) (stands : Stands spare d t x) (keeps : KeepsPages (log_of d t) (log_of e u))
+module _ (spare : ℕ) (x : Index) (d e : Device) (t u : Table) (held : AreHeld t x) (consistent : IsConsistentLog spare d t x) (keeps : KeepsPages (log_of d t) (log_of e u))
     (closed : u.open_block ≡ None) (apart : LiesApart u) where
   leaves : LeavesIndex d e t u
   leaves = record {
     lasts = keeps.lasts;
-    ready = keeps.ready;
+    can_write = keeps.can_write;
     geometry = keeps.geometry;
     committed = keeps.committed;
     rises = keeps.numbers.groups_rise;
@@ -219,19 +219,19 @@ module _ (spare : ℕ) (x : Index) (d e : Device) (t u : Table) (held : AreHeld 
       → Seals spare x (log_of d t) (log_of e u)
   seals_from checked shows = record {
     keeps = keeps;
-    stands = stands_left spare x d e t u held stands leaves;
+    consistent = is_in_left spare x d e t u held consistent leaves;
     checked = checked;
     shows = shows;
-    same_data = data_left spare x d e t u held stands leaves;
-    free = free_left spare x d e t u held stands leaves;
-    findable = findable_still spare d e t x held keeps.lasts stands keeps.found;
+    same_data = data_left spare x d e t u held consistent leaves;
+    free = free_left spare x d e t u held consistent leaves;
+    findable = findable_still spare d e t x held keeps.lasts consistent keeps.found;
   }
 
 -- nothing is done
-pub seals_here : (spare : ℕ) (x : Index) (d : Device) (t : Table) → IsReady d t → Stands spare d t x → Seals spare x (log_of d t) (log_of d t)
-seals_here spare x d t ready stands = record {
-  keeps = keeps_here d t ready (hands_nothing d t).numbers;
-  stands = stands;
+pub seals_here : (spare : ℕ) (x : Index) (d : Device) (t : Table) → IsReady d t → IsConsistentLog spare d t x → Seals spare x (log_of d t) (log_of d t)
+seals_here spare x d t can_write consistent = record {
+  keeps = keeps_here d t can_write (hands_nothing d t).numbers;
+  consistent = consistent;
   checked = λ _ honest is. is;
   shows = λ honest s objects is. is;
   same_data = λ honest o c p bytes is has. has;

@@ -28,7 +28,7 @@ use Rattle.transactions.specs.Checking.{log_of}
 use Rattle.transactions.specs.Ready.{IsReady}
 use Rattle.std.proofs.lemmas.Bool.{cases_Bool}
 use Rattle.flash_log.specs.Passing.{Passes}
-use Rattle.flash_log.specs.Standing.{AreHeld, AreCommitted, Stands}
+use Rattle.flash_log.specs.Consistency.{AreHeld, AreCommitted, IsConsistentLog}
 use Rattle.flash_log.specs.Taking.{Takes}
 use Rattle.flash_log.specs.laws.FreeBlocks.{newest_where_committed}
 use Rattle.flash_log.specs.CheckpointDue.{IsDue, check_pages}
@@ -69,19 +69,19 @@ module _ (m : CommittedMap) (ks : List CommittedKey) (list : IsListOf m ks) wher
 
 -- ---- the committed keys of a log
 
-module _ (spare : ℕ) (d : Device) (t : Table) (x : Index) (ready : IsReady d t) (stands : Stands spare d t x) where
+module _ (spare : ℕ) (d : Device) (t : Table) (x : Index) (can_write : IsReady d t) (consistent : IsConsistentLog spare d t x) where
   abbrev keys : List CommittedKey
   keys = committed_keys (committed_pages x)
 
   -- their list is whole
   pub lists : IsListOf (committed_pages x) keys
-  lists = lists_keys (committed_pages x) (λ o c p is. let name = (stands.tables.within o c p is).name in (name.object.1, name.chunk))
+  lists = lists_keys (committed_pages x) (λ o c p is. let name = (consistent.tables.within o c p is).name in (name.object.1, name.chunk))
 
   entries_valid : All IsCheckEntry (index_entries x)
   entries_valid = each_entry (committed_pages x) keys lists IsCheckEntry (λ k is.
-      let may = stands.tables.within k.key.object k.key.chunk k.at is in
-      let limit = stands.limits.0 in
-      let sizes : t.geometry ≡ d.geometry = ready.geometry in
+      let may = consistent.tables.within k.key.object k.key.chunk k.at is in
+      let limit = consistent.limits.0 in
+      let sizes : t.geometry ≡ d.geometry = can_write.geometry in
       record {
         object = may.name.object.1;
         chunk = may.name.chunk;
@@ -102,13 +102,13 @@ module _ (spare : ℕ) (d : Device) (t : Table) (x : Index) (ready : IsReady d t
     number = later.numbers.0;
   } where
     sizes : t.geometry ≡ e.geometry
-    sizes = ready.geometry ∙ sym lasts.geometry
+    sizes = can_write.geometry ∙ sym lasts.geometry
 
   -- ---- the tree
 
   module _ (honest : d.honest ≡ true) (power : d.gone ≡ false) (s : ℕ) (objects : Objects) (exact : ShowsExactly d.geometry d.flash (committed_pages x) s objects) where
     are_committed : AreCommitted d.flash (committed_pages x)
-    are_committed = stands.newest honest power
+    are_committed = consistent.newest honest power
 
     abbrev lists_tree : ListsTree d.geometry d.flash (index_entries x)
     lists_tree = record {
@@ -139,7 +139,7 @@ module _ (spare : ℕ) (d : Device) (t : Table) (x : Index) (ready : IsReady d t
       stays o c p foot newest =
           let is = exact.all o c foot in
           let there : p.block ≡ is.0.block = newest_where_committed d.flash o c is.0 p (are_committed o c is.0 is.1) newest in
-          keeps.newest honest o c p (stands.ordinary honest o c is.0 is.1) newest (subst (λ b. 1 ≤ (t.entry b).committed) (sym there) (held o c is.0 is.1))
+          keeps.newest honest o c p (consistent.ordinary honest o c is.0 is.1) newest (subst (λ b. 1 ≤ (t.entry b).committed) (sym there) (held o c is.0 is.1))
 
       lists_later : ListsTree e.geometry e.flash (index_entries x)
       lists_later = subst (λ (g : Geometry). ListsTree g e.flash (index_entries x)) (sym keeps.lasts.geometry) (lists_committed d.geometry d.flash e.flash (index_entries x) lists_tree stays)
@@ -178,7 +178,7 @@ module _ (spare : ℕ) (d : Device) (t : Table) (x : Index) (ready : IsReady d t
         omega (arith, some, none);
     ordinary = λ honest f is at.
         let by = committed_by (committed_pages x) keys lists f is in
-        stands.ordinary (was honest) by.0.key.object by.0.key.chunk by.0.at by.1 (ap (λ (g : CheckEntry). g.object) by.2 ∙ at);
+        consistent.ordinary (was honest) by.0.key.object by.0.key.chunk by.0.at by.1 (ap (λ (g : CheckEntry). g.object) by.2 ∙ at);
     fresh = λ honest. subst (λ n. AreBelow e.flash n (u.entry block).seq) (sym passes.next_group) (subst (λ n. AreBelow e.flash t.next_group n) (sym takes.seq) (takes.below honest));
   } where
     was : e.honest ≡ true → d.honest ≡ true

@@ -18,16 +18,16 @@ abbrev pub noted : ℕ → Table → Table
 noted b t = record t { open_block = None; checkpoint = Some b }
 
 pub ready_noted : (d : Device) (t u : Table) (b : ℕ) → u ≡ noted b t → b < d.geometry.blocks → d.flash.bad b ≡ false → IsReady d t → IsReady d u
-ready_noted d t u b is within good ready = subst (IsReady d) (sym is) (record {
-  geometry = ready.geometry;
-  marks = ready.marks;
+ready_noted d t u b is within good can_write = subst (IsReady d) (sym is) (record {
+  geometry = can_write.geometry;
+  marks = can_write.marks;
   open_block = λ o at. let two : None ≡ Some o = at in absurd cc;
   waits = λ c at.
       let both : Some b ≡ Some c = at in
       let same : b ≡ c = cc in
       record { within = subst (λ k. k < d.geometry.blocks) same within; good = subst (λ k. d.flash.bad k ≡ false) same good; closed = refl };
-  numbers = ready.numbers;
-  below = ready.below;
+  numbers = can_write.numbers;
+  below = can_write.below;
 })
 
 -- once it is marked none is

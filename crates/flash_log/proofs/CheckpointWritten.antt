@@ -46,7 +46,7 @@ same_size checks g n list =
 
 -- ---- the group
 
-module _ {T : Type 0} (pages : Ghosts T) (source : T) (d e : Device) (t u : Table) (result : Result Placed GroupFault) (block : ℕ) (opened : t.open_block ≡ Some block) (ready : IsReady d t)
+module _ {T : Type 0} (pages : Ghosts T) (source : T) (d e : Device) (t u : Table) (result : Result Placed GroupFault) (block : ℕ) (opened : t.open_block ≡ Some block) (can_write : IsReady d t)
     (lasts : Lasts d e) (group : WritesGroup pages source (log_of d t) (log_of e u) result) (writes : d.honest ≡ true → WritesCheckpoint pages source d t) where
   abbrev g : Group
   g = next_group t (pages.count source) block
@@ -61,13 +61,13 @@ module _ {T : Type 0} (pages : Ghosts T) (source : T) (d e : Device) (t u : Tabl
   same = same_ends (pages.count source) t u result group.table
 
   good_there : d.flash.bad block ≡ false
-  good_there = (ready.open_block block opened).good
+  good_there = (can_write.open_block block opened).good
 
   good_after : e.flash.bad block ≡ false
   good_after = ap (λ f. f block) group.stays.bad ∙ good_there
 
   within_after : block < e.geometry.blocks
-  within_after = subst (λ (x : Geometry). block < x.blocks) (sym lasts.geometry) (ready.open_block block opened).within
+  within_after = subst (λ (x : Geometry). block < x.blocks) (sym lasts.geometry) (can_write.open_block block opened).within
 
   -- the block is on the device, and good
   pub block_after : IsReady e u → block < u.geometry.blocks
@@ -80,7 +80,7 @@ module _ {T : Type 0} (pages : Ghosts T) (source : T) (d e : Device) (t u : Tabl
   committed_now none = same.committed block ∙ none
 
   pub none_before : t.checkpoint ≡ None
-  none_before = none_waits d t block ready opened
+  none_before = none_waits d t block can_write opened
 
   pub bad_same : bad_count u ≡ bad_count t
   bad_same = same_bad_count t u same
@@ -95,15 +95,15 @@ module _ {T : Type 0} (pages : Ghosts T) (source : T) (d e : Device) (t u : Tabl
   found_group : d.honest ≡ true → KeepsFound t d e
   found_group honest =
       let right : KeepsSummaries d e = group.summaries honest (λ some. begins_other honest some) in
-      found_after t d e block (pages.count source) name (pages.bytes source d.flash) ready opened honest lasts.geometry (group.writes honest) right
-      (λ adds. found_others t d e block (pages.count source) name (pages.bytes source d.flash) ready opened honest lasts.geometry (group.writes honest) right
+      found_after t d e block (pages.count source) name (pages.bytes source d.flash) can_write opened honest lasts.geometry (group.writes honest) right
+      (λ adds. found_others t d e block (pages.count source) name (pages.bytes source d.flash) can_write opened honest lasts.geometry (group.writes honest) right
       (λ some. begins_other honest some) adds (other_object g name (pages.bytes source d.flash) d.flash e.flash (group.writes honest).grows (own_object honest))) result (group.groups honest block opened)
 
   -- what is committed, as the group leaves the table
   pub keeps_group : IsReady e u → t.next_group < number_end → KeepsPages (log_of d t) (log_of e u)
   keeps_group after less = record {
     lasts = lasts;
-    ready = after;
+    can_write = after;
     numbers = group.numbers;
     geometry = same.geometry;
     committed = same.committed;
@@ -115,7 +115,7 @@ module _ {T : Type 0} (pages : Ghosts T) (source : T) (d e : Device) (t u : Tabl
     newest = λ honest o k s other newest some. trees_stay g name (pages.bytes source d.flash) d.flash e.flash (group.writes honest).grows (own_object honest) result (group.groups honest block opened) o k s other newest;
     summaries = λ honest. group.summaries honest (λ some. begins_other honest some);
     found = λ honest. found_group honest;
-    erased = erased_written d e t block (pages.count source) name (pages.bytes source d.flash) ready opened lasts group.writes u result (λ honest. group.groups honest block opened) group.table;
+    erased = erased_written d e t block (pages.count source) name (pages.bytes source d.flash) can_write opened lasts group.writes u result (λ honest. group.groups honest block opened) group.table;
   }
 
   -- nothing was written in the block before
@@ -132,7 +132,7 @@ module _ {T : Type 0} (pages : Ghosts T) (source : T) (d e : Device) (t u : Tabl
       let keeps = keeps_group after less in
       record {
         lasts = lasts;
-        ready = ready_noted e u (noted block u) block refl within_after good_after after;
+        can_write = ready_noted e u (noted block u) block refl within_after good_after after;
         numbers = record {
           groups_rise = keeps.numbers.groups_rise;
           seqs_rise = keeps.numbers.seqs_rise;
@@ -148,7 +148,7 @@ module _ {T : Type 0} (pages : Ghosts T) (source : T) (d e : Device) (t u : Tabl
         newest = keeps.newest;
         summaries = keeps.summaries;
         found = keeps.found;
-        erased = erased_noted d e t block (pages.count source) name (pages.bytes source d.flash) ready opened lasts group.writes u (noted block u) result
+        erased = erased_noted d e t block (pages.count source) name (pages.bytes source d.flash) can_write opened lasts group.writes u (noted block u) result
             (λ honest. group.groups honest block opened) group.table blank_before refl;
       })
 

@@ -16,17 +16,17 @@ use Rattle.flash_log.specs.laws.Bills.{pays_on}
 use Rattle.nand_model.specs.declared.geometry.Geometry.{Geometry}
 use Rattle.flash_log.specs.Moving.{MovesOut, LiesIn, LiesOpen}
 use Rattle.flash_log.specs.Retiring.{IsRetired, RetireEnds}
-use Rattle.flash_log.specs.Standing.{Stands}
+use Rattle.flash_log.specs.Consistency.{IsConsistentLog}
 use Rattle.flash_log.specs.laws.Turns.{moves_out_on}
 use Rattle.flash_log.specs.RoomMaking.{IsCollected, CollectEnds}
 
 -- the copies are trusted
-pub collected_open : (v w spare : ℕ) (d : Device) (t u : Table) (y : Index) → 1 ≤ (t.entry v).committed → LiesOpen v w t u → (u.entry v).committed ≡ 0 → bad_count u ≤ spare → Stands spare d u y
+pub collected_open : (v w spare : ℕ) (d : Device) (t u : Table) (y : Index) → 1 ≤ (t.entry v).committed → LiesOpen v w t u → (u.entry v).committed ≡ 0 → bad_count u ≤ spare → IsConsistentLog spare d u y
     → IsCollected v spare t u
-collected_open v w spare d t u y some lies left within_limit stands =
+collected_open v w spare d t u y some lies left within_limit consistent =
     let there = lies.lies.there in
     let same : free_count u ≡ uncommitted_count u = free_where_held u w lies.open_block (omega (arith, there, some)) in
-    record { opened = (w, lies.open_block, lies.next); left = inl left; within_limit = within_limit; free = omega (arith, same, stands.tables.uncommitted) }
+    record { opened = (w, lies.open_block, lies.next); left = inl left; within_limit = within_limit; free = omega (arith, same, consistent.tables.uncommitted) }
 
 -- their block is retired, and what was in it is moved, perhaps into the first
 pub collected_retired : (v w spare : ℕ) (t u s : Table) → 1 ≤ (t.entry v).committed → LiesIn v w t u → (u.entry v).committed ≡ 0 → IsRetired w spare u s → IsCollected v spare t s
@@ -50,8 +50,8 @@ ends_retired v w spare d t u s (Ok done) some lies left ends = (collected_retire
 ends_retired v w spare d t u s (Err fault) some lies left ends = ends
 
 pub out_retired : (v w spare : ℕ) (d : Device) (t u : Table) (x y z : Index) → ((b : ℕ) → count_committed_in x b ≡ 0 → HoldsNone (committed_pages x) b)
-    → Stands spare d t x → LiesIn v w t u → MovesOut v x y → MovesOut w y z → MovesOut v x z
-out_retired v w spare d t u x y z law stands lies first then = moves_out_on v w x y z (law w (sym (stands.tables.counts.counts w) ∙ lies.was)) first then
+    → IsConsistentLog spare d t x → LiesIn v w t u → MovesOut v x y → MovesOut w y z → MovesOut v x z
+out_retired v w spare d t u x y z law consistent lies first then = moves_out_on v w x y z (law w (sym (consistent.tables.counts.counts w) ∙ lies.was)) first then
 
 -- its retirement answers the failure of the copy
 pub pays_retired : (v w : ℕ) (d0 d1 d2 : Device) (t u s : Table) (result : Result (Unit {0}) MoveFault) → d1.geometry ≡ d0.geometry → PaysMove v (log_of d0 t) (log_of d1 u) (Ok (places.Suspect w))

@@ -22,7 +22,7 @@ use Rattle.transactions.specs.Written.{tag_in}
 use Rattle.chunk_index.specs.declared.form.CommittedKey.{CommittedKey}
 use Rattle.transactions.specs.declared.source.PageName.{PageName}
 use Rattle.flash_log.specs.Copying.{IsCopyOf, KeepsDataAt, AreCommittedAt, AreCopied}
-use Rattle.flash_log.specs.Standing.{IsCommittedAt}
+use Rattle.flash_log.specs.Consistency.{IsCommittedAt}
 use Rattle.flash_log.specs.laws.CommittedPages.{spot_of, committed_stays, data_stays}
 
 -- a key is one of those that are copied, or it is not

@@ -12,7 +12,7 @@ use Rattle.flash_log.specs.Gathering.{GatherEnds, IsGathered, LiesBehind, PaysGa
 use Rattle.flash_log.specs.Moving.{LiesIn}
 use Rattle.flash_log.specs.Retiring.{RetireEnds}
 use Rattle.flash_log.specs.RoomMaking.{CollectEnds}
-use Rattle.flash_log.specs.Standing.{Stands}
+use Rattle.flash_log.specs.Consistency.{IsConsistentLog}
 use Rattle.flash_log.specs.SummaryMaking.{PaysNext}
 use Rattle.flash_log.specs.declared.fault.MoveFault.{MoveFault}
 use Rattle.flash_log.specs.declared.moving.Moved.{Moved}
@@ -132,12 +132,12 @@ pays_short committed count a b e fault fault' lasts rises next wrote =
 -- ---- ends
 
 -- the copies are trusted
-pub gathered_behind : (v count spare : ℕ) (b e : LogState) (y : Index) → 1 ≤ (b.table.entry v).committed → LiesBehind v count b e → bad_count e.table ≤ spare → Stands spare e.device e.table y → e.device.gone ≡ false
+pub gathered_behind : (v count spare : ℕ) (b e : LogState) (y : Index) → 1 ≤ (b.table.entry v).committed → LiesBehind v count b e → bad_count e.table ≤ spare → IsConsistentLog spare e.device e.table y → e.device.gone ≡ false
     → IsGathered count spare e
-gathered_behind v count spare b e y some lies within_limit stands power =
+gathered_behind v count spare b e y some lies within_limit consistent power =
     let there = lies.lies.there in
     let same : free_count e.table ≡ uncommitted_count e.table = free_where_held e.table lies.block lies.open_block (omega (arith, there, some)) in
-    record { fits = lies.fits; within_limit = within_limit; free = omega (arith, same, stands.tables.uncommitted); power = power }
+    record { fits = lies.fits; within_limit = within_limit; free = omega (arith, same, consistent.tables.uncommitted); power = power }
 
 -- their block is retired
 pub gathered_retired : (v w committed count spare : ℕ) (b e f : LogState) (result : Result (Unit {0}) MoveFault) → committed ≡ (b.table.entry v).committed → 1 ≤ committed → LiesIn v w b.table e.table → committed + count ≤ f.table.geometry.pages

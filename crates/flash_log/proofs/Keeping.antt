@@ -11,7 +11,7 @@ use Rattle.flash_log.specs.Copying.{KeepsCounts, KeepsCommittedAt, KeepsDataAt, 
 use Rattle.flash_log.specs.Passing.{KeepsFound}
 use Rattle.flash_log.specs.laws.Found.{found_on, places_at}
 use Rattle.flash_log.specs.laws.Keeping.{keeps_on}
-use Rattle.flash_log.specs.Standing.{HasVersion}
+use Rattle.flash_log.specs.Consistency.{HasVersion}
 use Rattle.flash_log.specs.declared.copying.Copied.{Copied}
 use Rattle.flash_log.specs.declared.copying.Copied.TheVariants as ends
 use Rattle.flash_log.specs.declared.fault.MoveFault.{MoveFault}

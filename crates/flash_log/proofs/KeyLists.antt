@@ -23,17 +23,17 @@ each_append P (x ∷ xs) ys one two zero k is = one 0 k is
 each_append P (x ∷ xs) ys one two (suc i) k is = each_append P xs ys (λ j l at. one (suc j) l at) two i k is
 
 -- the key stands in the list
-abbrev StandsIn : CommittedKey → List CommittedKey → Type 0
-StandsIn k ks = (i : ℕ) × (slice_get ks i ≡ Some k)
+abbrev IsIn : CommittedKey → List CommittedKey → Type 0
+IsIn k ks = (i : ℕ) × (slice_get ks i ≡ Some k)
 
-stands_left : (k : CommittedKey) (xs ys : List CommittedKey) → StandsIn k xs → StandsIn k (xs ++ ys)
-stands_left k [] ys (i, is) = absurd cc
-stands_left k (x ∷ xs) ys (zero, is) = (0, is)
-stands_left k (x ∷ xs) ys (suc i, is) = let rest = stands_left k xs ys (i, is) in (suc rest.0, rest.1)
+is_in_left : (k : CommittedKey) (xs ys : List CommittedKey) → IsIn k xs → IsIn k (xs ++ ys)
+is_in_left k [] ys (i, is) = absurd cc
+is_in_left k (x ∷ xs) ys (zero, is) = (0, is)
+is_in_left k (x ∷ xs) ys (suc i, is) = let rest = is_in_left k xs ys (i, is) in (suc rest.0, rest.1)
 
-stands_right : (k : CommittedKey) (xs ys : List CommittedKey) → StandsIn k ys → StandsIn k (xs ++ ys)
-stands_right k [] ys s = s
-stands_right k (x ∷ xs) ys s = let rest = stands_right k xs ys s in (suc rest.0, rest.1)
+is_in_right : (k : CommittedKey) (xs ys : List CommittedKey) → IsIn k ys → IsIn k (xs ++ ys)
+is_in_right k [] ys s = s
+is_in_right k (x ∷ xs) ys s = let rest = is_in_right k xs ys s in (suc rest.0, rest.1)
 
 rising_tail : (k : CommittedKey) (ks : List CommittedKey) → KeyRises (k ∷ ks) → KeyRises ks
 rising_tail k ks rise i j a b lt at_i at_j = rise (suc i) (suc j) a b (omega (arith, lt)) at_i at_j
@@ -78,8 +78,8 @@ module _ (m : CommittedMap) where
     go None = rising_none
     go (Some p) = rising_cons (key_with o c p) [] (λ i l at. absurd cc) rising_none
 
-  stands_key : (o c : ℕ) (p : CommittedPage) → m o c ≡ Some p → StandsIn (key_with o c p) (key_at m o c)
-  stands_key o c p is = (0, ap (λ q. slice_get (option_map_or (λ (r : CommittedPage). key_with o c r ∷ []) q []) 0) is)
+  is_in_key : (o c : ℕ) (p : CommittedPage) → m o c ≡ Some p → IsIn (key_with o c p) (key_at m o c)
+  is_in_key o c p is = (0, ap (λ q. slice_get (option_map_or (λ (r : CommittedPage). key_with o c r ∷ []) q []) 0) is)
 
   -- a committed key of an object, of a chunk below n
   record IsOfObject (o n : ℕ) (k : CommittedKey) : Type 0 where
@@ -101,13 +101,13 @@ module _ (m : CommittedMap) where
       let two = is_key o n j l at' in
       inr (one.object ∙ sym two.object, omega (arith, one.below, two.chunk_is)))
 
-  stands_chunk : (o c n : ℕ) (p : CommittedPage) → c < n → m o c ≡ Some p → StandsIn (key_with o c p) (chunk_keys m o n)
-  stands_chunk o c zero p lt is = absurd (omega (arith, lt))
-  stands_chunk o c (suc n) p lt is = elim (cases_lt c n) [
-    | inl less ↦ stands_left (key_with o c p) (chunk_keys m o n) (key_at m o n) (stands_chunk o c n p less is)
+  is_in_chunk : (o c n : ℕ) (p : CommittedPage) → c < n → m o c ≡ Some p → IsIn (key_with o c p) (chunk_keys m o n)
+  is_in_chunk o c zero p lt is = absurd (omega (arith, lt))
+  is_in_chunk o c (suc n) p lt is = elim (cases_lt c n) [
+    | inl less ↦ is_in_left (key_with o c p) (chunk_keys m o n) (key_at m o n) (is_in_chunk o c n p less is)
     | inr ge ↦
         let last : c ≡ n = omega (arith, lt, ge) in
-        stands_right (key_with o c p) (chunk_keys m o n) (key_at m o n) (subst (λ l. StandsIn (key_with o c p) (key_at m o l)) last (stands_key o c p is))
+        is_in_right (key_with o c p) (chunk_keys m o n) (key_at m o n) (subst (λ l. IsIn (key_with o c p) (key_at m o l)) last (is_in_key o c p is))
   ]
 
   -- ---- the keys of all objects
@@ -130,13 +130,13 @@ module _ (m : CommittedMap) where
       let two = each_chunk o n j l at' in
       inl (omega (arith, one.object, two.object)))
 
-  stands_object : (n o c k : ℕ) (p : CommittedPage) → o < k → c < n → m o c ≡ Some p → StandsIn (key_with o c p) (object_keys m n k)
-  stands_object n o c zero p lt below is = absurd (omega (arith, lt))
-  stands_object n o c (suc k) p lt below is = elim (cases_lt o k) [
-    | inl less ↦ stands_left (key_with o c p) (object_keys m n k) (chunk_keys m k n) (stands_object n o c k p less below is)
+  is_in_object : (n o c k : ℕ) (p : CommittedPage) → o < k → c < n → m o c ≡ Some p → IsIn (key_with o c p) (object_keys m n k)
+  is_in_object n o c zero p lt below is = absurd (omega (arith, lt))
+  is_in_object n o c (suc k) p lt below is = elim (cases_lt o k) [
+    | inl less ↦ is_in_left (key_with o c p) (object_keys m n k) (chunk_keys m k n) (is_in_object n o c k p less below is)
     | inr ge ↦
         let last : o ≡ k = omega (arith, lt, ge) in
-        stands_right (key_with o c p) (object_keys m n k) (chunk_keys m k n) (subst (λ l. StandsIn (key_with o c p) (chunk_keys m l n)) last (stands_chunk o c n p below is))
+        is_in_right (key_with o c p) (object_keys m n k) (chunk_keys m k n) (subst (λ l. IsIn (key_with o c p) (chunk_keys m l n)) last (is_in_chunk o c n p below is))
   ]
 
 below_end : (n : ℕ) → n < 2 ^ 64 → n < key_end
@@ -148,6 +148,6 @@ pub lists_keys : (m : CommittedMap) → ((o c : ℕ) (p : CommittedPage) → m o
 unfolding committed_keys
 lists_keys m small = record {
   each = λ i k at. (each_object m key_end key_end i k at).page;
-  all = λ o c p is. let lt = small o c p is in stands_object m key_end o c key_end p (below_end o lt.0) (below_end c lt.1) is;
+  all = λ o c p is. let lt = small o c p is in is_in_object m key_end o c key_end p (below_end o lt.0) (below_end c lt.1) is;
   rise = rising_objects m key_end key_end;
 }

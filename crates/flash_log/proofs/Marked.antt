@@ -14,7 +14,7 @@ use Rattle.transactions.specs.Marking.{NotesMark}
 use Rattle.transactions.specs.Ready.{IsReady}
 use Rattle.flash_log.specs.Copying.{KeepsCounts, KeepsCommittedAt, KeepsDataAt}
 use Rattle.flash_log.specs.Erased.{KeepsErased}
-use Rattle.flash_log.specs.Standing.{IsWithinLimits}
+use Rattle.flash_log.specs.Consistency.{IsWithinLimits}
 use Rattle.flash_log.specs.laws.Erased.{erased_marked}
 use Rattle.flash_log.specs.laws.Keeping.{keeps_same}
 use Rattle.flash_log.specs.laws.CommittedPages.{committed_where, data_where}
@@ -46,7 +46,7 @@ module _ (v : ℕ) (d0 d1 : Device) (t u : Table) (result : Result (Unit {0}) Go
 
   -- a mark of a block without a committed page
   pub keeps_marked : IsReady d0 t → IsReady d1 u → HandsOut d0 d1 t u → KeepsCounts d0 d1 t u
-  keeps_marked was ready numbers = go (cases_Bool (t.entry v).bad) (cases_Bool (d1.flash.bad v)) where
+  keeps_marked was can_write numbers = go (cases_Bool (t.entry v).bad) (cases_Bool (d1.flash.bad v)) where
     erased : KeepsErased d0 d1 t u
     erased = erased_marked v d0 d1 t u result (λ bad. marks.lasts.marks v (sym (was.marks v) ∙ bad)) marks notes
 
@@ -65,7 +65,7 @@ module _ (v : ℕ) (d0 d1 : Device) (t u : Table) (result : Result (Unit {0}) Go
         let less : uncommitted_count t ≡ uncommitted_count u + 1 = mark_uncommitted t u v sets within good none in
         record {
           lasts = marks.lasts;
-          ready = ready;
+          can_write = can_write;
           numbers = numbers;
           geometry = notes.sets.geometry;
           committed = λ b. (marked_entry v d1.flash t u notes b).0;
@@ -84,9 +84,9 @@ module _ (v : ℕ) (d0 d1 : Device) (t u : Table) (result : Result (Unit {0}) Go
         }
 
     go : ((t.entry v).bad ≡ true) ⊎ ((t.entry v).bad ≡ false) → (d1.flash.bad v ≡ true) ⊎ (d1.flash.bad v ≡ false) → KeepsCounts d0 d1 t u
-    go (inl bad) now = keeps_same d0 d1 t u (marked_same (here ∙ marks.lasts.marks v (sym (was.marks v) ∙ bad) ∙ sym bad)) marks.lasts ready numbers limits erased
+    go (inl bad) now = keeps_same d0 d1 t u (marked_same (here ∙ marks.lasts.marks v (sym (was.marks v) ∙ bad) ∙ sym bad)) marks.lasts can_write numbers limits erased
     go (inr good) (inl is) = set good is
-    go (inr good) (inr is) = keeps_same d0 d1 t u (marked_same (here ∙ is ∙ sym good)) marks.lasts ready numbers limits erased
+    go (inr good) (inr is) = keeps_same d0 d1 t u (marked_same (here ∙ is ∙ sym good)) marks.lasts can_write numbers limits erased
 
   -- at most one more is bad
   pub one_more_bad : IsReady d0 t → bad_count u ≤ bad_count t + 1

@@ -32,7 +32,7 @@ use Rattle.flash_log.specs.declared.fault.MoveFault.{MoveFault}
 use Rattle.flash_log.specs.declared.moving.Moved.{Moved}
 use Rattle.flash_log.specs.Moving.{MovesOut, IsCommittedPageIn, LiesIn, LiesOpen, IsLeft}
 use Rattle.flash_log.specs.Refreshing.{FillsAnew}
-use Rattle.flash_log.specs.Standing.{IsCommittedAt, MayLie, AreHeld, Stands, KeepsFree}
+use Rattle.flash_log.specs.Consistency.{IsCommittedAt, MayLie, AreHeld, IsConsistentLog, KeepsFree}
 use Rattle.flash_log.specs.Steps.{Step}
 use Rattle.flash_log.specs.Reporting.{Reports}
 use Rattle.flash_log.specs.laws.Steps.{moves_committed_out}
@@ -47,7 +47,7 @@ use Rattle.flash_log.specs.declared.copying.Copied.TheVariants as ends
 use Rattle.flash_log.proofs.RoomTaken.{fits_open}
 use Rattle.flash_log.specs.laws.Erased.{LeavesBlank, knows_as, leads_as}
 use Rattle.flash_log.specs.laws.Found.{findable_moved, findable_still}
-use Rattle.flash_log.specs.laws.FreeBlocks.{free_where_stands}
+use Rattle.flash_log.specs.laws.FreeBlocks.{free_where_consistent}
 use Rattle.flash_tree.specs.laws.Place.{had_power}
 use Rattle.flash_log.specs.laws.Moves.{same_committed_sum, may_lie_later, same_data}
 
@@ -57,50 +57,50 @@ use Rattle.flash_log.specs.laws.Moves.{same_committed_sum, may_lie_later, same_d
 sum_at : (b n k : ℕ) → b < n → sum_below (λ i. if i == b then k else 0) n ≡ k
 sum_at b n k lt =
     let none : sum_below (λ i. 0) n ≡ 0 = sum_below-zero (λ i. 0) n (λ i less. refl) in
-    let changed : sum_below (λ i. if i == b then k else 0) n + 0 ≡ sum_below (λ i. 0) n + (if b == b then k else 0) =
+    let after_change : sum_below (λ i. if i == b then k else 0) n + 0 ≡ sum_below (λ i. 0) n + (if b == b then k else 0) =
     sum_below-changed (λ i. 0) (λ i. if i == b then k else 0) b n lt (λ i ne. grind (arith, nat_tests, ne)) in
     let here : (if b == b then k else 0) ≡ k = grind (arith, nat_tests) in
-    omega (arith, none, changed, here)
+    omega (arith, none, after_change, here)
 
 -- ---- what may be copied
 
 name_eta : (t : Table) (x : CommittedKey) (n : ℕ) → MayLie t x.key.object x.key.chunk x.at → IsPageName t.next_group (copied_name x)
 name_eta t x n may = record { object = may.name.object; chunk = may.name.chunk; version = may.name.version }
 
-pub may_be_copied : (spare v : ℕ) (d : Device) (t : Table) (x : Index) (copies : List CommittedKey) → IsReady d t → Stands spare d t x → IsListed v t x copies → MayBeCopied d t copies
-may_be_copied spare v d t x copies ready stands listed =
-    let fits = stands.tables.fits v in
+pub may_be_copied : (spare v : ℕ) (d : Device) (t : Table) (x : Index) (copies : List CommittedKey) → IsReady d t → IsConsistentLog spare d t x → IsListed v t x copies → MayBeCopied d t copies
+may_be_copied spare v d t x copies can_write consistent listed =
+    let fits = consistent.tables.fits v in
     let count = listed.count in
     let some = listed.some in
     let most : t.geometry.pages ≤ 256 = t.geometry.most_pages in
-    let each : (i : ℕ) (y : CommittedKey) → slice_get copies i ≡ Some y → MayLie t y.key.object y.key.chunk y.at = λ i y at. stands.tables.within y.key.object y.key.chunk y.at (listed.lists.committed i y at) in
+    let each : (i : ℕ) (y : CommittedKey) → slice_get copies i ≡ Some y → MayLie t y.key.object y.key.chunk y.at = λ i y at. consistent.tables.within y.key.object y.key.chunk y.at (listed.lists.committed i y at) in
     record {
       can = record {
         some = omega (arith, count, some);
         within_limit = omega (arith, count, fits, most);
         within = λ i y at. let may = each i y at in (
-          subst (λ (g : Geometry). y.at.block < g.blocks) ready.geometry may.block,
-          subst (λ (g : Geometry). y.at.page < g.pages) ready.geometry may.page,
+          subst (λ (g : Geometry). y.at.block < g.blocks) can_write.geometry may.block,
+          subst (λ (g : Geometry). y.at.page < g.pages) can_write.geometry may.page,
         );
         named = λ i lt.
             let there = slice_get_there copies i lt in
             subst (IsPageName t.next_group) (sym (name_is copies i there.0 there.1)) (name_eta t there.0 i (each i there.0 there.1));
       };
-      within_limit = subst (λ (g : Geometry). length copies ≤ g.pages) ready.geometry (omega (arith, count, fits));
+      within_limit = subst (λ (g : Geometry). length copies ≤ g.pages) can_write.geometry (omega (arith, count, fits));
       held = λ i y at. let here : (t.entry y.at.block).committed ≡ (t.entry v).committed = ap (λ b. (t.entry b).committed) (listed.lists.here i y at) in omega (arith, here, some);
       once = listed.lists.once;
-      newest = λ honest power i y at. stands.newest honest power y.key.object y.key.chunk y.at (listed.lists.committed i y at);
+      newest = λ honest power i y at. consistent.newest honest power y.key.object y.key.chunk y.at (listed.lists.committed i y at);
       ordinary = λ honest i lt.
           let there = slice_get_there copies i lt in
           let y : CommittedKey = there.0 in
           subst (λ (n : PageName). n.key.object ≢ check_object) (sym (name_is copies i y there.1))
-          (stands.ordinary honest y.key.object y.key.chunk y.at (listed.lists.committed i y there.1));
+          (consistent.ordinary honest y.key.object y.key.chunk y.at (listed.lists.committed i y there.1));
     }
 
 -- ---- where the copies are reported
 
 module _ (spare v : ℕ) (target : Target) (d0 d1 : Device) (t0 t1 t2 : Table) (x y : Index) (copies : List CommittedKey) (listed : IsListed v t0 x copies) (held : AreHeld t0 x)
-    (keeps : KeepsCounts d0 d1 t0 t1) (stands : Stands spare d0 t0 x) (is : IsTarget (length copies) target t0 t1)
+    (keeps : KeepsCounts d0 d1 t0 t1) (consistent : IsConsistentLog spare d0 t0 x) (is : IsTarget (length copies) target t0 t1)
     (reports : Reports v (length copies) (place_of target) copies x y t1 t2) (agree : CountsAgree t2 y)
     (newest : d0.honest ≡ true → d1.gone ≡ false → AreWritten (place_of target) copies t0 d0.flash d1.flash) where
   pub apart : v ≢ target.block
@@ -191,8 +191,8 @@ module _ (spare v : ℕ) (target : Target) (d0 d1 : Device) (t0 t1 t2 : Table) (
   pub none_noted : t2.checkpoint ≡ None
   none_noted = reports.counts.checkpoint ∙ is.checkpoint
 
-  stands_moved : IsReady d1 t1 → Stands spare d1 t2 y
-  stands_moved ready = record {
+  consistent_moved : IsReady d1 t1 → IsConsistentLog spare d1 t2 y
+  consistent_moved can_write = record {
     tables = record {
       counts = agree;
       within = λ o c p at. elim (listed_or_not copies o c) [
@@ -200,18 +200,18 @@ module _ (spare v : ℕ) (target : Target) (d0 d1 : Device) (t0 t1 t2 : Table) (
             let both : Some p ≡ Some (copy_in (place_of target) i z) = sym at ∙ reported o c i z there of in
             let same : p ≡ copy_in (place_of target) i z = cc in
             let lt : i < length copies = slice_get_within copies i z there in
-            let fits = stands.tables.fits v in
-            let was = stands.tables.within z.key.object z.key.chunk z.at (listed.lists.committed i z there) in
+            let fits = consistent.tables.fits v in
+            let was = consistent.tables.within z.key.object z.key.chunk z.at (listed.lists.committed i z there) in
             let page : target.first + i < t0.geometry.pages = let room = is.fits in omega (arith, lt, room) in
             let may : MayLie t0 z.key.object z.key.chunk (copy_in (place_of target) i z) = record { block = is.within; page = page; name = was.name } in
             subst (MayLie t2 o c) (sym same) (subst (λ q. MayLie t2 q c (copy_in (place_of target) i z)) of.0 (subst (λ l. MayLie t2 z.key.object l (copy_in (place_of target) i z)) of.1
             (may_lie_later t0 t2 _ _ _ (reports.counts.geometry ∙ keeps.geometry) (let group = reports.counts.next_group in omega (arith, group, keeps.numbers.numbers.groups_rise)) may)))
         | inr none ↦ may_lie_later t0 t2 o c p (reports.counts.geometry ∙ keeps.geometry) (let group = reports.counts.next_group in omega (arith, group, keeps.numbers.numbers.groups_rise))
-            (stands.tables.within o c p (sym (reports.index.committed_elsewhere o c (λ j z lt there of. none j z there of)) ∙ at))
+            (consistent.tables.within o c p (sym (reports.index.committed_elsewhere o c (λ j z lt there of. none j z there of)) ∙ at))
       ];
       fits = λ b. subst (λ (g : Geometry). (t2.entry b).committed ≤ g.pages) (sym (reports.counts.geometry ∙ keeps.geometry)) (fits_then b);
       written = open_is;
-      uncommitted = let uncommitted = same_uncommitteds in let bad = same_bads in omega (arith, uncommitted, bad, keeps.uncommitted, stands.tables.uncommitted);
+      uncommitted = let uncommitted = same_uncommitteds in let bad = same_bads in omega (arith, uncommitted, bad, keeps.uncommitted, consistent.tables.uncommitted);
       apart = λ k noted. let two : None ≡ Some k = sym none_noted ∙ noted in absurd cc;
     };
     newest = λ honest power o c p at.
@@ -225,15 +225,15 @@ module _ (spare v : ℕ) (target : Target) (d0 d1 : Device) (t0 t1 t2 : Table) (
               (subst (λ l. IsCommittedAt d1.flash z.key.object l (copy_in (place_of target) i z)) of.1 (all.copied i z there)))
           | inr none ↦
               let before : committed_pages x o c ≡ Some p = sym (reports.index.committed_elsewhere o c (λ j z lt there of. none j z there of)) ∙ at in
-              all.others o c p (held o c p before) none (stands.newest was (had_power d0 d1 keeps.lasts power) o c p before)
+              all.others o c p (held o c p before) none (consistent.newest was (had_power d0 d1 keeps.lasts power) o c p before)
         ];
     ordinary = λ honest o c p at.
-        let was = stands.ordinary (sym keeps.lasts.honest ∙ honest) in
+        let was = consistent.ordinary (sym keeps.lasts.honest ∙ honest) in
         elim (listed_or_not copies o c) [
           | inl (i, z, there, of) ↦ subst (λ q. q ≢ check_object) of.0 (was z.key.object z.key.chunk z.at (listed.lists.committed i z there))
           | inr none ↦ was o c p (sym (reports.index.committed_elsewhere o c (λ j z lt there of. none j z there of)) ∙ at)
         ];
-    limits = let now = keeps.limits stands.limits in (
+    limits = let now = keeps.limits consistent.limits in (
       let group = reports.counts.next_group in omega (arith, group, now.0),
       let seq = reports.counts.next_seq in omega (arith, seq, now.1),
     );
@@ -242,8 +242,8 @@ module _ (spare v : ℕ) (target : Target) (d0 d1 : Device) (t0 t1 t2 : Table) (
     fits_then b = elim (cases_eq b v) [
       | inl e ↦ let here : (t2.entry b).committed ≡ (t2.entry v).committed = ap (λ k. (t2.entry k).committed) e in let none = now_none in omega (arith, here, none)
       | inr nv ↦ elim (cases_eq b target.block) [
-        | inl e ↦ let here : (t2.entry b).committed ≡ (t2.entry target.block).committed = ap (λ k. (t2.entry k).committed) e in let now = now_committed in let fits = stands.tables.fits v in omega (arith, here, now, fits)
-        | inr nw ↦ let same = committed_elsewhere b nv nw in let fits = stands.tables.fits b in omega (arith, same, fits)
+        | inl e ↦ let here : (t2.entry b).committed ≡ (t2.entry target.block).committed = ap (λ k. (t2.entry k).committed) e in let now = now_committed in let fits = consistent.tables.fits v in omega (arith, here, now, fits)
+        | inr nw ↦ let same = committed_elsewhere b nv nw in let fits = consistent.tables.fits b in omega (arith, same, fits)
       ]
     ]
 
@@ -257,7 +257,7 @@ module _ (spare v : ℕ) (target : Target) (d0 d1 : Device) (t0 t1 t2 : Table) (
     committed = λ o c none. reports.index.committed_elsewhere o c (λ j z lt there of. none (in_v o c j z there of));
     present = λ o c none. reports.index.present_elsewhere o c (λ j z lt there of. none (in_v o c j z there of));
     prepared = reports.index.prepared;
-    ready = reports.index.ready;
+    can_write = reports.index.can_write;
   } where
     in_v : (o c j : ℕ) (z : CommittedKey) → slice_get copies j ≡ Some z → IsCopyOf z o c → IsCommittedPageIn v x o c
     in_v o c j z there of = (
@@ -279,11 +279,11 @@ module _ (spare v : ℕ) (target : Target) (d0 d1 : Device) (t0 t1 t2 : Table) (
 
   -- the table is ready still, since only counts changed
   ready_reported : IsReady d1 t1 → IsReady d1 t2
-  ready_reported ready = record {
-    geometry = reports.counts.geometry ∙ ready.geometry;
-    marks = λ b. reports.counts.bad b ∙ ready.marks b;
+  ready_reported can_write = record {
+    geometry = reports.counts.geometry ∙ can_write.geometry;
+    marks = λ b. reports.counts.bad b ∙ can_write.marks b;
     open_block = λ o opened.
-        let was = ready.open_block o (sym reports.counts.open_block ∙ opened) in
+        let was = can_write.open_block o (sym reports.counts.open_block ∙ opened) in
         let next = reports.counts.next o in
         let seq = reports.counts.seq o in
         let next_seq = reports.counts.next_seq in
@@ -298,13 +298,13 @@ module _ (spare v : ℕ) (target : Target) (d0 d1 : Device) (t0 t1 t2 : Table) (
               (subst (λ s. IsWrittenInOrder d1.flash o (t1.entry o).next s) (sym seq) (was.in_order honest));
         };
     waits = λ k noted. let two : None ≡ Some k = sym none_noted ∙ noted in absurd cc;
-    numbers = (let group = reports.counts.next_group in let one = ready.numbers.0 in omega (arith, group, one), let seq = reports.counts.next_seq in let one = ready.numbers.1 in omega (arith, seq, one));
-    below = λ honest. subst (λ n. AreBelow d1.flash n t2.next_seq) (sym reports.counts.next_group) (subst (λ n. AreBelow d1.flash t1.next_group n) (sym reports.counts.next_seq) (ready.below honest));
+    numbers = (let group = reports.counts.next_group in let one = can_write.numbers.0 in omega (arith, group, one), let seq = reports.counts.next_seq in let one = can_write.numbers.1 in omega (arith, seq, one));
+    below = λ honest. subst (λ n. AreBelow d1.flash n t2.next_seq) (sym reports.counts.next_group) (subst (λ n. AreBelow d1.flash t1.next_group n) (sym reports.counts.next_seq) (can_write.below honest));
   }
 
   -- the device has power, so blocks are free by the table
   free_moved : AreHeld t2 y → d1.gone ≡ false → KeepsFree spare d0 d1 x y
-  free_moved there power honest free = free_where_stands spare d1 t2 y (ready_reported keeps.ready) there (stands_moved keeps.ready) (keeps.lasts.honest ∙ honest) power
+  free_moved there power honest free = free_where_consistent spare d1 t2 y (ready_reported keeps.can_write) there (consistent_moved keeps.can_write) (keeps.lasts.honest ∙ honest) power
 
   some_copy : (x0 : CommittedKey) × (slice_get copies 0 ≡ Some x0)
   some_copy = slice_get_there copies 0 (let count = listed.count in let some = listed.some in omega (arith, count, some))
@@ -353,16 +353,16 @@ module _ (spare v : ℕ) (target : Target) (d0 d1 : Device) (t0 t1 t2 : Table) (
   pub step_moved : AreHeld t2 y → d1.gone ≡ false → (d0.honest ≡ true → KeepsDataAt t0 d0.flash d1.flash) → (d0.honest ≡ true → KeepsFound t0 d0 d1) → Step spare (log_of d0 t0) (log_of d1 t2) x y
   step_moved there power stays found = record {
     lasts = keeps.lasts;
-    ready = ready_reported keeps.ready;
-    stands = stands_moved keeps.ready;
+    can_write = ready_reported keeps.can_write;
+    consistent = consistent_moved keeps.can_write;
     numbers = hands_same d0 d1 t0 t1 t2 reports.counts.next_group reports.counts.next_seq reports.counts.checkpoint keeps.numbers;
     geometry = reports.counts.geometry ∙ keeps.geometry;
     marks = λ b bad. reports.counts.bad b ∙ keeps.marks b bad;
     committed_count = same_keeps;
     index = moves_committed_out v x y moves_out;
-    same_data = same_data spare d0 d1 t0 t1 x held keeps stands stays;
+    same_data = same_data spare d0 d1 t0 t1 x held keeps consistent stays;
     free = free_moved there power;
-    findable = findable_moved d0 d1 x y (moves_committed_out v x y moves_out) (findable_still spare d0 d1 t0 x held keeps.lasts stands found);
+    findable = findable_moved d0 d1 x y (moves_committed_out v x y moves_out) (findable_still spare d0 d1 t0 x held keeps.lasts consistent found);
     erased = erased_moved power;
   }
 

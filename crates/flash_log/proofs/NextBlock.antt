@@ -109,8 +109,8 @@ pays_plain count a b block r lasts marked took within_limit answers =
 
 -- the block that was open is written, and older than the one that was allocated
 pub was_written : (w : WrittenBlock) (b : ℕ) (d e : Device) (t u : Table) → IsReady d t → IsOpenWith w t → Lasts d e → Passes d e t u → Takes b e t u → WasWritten w e u
-was_written w b d e t u ready is lasts passes takes = record {
-  within = subst (λ (g : Geometry). w.block < g.blocks) (sym passes.geometry) (subst (λ (g : Geometry). w.block < g.blocks) (sym ready.geometry) opened.within);
+was_written w b d e t u can_write is lasts passes takes = record {
+  within = subst (λ (g : Geometry). w.block < g.blocks) (sym passes.geometry) (subst (λ (g : Geometry). w.block < g.blocks) (sym can_write.geometry) opened.within);
   older = λ o at.
       let both : Some b ≡ Some o = sym takes.open_block ∙ at in
       let same : b ≡ o = cc in
@@ -123,7 +123,7 @@ was_written w b d e t u ready is lasts passes takes = record {
       (opened.in_order was).own l x (passes.tags was w.block l x is.committed has) ∙ sym is.seq;
 } where
   opened : IsOpenOn d t w.block
-  opened = ready.open_block w.block is.open_block
+  opened = can_write.open_block w.block is.open_block
 
 -- how it ends, where numbers were left before
 pub ends_from : (count spare : ℕ) (a b e : LogState) (r : Result (Unit {0}) MoveFault) → LeavesNumber a.table b.table → NextEnds count spare b e r → NextEnds count spare a e r

@@ -12,7 +12,7 @@ use Rattle.transactions.specs.Checking.{LogState, log_of}
 use Rattle.transactions.specs.Ready.{IsReady}
 use Rattle.flash_log.specs.Moving.{LiesIn}
 use Rattle.flash_log.specs.Refreshing.{FillsAnew, IsWrittenAnew, MovesNothing}
-use Rattle.flash_log.specs.Standing.{AreHeld, Stands}
+use Rattle.flash_log.specs.Consistency.{AreHeld, IsConsistentLog}
 use Rattle.flash_log.specs.Steps.{Step}
 use Rattle.flash_log.specs.laws.CommittedPages.{spot_of}
 
@@ -38,12 +38,12 @@ pub fills_closed : (d e : Device) (t u s : Table) (y : Index) → u ≡ record t
 fills_closed d e t u s y is fills = subst (λ (k : Table). FillsAnew (log_of d k) (log_of e s) y) is fills
 
 -- a block in which nothing is committed was marked
-pub fills_marked : (spare v : ℕ) (d1 d2 d3 : Device) (t1 t2 t3 : Table) (y : Index) → Lasts d1 d2 → Lasts d2 d3 → Stands spare d2 t2 y → AreHeld t2 y → (t2.entry v).committed ≡ 0
+pub fills_marked : (spare v : ℕ) (d1 d2 d3 : Device) (t1 t2 t3 : Table) (y : Index) → Lasts d1 d2 → Lasts d2 d3 → IsConsistentLog spare d2 t2 y → AreHeld t2 y → (t2.entry v).committed ≡ 0
     → (d2.honest ≡ true → KeepsElsewhere v d2.flash d3.flash) → FillsAnew (log_of d1 t1) (log_of d2 t2) y → FillsAnew (log_of d1 t1) (log_of d3 t3) y
-fills_marked spare v d1 d2 d3 t1 t2 t3 y first then stands held empty keeps fills b none honest power o c p s at here last =
+fills_marked spare v d1 d2 d3 t1 t2 t3 y first then consistent held empty keeps fills b none honest power o c p s at here last =
     let was : d2.honest ≡ true = first.honest ∙ honest in
     let on = had_power d2 d3 then power in
-    let k = stands.newest was on o c p at in
+    let k = consistent.newest was on o c p at in
     let stays = keeps was o c (spot_of p k.tag) k.newest apart in
     let same : spot_of p k.tag ≡ s = one_spot d3.flash o c (spot_of p k.tag) s stays.newest last in
     subst (λ (z : Spot). t1.next_group ≤ z.tag.group) same (fills b none honest on o c p (spot_of p k.tag) at here k.newest) where
@@ -62,10 +62,10 @@ fills_next spare v w a b c x y z step some lies held empty fills k none = elim (
 ]
 
 -- nothing is to be moved out of a block
-pub anew_idle : (spare v : ℕ) (d : Device) (t : Table) (x : Index) → IsReady d t → Stands spare d t x → AreHeld t x → MovesNothing v t → IsWrittenAnew v (log_of d t) (log_of d t) x
-anew_idle spare v d t x ready stands held (inl none) = anew_none v (log_of d t) (log_of d t) x held none
-anew_idle spare v d t x ready stands held (inr bad) = λ honest power o c p s at here last.
-    let k = stands.newest honest power o c p at in
+pub anew_idle : (spare v : ℕ) (d : Device) (t : Table) (x : Index) → IsReady d t → IsConsistentLog spare d t x → AreHeld t x → MovesNothing v t → IsWrittenAnew v (log_of d t) (log_of d t) x
+anew_idle spare v d t x can_write consistent held (inl none) = anew_none v (log_of d t) (log_of d t) x held none
+anew_idle spare v d t x can_write consistent held (inr bad) = λ honest power o c p s at here last.
+    let k = consistent.newest honest power o c p at in
     let there = sym k.newest.holds.block ∙ here in
-    let two : true ≡ false = sym bad ∙ ready.marks v ∙ ap d.flash.bad (sym there) ∙ k.newest.holds.whole.good in
+    let two : true ≡ false = sym bad ∙ can_write.marks v ∙ ap d.flash.bad (sym there) ∙ k.newest.holds.whole.good in
     absurd cc

@@ -30,7 +30,7 @@ reports_none v at copies x t = record {
     committed_elsewhere = λ o c none. refl;
     present_elsewhere = λ o c none. refl;
     prepared = λ o c is. is;
-    ready = λ o c is. is;
+    can_write = λ o c is. is;
   };
   counts = record {
     here = omega arith;
@@ -72,7 +72,7 @@ module _ (v i : ℕ) (to : PagePlace) (copies : List CommittedKey) (x0 x1 x2 : I
 
   module _ (place : PagePlace) (block : place.block ≡ to.block) (page : place.page ≡ to.page + i)
       (copied : Copies y.key.object y.key.chunk place y.at x1 x2) (recounts : Recounts (count_committed_in x1) (count_committed_in x2) t1 t2)
-      (prepared : StaysPrepared x1 x2) (ready : (o c : ℕ) → IsReadyKey x1 o c → IsReadyKey x2 o c) where
+      (prepared : StaysPrepared x1 x2) (can_write : (o c : ℕ) → IsReadyKey x1 o c → IsReadyKey x2 o c) where
     moved_is : moved_page place y.at ≡ copy_in to i y
     moved_is = λ k. record { block = block k; page = page k; version = y.at.version }
 
@@ -127,7 +127,7 @@ module _ (v i : ℕ) (to : PagePlace) (copies : List CommittedKey) (x0 x1 x2 : I
           | inr differs ↦ copied.present_elsewhere o c differs ∙ reports.index.present_elsewhere o c (λ j z lt there is. none j z (omega (arith, lt)) there is)
         ];
         prepared = λ o c is. prepared o c (reports.index.prepared o c is);
-        ready = λ o c is. ready o c (reports.index.ready o c is);
+        can_write = λ o c is. can_write o c (reports.index.can_write o c is);
       };
       counts = record {
         here =

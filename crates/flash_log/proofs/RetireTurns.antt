@@ -14,7 +14,7 @@ use Rattle.flash_log.specs.Bills.{Pays, PaysOut, bill_of}
 use Rattle.flash_log.specs.Moving.{MovesOut, LiesIn, IsAway}
 use Rattle.flash_log.specs.Refreshing.{FillsAnew}
 use Rattle.flash_log.specs.Retiring.{IsOut, IsRetired, RetireEnds, open_failures}
-use Rattle.flash_log.specs.Standing.{AreHeld}
+use Rattle.flash_log.specs.Consistency.{AreHeld}
 use Rattle.flash_log.specs.Steps.{Step}
 use Rattle.flash_log.specs.declared.fault.MoveFault.{MoveFault}
 use Rattle.flash_log.specs.laws.Bills.{pays_on}
@@ -120,12 +120,12 @@ retired_all spare v d0 d t0 t x0 x r = record {
   within_limit = r.out.within_limit;
   more = r.out.more;
   free = elim (cases_eq (t0.entry v).committed 0) [
-    | inl none ↦ let same : free_count t ≡ uncommitted_count t = free_where_closed t (r.out.was_empty none).0 in omega (arith, same, r.step.stands.tables.uncommitted)
+    | inl none ↦ let same : free_count t ≡ uncommitted_count t = free_where_closed t (r.out.was_empty none).0 in omega (arith, same, r.step.consistent.tables.uncommitted)
     | inr ne ↦
         let away = r.out.moved (omega (arith, ne)) in
         let committed : (t.entry away.0).committed ≡ (t0.entry v).committed = away.1.lies.there in
         let same : free_count t ≡ uncommitted_count t = free_where_held t away.0 away.1.open_block (omega (arith, committed, ne)) in
-        omega (arith, same, r.step.stands.tables.uncommitted)
+        omega (arith, same, r.step.consistent.tables.uncommitted)
   ];
 }
 

@@ -17,12 +17,12 @@ use Rattle.block_state.specs.Table.{Table, Sets}
 use Rattle.flash_log.specs.Copying.{KeepsCounts}
 use Rattle.flash_log.specs.Bills.{PaysEmptying, PaysOut}
 use Rattle.flash_log.specs.Moving.{LiesIn, IsAway}
-use Rattle.flash_log.specs.Standing.{AreHeld, Stands}
+use Rattle.flash_log.specs.Consistency.{AreHeld, IsConsistentLog}
 use Rattle.flash_log.specs.Steps.{Step}
 use Rattle.flash_log.specs.laws.Found.{found_marked}
 use Rattle.flash_log.specs.laws.FreeBlocks.{free_still}
 use Rattle.flash_log.specs.laws.Keeping.{bad_rises}
-use Rattle.flash_log.specs.laws.Moves.{are_held, stands_still}
+use Rattle.flash_log.specs.laws.Moves.{are_held, consistent_still}
 use Rattle.flash_log.specs.laws.Steps.{step_committed, step_on}
 use Rattle.transactions.specs.Checking.{log_of}
 use Rattle.flash_log.specs.declared.fault.MoveFault.{MoveFault}
@@ -64,27 +64,27 @@ module _ (v : ℕ) (t u s : Table) (committed : (b : ℕ) → (s.entry b).commit
 -- a block that was emptied is marked
 module _ (spare v : ℕ) (d1 d2 d3 : Device) (t1 t2 t3 : Table) (x y : Index) (gone : Result (Unit {0}) Gone) (step : Step spare (log_of d1 t1) (log_of d2 t2) x y)
     (law : (b : ℕ) → count_committed_in y b ≡ 0 → HoldsNone (committed_pages y) b) (within : v < t1.geometry.blocks) (empty : (t2.entry v).committed ≡ 0)
-    (marks : Marks v d2 d3 gone) (ready : IsReady d3 t3) (notes : NotesMark v d3.flash t2 t3) (newest : d2.honest ≡ true → KeepsElsewhere v d2.flash d3.flash) (numbers : HandsOut d2 d3 t2 t3) where
+    (marks : Marks v d2 d3 gone) (can_write : IsReady d3 t3) (notes : NotesMark v d3.flash t2 t3) (newest : d2.honest ≡ true → KeepsElsewhere v d2.flash d3.flash) (numbers : HandsOut d2 d3 t2 t3) where
   inside : v < t2.geometry.blocks
   inside = subst (λ (g : Geometry). v < g.blocks) (sym step.geometry) within
 
   keeps : KeepsCounts d2 d3 t2 t3
-  keeps = keeps_marked v d2 d3 t2 t3 gone inside empty marks notes step.ready ready numbers
+  keeps = keeps_marked v d2 d3 t2 t3 gone inside empty marks notes step.can_write can_write numbers
 
   held : AreHeld t2 y
-  held = are_held t2 y law step.stands.tables.counts
+  held = are_held t2 y law step.consistent.tables.counts
 
-  stands_marked : Stands spare d3 t3 y
-  stands_marked = stands_still spare d2 d3 t2 t3 y held keeps step.stands (written_marked v d2 d3 t2 t3 gone inside empty marks notes step.stands.tables.written)
+  consistent_marked : IsConsistentLog spare d3 t3 y
+  consistent_marked = consistent_still spare d2 d3 t2 t3 y held keeps step.consistent (written_marked v d2 d3 t2 t3 gone inside empty marks notes step.consistent.tables.written)
       (λ honest power. (committed_marked v d2 d3 t2 t3 gone inside empty marks notes honest (newest honest)).0)
 
   pub step_marked : Step spare (log_of d1 t1) (log_of d3 t3) x y
   step_marked = step_on spare (log_of d1 t1) (log_of d2 t2) (log_of d3 t3) x y y step
-      (step_committed spare d2 d3 t2 t3 y held keeps step.stands stands_marked (λ honest. (committed_marked v d2 d3 t2 t3 gone inside empty marks notes honest (newest honest)).1) (found_marked v d2 d3 t2 gone empty marks)
-      (free_still spare d2 d3 t2 t3 y held keeps step.stands stands_marked.tables (λ honest. (committed_marked v d2 d3 t2 t3 gone inside empty marks notes honest (newest honest)).0)))
+      (step_committed spare d2 d3 t2 t3 y held keeps step.consistent consistent_marked (λ honest. (committed_marked v d2 d3 t2 t3 gone inside empty marks notes honest (newest honest)).1) (found_marked v d2 d3 t2 gone empty marks)
+      (free_still spare d2 d3 t2 t3 y held keeps step.consistent consistent_marked.tables (λ honest. (committed_marked v d2 d3 t2 t3 gone inside empty marks notes honest (newest honest)).0)))
 
   bad_marked : bad_count t3 ≤ bad_count t2 + 1
-  bad_marked = one_more_bad v d2 d3 t2 t3 gone inside empty marks notes step.ready
+  bad_marked = one_more_bad v d2 d3 t2 t3 gone inside empty marks notes step.can_write
 
   one_bad : (t2.entry v).bad ≡ false → (t3.entry v).bad ≡ true → bad_count t3 ≡ bad_count t2 + 1
   one_bad good is =

@@ -9,7 +9,7 @@ use Rattle.block_state.specs.laws.Committed.{free_where_uncommitted}
 use Rattle.nand_model.specs.Counts.{ReadsFew, unfinished}
 use Rattle.transactions.specs.Checking.{LogState}
 use Rattle.flash_log.specs.Moving.{AnswersFailures}
-use Rattle.flash_log.specs.Standing.{HasFreeBlocks}
+use Rattle.flash_log.specs.Consistency.{HasFreeBlocks}
 use Rattle.flash_log.specs.laws.Bills.{pays_none}
 use Rattle.flash_log.specs.Gathering.{PaysGathering}
 use Rattle.flash_log.specs.RoomMaking.{CostsUpTo, FitsOpen, HasMore, PaysRoom}

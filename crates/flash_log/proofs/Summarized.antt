@@ -33,7 +33,7 @@ use Rattle.transactions.specs.declared.group.GroupFault.TheVariants as groups
 use Rattle.flash_log.specs.CheckpointKeeping.{KeepsObjects}
 use Rattle.flash_log.specs.Copying.{IsFresh, KeepsCounts}
 use Rattle.flash_log.specs.Passing.{KeepsFound}
-use Rattle.flash_log.specs.Standing.{AreHeld, IsCommittedKey, KeepsFindable, Stands}
+use Rattle.flash_log.specs.Consistency.{AreHeld, IsCommittedKey, KeepsFindable, IsConsistentLog}
 use Rattle.flash_log.specs.Steps.{Step}
 use Rattle.flash_log.specs.SummaryMaking.{CostsAMark, HasClear, KeepsListed, IsListOf, MarkingEnds, PaysSummary, Summarizes, SummaryEnds, summary_of}
 use Rattle.flash_log.specs.SummarySource.{CanSummarize, summary_name, summary_size, source_page}
@@ -52,7 +52,7 @@ use Rattle.flash_log.specs.laws.SummarySource.{written_whole}
 use Rattle.flash_log.proofs.CheckNames.{trees_before, trees_stay}
 use Rattle.flash_log.proofs.CheckpointKeeping.{marked_committed, marked_uncommitted}
 use Rattle.flash_log.proofs.Writing.{clear_fresh, costs_failed}
-use Rattle.flash_log.proofs.IndexStays.{LeavesIndex, stands_left, data_left, free_left}
+use Rattle.flash_log.proofs.IndexStays.{LeavesIndex, is_in_left, data_left, free_left}
 
 -- ---- the group
 
@@ -88,12 +88,12 @@ still_open count t u (Err groups.Failed) closed o is = let two : None ≡ Some o
 still_open count t u (Err groups.Lost) closed o is = let two : None ≡ Some o = sym (ap (λ (x : Table). x.open_block) closed) ∙ is in absurd cc
 still_open count t u (Err groups.Gone) closed o is = let two : None ≡ Some o = sym (ap (λ (x : Table). x.open_block) closed) ∙ is in absurd cc
 
-module _ (source : SummarySource) (w : ℕ) (d e : Device) (t u : Table) (result : Result Placed GroupFault) (ready : IsReady d t) (fresh : IsFresh w d t) (less : t.next_group < number_end)
+module _ (source : SummarySource) (w : ℕ) (d e : Device) (t u : Table) (result : Result Placed GroupFault) (can_write : IsReady d t) (fresh : IsFresh w d t) (less : t.next_group < number_end)
     (lasts : Lasts d e) (after : IsReady e u) (group : WritesGroup ghosts source (log_of d t) (log_of e u) result) (numbers : HandsOut d e t u)
     (adds : d.honest ≡ true → AddsSummary d.geometry d.flash e.flash (summary_of source t w)) where
   counts_group : KeepsCounts d e t u
   counts_group = keeps_same d e t u (same_ends source.pages t u result group.table) lasts after numbers (limits_ends source.pages t u result group.table less)
-      (erased_written d e t w source.pages (summary_name t.next_group) (source_page source) ready fresh.open_block lasts group.writes u result
+      (erased_written d e t w source.pages (summary_name t.next_group) (source_page source) can_write fresh.open_block lasts group.writes u result
       (λ honest. group.groups honest w fresh.open_block) group.table)
 
   objects_group : d.honest ≡ true → KeepsObjects t d.flash e.flash
@@ -129,8 +129,8 @@ pub listed_summarizes : (source : SummarySource) (w : ℕ) (d e : Device) (t u :
     → (d.honest ≡ true → IsListOf (summary_of source t w) d) → Lasts d e → IsReady e u → WritesGroup ghosts source (log_of d t) (log_of e u) result → HandsOut d e t u
     → (d.honest ≡ true → (writes : WritesSummary ghosts source d t) → AddsSummary d.geometry d.flash e.flash writes.summary) → Summarizes (summary_of source t w) (log_of d t) (log_of e u)
 unfolding writes_summary
-listed_summarizes source w d e t u result ready fresh less can list lasts after group numbers adds =
-    group_summarizes source w d e t u result ready fresh less lasts after group numbers (λ honest. adds honest (writes_summary source w d t fresh can (list honest)))
+listed_summarizes source w d e t u result can_write fresh less can list lasts after group numbers adds =
+    group_summarizes source w d e t u result can_write fresh less lasts after group numbers (λ honest. adds honest (writes_summary source w d t fresh can (list honest)))
 
 -- the block has nothing committed still
 pub empty_still : (count w : ℕ) (d : Device) (t u : Table) (result : Result Placed GroupFault) → IsFresh w d t → TableEnds count t u result → IsEmptyBlock w u
@@ -180,7 +180,7 @@ ends_written source w d e t u placed fresh less lasts group takes power count sp
 
 -- ---- the mark of its block, after a failure
 
-module _ (w : ℕ) (d e : Device) (t u : Table) (result : Result (Unit {0}) Gone) (empty : IsEmptyBlock w t) (marks : Marks w d e result) (ready : IsReady e u) (notes : NotesMark w e.flash t u)
+module _ (w : ℕ) (d e : Device) (t u : Table) (result : Result (Unit {0}) Gone) (empty : IsEmptyBlock w t) (marks : Marks w d e result) (can_write : IsReady e u) (notes : NotesMark w e.flash t u)
     (numbers : HandsOut d e t u) where
   good_before : (t.entry w).bad ≡ true → ⊥
   good_before bad = let two : true ≡ false = sym bad ∙ empty.good in absurd cc
@@ -197,7 +197,7 @@ module _ (w : ℕ) (d e : Device) (t u : Table) (result : Result (Unit {0}) Gone
   pub mark_counts : KeepsCounts d e t u
   mark_counts = record {
     lasts = marks.lasts;
-    ready = ready;
+    can_write = can_write;
     numbers = numbers;
     geometry = notes.sets.geometry;
     committed = marked_committed w d e t u result empty.within empty.good empty.uncommitted marks notes;
@@ -304,7 +304,7 @@ ends_marked count spare a b c (Err faults.Gone) same less (gone, more) = gone
 
 -- ---- so the log keeps what each call keeps
 
-module _ (spare : ℕ) (x : Index) (s : Summary) (w : ℕ) (d f : Device) (t v : Table) (held : AreHeld t x) (stands : Stands spare d t x) (fresh : IsFresh w d t)
+module _ (spare : ℕ) (x : Index) (s : Summary) (w : ℕ) (d f : Device) (t v : Table) (held : AreHeld t x) (consistent : IsConsistentLog spare d t x) (fresh : IsFresh w d t)
     (does : Summarizes s (log_of d t) (log_of f v)) (lists : d.honest ≡ true → (o c : ℕ) → IsCommittedKey (committed_pages x) o c → ListsKey d.flash s o c) where
   written : (o : ℕ) → v.open_block ≡ Some o → (v.entry o).committed ≤ (v.entry o).next
   written o is =
@@ -316,7 +316,7 @@ module _ (spare : ℕ) (x : Index) (s : Summary) (w : ℕ) (d f : Device) (t v :
   leaves : LeavesIndex d f t v
   leaves = record {
     lasts = does.keeps.lasts;
-    ready = does.keeps.ready;
+    can_write = does.keeps.can_write;
     geometry = does.keeps.geometry;
     committed = does.keeps.committed;
     rises = does.keeps.numbers.numbers.groups_rise;
@@ -329,21 +329,21 @@ module _ (spare : ℕ) (x : Index) (s : Summary) (w : ℕ) (d f : Device) (t v :
 
   findable : KeepsFindable d f x x
   findable honest right found o c (p, is) =
-      let at = stands.newest honest fresh.power o c p is in
+      let at = consistent.newest honest fresh.power o c p is in
       does.found honest right o c (spot_of p at.tag) at.newest (held o c p is) (lists honest o c (p, is)) (found o c (p, is))
 
   pub step_summarized : Step spare (log_of d t) (log_of f v) x x
   step_summarized = record {
     lasts = does.keeps.lasts;
-    ready = does.keeps.ready;
-    stands = stands_left spare x d f t v held stands leaves;
+    can_write = does.keeps.can_write;
+    consistent = is_in_left spare x d f t v held consistent leaves;
     numbers = does.keeps.numbers;
     geometry = does.keeps.geometry;
     marks = does.keeps.marks;
     committed_count = same_committed_sum t v does.keeps.geometry does.keeps.committed;
     index = moves_committed_none x;
-    same_data = data_left spare x d f t v held stands leaves;
-    free = free_left spare x d f t v held stands leaves;
+    same_data = data_left spare x d f t v held consistent leaves;
+    free = free_left spare x d f t v held consistent leaves;
     findable = findable;
     erased = does.keeps.erased;
   }

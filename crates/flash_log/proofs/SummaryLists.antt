@@ -19,7 +19,7 @@ use Rattle.chunk_index.specs.Maps.{committed_pages}
 use Rattle.transactions.specs.Checking.{log_of}
 use Rattle.transactions.specs.Ready.{IsReady}
 use Rattle.flash_log.specs.Copying.{IsFresh}
-use Rattle.flash_log.specs.Standing.{AreHeld, IsCommittedKey, IsCommittedAt, Stands}
+use Rattle.flash_log.specs.Consistency.{AreHeld, IsCommittedKey, IsCommittedAt, IsConsistentLog}
 use Rattle.flash_log.specs.Steps.{Step}
 use Rattle.flash_log.specs.SummaryMaking.{ComesBefore, IsListOf, ListsEntries, Summarizes, WasWritten, entry_at, page_of, summary_of}
 use Rattle.flash_log.specs.SummarySource.{CanSummarize}
@@ -28,12 +28,12 @@ use Rattle.flash_log.specs.declared.summary_writing.WrittenBlock.{WrittenBlock}
 use Rattle.flash_log.specs.laws.CommittedPages.{spot_of}
 use Rattle.flash_log.proofs.Summarized.{step_summarized}
 
-module _ (spare : ℕ) (x : Index) (d : Device) (t : Table) (w : ℕ) (b : WrittenBlock) (source : SummarySource) (ready : IsReady d t) (stands : Stands spare d t x) (fresh : IsFresh w d t)
+module _ (spare : ℕ) (x : Index) (d : Device) (t : Table) (w : ℕ) (b : WrittenBlock) (source : SummarySource) (can_write : IsReady d t) (consistent : IsConsistentLog spare d t x) (fresh : IsFresh w d t)
     (was : WasWritten b d t) (block : source.head.block ≡ b.block) (seq : source.head.seq ≡ b.seq) (lists : ListsEntries b.block (committed_pages x) source.entries.now)
     (within_limit : length source.entries.now ≤ t.geometry.pages) (can : CanSummarize source d.geometry t.next_group) (honest : d.honest ≡ true) where
   -- the committed page of an entry is the newest of its key
   at : (e : CheckEntry) → Contains source.entries.now e → IsCommittedAt d.flash e.object e.chunk (page_of e)
-  at e listed = stands.newest honest fresh.power e.object e.chunk (page_of e) (lists.only e listed).1
+  at e listed = consistent.newest honest fresh.power e.object e.chunk (page_of e) (lists.only e listed).1
 
   spot : (e : CheckEntry) → Contains source.entries.now e → Spot
   spot e listed = spot_of (page_of e) (at e listed).tag
@@ -51,8 +51,8 @@ module _ (spare : ℕ) (x : Index) (d : Device) (t : Table) (w : ℕ) (b : Writt
 
   entry_in : (e : CheckEntry) → Contains source.entries.now e → IsEntryIn d.geometry source.head e
   entry_in e listed =
-      let may = stands.tables.within e.object e.chunk (page_of e) (lists.only e listed).1 in
-      let limit = stands.limits.0 in
+      let may = consistent.tables.within e.object e.chunk (page_of e) (lists.only e listed).1 in
+      let limit = consistent.limits.0 in
       record {
         entry = record {
           object = may.name.object.1;
@@ -62,7 +62,7 @@ module _ (spare : ℕ) (x : Index) (d : Device) (t : Table) (w : ℕ) (b : Writt
           page = omega (arith, may.page, t.geometry.most_pages);
         };
         block = in_block e listed;
-        page = subst (λ (g : Geometry). e.page < g.pages) ready.geometry may.page;
+        page = subst (λ (g : Geometry). e.page < g.pages) can_write.geometry may.page;
       }
 
   -- two entries are of two pages
@@ -92,10 +92,10 @@ module _ (spare : ℕ) (x : Index) (d : Device) (t : Table) (w : ℕ) (b : Writt
       head = record {
         block = let within = was.within in omega (arith, block, within, t.geometry.most_blocks);
         entries = let count = can.count in omega (arith, count, within_limit, t.geometry.most_pages);
-        seq = let older = was.older w fresh.open_block in let next = (ready.open_block w fresh.open_block).seq.1 in let limit = stands.limits.1 in omega (arith, seq, older, next, limit);
+        seq = let older = was.older w fresh.open_block in let next = (can_write.open_block w fresh.open_block).seq.1 in let limit = consistent.limits.1 in omega (arith, seq, older, next, limit);
       };
       count = can.count;
-      block = subst (λ (g : Geometry). source.head.block < g.blocks) ready.geometry (subst (λ k. k < t.geometry.blocks) (sym block) was.within);
+      block = subst (λ (g : Geometry). source.head.block < g.blocks) can_write.geometry (subst (λ k. k < t.geometry.blocks) (sym block) was.within);
       each = λ k e lt. entry_in (get_or source.entries.now k e) (contains k e lt);
       rise = λ i j e lt within. later (get_or source.entries.now i e) (get_or source.entries.now j e) (contains i e (omega (arith, lt, within))) (contains j e within) (lists.order i j e lt within);
     };
@@ -110,7 +110,7 @@ module _ (spare : ℕ) (x : Index) (d : Device) (t : Table) (w : ℕ) (b : Writt
 
   pub lists_key : (o c : ℕ) → IsCommittedKey (committed_pages x) o c → ListsKey d.flash (summary_of source t w) o c
   lists_key o c (q, is) p newest here =
-      let committed = stands.newest honest fresh.power o c q is in
+      let committed = consistent.newest honest fresh.power o c q is in
       let place : p ≡ spot_of q committed.tag = one_spot d.flash o c p (spot_of q committed.tag) newest committed.newest in
       let inside : q.block ≡ b.block = ap (λ (s : Spot). s.block) (sym place) ∙ here ∙ block in
       let entry : entry_at o c q ≡ entry_of (spot_of q committed.tag) =
@@ -118,9 +118,9 @@ module _ (spare : ℕ) (x : Index) (d : Device) (t : Table) (w : ℕ) (b : Writt
       subst (λ e. Contains source.entries.now e) (entry ∙ ap entry_of (sym place)) (lists.all o c q is inside)
 
 -- so the log keeps what each call keeps, once the list is written
-pub step_listed : (spare : ℕ) (x : Index) (d f : Device) (t v : Table) (w : ℕ) (b : WrittenBlock) (source : SummarySource) → IsReady d t → Stands spare d t x → AreHeld t x → IsFresh w d t → WasWritten b d t
+pub step_listed : (spare : ℕ) (x : Index) (d f : Device) (t v : Table) (w : ℕ) (b : WrittenBlock) (source : SummarySource) → IsReady d t → IsConsistentLog spare d t x → AreHeld t x → IsFresh w d t → WasWritten b d t
     → (source.head.block ≡ b.block) × (source.head.seq ≡ b.seq) → ListsEntries b.block (committed_pages x) source.entries.now → length source.entries.now ≤ t.geometry.pages → CanSummarize source d.geometry t.next_group
     → Summarizes (summary_of source t w) (log_of d t) (log_of f v) → Step spare (log_of d t) (log_of f v) x x
-step_listed spare x d f t v w b source ready stands held fresh was head lists within_limit can does =
-    step_summarized spare x (summary_of source t w) w d f t v held stands fresh does
-    (λ honest. lists_key spare x d t w b source ready stands fresh was head.0 head.1 lists within_limit can honest)
+step_listed spare x d f t v w b source can_write consistent held fresh was head lists within_limit can does =
+    step_summarized spare x (summary_of source t w) w d f t v held consistent fresh does
+    (λ honest. lists_key spare x d t w b source can_write consistent fresh was head.0 head.1 lists within_limit can honest)

@@ -25,21 +25,21 @@ free_if t b closed good none =
 
 -- the block that may have a checkpoint is free while no block is open
 first_is_free : (d : Device) (t : Table) (c : ℕ) → IsReady d t → LiesApart t → t.checkpoint ≡ Some c → is_free t c ≡ true
-first_is_free d t c ready apart is =
-    let waits = ready.waits c is in
-    free_if t c waits.closed (ready.marks c ∙ waits.good) (apart c is)
+first_is_free d t c can_write apart is =
+    let waits = can_write.waits c is in
+    free_if t c waits.closed (can_write.marks c ∙ waits.good) (apart c is)
 
 -- so it is the one that is allocated, if there is one
 pub first_taken : (d : Device) (t : Table) (n b : ℕ) → IsReady d t → LiesApart t → IsNextTaken t n b → MayLose b t
-first_taken d t n b ready apart next = go t.checkpoint refl where
+first_taken d t n b can_write apart next = go t.checkpoint refl where
   go : (x : Option ℕ) → t.checkpoint ≡ x → MayLose b t
   go None is = inl is
-  go (Some c) is = inr (is ∙ ap Some (sym (next.first c is (first_is_free d t c ready apart is))))
+  go (Some c) is = inr (is ∙ ap Some (sym (next.first c is (first_is_free d t c can_write apart is))))
 
 -- the block that is opened was at its turn
 pub opened_in_turn : (b : ℕ) (d : Device) (t u : Table) → IsReady d t → LiesApart t → t.open_block ≡ None → IsNextTaken t t.geometry.blocks b → Opens b t u → IsItsTurn b t u
-opened_in_turn b d t u ready apart closed next opens = record {
-  first = λ c is good. next.first c is (first_is_free d t c ready apart is);
+opened_in_turn b d t u can_write apart closed next opens = record {
+  first = λ c is good. next.first c is (first_is_free d t c can_write apart is);
   oldest = λ none k could. elim (cases_eq k b) [
     | inl is ↦ let same : turn_of (t.entry k) ≡ turn_of (t.entry b) = ap (λ n. turn_of (t.entry n)) is in omega (arith, same)
     | inr ne ↦ (turn none).oldest k could.within (free k could ne)
@@ -56,8 +56,8 @@ opened_in_turn b d t u ready apart closed next opens = record {
     -- a block that may have a checkpoint is good when it is opened, so there was none
     good : (c : ℕ) → t.checkpoint ≡ Some c → (u.entry c).bad ≡ false
     good c is =
-        let same : b ≡ c = next.first c is (first_is_free d t c ready apart is) in
-        ap (λ n. (u.entry n).bad) (sym same) ∙ ap (λ (e : BlockEntry). e.bad) opens.sets.here ∙ ap (λ n. (t.entry n).bad) same ∙ ready.marks c ∙ (ready.waits c is).good
+        let same : b ≡ c = next.first c is (first_is_free d t c can_write apart is) in
+        ap (λ n. (u.entry n).bad) (sym same) ∙ ap (λ (e : BlockEntry). e.bad) opens.sets.here ∙ ap (λ n. (t.entry n).bad) same ∙ can_write.marks c ∙ (can_write.waits c is).good
 
     turn : NoneGoesFirst t u → IsNextFree t t.geometry.blocks b
     turn none = next.turn (λ c is. let two : true ≡ false = sym (none c is) ∙ good c is in absurd cc)
@@ -124,7 +124,7 @@ turns_marked b flash t u notes bad = record {
 
 -- the block that is allocated next goes first of those that begin erased
 pub goes_next : (d : Device) (t : Table) (b : ℕ) → IsReady d t → LiesApart t → t.open_block ≡ None → IsNextTaken t t.geometry.blocks b → KnowsErased d.flash t → LeadsErased d.flash t → GoesFirst d.flash b
-goes_next d t b ready apart closed next knows leads = go t.checkpoint refl where
+goes_next d t b can_write apart closed next knows leads = go t.checkpoint refl where
   in_turn : IsNextFree t t.geometry.blocks b → GoesFirst d.flash b
   in_turn turn k ne begins = elim (cases_lt k t.geometry.blocks) [
     | inr out ↦ let within = turn.within in (
@@ -133,7 +133,7 @@ goes_next d t b ready apart closed next knows leads = go t.checkpoint refl where
     )
     | inl inside ↦
         let was = knows.unwritten k inside begins in
-        let free = free_if t k closed (ready.marks k ∙ begins.0) was.committed in
+        let free = free_if t k closed (can_write.marks k ∙ begins.0) was.committed in
         let at_once : turn_of (t.entry k) ≡ 0 = ap (λ n. if nat_eq n 0 then 0 else (t.entry k).seq) was.next in
         let older = turn.oldest k inside free in
         let here : turn_of (t.entry b) ≡ 0 = omega (arith, at_once, older) in
@@ -155,9 +155,9 @@ goes_next d t b ready apart closed next knows leads = go t.checkpoint refl where
     ]
 
   go : (x : Option ℕ) → t.checkpoint ≡ x → GoesFirst d.flash b
-  go (Some c) is = subst (GoesFirst d.flash) (sym (next.first c is (first_is_free d t c ready apart is))) (leads.noted c is)
+  go (Some c) is = subst (GoesFirst d.flash) (sym (next.first c is (first_is_free d t c can_write apart is))) (leads.noted c is)
   go None is = in_turn (next.turn (λ c at. let two : None ≡ Some c = sym is ∙ at in absurd cc))
 
 -- and no other may have a checkpoint
 pub noted_next : (d : Device) (t : Table) (b : ℕ) → IsReady d t → LiesApart t → IsNextTaken t t.geometry.blocks b → (c : ℕ) → t.checkpoint ≡ Some c → c ≡ b
-noted_next d t b ready apart next c is = sym (next.first c is (first_is_free d t c ready apart is))
+noted_next d t b can_write apart next c is = sym (next.first c is (first_is_free d t c can_write apart is))

@@ -88,7 +88,7 @@ module _ (copies : List CommittedKey) (w : ℕ) (d0 d1 : Device) (t : Table) (fr
 
   apart_by : IsReady d0 t → d1.flash.bad ≡ d0.flash.bad → (r : Result Placed GroupFault)
       → NewestAfter (next_group t (length copies) w) (copy_name copies) (copy_bytes copies d0.flash) d0.flash d1.flash r → StayOrLieApart copies t d0.flash d1
-  apart_by ready bad = by where
+  apart_by can_write bad = by where
     stay : KeepsNewest d0.flash d1.flash → StayOrLieApart copies t d0.flash d1
     stay keeps = inl (committed_where d0.flash d1.flash t (λ o c s newest some. keeps o c s newest))
 
@@ -97,7 +97,7 @@ module _ (copies : List CommittedKey) (w : ℕ) (d0 d1 : Device) (t : Table) (fr
       at = to;
       within = fresh.within;
       uncommitted = fresh.uncommitted;
-      good = ap (λ (f : ℕ → Bool). f w) bad ∙ sym (ready.marks w) ∙ fresh.good;
+      good = ap (λ (f : ℕ → Bool). f w) bad ∙ sym (can_write.marks w) ∙ fresh.good;
       copied = are_copied copies may.once (next_group t (length copies) w) refl d0.flash (may.newest honest fresh.power) d1.flash t to refl refl shows;
     })
 
@@ -112,13 +112,13 @@ module _ (copies : List CommittedKey) (w : ℕ) (d0 d1 : Device) (t : Table) (fr
   -- however it ends, what is committed stays where it is, or the copies lie in the block that was fresh
   pub apart_written : IsReady d0 t → d1.flash.bad ≡ d0.flash.bad → (r : Result Placed GroupFault)
       → GroupsAfter (next_group t (length copies) w) (copy_name copies) (copy_bytes copies d0.flash) d0.flash d1.flash r → StayOrLieApart copies t d0.flash d1
-  apart_written ready bad r groups = apart_by ready bad r (after r groups)
+  apart_written can_write bad r groups = apart_by can_write bad r (after r groups)
 
   pub keeps_failed : GroupsAfter (next_group t (length copies) w) (copy_name copies) (copy_bytes copies d0.flash) d0.flash d1.flash (Err groups.Failed) → KeepsNewest d0.flash d1.flash
   keeps_failed totaled = after (Err groups.Failed) totaled
 
 -- what was findable by summaries is so still
-module _ (copies : List CommittedKey) (w : ℕ) (d0 d1 : Device) (t : Table) (fresh : IsClear w d0 t) (may : MayBeCopied d0 t copies) (honest : d0.honest ≡ true) (ready : IsReady d0 t)
+module _ (copies : List CommittedKey) (w : ℕ) (d0 d1 : Device) (t : Table) (fresh : IsClear w d0 t) (may : MayBeCopied d0 t copies) (honest : d0.honest ≡ true) (can_write : IsReady d0 t)
     (geometry : d1.geometry ≡ d0.geometry) (writes : WritesOpen t d0.flash d1.flash) (summaries : KeepsSummaries d0 d1) where
   begins_other : 1 ≤ length copies → BeginsOther (copy_name copies 0)
   begins_other some object chunk = may.ordinary honest 0 some object
@@ -133,8 +133,8 @@ module _ (copies : List CommittedKey) (w : ℕ) (d0 d1 : Device) (t : Table) (fr
   ]
 
   pub found_written : (r : Result Placed GroupFault) → GroupsAfter (next_group t (length copies) w) (copy_name copies) (copy_bytes copies d0.flash) d0.flash d1.flash r → KeepsFound t d0 d1
-  found_written = found_after t d0 d1 w (length copies) (copy_name copies) (copy_bytes copies d0.flash) ready fresh.open_block honest geometry writes summaries
-      (λ adds. found_copied t d0 d1 w (length copies) (copy_name copies) (copy_bytes copies d0.flash) ready fresh.open_block honest geometry writes summaries begins_other adds
+  found_written = found_after t d0 d1 w (length copies) (copy_name copies) (copy_bytes copies d0.flash) can_write fresh.open_block honest geometry writes summaries
+      (λ adds. found_copied t d0 d1 w (length copies) (copy_name copies) (copy_bytes copies d0.flash) can_write fresh.open_block honest geometry writes summaries begins_other adds
       (is_of_copies copies may.once (next_group t (length copies) w) refl d0.flash (may.newest honest fresh.power) (may.ordinary honest) (fresh.older honest)) each_key)
 
 -- the block of copies that failed is passed over
@@ -142,23 +142,23 @@ pub passes_failed : (copies : List CommittedKey) (w : ℕ) (d0 d1 d2 : Device) (
     → IsReady d0 t → HandsOut d0 d1 t t1 → Lasts d0 d1 → d1.failures ≡ d0.failures + 1 → (d0.honest ≡ true → WritesOpen t d0.flash d1.flash)
     → (d0.honest ≡ true → GroupsAfter (next_group t (length copies) w) (copy_name copies) (copy_bytes copies d0.flash) d0.flash d1.flash (Err groups.Failed))
     → t1 ≡ closed t → Marks w d1 d2 result → (d1.honest ≡ true → KeepsElsewhere w d1.flash d2.flash) → NotesMark w d2.flash t1 t2 → Passes d0 d2 (closed t) t2
-passes_failed copies w d0 d1 d2 t t1 t2 result fresh may ready numbers lasts failed writes totaled is marks marked notes =
+passes_failed copies w d0 d1 d2 t t1 t2 result fresh may can_write numbers lasts failed writes totaled is marks marked notes =
     passes_marked w d0 d1 d2 (closed t) t2 result fresh.within fresh.good fresh.uncommitted lasts (omega (arith, failed))
     (λ honest o c s newest apart. keeps_failed copies w d0 d1 t fresh may honest (writes honest).grows (totaled honest) o c s newest)
     (λ honest k l u some has. tag_elsewhere w t.next_group (t.entry w).seq d0.flash d1.flash ((writes honest).within w fresh.open_block) k l u
     (λ here. let none : (t.entry k).committed ≡ 0 = ap (λ n. (t.entry n).committed) here ∙ fresh.uncommitted in absurd (omega (arith, none, some))) has)
-    (λ honest. found_as t (closed t) d0 d1 (λ k. refl) (found_written copies w d0 d1 t fresh may honest ready lasts.geometry (writes honest) (numbers.truth.summaries honest) (Err groups.Failed) (totaled honest)))
+    (λ honest. found_as t (closed t) d0 d1 (λ k. refl) (found_written copies w d0 d1 t fresh may honest can_write lasts.geometry (writes honest) (numbers.truth.summaries honest) (Err groups.Failed) (totaled honest)))
     marks marked (subst (λ (x : Table). NotesMark w d2.flash x t2) is notes)
     (erased_on d0 d1 d2 (closed t) (closed t) t2 lasts.honest
-    (erased_pages d0 d1 t w (length copies) (copy_name copies) (copy_bytes copies d0.flash) ready fresh.open_block lasts writes (closed t))
+    (erased_pages d0 d1 t w (length copies) (copy_name copies) (copy_bytes copies d0.flash) can_write fresh.open_block lasts writes (closed t))
     (erased_marked w d1 d2 (closed t) t2 result (λ bad. let two : true ≡ false = sym bad ∙ fresh.good in absurd cc) marks (subst (λ (x : Table). NotesMark w d2.flash x t2) is notes)))
 
 -- a block that was taken is fresh
 pub fresh_taken : (w : ℕ) (d0 d1 : Device) (t u : Table) → Passes d0 d1 t u → IsReady d1 u → Takes w d1 t u → d1.gone ≡ false → IsFresh w d1 u
-fresh_taken w d0 d1 t u passes ready takes power = record {
+fresh_taken w d0 d1 t u passes can_write takes power = record {
   within = subst (λ (g : Geometry). w < g.blocks) (sym passes.geometry) takes.within;
   open_block = takes.open_block;
-  good = ready.marks w ∙ (ready.open_block w takes.open_block).good;
+  good = can_write.marks w ∙ (can_write.open_block w takes.open_block).good;
   uncommitted = passes.committed w ∙ takes.uncommitted;
   next = takes.next;
   older = λ honest o c s ordinary holds.
@@ -181,8 +181,8 @@ module _ (copies : List CommittedKey) (w : ℕ) (d0 d1 : Device) (t t1 : Table) 
       → (d0.honest ≡ true → WritesOpen t d0.flash d1.flash)
       → (d0.honest ≡ true → GroupsAfter (next_group t (length copies) w) (copy_name copies) (copy_bytes copies d0.flash) d0.flash d1.flash r)
       → (d0.honest ≡ true → d1.gone ≡ false → NewestAfterCopies copies t d0.flash d1.flash result) → CopiesPages copies (log_of d0 t) (log_of d1 t1) result
-  pages_written r result before ready ends bad writes groups newest = record {
-    keeps = keeps_same d0 d1 t t1 (same_ends (length copies) t t1 r ends) lasts ready numbers (limits_ends (length copies) t t1 r ends less)
+  pages_written r result before can_write ends bad writes groups newest = record {
+    keeps = keeps_same d0 d1 t t1 (same_ends (length copies) t t1 r ends) lasts can_write numbers (limits_ends (length copies) t t1 r ends less)
         (erased_written d0 d1 t w (length copies) (copy_name copies) (copy_bytes copies d0.flash) before fresh.open_block lasts writes t1 r groups ends);
     stored = λ honest. data_written copies w d0 d1 t fresh may honest (writes honest).grows r (groups honest);
     newest = newest;
@@ -193,8 +193,8 @@ module _ (copies : List CommittedKey) (w : ℕ) (d0 d1 : Device) (t t1 : Table) 
   -- and where the block was marked, or was to be
   pub pages_failed : (d2 : Device) (t2 : Table) (result : Result Copied MoveFault) → Passes d0 d2 (closed t) t2 → Lasts d1 d2 → HandsOut d1 d2 t1 t2 → IsReady d2 t2
       → (KeepsCommittedAt t d0.flash d2.flash → NewestAfterCopies copies t d0.flash d2.flash result) → CopiesPages copies (log_of d0 t) (log_of d2 t2) result
-  pages_failed d2 t2 result passes marks after ready newest = record {
-    keeps = keeps_passes d0 d2 t (closed t) t2 (same_closed t (closed t) refl) (lasts_on d0 d1 d2 lasts marks) ready (hands_on d0 d1 d2 t t1 t2 lasts marks numbers after)
+  pages_failed d2 t2 result passes marks after can_write newest = record {
+    keeps = keeps_passes d0 d2 t (closed t) t2 (same_closed t (closed t) refl) (lasts_on d0 d1 d2 lasts marks) can_write (hands_on d0 d1 d2 t t1 t2 lasts marks numbers after)
         (limits_ends (length copies) t (closed t) (Err groups.Failed) refl less) (erased_as d0 t (closed t) (leaves_closed d0.flash t (closed t) refl refl refl refl)) passes;
     stored = λ honest. data_where d0.flash d2.flash (closed t) (passes.newest honest);
     newest = λ honest power. newest (committed_where d0.flash d2.flash (closed t) (passes.newest honest));

@@ -19,7 +19,7 @@ use Rattle.chunk_index.specs.Maps.{CommittedMap, committed_pages}
 use Rattle.transactions.specs.Checking.{LogState}
 use Rattle.transactions.specs.Handing.{HandsNumbers}
 use Rattle.transactions.specs.Ready.{IsReady}
-use Rattle.flash_log.specs.Standing.{IsCommittedKey, IsWithinLimits, KeepsFindable, KeepsFree, SameData, Stands}
+use Rattle.flash_log.specs.Consistency.{IsCommittedKey, IsWithinLimits, KeepsFindable, KeepsFree, SameData, IsConsistentLog}
 use Rattle.flash_log.specs.Erased.{KeepsErased}
 use Rattle.flash_log.specs.Passing.{KeepsFound}
 
@@ -43,7 +43,7 @@ KeepsObjects t old new = (o c : ℕ) (s : Spot) → o ≢ check_object → IsNew
 -- table knows the blocks that begin erased still.
 pub record KeepsPages (old new : LogState) : Type 0 where
   pub lasts : Lasts old.device new.device
-  pub ready : IsReady new.device new.table
+  pub can_write : IsReady new.device new.table
   pub numbers : HandsNumbers old.device new.device old.table new.table
   pub geometry : new.table.geometry ≡ old.table.geometry
   pub committed : (b : ℕ) → (new.table.entry b).committed ≡ (old.table.entry b).committed
@@ -59,11 +59,11 @@ abbrev pub StaysChecked : LogState → LogState → Type 0
 StaysChecked old new = old.device.honest ≡ true
     → IsChecked old.device.geometry old.device.flash old.table.checkpoint → IsChecked new.device.geometry new.device.flash new.table.checkpoint
 
--- What stands of a log stands still, with the tree that was shown, the data of each committed page, as many free blocks, and what a mount
+-- What holds of a log stands still, with the tree that was shown, the data of each committed page, as many free blocks, and what a mount
 -- by summaries finds. Where the committed keys are those of the tree, no whole checkpoint is wrong that was not before.
 pub record Seals (spare : ℕ) (x : Index) (old new : LogState) : Type 0 where
   pub keeps : KeepsPages old new
-  pub stands : Stands spare new.device new.table x
+  pub consistent : IsConsistentLog spare new.device new.table x
   pub checked : IsExact old.device x → StaysChecked old new
   pub shows : old.device.honest ≡ true → (s : ℕ) (objects : Objects)
       → ShowsExactly old.device.geometry old.device.flash (committed_pages x) s objects → ShowsExactly new.device.geometry new.device.flash (committed_pages x) s objects

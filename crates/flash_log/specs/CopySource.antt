@@ -52,7 +52,7 @@ pub record HasItsName (flash : Flash) (c : CommittedKey) : Type 0 where
 abbrev pub HasCopy : List CommittedKey → Flash → ℕ → Type 0
 HasCopy places flash i = (c : CommittedKey) → slice_get places i ≡ Some c → HasItsName flash c
 
--- There is at least one, each is on the device, and their names may stand in this group.
+-- There is at least one, each is on the device, and their names may be in this group.
 pub record CanCopy (places : List CommittedKey) (geometry : Geometry) (number : ℕ) : Type 0 where
   pub some : 1 ≤ length places
   pub within_limit : length places < 2 ^ 32

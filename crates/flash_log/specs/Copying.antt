@@ -18,7 +18,7 @@ use Rattle.chunk_index.specs.declared.form.CommittedKey.{CommittedKey}
 use Rattle.flash_log.specs.Erased.{KeepsErased}
 use Rattle.flash_log.specs.Moving.{WhyNotMoved}
 use Rattle.flash_log.specs.Passing.{KeepsFound}
-use Rattle.flash_log.specs.Standing.{IsCommittedAt, HasVersion, IsWithinLimits}
+use Rattle.flash_log.specs.Consistency.{IsCommittedAt, HasVersion, IsWithinLimits}
 use Rattle.flash_log.specs.declared.copying.Copied.{Copied}
 use Rattle.flash_log.specs.declared.copying.Copied.TheVariants as ends
 use Rattle.flash_log.specs.declared.copying.Target.{Target}
@@ -28,7 +28,7 @@ use Rattle.flash_log.specs.declared.fault.MoveFault.{MoveFault}
 -- of 2^62 is handed out. The table knows the blocks that begin erased still.
 pub record KeepsCounts (old new : Device) (t t' : Table) : Type 0 where
   pub lasts : Lasts old new
-  pub ready : IsReady new t'
+  pub can_write : IsReady new t'
   pub numbers : HandsOut old new t t'
   pub geometry : t'.geometry ≡ t.geometry
   pub committed : (b : ℕ) → (t'.entry b).committed ≡ (t.entry b).committed
@@ -99,7 +99,7 @@ pub record LieApart (copies : List CommittedKey) (t : Table) (old : Flash) (new 
   pub good : new.flash.bad at.block ≡ false
   pub copied : AreCopied at copies t old new.flash
 
--- What is newest wherever the copying ends, also where the power went in it: in blocks with committed pages all stays, or the
+-- What is newest wherever the copying ends, also where the power was lost in it: in blocks with committed pages all stays, or the
 -- copies are the newest of their keys. No third way.
 abbrev pub StayOrLieApart : List CommittedKey → Table → Flash → Device → Type 0
 StayOrLieApart copies t old new = KeepsCommittedAt t old new.flash ⊎ LieApart copies t old new

@@ -44,6 +44,6 @@ pub record TracksErased (device : Device) (t : Table) : Type 0 where
   pub leads : LeadsErased device.flash t
   pub known : device.gone ≡ false → KnowsErased device.flash t
 
--- on an honest device that is so still, wherever the power went, if it was so before
+-- on an honest device that is so still, wherever the power was lost, if it was so before
 abbrev pub KeepsErased : Device → Device → Table → Table → Type 0
 KeepsErased old new t t' = old.honest ≡ true → TracksErased old t → TracksErased new t'

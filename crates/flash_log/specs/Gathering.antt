@@ -6,7 +6,7 @@ use Rattle.transactions.specs.Checking.{LogState}
 use Rattle.flash_log.specs.Bills.{Pays, bill_of}
 use Rattle.flash_log.specs.Moving.{IsLeft, LiesIn, WhyNotMoved}
 use Rattle.flash_log.specs.RoomMaking.{FitsOpen}
-use Rattle.flash_log.specs.Standing.{HasFreeBlocks}
+use Rattle.flash_log.specs.Consistency.{HasFreeBlocks}
 use Rattle.flash_log.specs.SummaryMaking.{HasClear, KeepsHeld}
 use Rattle.flash_log.specs.SummarySource.{summary_size}
 use Rattle.flash_log.specs.declared.fault.MoveFault.{MoveFault}

@@ -2,7 +2,7 @@ pub mod Erased
 pub mod Passing
 pub mod Taking
 pub mod Faults
-pub mod Standing
+pub mod Consistency
 pub mod Lists
 pub mod Moving
 pub mod CopySource

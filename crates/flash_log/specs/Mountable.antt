@@ -8,7 +8,7 @@ use Rattle.chunk_index.specs.Maps.{committed_pages}
 use Rattle.transactions.specs.Checking.{LogState}
 use Rattle.flash_log.specs.Erased.{TracksErased}
 use Rattle.flash_log.specs.Snapshots.{Snapshot, remembered_flash}
-use Rattle.flash_log.specs.Standing.{AreFound}
+use Rattle.flash_log.specs.Consistency.{AreFound}
 
 -- Each summary is right; the table knows the blocks that begin erased; and a mount by summaries finds each committed page.
 pub record IsMountable (log : LogState) (x : Index) : Type 0 where
@@ -20,6 +20,6 @@ pub record IsMountable (log : LogState) (x : Index) : Type 0 where
 abbrev pub IsMountableSince : Option Snapshot → LogState → Index → Type 0
 IsMountableSince first log x = BeganMountable log.device.geometry (remembered_flash first) → log.device.honest ≡ true → ∥ IsMountable log x ∥₁
 
--- of an honest device it is so still, wherever power goes, if it was so before
+-- of an honest device it is so still, wherever power is lost, if it was so before
 abbrev pub KeepsMountable : LogState → LogState → Index → Index → Type 0
 KeepsMountable old new x y = old.device.honest ≡ true → IsMountable old x → IsMountable new y

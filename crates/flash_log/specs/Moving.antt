@@ -32,7 +32,7 @@ pub record MovesOut (v : ℕ) (old new : Index) : Type 0 where
   pub committed : (o c : ℕ) → (IsCommittedPageIn v old o c → ⊥) → committed_pages new o c ≡ committed_pages old o c
   pub present : (o c : ℕ) → (IsCommittedPageIn v old o c → ⊥) → present new o c ≡ present old o c
   pub prepared : StaysPrepared old new
-  pub ready : (o c : ℕ) → IsReadyKey old o c → IsReadyKey new o c
+  pub can_write : (o c : ℕ) → IsReadyKey old o c → IsReadyKey new o c
 
 -- Each mark but `more` answers a failure that the device had, and `unanswered` failures have none.
 abbrev pub MarksFailures : (more unanswered : ℕ) → Device → Device → Table → Table → Type 0

@@ -9,7 +9,7 @@ use Rattle.chunk_index.specs.declared.index.Index.{Index}
 use Rattle.chunk_index.specs.Maps.{committed_pages}
 use Rattle.transactions.specs.Checking.{LogState}
 use Rattle.flash_log.specs.Moving.{WhyNotMoved}
-use Rattle.flash_log.specs.Standing.{HasFreeBlocks}
+use Rattle.flash_log.specs.Consistency.{HasFreeBlocks}
 use Rattle.flash_log.specs.declared.fault.MoveFault.{MoveFault}
 
 -- the newest page of each key that is committed in block v is of a group whose number was not handed out before

@@ -21,7 +21,7 @@ pub record ReportsFirst (n : ℕ) (at : PagePlace) (copies : List CommittedKey) 
   pub committed_elsewhere : (o c : ℕ) → IsNone n copies o c → committed_pages new o c ≡ committed_pages old o c
   pub present_elsewhere : (o c : ℕ) → IsNone n copies o c → present new o c ≡ present old o c
   pub prepared : StaysPrepared old new
-  pub ready : (o c : ℕ) → IsReadyKey old o c → IsReadyKey new o c
+  pub can_write : (o c : ℕ) → IsReadyKey old o c → IsReadyKey new o c
 
 -- So many keys less are in block v and more in block w, and nothing else of the blocks is other.
 pub record CountsMoved (v w n : ℕ) (old new : Table) : Type 0 where

@@ -5,7 +5,7 @@ use Rattle.nand_model.specs.Calls.{Device}
 use Rattle.block_state.specs.Committed.{bad_count}
 use Rattle.block_state.specs.Table.{Table}
 use Rattle.flash_log.specs.Moving.{LiesOpen, IsAway, IsLeft, WhyNotMoved}
-use Rattle.flash_log.specs.Standing.{HasFreeBlocks}
+use Rattle.flash_log.specs.Consistency.{HasFreeBlocks}
 use Rattle.flash_log.specs.declared.fault.MoveFault.{MoveFault}
 use Rattle.flash_log.specs.declared.fault.MoveFault.TheVariants as faults
 use Rattle.transactions.specs.Checking.{LogState}

@@ -13,7 +13,7 @@ use Rattle.flash_log.specs.Bills.{Pays, bill_of}
 use Rattle.flash_log.specs.LogOf.{log_state}
 use Rattle.flash_log.specs.Moving.{MovesOut, WhyNotMoved}
 use Rattle.flash_log.specs.SummarySource.{summary_size}
-use Rattle.flash_log.specs.Standing.{HasFreeBlocks}
+use Rattle.flash_log.specs.Consistency.{HasFreeBlocks}
 use Rattle.flash_log.specs.declared.fault.MoveFault.{MoveFault}
 use Rattle.flash_log.specs.declared.fault.MoveFault.TheVariants as moves
 use Rattle.flash_log.specs.declared.log.Log.{Log}

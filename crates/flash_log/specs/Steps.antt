@@ -11,7 +11,7 @@ use Rattle.transactions.specs.Handing.{HandsOut}
 use Rattle.transactions.specs.Ready.{IsReady}
 use Rattle.flash_log.specs.Erased.{KeepsErased}
 use Rattle.flash_log.specs.Moving.{Follows}
-use Rattle.flash_log.specs.Standing.{Stands, SameData, KeepsFree, KeepsFindable}
+use Rattle.flash_log.specs.Consistency.{IsConsistentLog, SameData, KeepsFree, KeepsFindable}
 
 -- there is room for each key still, also once the changes are settled
 abbrev pub StaysReady : Index → Index → Type 0
@@ -24,13 +24,13 @@ pub record MovesCommitted (old new : Index) : Type 0 where
   pub committed : (o c : ℕ) → committed_pages old o c ≡ None → committed_pages new o c ≡ None
   pub present : (o c : ℕ) → committed_pages old o c ≡ None → present new o c ≡ present old o c
   pub prepared : StaysPrepared old new
-  pub ready : StaysReady old new
+  pub can_write : StaysReady old new
 
 -- A log that can be written: what every group needs holds, and what holds between two calls, and no more blocks are bad than there are
 -- to spare.
 pub record CanWrite (spare : ℕ) (log : LogState) (x : Index) : Type 0 where
-  pub ready : IsReady log.device log.table
-  pub stands : Stands spare log.device log.table x
+  pub can_write : IsReady log.device log.table
+  pub consistent : IsConsistentLog spare log.device log.table x
   pub within_limit : bad_count log.table ≤ spare
 
 -- What every call of the log keeps while what is committed stays: what every group needs and what holds between two calls, the numbers,
@@ -38,8 +38,8 @@ pub record CanWrite (spare : ℕ) (log : LogState) (x : Index) : Type 0 where
 -- a mount by summaries finds, and that the table knows the blocks that begin erased.
 pub record Step (spare : ℕ) (old new : LogState) (x y : Index) : Type 0 where
   pub lasts : Lasts old.device new.device
-  pub ready : IsReady new.device new.table
-  pub stands : Stands spare new.device new.table y
+  pub can_write : IsReady new.device new.table
+  pub consistent : IsConsistentLog spare new.device new.table y
   pub numbers : HandsOut old.device new.device old.table new.table
   pub geometry : new.table.geometry ≡ old.table.geometry
   pub marks : (b : ℕ) → (old.table.entry b).bad ≡ true → (new.table.entry b).bad ≡ true

@@ -30,7 +30,7 @@ fn committed_count(blocks: &Blocks) -> u64
 /// How many pages of so many bytes a head and so many entries take.
 fn pages_for(entries: u64, bytes: u32) -> u64
     requires within_limit { entries ≤ 2 ^ 44 }
-    requires some { 1 ≤ bytes }
+    requires not_empty { 1 ≤ bytes }
     ensures { result ≡ ceiling (32 * (1 + entries)) bytes }
 {
     (32 * (1 + entries)).div_ceil(u64::from(bytes))
@@ -38,7 +38,7 @@ fn pages_for(entries: u64, bytes: u32) -> u64
 
 /// How long the checkpoint is, if it has room in a block.
 fn measure(blocks: &Blocks) -> Option<Extent>
-    ensures some { IfSome result (IsExtent (table blocks.now)) }
+    ensures extent { IfSome result (IsExtent (table blocks.now)) }
     ensures room { IfSome result (λ e. e.pages ≤ (table blocks.now).geometry.pages) }
     ensures none { IfNone result ((table blocks.now).geometry.pages < check_pages (table blocks.now)) }
 {

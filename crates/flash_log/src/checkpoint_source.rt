@@ -49,7 +49,7 @@ impl PageSource for Checks<'_> {
 
     ghost bytes = { λ s flash i. check_page s.geometry.bytes (index_entries s.index.now) i };
 
-    ghost ready = { λ s geometry number. CanList s geometry number };
+    ghost can_write = { λ s geometry number. CanList s geometry number };
 
     ghost quiet = { λ s. Unit {0} };
 

@@ -48,7 +48,7 @@ fn write_checks<N: Nand>(
     scratch: &mut [u8],
     block: u32,
 ) -> Result<Written, SealFault>
-    requires ready { IsReady (N.state device.old) (table blocks.old) }
+    requires can_write { IsReady (N.state device.old) (table blocks.old) }
     requires number { (table blocks.old).next_group < number_end }
     requires size { length scratch.old ≡ (N.state device.old).geometry.bytes }
     requires list { CanList checks.now (N.state device.old).geometry (table blocks.old).next_group }
@@ -84,7 +84,7 @@ fn mark_failed<N: Nand>(
     block: u32,
     spare: u32,
 ) -> Result<(), SealFault>
-    requires ready { IsReady (N.state device.old) (table blocks.old) }
+    requires can_write { IsReady (N.state device.old) (table blocks.old) }
     requires block { MayMark block (table blocks.old) }
     ensures leaves { Leaves (Unit {0}) block (log_of (N.state device.old) (table blocks.old)) (log_of (N.state device.new) (table blocks.new)) }
     ensures marks { bad_count (table blocks.new) ≤ bad_count (table blocks.old) + 1 }
@@ -113,7 +113,7 @@ pub(crate) fn write_into<N: Nand>(
     block: u32,
     spare: u32,
 ) -> Result<(), SealFault>
-    requires ready { IsReady (N.state device.old) (table blocks.old) }
+    requires can_write { IsReady (N.state device.old) (table blocks.old) }
     requires number { (table blocks.old).next_group < number_end }
     requires size { length scratch.old ≡ (N.state device.old).geometry.bytes }
     requires list { CanList checks.now (N.state device.old).geometry (table blocks.old).next_group }

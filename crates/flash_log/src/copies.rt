@@ -64,7 +64,7 @@ impl PageSource for Copies<'_> {
 
     ghost bytes = { λ s flash i. copy_bytes s.places.now flash i };
 
-    ghost ready = { λ s geometry number. CanCopy s.places.now geometry number };
+    ghost can_write = { λ s geometry number. CanCopy s.places.now geometry number };
 
     ghost quiet = { λ s. ⊥ };
 

@@ -44,7 +44,7 @@ pub(crate) fn write_copies<N: Nand>(
     copies: &[CommittedKey],
     scratch: &mut [u8],
 ) -> Result<Copied, MoveFault>
-    requires ready { IsReady (N.state device.old) (table blocks.old) }
+    requires can_write { IsReady (N.state device.old) (table blocks.old) }
     requires clear { IsClear block (N.state device.old) (table blocks.old) }
     requires fits { ((table blocks.old).entry block).next + length copies.now ≤ (table blocks.old).geometry.pages }
     requires group { (table blocks.old).next_group < number_end }
@@ -80,9 +80,9 @@ fn copy_once<N: Nand>(
     scratch: &mut [u8],
     spare: u32,
 ) -> Result<Copied, MoveFault>
-    requires ready { IsReady (N.state device.old) (table blocks.old) }
+    requires can_write { IsReady (N.state device.old) (table blocks.old) }
     requires closed { (table blocks.old).open_block ≡ None }
-    requires some { HasUncommitted (table blocks.old) spare }
+    requires uncommitted { HasUncommitted (table blocks.old) spare }
     requires size { length scratch.old ≡ (N.state device.old).geometry.bytes }
     requires copies { MayBeCopied (N.state device.old) (table blocks.old) copies.now }
     ensures pages { CopiesPages copies.now (log_of (N.state device.old) (table blocks.old)) (log_of (N.state device.new) (table blocks.new)) result }
@@ -107,8 +107,8 @@ pub(crate) fn copy_listed<N: Nand>(
     scratch: &mut [u8],
     spare: u32,
 ) -> Result<Target, MoveFault>
-    requires ready { IsReady (N.state device.old) (table blocks.old) }
-    requires some { HasUncommitted (table blocks.old) spare }
+    requires can_write { IsReady (N.state device.old) (table blocks.old) }
+    requires uncommitted { HasUncommitted (table blocks.old) spare }
     requires size { length scratch.old ≡ (N.state device.old).geometry.bytes }
     requires copies { MayBeCopied (N.state device.old) (table blocks.old) copies.now }
     ensures pages { CopiesPages copies.now (log_of (N.state device.old) (table blocks.old)) (log_of (N.state device.new) (table blocks.new)) (as_copied result) }

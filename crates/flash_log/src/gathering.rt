@@ -20,7 +20,7 @@ impl<N: Nand> Log<N> {
         requires within_limit { HasReserve self.old }
         requires block { block < (N.state self.old.device).geometry.blocks }
         requires good { ((table self.old.blocks).entry block).bad ≡ false }
-        requires some { 1 ≤ ((table self.old.blocks).entry block).committed }
+        requires has_committed { 1 ≤ ((table self.old.blocks).entry block).committed }
         requires fits { ((table self.old.blocks).entry block).committed + count ≤ (table self.old.blocks).geometry.pages }
         ensures terms { SameTerms (terms_of self.old) (terms_of self.new) }
         ensures step { Moves self.old self.new }

@@ -6,8 +6,8 @@ ghost use Rattle.transactions.specs.Ready.{IsReady};
 ghost use Rattle.flash_log.specs.Mountable.{IsMountableSince};
 ghost use Rattle.flash_log.specs.Room.{IsRoomFor};
 ghost use Rattle.flash_log.specs.Snapshots.{Snapshot};
-ghost use Rattle.flash_log.specs.Standing.{Stands};
-ghost use Rattle.flash_log.specs.laws.OneProof.{stands_prop};
+ghost use Rattle.flash_log.specs.Consistency.{IsConsistentLog};
+ghost use Rattle.flash_log.specs.laws.OneProof.{consistent_prop};
 
 use crate::origin::Origin;
 use crate::room::MoveRoom;
@@ -27,8 +27,8 @@ pub struct Log<N: Nand> {
     pub spare: u32,
     /// The flash with which the log began, for contracts alone. It takes no memory.
     pub origin: Origin,
-    ghost ready: { IsReady (N.state device) (table blocks) },
-    ghost stands: { Stands spare (N.state device) (table blocks) index } by { stands_prop spare (N.state device) (table blocks) index },
+    ghost can_write: { IsReady (N.state device) (table blocks) },
+    ghost consistent: { IsConsistentLog spare (N.state device) (table blocks) index } by { consistent_prop spare (N.state device) (table blocks) index },
     ghost room_size: { IsRoomFor (N.state device).geometry room },
     ghost mountable: { IsMountableSince origin.first (log_of (N.state device) (table blocks)) index },
 }
@@ -44,8 +44,8 @@ impl<N: Nand> Log<N> {
         spare: u32,
     ) -> Result<Log<N>, (N, AllocError)>
         ghost first: { Option Snapshot }
-        requires ready { IsReady (N.state device) (table blocks) }
-        requires stands { Stands spare (N.state device) (table blocks) index }
+        requires can_write { IsReady (N.state device) (table blocks) }
+        requires consistent { IsConsistentLog spare (N.state device) (table blocks) index }
         requires mountable { IsMountableSince first (log_of (N.state device) (table blocks)) index }
         ensures device { IfOk result (λ log. log.device ≡ device) }
         ensures tables { IfOk result (λ log. (log.blocks ≡ blocks) × (log.index ≡ index)) }

@@ -120,7 +120,7 @@ impl<N: Nand> Log<N> {
     pub fn move_committed(&mut self, block: u32) -> Result<Moved, MoveFault>
         requires within_limit { HasReserve self.old }
         requires block { IsGoodBlock block (log_state self.old) }
-        requires some { 1 ≤ ((table self.old.blocks).entry block).committed }
+        requires has_committed { 1 ≤ ((table self.old.blocks).entry block).committed }
         ensures terms { SameTerms (terms_of self.old) (terms_of self.new) }
         ensures step { Moves self.old self.new }
         ensures out { MovesOut block self.old.index self.new.index }
@@ -147,7 +147,7 @@ impl<N: Nand> Log<N> {
         requires within_limit { HasReserve self.old }
         requires block { block < (N.state self.old.device).geometry.blocks }
         requires good { ((table self.old.blocks).entry block).bad ≡ false }
-        requires some { 1 ≤ ((table self.old.blocks).entry block).committed }
+        requires has_committed { 1 ≤ ((table self.old.blocks).entry block).committed }
         requires clear { HasClear ((table self.old.blocks).entry block).committed (N.state self.old.device) (table self.old.blocks) }
         requires group { (table self.old.blocks).next_group < number_end }
         ensures terms { SameTerms (terms_of self.old) (terms_of self.new) }

@@ -29,12 +29,12 @@ fn mark_emptied<N: Nand>(
     block: u32,
     spare: u32,
 ) -> Result<(), MoveFault>
-    requires ready { IsReady (N.state device.old) (table blocks.old) }
+    requires can_write { IsReady (N.state device.old) (table blocks.old) }
     requires block { block < (N.state device.old).geometry.blocks }
     requires closed { (table blocks.old).open_block ≢ Some block }
     requires first { MayLose block (table blocks.old) }
     ensures marks { (gone : Result (Unit {0}) Gone) × Marks block (N.state device.old) (N.state device.new) gone }
-    ensures ready { IsReady (N.state device.new) (table blocks.new) }
+    ensures can_write { IsReady (N.state device.new) (table blocks.new) }
     ensures notes { NotesMark block (N.state device.new).flash (table blocks.old) (table blocks.new) }
     ensures newest { (N.state device.old).honest ≡ true → KeepsElsewhere block (N.state device.old).flash (N.state device.new).flash }
     ensures numbers { HandsOut (N.state device.old) (N.state device.new) (table blocks.old) (table blocks.new) }

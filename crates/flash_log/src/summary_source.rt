@@ -92,7 +92,7 @@ impl PageSource for SummarySource<'_> {
 
     ghost bytes = { λ s flash i. source_page s i };
 
-    ghost ready = { λ s geometry number. CanSummarize s geometry number };
+    ghost can_write = { λ s geometry number. CanSummarize s geometry number };
 
     ghost quiet = { λ s. Unit {0} };
 

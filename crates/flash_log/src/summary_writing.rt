@@ -42,7 +42,7 @@ fn mark_written<N: Nand>(
     blocks: &mut Blocks,
     block: u32,
 ) -> Result<Summarized, MoveFault>
-    requires ready { IsReady (N.state device.old) (table blocks.old) }
+    requires can_write { IsReady (N.state device.old) (table blocks.old) }
     requires empty { IsEmptyBlock block (table blocks.old) }
     requires closed { (table blocks.old).open_block ≡ None }
     requires none { (table blocks.old).checkpoint ≡ None }
@@ -67,7 +67,7 @@ fn write_listed<N: Nand>(
     source: &SummarySource<'_>,
     scratch: &mut [u8],
 ) -> Result<Summarized, MoveFault>
-    requires ready { IsReady (N.state device.old) (table blocks.old) }
+    requires can_write { IsReady (N.state device.old) (table blocks.old) }
     requires fresh { IsFresh block (N.state device.old) (table blocks.old) }
     requires number { (table blocks.old).next_group + 1 < number_end }
     requires size { length scratch.old ≡ (N.state device.old).geometry.bytes }
@@ -99,7 +99,7 @@ impl<N: Nand> Log<N> {
 
     /// The block that is open, where a summary of it is worth its pages: a fourth of it is written, and pages are committed in it.
     pub(crate) fn written_block(&self) -> Option<WrittenBlock>
-        ensures some { IfSome result (λ w. IsOpenWith w (table self.now.blocks)) }
+        ensures opened { IfSome result (λ w. IsOpenWith w (table self.now.blocks)) }
         ensures none { IfNone result ((b : ℕ) → IsWorthIt b (table self.now.blocks) → ⊥) }
     {
         let block = self.blocks.open_block()?;

@@ -33,12 +33,12 @@ enum Tried {
 
 /// Erases the block that may have a checkpoint, else the free block whose turn it is, and makes it the open one, or marks it where that fails.
 fn try_block<N: Nand>(device: &mut N, blocks: &mut Blocks) -> Result<Tried, Gone>
-    requires ready { IsReady (N.state device.old) (table blocks.old) }
+    requires can_write { IsReady (N.state device.old) (table blocks.old) }
     requires closed { (table blocks.old).open_block ≡ None }
-    requires some { (spare : ℕ) × HasUncommitted (table blocks.old) spare }
+    requires uncommitted { (spare : ℕ) × HasUncommitted (table blocks.old) spare }
     requires seq { (table blocks.old).next_seq < number_end }
     ensures lasts { Lasts (N.state device.old) (N.state device.new) }
-    ensures ready { IsReady (N.state device.new) (table blocks.new) }
+    ensures can_write { IsReady (N.state device.new) (table blocks.new) }
     ensures numbers { HandsOut (N.state device.old) (N.state device.new) (table blocks.old) (table blocks.new) }
     ensures passes { Passes (N.state device.old) (N.state device.new) (table blocks.old) (table blocks.new) }
     ensures answers { OnOk result (AnswersFailures 0 0 (N.state device.old) (N.state device.new) (table blocks.old) (table blocks.new)) }
@@ -68,10 +68,10 @@ pub fn take_block<N: Nand>(
     blocks: &mut Blocks,
     spare: u32,
 ) -> Result<u32, TakeFault>
-    requires ready { IsReady (N.state device.old) (table blocks.old) }
-    requires some { HasUncommitted (table blocks.old) spare }
+    requires can_write { IsReady (N.state device.old) (table blocks.old) }
+    requires uncommitted { HasUncommitted (table blocks.old) spare }
     ensures lasts { Lasts (N.state device.old) (N.state device.new) }
-    ensures ready { IsReady (N.state device.new) (table blocks.new) }
+    ensures can_write { IsReady (N.state device.new) (table blocks.new) }
     ensures numbers { HandsOut (N.state device.old) (N.state device.new) (table blocks.old) (table blocks.new) }
     ensures passes { Passes (N.state device.old) (N.state device.new) (table blocks.old) (table blocks.new) }
     // Where a block is taken, each failure before has its mark.

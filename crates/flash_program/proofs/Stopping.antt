@@ -23,7 +23,7 @@ use Rattle.nand_model.specs.declared.trusted_nand.TrustedNand.{TrustedNand}
 use Rattle.posix_calls.specs.PageVolumes.{pages_of, is_stopped, IsVolumeOf}
 use Rattle.posix_calls.specs.declared.page_volume.PageVolume.{PageVolume}
 use Rattle.paged_objects.specs.Ending.{HasEndedAt}
-use Rattle.paged_objects.specs.Standing.{volume_of}
+use Rattle.paged_objects.specs.Representing.{volume_of}
 use Rattle.paged_objects.specs.laws.Going.{ended_at, goes_here, goes_on}
 use Rattle.pages.specs.State.{PagesState, NextNumbers}
 use Rattle.pages.specs.Stores.{GoesOn}
@@ -31,6 +31,7 @@ use Rattle.page_store.specs.PagesOf.{mounted_pages}
 use Rattle.page_store.specs.declared.flash_pages.FlashPages.{FlashPages}
 use Rattle.posix_calls.specs.Calls.{IsCalled}
 use Rattle.posix_calls.specs.Volumes.{over_pages}
+use Rattle.posix_calls.specs.declared.volume.Volume.{Volume}
 use Rattle.posix_calls.specs.Endings.{IsUnmounted}
 use Rattle.posix_calls.specs.laws.Ending.{ends_after}
 use Rattle.posix_calls.specs.laws.Trusting.{read_since, left_as_seen}
@@ -45,16 +46,15 @@ use Rattle.posix_profile.specs.declared.reply.Reply.TheVariants as replies
 use Rattle.powercut.specs.Limits.{StaysWithin}
 use Rattle.volume_terms.specs.Sizes.{Sizes}
 use Rattle.flash_program.specs.Sessions.{Serves, Session, Stream}
-use Rattle.flash_program.specs.declared.serve.ServedVolume.{ServedVolume}
 use Rattle.flash_program.specs.declared.fault.ProgramFault.{ProgramFault}
 
 module _ {N : Type 0} (trusted : Ghosts (TrustedNand N)) where
   abbrev V : Type 0
-  V = ServedVolume N trusted
+  V = Volume N trusted
 
   -- the volume in it
   abbrev inside : V → PageVolume (FlashPages (TrustedNand N) trusted)
-  inside v = over_pages v.volume
+  inside v = over_pages v
 
   -- its pages
   abbrev pages_in : V → PagesState
@@ -64,14 +64,14 @@ module _ {N : Type 0} (trusted : Ghosts (TrustedNand N)) where
     -- a volume after commands of a session that began with these pages: it is stopped for its reason, or stands for a state
     record Stays (v : V) : Type 0 where
       pub goes : GoesOn first (pages_in v)
-      pub stands : ((is_stopped (inside v) ≡ true) × HasEndedAt (pages_in v)) ⊎ ((is_stopped (inside v) ≡ false) × ((s : State) × IsVolumeOf mounted_pages z s (inside v)))
+      pub represents : ((is_stopped (inside v) ≡ true) × HasEndedAt (pages_in v)) ⊎ ((is_stopped (inside v) ≡ false) × ((s : State) × IsVolumeOf mounted_pages z s (inside v)))
 
     called : (old new : V) (command : Stamped) (reply : Reply) → Stays old → Serves old command reply new → Stays new
     called old new command reply at served =
         let one : IsCalled mounted_pages (inside old) command reply (inside new) = served in
         record {
           goes = goes_on first (pages_in old) (pages_in new) at.goes one.goes_on;
-          stands = elim at.stands [
+          represents = elim at.represents [
             | inl (stopped, ended) ↦
                 let same = (one.stopped stopped).1 in
                 inl (ap (λ (w : PageVolume (FlashPages (TrustedNand N) trusted)). is_stopped w) same ∙ stopped, subst (λ (w : PageVolume (FlashPages (TrustedNand N) trusted)). HasEndedAt (mounted_pages (pages_of w))) (sym same) ended)
@@ -104,7 +104,7 @@ module _ {N : Type 0} (trusted : Ghosts (TrustedNand N)) where
 
     unmounts : (last : V) (device : Device) (reply : Reply) → Stays last → (u : IsUnmounted mounted_pages (inside last) device reply)
         → HasEndedAt u.pages ⊎ ((is_stopped (inside last) ≡ false) × (reply ≡ replies.Done))
-    unmounts last device reply at u = elim at.stands [
+    unmounts last device reply at u = elim at.represents [
       | inl (stopped, ended) ↦ inl (subst (λ (q : PagesState). HasEndedAt q) (sym (u.stopped stopped).1) ended)
       | inr (runs, here) ↦ elim (u.replies_are runs) [
         | inl done ↦ inr (runs, done)
@@ -159,7 +159,7 @@ module _ {N : Type 0} (trusted : Ghosts (TrustedNand N)) where
         let reported = session.mounted.tree here in
         let z = volume_of p in
         let u = session.unmounted in
-        let at_first : Stays p z session.first = record { goes = goes_here p; stands = inr (session.mounted.goes_on, (at_mount reported.0, reported.1.volume)) } in
+        let at_first : Stays p z session.first = record { goes = goes_here p; represents = inr (session.mounted.goes_on, (at_mount reported.0, reported.1.volume)) } in
         let at_last = shell_ends p z input.before input.after output.before output.after session.first session.last session.shell at_first session.answered in
         let ends = ends_after p (pages_in session.last) u.pages (ends_going p (pages_in session.last) at_last.goes) u.ends_on in
         let same = left_as_seen u.pages after u.device_is (ends.device.honest ∙ here) in

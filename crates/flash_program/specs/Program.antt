@@ -11,7 +11,7 @@ use Rattle.clap.specs.declared.builder.value_parser.ValueParser.TheVariants as p
 abbrev pub image_rule : Rule
 image_rule = record (new_rule (codes "IMAGE")) { required = true }
 
--- an option with one value, its name, how the value is read, and the value that stands for none
+-- an option with one value, its name, how the value is read, and the value that represents none
 abbrev pub option_rule : Text → ValueParser → Text → Rule
 option_rule name parser default = record (new_rule name) { long = Some name; parser = Some parser; defaults = default ∷ []; value_names = 1 }
 

@@ -14,6 +14,7 @@ use Rattle.posix_calls.specs.Calls.{IsCalled}
 use Rattle.posix_calls.specs.Endings.{IsUnmounted}
 use Rattle.posix_calls.specs.Mounts.{IsMounted}
 use Rattle.posix_calls.specs.Volumes.{over_pages}
+use Rattle.posix_calls.specs.declared.volume.Volume.{Volume}
 use Rattle.posix_profile.specs.declared.command.Stamped.{Stamped}
 use Rattle.posix_profile.specs.declared.reply.Reply.{Reply}
 use Rattle.posix_profile.specs.declared.reply.Reply.TheVariants as replies
@@ -21,7 +22,6 @@ use Rattle.posix_profile.specs.laws.Fresh.{fresh}
 use Rattle.powercut.specs.Living.{IsSoundOn}
 use Rattle.flash_program.specs.declared.fault.ProgramFault.{ProgramFault}
 use Rattle.flash_program.specs.declared.fault.ProgramFault.TheVariants as faults
-use Rattle.flash_program.specs.declared.serve.ServedVolume.{ServedVolume}
 
 -- A stream before and after: the bytes that are left to be read of an input, those that were written to an output; none where the
 -- stream does not report them.
@@ -37,9 +37,9 @@ stream bytes old new = record { before = bytes old; after = bytes new }
 abbrev pub IsUntouched : Stream → Type 0
 IsUntouched s = s.after ≡ s.before
 
--- the volume in it is called
-abbrev pub Serves : {N : Type 0} {trusted : Ghosts (TrustedNand N)} → ServedVolume N trusted → Stamped → Reply → ServedVolume N trusted → Type 0
-Serves old command reply new = IsCalled mounted_pages (over_pages old.volume) command reply (over_pages new.volume)
+-- the volume is called
+abbrev pub Serves : {N : Type 0} {trusted : Ghosts (TrustedNand N)} → Volume N trusted → Stamped → Reply → Volume N trusted → Type 0
+Serves old command reply new = IsCalled mounted_pages (over_pages old) command reply (over_pages new)
 
 -- what is reported of a session, from how its shell ended and from the answer to its unmount: the shell's fault goes first
 abbrev pub reported : Result (Unit {0}) ShellFault → Reply → Result (Unit {0}) ProgramFault
@@ -49,13 +49,13 @@ reported (Ok done) reply = Err faults.Unmount
 
 -- The volume of a device was mounted, lines were answered by it, and it was unmounted.
 pub record Session {N : Type 0} (trusted : Ghosts (TrustedNand N)) (before : Device) (input output : Stream) (after : Device) (result : Result (Unit {0}) ProgramFault) : Type 0 where
-  pub first : ServedVolume N trusted
-  pub last : ServedVolume N trusted
+  pub first : Volume N trusted
+  pub last : Volume N trusted
   pub shell : Result (Unit {0}) ShellFault
   pub reply : Reply
-  pub mounted : IsMounted mounted_pages before (over_pages first.volume)
+  pub mounted : IsMounted mounted_pages before (over_pages first)
   pub answered : Shell Serves input.before input.after output.before output.after first last shell
-  pub unmounted : IsUnmounted mounted_pages (over_pages last.volume) after reply
+  pub unmounted : IsUnmounted mounted_pages (over_pages last) after reply
   pub result_is : result ≡ reported shell reply
 
 -- The volume of a device was not mounted: the device was only read, and nothing was written.

@@ -20,11 +20,11 @@ use Rattle.posix_profile.specs.declared.reply.Reply.TheVariants as replies
 use Rattle.posix_profile.specs.laws.Fresh.{fresh}
 use Rattle.posix_calls.specs.Mounts.{IsMounted, IsMountedByScan}
 use Rattle.posix_calls.specs.Volumes.{over_pages}
+use Rattle.posix_calls.specs.declared.volume.Volume.{Volume}
 use Rattle.powercut.specs.Living.{IsSoundOn}
 use Rattle.flash_program.specs.Sessions.{NotMounted, IsUntouched, Serves, Stream}
 use Rattle.flash_program.specs.declared.fault.ProgramFault.{ProgramFault}
 use Rattle.flash_program.specs.declared.fault.ProgramFault.TheVariants as faults
-use Rattle.flash_program.specs.declared.serve.ServedVolume.{ServedVolume}
 
 -- the command that asks for the space
 abbrev pub space_asked : Stamped
@@ -42,12 +42,12 @@ IsStated output text (Err fault) = ⊥
 
 -- A volume was mounted by all tags, called for its space, and left as it was: its device was only read.
 pub record Checked {N : Type 0} (trusted : Ghosts (TrustedNand N)) (before : Device) (output : Stream) (after : Device) (result : Result (Unit {0}) ProgramFault) : Type 0 where
-  pub first : ServedVolume N trusted
-  pub last : ServedVolume N trusted
+  pub first : Volume N trusted
+  pub last : Volume N trusted
   pub reply : Reply
-  pub mounted : IsMountedByScan mounted_pages before (over_pages first.volume)
+  pub mounted : IsMountedByScan mounted_pages before (over_pages first)
   pub issued : Serves first space_asked reply last
-  pub reported : IsStated output (space_text reply (is_read_only (over_pages last.volume))) result
+  pub reported : IsStated output (space_text reply (is_read_only (over_pages last))) result
   pub reads : OnlyReads before after
 
 -- how the check of a device ends
@@ -62,15 +62,15 @@ shown (Ok done) reply = Err faults.Unmount
 
 -- A volume was mounted, called for its space, and unmounted.
 pub record Shown {N : Type 0} (trusted : Ghosts (TrustedNand N)) (before : Device) (output : Stream) (after : Device) (result : Result (Unit {0}) ProgramFault) : Type 0 where
-  pub first : ServedVolume N trusted
-  pub last : ServedVolume N trusted
+  pub first : Volume N trusted
+  pub last : Volume N trusted
   pub reply : Reply
   pub spoken : Result (Unit {0}) ProgramFault
   pub answer : Reply
-  pub mounted : IsMounted mounted_pages before (over_pages first.volume)
+  pub mounted : IsMounted mounted_pages before (over_pages first)
   pub issued : Serves first space_asked reply last
   pub reported : IsStated output (reply_text reply) spoken
-  pub unmounted : IsUnmounted mounted_pages (over_pages last.volume) after answer
+  pub unmounted : IsUnmounted mounted_pages (over_pages last) after answer
   pub result_is : result ≡ shown spoken answer
 
 -- how the showing of a device ends

@@ -19,4 +19,4 @@ OnlyACutStops trusted =
     (before after : Device) (input output : Stream) (result : Result (Unit {0}) ProgramFault)
     → (session : Session trusted before input output after result)
     → (spare : ℕ) (tree : Objects) → before.honest ≡ true → IsSoundOn spare tree before → StaysWithin spare before after
-    → after.gone ≡ false → (is_stopped (over_pages session.last.volume) ≡ false) × (session.reply ≡ replies.Done)
+    → after.gone ≡ false → (is_stopped (over_pages session.last) ≡ false) × (session.reply ≡ replies.Done)

@@ -20,7 +20,6 @@ mod memory;
 mod opening;
 mod options;
 mod running;
-mod serve;
 mod space;
 
 pub use acting::act;

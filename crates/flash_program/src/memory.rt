@@ -6,7 +6,6 @@ ghost use Rattle.flash_program.specs.Sessions.{reported, stream, LinesEnd, IsEar
 ghost use Rattle.flash_program.specs.declared.fault.ProgramFault.TheVariants as faults;
 
 use crate::fault::ProgramFault;
-use crate::serve::ServedVolume;
 use line_shell::{ShellFault, shell};
 use nand_model::{Geometry, MemNand, Nand, TrustedNand};
 use posix_calls::{Volume, format};
@@ -53,13 +52,12 @@ pub(crate) fn answer_lines<N: Nand, R: BufRead, W: Write>(
 ) -> (N, Result<(), ProgramFault>)
     ensures { LinesEnd ⟦<TrustedNand<N> as Nand>⟧ (N.state device) (stream R.remaining reader.old reader.new) (stream W.contents writer.old writer.new) (N.state result.0) result.1 }
 {
-    let volume = match Volume::mount(alloc, device) {
+    let mut volume = match Volume::mount(alloc, device) {
         Ok(volume) => volume,
         Err((device, fault)) => return (device, Err(ProgramFault::Mount(fault))),
     };
-    let mut served = ServedVolume { volume };
-    let ended = shell(alloc, reader, writer, &mut served);
-    let (device, reply) = served.volume.unmount();
+    let ended = shell(alloc, reader, writer, &mut volume);
+    let (device, reply) = volume.unmount();
     (device, reported(ended, &reply))
 }
 

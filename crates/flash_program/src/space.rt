@@ -6,19 +6,18 @@ ghost use Rattle.flash_program.specs.Spaces.{space_asked, space_text, IsStated, 
 ghost use Rattle.line_shell.specs.Written.{Writes};
 
 use crate::fault::ProgramFault;
-use crate::serve::ServedVolume;
-use line_shell::{Serve, write_bytes, write_reply};
+use line_shell::{write_bytes, write_reply};
 use nand_model::{MemNand, Nand, TrustedNand};
 use posix_calls::Volume;
-use posix_profile::{Command, Reply, Stamped};
+use posix_profile::{Answers, Command, Reply, Stamped};
 use std::alloc::Global;
 use std::io::{self, Write};
 
 /// Issues a volume for its space.
-fn ask_space<V: Serve>(volume: &mut V) -> Reply
+fn ask_space<V: Answers>(volume: &mut V) -> Reply
     ensures { V.serves volume.old space_asked result volume.new }
 {
-    volume.call(&Stamped {
+    volume.answer(&Stamped {
         moment: 0,
         command: Command::Space,
     })
@@ -58,14 +57,13 @@ pub(crate) fn check_device<W: Write>(
 ) -> (MemNand, Result<(), ProgramFault>)
     ensures { CheckEnds ⟦<TrustedNand<MemNand> as Nand>⟧ (memory.device device) (stream W.contents writer.old writer.new) (memory.device result.0) result.1 }
 {
-    let volume = match Volume::mount_scanned(alloc, device) {
+    let mut volume = match Volume::mount_scanned(alloc, device) {
         Ok(volume) => volume,
         Err((device, fault)) => return (device, Err(ProgramFault::Mount(fault))),
     };
-    let mut served = ServedVolume { volume };
-    let reply = ask_space(&mut served);
-    let reported = report_space(writer, &reply, served.volume.read_only());
-    (served.volume.abandon(), reported)
+    let reply = ask_space(&mut volume);
+    let reported = report_space(writer, &reply, volume.read_only());
+    (volume.abandon(), reported)
 }
 
 /// What a new volume ends with, from how its space was reported and from the answer to the unmount.
@@ -87,13 +85,12 @@ pub(crate) fn show_device<N: Nand, W: Write>(
 ) -> (N, Result<(), ProgramFault>)
     ensures { ShowEnds ⟦<TrustedNand<N> as Nand>⟧ (N.state device) (stream W.contents writer.old writer.new) (N.state result.0) result.1 }
 {
-    let volume = match Volume::mount(alloc, device) {
+    let mut volume = match Volume::mount(alloc, device) {
         Ok(volume) => volume,
         Err((device, fault)) => return (device, Err(ProgramFault::Mount(fault))),
     };
-    let mut served = ServedVolume { volume };
-    let reply = ask_space(&mut served);
+    let reply = ask_space(&mut volume);
     let reported = report_space(writer, &reply, false);
-    let (device, reply) = served.volume.unmount();
+    let (device, reply) = volume.unmount();
     (device, shown(reported, &reply))
 }

@@ -68,13 +68,13 @@ abbrev pub IsTrueFlash : Geometry → Flash → Type 0
 IsTrueFlash g flash = (c : Checkpoint) → IsWhole g flash c → IsRight g flash c
 
 -- each whole checkpoint lies in this block; with none there is none
-abbrev pub StandsOnly : Geometry → Flash → Option ℕ → Type 0
-StandsOnly g flash at = (c : Checkpoint) → IsWhole g flash c → at ≡ Some c.block
+abbrev pub LiesOnlyIn : Geometry → Flash → Option ℕ → Type 0
+LiesOnlyIn g flash at = (c : Checkpoint) → IsWhole g flash c → at ≡ Some c.block
 
 -- The flash is true, and the block that may have a checkpoint is known.
 pub record IsChecked (g : Geometry) (flash : Flash) (at : Option ℕ) : Type 0 where
   pub right : IsTrueFlash g flash
-  pub only : StandsOnly g flash at
+  pub only : LiesOnlyIn g flash at
 
 -- nothing is written in the block, or it is bad
 abbrev pub HasNothing : Flash → ℕ → Type 0
@@ -88,7 +88,7 @@ pub record AddsOrdinary (old new : Flash) : Type 0 where
   pub groups : SameGroups old new ⊎ ((g : Group) × AddsGroup g old new × ((t : Tag) → HasTag new g.block g.start t → t.object ≢ check_object))
 
 -- The group of a whole checkpoint is added, and nothing else: it lists the tree that the flash has shown, of which no page lies in its
--- block and no object has its number, and its numbers are above all that stood there.
+-- block and no object has its number, and its numbers are above all that was there.
 pub record AddsCheckpoint (g : Geometry) (old new : Flash) (c : Checkpoint) : Type 0 where
   pub grows : Grows old new
   pub bads : new.bad ≡ old.bad

@@ -1,4 +1,4 @@
--- The numbers that stand on a flash, and those that come next.
+-- The numbers that are on a flash, and those that come next.
 -- From: this project.
 use Rattle.std.specs.Prelude.{◌≡◌, ◌<◌, ℕ, false}
 use Rattle.nand_model.specs.Flash.{Flash}

@@ -53,7 +53,7 @@ SlotIs z m o i entry =
 abbrev pub slot_pairs : List Entry → List (Name × ℕ)
 slot_pairs slots = list_map (λ entry. (entry.name, entry.object)) slots
 
--- the object is this directory: its header's length of slots, in which no name stands twice, are its entries
+-- the object is this directory: its header's length of slots, in which no name is there twice, are its entries
 pub record ReadsDir (z : Sizes) (m : NewestMap) (o : ℕ) (moment : ℕ) (entries : Entries) : Type 0 where
   pub fields : Fields
   pub has : HasHeader z m o fields

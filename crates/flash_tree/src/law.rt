@@ -83,7 +83,7 @@ pub fn one_more_group_is_newest()
     ensures other { (g : Group) (tag : ℕ → Tag) (bytes : ℕ → List ℕ) (old new : Flash) → AddsWhole g tag bytes old new → KeepsUnnamed g tag old new }
 {}
 
-/// A flash that has the newest pages of a tree's footprint shows that tree, whatever else stands on it.
+/// A flash that has the newest pages of a tree's footprint shows that tree, whatever else is on it.
 pub fn the_footprint_shows_the_tree()
     ensures { (z : Sizes) (old new : Flash) (objects : Objects) → KeepsTreePages z old new objects → FlashShows z old objects → FlashShows z new objects }
 {}

@@ -1,4 +1,4 @@
-//! What a flash stands for: which pages count, which is the newest of a key, and which tree they show.
+//! What a flash represents: which pages count, which is the newest of a key, and which tree they show.
 #![tactic(auto)]
 
 mod law;

@@ -9,7 +9,7 @@ pub struct Key {
     pub chunk: u64,
 }
 
-/// A place of a page, with the tag that stands there.
+/// A place of a page, with the tag that is there.
 #[derive(Clone, Copy, Debug, PartialEq, Eq)]
 pub struct Found {
     pub block: u32,

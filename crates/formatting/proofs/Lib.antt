@@ -1,7 +1,7 @@
 pub mod Counting
 pub mod Keeping
 pub mod Marking
-pub mod Standing
+pub mod Writing
 pub mod Rooted
 pub mod Truth
 pub mod Mountable

@@ -32,11 +32,11 @@ use Rattle.directories.specs.Heads.{fields_in}
 use Rattle.directories.specs.declared.head.DirectoryHead.{DirectoryHead}
 use Rattle.formatting.proofs.Counting.{enough_picked}
 use Rattle.formatting.specs.laws.SizesOf.{sizes_are}
-use Rattle.formatting.specs.Formatting.{Keeps, single_tag, StandsAlone, HoldsOnly, empty_root, root_key, HoldsOnlyRoot}
+use Rattle.formatting.specs.Formatting.{Keeps, single_tag, LiesAlone, HoldsOnly, empty_root, root_key, HoldsOnlyRoot}
 
 -- ---- the page is the newest of its key, and no other page has a tag
 
-module _ (flash : Flash) (bytes : List ℕ) (tag : Tag) (valid : IsTag tag) (alone : StandsAlone flash bytes tag) where
+module _ (flash : Flash) (bytes : List ℕ) (tag : Tag) (valid : IsTag tag) (alone : LiesAlone flash bytes tag) where
   has : HasTag flash alone.block 0 tag
   has = record { bytes = bytes; page = alone.page; valid = valid }
 
@@ -121,7 +121,7 @@ none_listed i e is = cc
 
 module _ (g : Geometry) (flash : Flash) (spare : ℕ) (room : spare + 4 ≤ g.blocks) (few_bad : bad_blocks g flash ≤ spare) (page : FreshPage)
     (is : IsHeadPage page g.bytes root_number (empty_root spare)) (n : ℕ) (some : 1 ≤ n) (within_limit : n ≤ 4096)
-    (alone : StandsAlone flash page.bytes.items (single_tag page.key n)) where
+    (alone : LiesAlone flash page.bytes.items (single_tag page.key n)) where
   abbrev z : Sizes
   z = sizes_of g spare
 
@@ -206,13 +206,13 @@ volume_of old new spare page honest room keeps few_bad is only =
 -- and the only page that it leaves
 pub root_alone : (old new : Device) (spare : ℕ) (page : FreshPage) → old.honest ≡ true → Keeps old new → IsHeadPage page old.geometry.bytes root_number (empty_root spare) → HoldsOnly new page → HoldsOnlyRoot spare new
 root_alone old new spare page honest keeps is only = record { number = only.number; some = only.some; within_limit = only.within_limit; alone = alone } where
-  keyed : StandsAlone new.flash page.bytes.items (single_tag root_key only.number)
+  keyed : LiesAlone new.flash page.bytes.items (single_tag root_key only.number)
   keyed =
-      subst (λ (c : ℕ). StandsAlone new.flash page.bytes.items (single_tag (record { object = root_number; chunk = c }) only.number)) is.chunk_is
-      (subst (λ (o : ℕ). StandsAlone new.flash page.bytes.items (single_tag (record { object = o; chunk = page.key.chunk }) only.number)) is.object_is
+      subst (λ (c : ℕ). LiesAlone new.flash page.bytes.items (single_tag (record { object = root_number; chunk = c }) only.number)) is.chunk_is
+      (subst (λ (o : ℕ). LiesAlone new.flash page.bytes.items (single_tag (record { object = o; chunk = page.key.chunk }) only.number)) is.object_is
       (only.alone (keeps.lasts.honest ∙ honest)))
 
-  alone : StandsAlone new.flash (header_bytes (fields_in new.geometry.bytes (empty_root spare))) (single_tag root_key only.number)
+  alone : LiesAlone new.flash (header_bytes (fields_in new.geometry.bytes (empty_root spare))) (single_tag root_key only.number)
   alone =
-      subst (λ (g : Geometry). StandsAlone new.flash (header_bytes (fields_in g.bytes (empty_root spare))) (single_tag root_key only.number)) (sym keeps.lasts.geometry)
-      (subst (λ (xs : List ℕ). StandsAlone new.flash xs (single_tag root_key only.number)) is.head_is.encodes keyed)
+      subst (λ (g : Geometry). LiesAlone new.flash (header_bytes (fields_in g.bytes (empty_root spare))) (single_tag root_key only.number)) (sym keeps.lasts.geometry)
+      (subst (λ (xs : List ℕ). LiesAlone new.flash xs (single_tag root_key only.number)) is.head_is.encodes keyed)

@@ -52,8 +52,8 @@ pub record HasFirstPage (device : Device) (b : ℕ) (bytes : List ℕ) (tag : Ta
   pub next : device.flash.next b ≡ Some 1
   pub page : device.honest ≡ true → device.flash.page b 0 ≡ Written bytes (tag_bytes tag)
 
--- the page stands at the start of a good block, and every other page of good blocks is erased
-pub record StandsAlone (flash : Flash) (bytes : List ℕ) (tag : Tag) : Type 0 where
+-- the page is at the start of a good block, and every other page of good blocks is erased
+pub record LiesAlone (flash : Flash) (bytes : List ℕ) (tag : Tag) : Type 0 where
   pub block : ℕ
   pub good : flash.bad block ≡ false
   pub page : flash.page block 0 ≡ Written bytes (tag_bytes tag)
@@ -61,12 +61,12 @@ pub record StandsAlone (flash : Flash) (bytes : List ℕ) (tag : Tag) : Type 0 w
 
 -- the block has the page, or it failed and is marked bad
 abbrev pub Takes : Device → Device → ℕ → List ℕ → Tag → Attempt → Type 0
-Takes old new b bytes tag attempts.Stands = HasFirstPage new b bytes tag × (new.failures ≡ old.failures) × (new.gone ≡ false)
+Takes old new b bytes tag attempts.Written = HasFirstPage new b bytes tag × (new.failures ≡ old.failures) × (new.gone ≡ false)
 Takes old new b bytes tag attempts.Failed = (new.flash.bad b ≡ true) × (new.failures ≡ old.failures + 1)
 
 -- the page is the only one, and its number is one more than the count of the blocks that failed before one took it
-pub record StandsFirst (old new : Device) (page : FreshPage) : Type 0 where
-  pub alone : old.honest ≡ true → StandsAlone new.flash page.bytes.items (single_tag page.key (1 + (new.failures - old.failures)))
+pub record WritesFirst (old new : Device) (page : FreshPage) : Type 0 where
+  pub alone : old.honest ≡ true → LiesAlone new.flash page.bytes.items (single_tag page.key (1 + (new.failures - old.failures)))
   pub within_limit : new.failures < old.failures + old.geometry.blocks
   pub has_power : new.gone ≡ false
 
@@ -75,7 +75,7 @@ pub record HoldsOnly (device : Device) (page : FreshPage) : Type 0 where
   pub number : ℕ
   pub some : 1 ≤ number
   pub within_limit : number ≤ device.geometry.blocks
-  pub alone : device.honest ≡ true → StandsAlone device.flash page.bytes.items (single_tag page.key number)
+  pub alone : device.honest ≡ true → LiesAlone device.flash page.bytes.items (single_tag page.key number)
   pub has_power : device.gone ≡ false
 
 -- what the root's header says in an empty volume with so many spare blocks: a directory without entries, of moment 0
@@ -86,13 +86,13 @@ empty_root spare = record { spare = spare; length = 0; moment = 0 }
 abbrev pub root_key : Key
 root_key = record { object = root_number; chunk = 0 }
 
--- The flash holds nothing but an empty volume with so many spare blocks: the root's header stands at the start of a good block,
+-- The flash holds nothing but an empty volume with so many spare blocks: the root's header is at the start of a good block,
 -- as a group of its own with a number from 1 to the count of blocks, and every other page of good blocks is erased.
 pub record HoldsOnlyRoot (spare : ℕ) (device : Device) : Type 0 where
   pub number : ℕ
   pub some : 1 ≤ number
   pub within_limit : number ≤ device.geometry.blocks
-  pub alone : StandsAlone device.flash (header_bytes (fields_in device.geometry.bytes (empty_root spare))) (single_tag root_key number)
+  pub alone : LiesAlone device.flash (header_bytes (fields_in device.geometry.bytes (empty_root spare))) (single_tag root_key number)
 
 -- Each whole checkpoint on the device is right, and a mount may go by the summaries there.
 pub record StartsTrue (device : Device) : Type 0 where

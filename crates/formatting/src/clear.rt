@@ -11,7 +11,7 @@ fn clear<N: Nand>(device: &mut N, block: u32) -> Result<(), Gone>
     ensures keeps { Keeps (N.state device.old) (N.state device.new) }
     ensures each_failure_marks { OnOk result (EachFailureMarks (N.state device.old) (N.state device.new)) }
     ensures others { OthersStay block (N.state device.old).flash (N.state device.new).flash }
-    ensures ready { OnOk result (IsClear (N.state device.new).flash block) }
+    ensures can_write { OnOk result (IsClear (N.state device.new).flash block) }
     ensures gone { OnErr result ((N.state device.new).gone ≡ true) }
 {
     if device.is_bad(block) {
@@ -28,7 +28,7 @@ fn clear<N: Nand>(device: &mut N, block: u32) -> Result<(), Gone>
 pub(crate) fn clear_all<N: Nand>(device: &mut N) -> Result<(), Gone>
     ensures keeps { Keeps (N.state device.old) (N.state device.new) }
     ensures each_failure_marks { OnOk result (EachFailureMarks (N.state device.old) (N.state device.new)) }
-    ensures ready { OnOk result (AreClear (N.state device.new) 0) }
+    ensures can_write { OnOk result (AreClear (N.state device.new) 0) }
     ensures gone { OnErr result ((N.state device.new).gone ≡ true) }
 {
     for block in 0..device.geometry().blocks() {

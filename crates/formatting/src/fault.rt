@@ -5,7 +5,7 @@ ghost use Rattle.formatting.specs.declared.fault.FormatFault.TheVariants as faul
 use nand_model::Gone;
 use thiserror::Error;
 
-/// After `Worn` and `Gone` nothing is promised of what stands in good blocks.
+/// After `Worn` and `Gone` nothing is promised of what is in good blocks.
 #[derive(Clone, Copy, Debug, PartialEq, Eq, Error)]
 pub enum FormatFault {
     #[error("fewer than four blocks are left besides the spare ones: ask for fewer spare blocks")]

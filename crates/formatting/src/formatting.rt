@@ -19,12 +19,12 @@ fn lay_out<N: Nand>(device: &mut N, page: &FreshPage, spare: u32) -> Result<(), 
     ensures keeps { Keeps (N.state device.old) (N.state device.new) }
     ensures each_failure_marks { (IsErrAnd result (λ fault. fault ≡ FormatFault.Gone) → ⊥) → EachFailureMarks (N.state device.old) (N.state device.new) }
     ensures few_bad { OnOk result (bad_blocks (N.state device.new).geometry (N.state device.new).flash ≤ spare) }
-    ensures stands { OnOk result (HoldsOnly (N.state device.new) page.now) }
+    ensures written { OnOk result (HoldsOnly (N.state device.new) page.now) }
     ensures fault { IfErr result (Explains spare (N.state device.new)) }
 {
     clear_all(device)?;
     match write_first(device, page)? {
-        Attempt::Stands => {}
+        Attempt::Written => {}
         Attempt::Failed => return Err(FormatFault::Worn),
     }
     if count_bad(device) > spare {

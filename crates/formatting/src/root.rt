@@ -1,6 +1,6 @@
 // The writing of the root.
 ghost use Rattle.std.specs.Prelude.{◌≡◌, ◌<◌, ◌+◌, ℕ, true, false, length, Some, IfOk, OnOk, OnErr};
-ghost use Rattle.formatting.specs.Formatting.{Keeps, EachFailureMarks, AreClear, OthersStay, single_tag, Takes, StandsFirst};
+ghost use Rattle.formatting.specs.Formatting.{Keeps, EachFailureMarks, AreClear, OthersStay, single_tag, Takes, WritesFirst};
 
 use flash_tree::FreshPage;
 use nand_model::{Gone, Nand, ProgramFault};
@@ -9,7 +9,7 @@ use page_tags::Tag;
 /// How an attempt to write the first page ended.
 #[derive(Clone, Copy, Debug, PartialEq, Eq)]
 pub(crate) enum Attempt {
-    Stands,
+    Written,
     /// The block that was tried failed, or each of them, and is marked bad.
     Failed,
 }
@@ -43,7 +43,7 @@ fn write_at<N: Nand>(
         seq: number,
     };
     match device.program(block, 0, &page.bytes, &tag.encode()) {
-        Ok(()) => Ok(Attempt::Stands),
+        Ok(()) => Ok(Attempt::Written),
         Err(ProgramFault::Failed) => {
             device.mark_bad(block)?;
             Ok(Attempt::Failed)
@@ -56,10 +56,10 @@ fn write_at<N: Nand>(
 /// with the next.
 pub(crate) fn write_first<N: Nand>(device: &mut N, page: &FreshPage) -> Result<Attempt, Gone>
     requires size { length page.now.bytes.items ≡ (N.state device.old).geometry.bytes }
-    requires ready { AreClear (N.state device.old) 0 }
+    requires can_write { AreClear (N.state device.old) 0 }
     ensures keeps { Keeps (N.state device.old) (N.state device.new) }
     ensures each_failure_marks { OnOk result (EachFailureMarks (N.state device.old) (N.state device.new)) }
-    ensures stands { IfOk result (λ attempt. attempt ≡ Attempt.Stands → StandsFirst (N.state device.old) (N.state device.new) page.now) }
+    ensures written { IfOk result (λ attempt. attempt ≡ Attempt.Written → WritesFirst (N.state device.old) (N.state device.new) page.now) }
     ensures worn { IfOk result (λ attempt. attempt ≡ Attempt.Failed → (b : ℕ) → b < (N.state device.old).geometry.blocks → (N.state device.new).flash.bad b ≡ true) }
     ensures gone { OnErr result ((N.state device.new).gone ≡ true) }
 {
@@ -69,7 +69,7 @@ pub(crate) fn write_first<N: Nand>(device: &mut N, page: &FreshPage) -> Result<A
             continue;
         }
         match write_at(device, block, page, failed + 1)? {
-            Attempt::Stands => return Ok(Attempt::Stands),
+            Attempt::Written => return Ok(Attempt::Written),
             Attempt::Failed => failed += 1,
         }
     }

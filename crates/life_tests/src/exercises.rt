@@ -159,6 +159,8 @@ struct Shown {
 }
 
 impl Answers for Shown {
+    ghost serves = { λ old command reply new. Unit {0} };
+
     ghost shows = { λ _ _ _ _. ⊥ };
 
     fn answer(&mut self, stamped: &Stamped) -> Reply {

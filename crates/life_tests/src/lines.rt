@@ -46,7 +46,7 @@ pub(crate) fn session(rt: &impl Abort, alloc: Global, lines: &[&str]) -> Session
     }
 }
 
-/// A session of lines whose power goes at this call.
+/// A session of lines whose power is lost at this call.
 pub(crate) fn cut_session(
     rt: &impl Abort,
     alloc: Global,

@@ -25,6 +25,8 @@ struct Forgetful {
 }
 
 impl Answers for Forgetful {
+    ghost serves = { λ old command reply new. Unit {0} };
+
     ghost shows = { λ _ _ _ _. ⊥ };
 
     fn answer(&mut self, stamped: &Stamped) -> Reply {
@@ -53,6 +55,8 @@ fn without_second_page(bytes: Bytes) -> Bytes {
 }
 
 impl Answers for Shown {
+    ghost serves = { λ old command reply new. Unit {0} };
+
     ghost shows = { λ _ _ _ _. ⊥ };
 
     fn answer(&mut self, stamped: &Stamped) -> Reply {
@@ -108,6 +112,8 @@ impl HalfRenamed {
 }
 
 impl Answers for HalfRenamed {
+    ghost serves = { λ old command reply new. Unit {0} };
+
     ghost shows = { λ _ _ _ _. ⊥ };
 
     fn answer(&mut self, stamped: &Stamped) -> Reply {

@@ -26,7 +26,7 @@ impl Stage {
 }
 
 /// What came of a session: the stage after it, how many calls of the device it made from its power-up on, how many of its
-/// commands survived, and whether power went.
+/// commands survived, and whether power was lost.
 #[derive(Drop)]
 pub(crate) struct Judged {
     pub(crate) stage: Stage,

@@ -7,7 +7,7 @@ abbrev pub before : Option ℕ → Option (List ℕ) → Option (List ℕ)
 before None rest = rest
 before (Some byte) rest = onto byte rest
 
--- the first bytes of the word, so many, stand for this byte or for none
+-- the first bytes of the word, so many, represent this byte or for none
 pub record IsPiece (word : List ℕ) (byte : Option ℕ) (size : ℕ) : Type 0 where
   pub some : 1 ≤ size
   pub within : size ≤ length word

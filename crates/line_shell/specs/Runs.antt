@@ -13,7 +13,7 @@ use Rattle.line_shell.specs.declared.line.Line.TheVariants as lines
 use Rattle.line_shell.specs.declared.fault.ShellFault.{ShellFault}
 use Rattle.line_shell.specs.declared.fault.ShellFault.TheVariants as faults
 
--- what stands between two lines: the moment that commands get, and what serves them
+-- what is between two lines: the moment that commands get, and what serves them
 pub record Session (V : Type 0) : Type 0 where
   pub moment : ℕ
   pub volume : V

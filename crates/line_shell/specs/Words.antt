@@ -20,7 +20,7 @@ letter_e = 0x65
 abbrev pub letter_x : ℕ
 letter_x = 0x78
 
--- the words of a line: what stands between spaces and is not empty
+-- the words of a line: what is between spaces and is not empty
 abbrev pub words : List ℕ → List (List ℕ)
 words line = filter (λ word. nat_lt 0 (length word)) (slice_split (nat_eq space) line)
 
@@ -40,7 +40,7 @@ byte_of_digits high low = if is_digit high 16 && is_digit low 16 then Some (16 *
 abbrev pub digit_escape : ℕ → ℕ → Option (List ℕ) → Option (List ℕ)
 digit_escape high low rest = option_and_then (λ byte. onto byte rest) (byte_of_digits high low)
 
--- the bytes that a word stands for: `\\` is a backslash, `\xHH` the byte of the two digits, `\e` no byte, and another byte itself; none where a backslash begins none of these
+-- the bytes that a word represents: `\\` is a backslash, `\xHH` the byte of the two digits, `\e` no byte, and another byte itself; none where a backslash begins none of these
 unfoldable pub unescaped : List ℕ → Option (List ℕ)
 unescaped [] = Some []
 unescaped (b ∷ []) = if b == backslash then None else Some (b ∷ [])
@@ -56,7 +56,7 @@ abbrev pub both : Option (List ℕ) → Option (List (List ℕ)) → Option (Lis
 both None rest = None
 both (Some text) rest = option_map (λ texts. text ∷ texts) rest
 
--- the bytes that each word stands for, where each can be read
+-- the bytes that each word represents, where each can be read
 unfoldable pub all_unescaped : List (List ℕ) → Option (List (List ℕ))
 all_unescaped [] = Some []
 all_unescaped (word ∷ words) = both (unescaped word) (all_unescaped words)

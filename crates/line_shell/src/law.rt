@@ -7,7 +7,7 @@ ghost use Rattle.line_shell.specs.Lines.{whole_lines, lines_of};
 ghost use Rattle.line_shell.specs.Replies.{newline};
 ghost use Rattle.line_shell.specs.Words.{words, unescaped, spelled};
 
-/// Bytes as a word are one word without a newline, and that word stands for them.
+/// Bytes as a word are one word without a newline, and that word represents them.
 pub fn what_is_spelled_is_one_word()
     ensures one_word { (text : List ℕ) → words (spelled text) ≡ spelled text ∷ [] }
     ensures no_newline { (text : List ℕ) → ¬ Contains (spelled text) newline }

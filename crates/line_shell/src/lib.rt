@@ -14,7 +14,6 @@ mod output;
 mod reply;
 mod run;
 mod script;
-mod serve;
 mod word;
 
 pub use fault::ShellFault;
@@ -27,4 +26,3 @@ pub use output::{write_bytes, write_tagged_numbers};
 pub use reply::write_reply;
 pub use run::shell;
 pub use script::{ScriptFault, read_script};
-pub use serve::Serve;

@@ -7,8 +7,7 @@ use crate::input::{has_more, read_line};
 use crate::line::Line;
 use crate::meaning::parse;
 use crate::reply::{write_bad_line, write_reply};
-use crate::serve::Serve;
-use posix_profile::{Reply, Stamped};
+use posix_profile::{Answers, Reply, Stamped};
 use std::alloc::Global;
 use std::io::{BufRead, Write};
 
@@ -33,19 +32,19 @@ fn report_bad_line<W: Write>(writer: &mut W) -> Result<(), ShellFault>
 }
 
 /// Calls the one that serves, and writes its reply.
-fn call<W: Write, V: Serve>(
+fn call<W: Write, V: Answers>(
     command: &Stamped,
     writer: &mut W,
     volume: &mut V,
 ) -> Result<(), ShellFault>
     ensures { Calls V.serves command.now volume.old volume.new (W.contents writer.old) (W.contents writer.new) result }
 {
-    let reply = volume.call(command);
+    let reply = volume.answer(command);
     tell(writer, &reply)
 }
 
 /// Does what a line asks for, writes the answer, and gives the moment of the lines after it.
-fn obey<W: Write, V: Serve>(
+fn obey<W: Write, V: Answers>(
     line: Line,
     moment: u64,
     writer: &mut W,
@@ -72,7 +71,7 @@ fn obey<W: Write, V: Serve>(
 }
 
 /// Answers one line, and gives the moment of the lines after it.
-fn answer<W: Write, V: Serve>(
+fn answer<W: Write, V: Answers>(
     alloc: Global,
     line: &[u8],
     moment: u64,
@@ -89,7 +88,7 @@ fn answer<W: Write, V: Serve>(
 
 /// Answers the lines of an input in turn, each reply in the writer before the next line is read. It ends with `Ok` at
 /// the end of the input. The writer is not flushed.
-pub fn shell<R: BufRead, W: Write, V: Serve>(
+pub fn shell<R: BufRead, W: Write, V: Answers>(
     alloc: Global,
     reader: &mut R,
     writer: &mut W,

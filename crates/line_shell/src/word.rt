@@ -1,4 +1,4 @@
-// The words of a line, and the bytes that they stand for.
+// The words of a line, and the bytes that they represent.
 ghost use Rattle.std.specs.Prelude.{◌≡◌, ◌<◌, length, filter, map as list_map, nat_lt, option_map, MatchOption, IfOk, None};
 ghost use Rattle.line_shell.specs.Words.{unescaped, all_unescaped, byte_of_digits};
 ghost use Rattle.line_shell.specs.Pieces.{IsPiece};
@@ -6,7 +6,7 @@ ghost use Rattle.line_shell.specs.Pieces.{IsPiece};
 use posix_profile::Bytes;
 use std::alloc::{AllocError, Global};
 
-/// A part at the front of a word that stands for at most one byte, and its size in the word.
+/// A part at the front of a word that represents at most one byte, and its size in the word.
 #[derive(Clone, Copy)]
 struct Piece {
     byte: Option<u8>,
@@ -59,7 +59,7 @@ fn first_piece(word: &[u8]) -> Option<Piece>
     }
 }
 
-/// The bytes that a word stands for, if it can be read.
+/// The bytes that a word represents, if it can be read.
 fn unescape(alloc: Global, word: &[u8]) -> Result<Option<Bytes>, AllocError>
     ensures { IfOk result (λ text. text ≡ unescaped word.now) }
 {
@@ -77,7 +77,7 @@ fn unescape(alloc: Global, word: &[u8]) -> Result<Option<Bytes>, AllocError>
     Ok(Some(Bytes::new(text)))
 }
 
-/// The bytes that the words among the pieces of a line stand for, if each can be read.
+/// The bytes that the words among the pieces of a line represent, if each can be read.
 pub fn unescape_words(alloc: Global, pieces: &[&[u8]]) -> Result<Option<Vec<Bytes>>, AllocError>
     ensures { IfOk result (λ texts. option_map (λ all. all.items) texts
         ≡ all_unescaped (filter (λ word. nat_lt 0 (length word)) (list_map (λ piece. piece.now) pieces.now))) }

@@ -15,7 +15,7 @@ pub(crate) struct Stored {
     pub fill: u8,
 }
 
-/// What stands at a place under a version.
+/// What is at a place under a version.
 pub(crate) fn stored_at(
     rt: &impl Abort,
     nand: &mut MemNand,

@@ -1,6 +1,6 @@
 //! Tests of the crates of the log, most of which need several: the scan beside a plain search, an index by hand and that of a scan,
 //! a move, a retirement and collections, call by call; and a checkpoint put together by hand: what a search finds, also after an
-//! alteration of each rule, and what the allocation of its block and a move of committed pages leave, wherever the power goes.
+//! alteration of each rule, and what the allocation of its block and a move of committed pages leave, wherever the power is lost.
 #![tactic(auto)]
 
 #[cfg(test)]

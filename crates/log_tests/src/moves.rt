@@ -68,7 +68,7 @@ pub(crate) fn flash(rt: &impl Abort, alloc: Global) -> MemNand {
     )
 }
 
-/// What stands on it.
+/// What is on it.
 pub(crate) const COMMITTED: [Run; 4] = [
     Run {
         first: 1,
@@ -113,7 +113,7 @@ pub(crate) fn full_flash(rt: &impl Abort, alloc: Global) -> MemNand {
     )
 }
 
-/// What stands on it.
+/// What is on it.
 pub(crate) const FULL: [Run; 5] = [
     Run {
         first: 1,

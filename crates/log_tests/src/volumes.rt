@@ -24,7 +24,7 @@ use transactions::{
 pub(crate) struct Volume {
     pub(crate) nand: MemNand,
     pub(crate) blocks: Blocks,
-    ghost ready: { IsReady (device nand) (table blocks) },
+    ghost can_write: { IsReady (device nand) (table blocks) },
 }
 
 impl Volume {

@@ -42,16 +42,16 @@ fn collected<R: CpuClock>(rt: &R, alloc: Global, flash: &MemNand) -> Result<Repo
     if let Err(fault) = made {
         return Err(anyhow!("no room: {fault:?}"));
     }
-    let changed = log.device.changes().saturating_sub(changes);
+    let after_change = log.device.changes().saturating_sub(changes);
     let programs = PAGES.saturating_sub(log.blocks.open_room()) as u64;
     Ok(Report {
         reads: log
             .device
             .calls()
             .saturating_sub(calls)
-            .saturating_sub(changed),
+            .saturating_sub(after_change),
         programs,
-        erases: changed.saturating_sub(programs),
+        erases: after_change.saturating_sub(programs),
         nanoseconds,
     })
 }

@@ -91,11 +91,11 @@ fn settle_changes<R: CpuClock>(rt: &R, filled: &mut Filled, size: Size) -> Resul
     for round in 0..ROUNDS {
         let start = rt.thread_cpu_time()?;
         change(filled, size, round)?;
-        let changed = nanoseconds_since(rt, start)?;
+        let after_change = nanoseconds_since(rt, start)?;
         filled.settle(0, 0, 2);
         let settled = nanoseconds_since(rt, start)?;
-        times.changing = times.changing.saturating_add(changed);
-        let settling = settled.saturating_sub(changed);
+        times.changing = times.changing.saturating_add(after_change);
+        let settling = settled.saturating_sub(after_change);
         times.settling = times.settling.saturating_add(settling);
     }
     Ok(times)

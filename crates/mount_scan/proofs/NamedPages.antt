@@ -37,18 +37,18 @@ module _ (seq : ℕ) (entries : List CheckEntry) (i : ℕ) (e : CheckEntry) (lt 
   within : i < length all
   within = omega (arith, lt, length-map entries (page_named seq))
 
-  stands : get_or all i (page_named seq e) ≡ page_named seq e
-  stands = get_or-map (page_named seq) entries i e (page_named seq e) lt ∙ ap (page_named seq) at
+  lies : get_or all i (page_named seq e) ≡ page_named seq e
+  lies = get_or-map (page_named seq) entries i e (page_named seq e) lt ∙ ap (page_named seq) at
 
   -- the next page was added
   pub named_next : (x : Found) (old mid new : List PageCopy) (y : PageCopy) → x ≡ page_named seq e → (y ≡ copy_of x) × FitsCopy x → ThinsFound (take i all) old mid → Thins (y ∷ []) mid new
       → ThinsFound (take (i + 1) all) old new
   named_next x old mid new y is fits first next =
-      found_next all old mid new i (page_named seq e) within stands y (subst (λ (z : Found). (y ≡ copy_of z) × FitsCopy z) is fits) first next
+      found_next all old mid new i (page_named seq e) within lies y (subst (λ (z : Found). (y ≡ copy_of z) × FitsCopy z) is fits) first next
 
   -- or does not fit
   pub named_skip : (x : Found) (old new : List PageCopy) → x ≡ page_named seq e → (FitsCopy x → ⊥) → ThinsFound (take i all) old new → ThinsFound (take (i + 1) all) old new
-  named_skip x old new is not first = found_skip all old new new i (page_named seq e) within stands (subst (λ (z : Found). FitsCopy z → ⊥) is not) first
+  named_skip x old new is not first = found_skip all old new new i (page_named seq e) within lies (subst (λ (z : Found). FitsCopy z → ⊥) is not) first
 
 -- a page that is named has an entry that names it
 entry_of_named : (seq : ℕ) (entries : List CheckEntry) (x : Found) → Contains (pages_named seq entries) x → (e : CheckEntry) × Contains entries e × (page_named seq e ≡ x)

@@ -15,7 +15,7 @@ pub record AreEntries (n : ℕ) (es : List CheckEntry) : Type 0 where
   pub each : All IsCheckEntry es
   pub rise : AllPairs IsEntryBefore es
 
--- each entry of the one list stands at its place in the other, which so begins with it
+-- each entry of the one list is at its place in the other, which so begins with it
 abbrev pub BeginsWith : List CheckEntry → List CheckEntry → Type 0
 BeginsWith es fs = (k : ℕ) (e : CheckEntry) → slice_get es k ≡ Some e → slice_get fs k ≡ Some e
 

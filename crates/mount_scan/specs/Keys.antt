@@ -14,7 +14,7 @@ rank_of f = (f.object, f.chunk, f.version, f.seq, f.page, f.block)
 abbrev pub HaveOneKey : PageCopy → PageCopy → Type 0
 HaveOneKey f g = (f.object ≡ g.object) × (f.chunk ≡ g.chunk)
 
--- no key stands at two places of the list
+-- no key is at two places of the list
 abbrev pub HasEachKeyOnce : List PageCopy → Type 0
 HasEachKeyOnce list = (i j : ℕ) (x y : PageCopy) → slice_get list i ≡ Some x → slice_get list j ≡ Some y → HaveOneKey x y → i ≡ j
 
@@ -42,7 +42,7 @@ pub record AreLastOfKeys (list : List PageCopy) (p : ℕ) (committed : List Page
   pub each : (f : PageCopy) → Contains committed f ↔ IsLastOfKey list p f
   pub order : AllPairs IsKeyBefore committed
 
--- Of the first p pages of a list the last ones of the keys stand in front in another, whose other pages from p on are
+-- Of the first p pages of a list the last ones of the keys are in front in another, whose other pages from p on are
 -- those of the first.
 pub record Gathers (first : List PageCopy) (p : ℕ) (list : List PageCopy) (committed : ℕ) : Type 0 where
   pub len : length list ≡ length first
@@ -50,7 +50,7 @@ pub record Gathers (first : List PageCopy) (p : ℕ) (list : List PageCopy) (com
   pub last : AreLastOfKeys first p (take committed list)
   pub rest : (k : ℕ) (d : PageCopy) → p ≤ k → slice_index_or list k d ≡ slice_index_or first k d
 
--- of the pages of each key the one that none comes after, so that each key stands once
+-- of the pages of each key the one that none comes after, so that each key is there once
 pub record AreLatest (list committed : List PageCopy) : Type 0 where
   pub among : (f : PageCopy) → Contains committed f → Contains list f
   pub last : (f g : PageCopy) → Contains committed f → Contains list g → HaveOneKey g f → IsAfter (spot_of_copy g) (spot_of_copy f) → ⊥

@@ -17,7 +17,7 @@ use Rattle.mount_scan.specs.declared.fault.ScanFault.TheVariants as faults
 abbrev pub IsPlaceBefore : Found → Found → Type 0
 IsPlaceBefore f g = (f.block < g.block) ⊎ ((f.block ≡ g.block) × (f.page < g.page))
 
--- exactly the pages that count, in the strict order of their places, so that none stands twice
+-- exactly the pages that count, in the strict order of their places, so that none is there twice
 pub record AreCounted (flash : Flash) (list : List Found) : Type 0 where
   pub each : (s : Spot) → Holds flash s.tag.object s.tag.chunk s ↔ Contains (map spot_of list) s
   pub order : AllPairs IsPlaceBefore list
@@ -36,7 +36,7 @@ HasCopyOf list o c = (x : PageCopy) × Contains list x × (x.object ≡ o) × (x
 abbrev pub HasCopyWith : Flash → List PageCopy → (o c : ℕ) → List ℕ → Type 0
 HasCopyWith flash list o c bytes = (x : PageCopy) × Contains list x × (x.object ≡ o) × (x.chunk ≡ c) × (spare : List ℕ) × (flash.page x.block x.page ≡ Written bytes spare)
 
--- exactly the copies of the newest pages of all keys of chunks that a tree may look up, in which each key stands once
+-- exactly the copies of the newest pages of all keys of chunks that a tree may look up, in which each key is there once
 pub record AreNewest (flash : Flash) (list : List PageCopy) : Type 0 where
   pub each : (o c : ℕ) (s : Spot) → c < 2 ^ 32 → IsNewest flash o c s → Contains list (copy_at s)
   pub only : (x : PageCopy) → Contains list x → IsNewestCopy flash x

@@ -19,6 +19,6 @@ pub fn a_found_page_has_the_newest_data()
 {}
 
 /// No key has two pages in the list of the newest pages.
-pub fn each_key_stands_once()
+pub fn each_key_is_once()
     ensures { (f : Flash) (list : List PageCopy) → AreNewest f list → HasEachKeyOnce list }
 {}

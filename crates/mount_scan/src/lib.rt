@@ -34,9 +34,7 @@ pub use fault::ScanFault;
 pub use first_page::{FirstPage, FirstPages};
 pub use found_checkpoint::{CheckpointSearch, FoundCheckpoint};
 pub use found_pages::{BUCKETS, FoundPages};
-pub use law::{
-    a_found_page_has_the_newest_data, a_page_is_found_for_each_key, each_key_stands_once,
-};
+pub use law::{a_found_page_has_the_newest_data, a_page_is_found_for_each_key, each_key_is_once};
 pub use page_copy::PageCopy;
 pub use summary_scan::scan_summaries;
 pub use whole::{scan, scan_newest};

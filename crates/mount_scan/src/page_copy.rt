@@ -24,7 +24,7 @@ impl PageCopy {
     /// The copy of a page that counts, by its tag; none where the chunk is one that no tree looks up, or the object or the version
     /// is 0, as of no valid tag.
     pub fn of(found: &Found) -> Option<PageCopy>
-        ensures some { IfSome result (λ copy. (copy ≡ copy_of found.now) × FitsCopy found.now) }
+        ensures copy { IfSome result (λ copy. (copy ≡ copy_of found.now) × FitsCopy found.now) }
         ensures none { IfNone result (FitsCopy found.now → ⊥) }
     {
         let tag = &found.tag;

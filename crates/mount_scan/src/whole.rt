@@ -21,7 +21,7 @@ use nand_model::Nand;
 use page_tags::Tag;
 use std::alloc::Global;
 
-/// What stands in the blocks that were read.
+/// What is in the blocks that were read.
 #[derive(Drop)]
 pub(crate) struct Seen {
     pub valid_pages: Vec<Found>,
@@ -56,7 +56,7 @@ impl Seen {
     }
 }
 
-/// Adds what stands in a block. Its tags are read into `tags`.
+/// Adds what is in a block. Its tags are read into `tags`.
 fn scan_block<N: Nand>(
     device: &mut N,
     block: u32,
@@ -79,7 +79,7 @@ fn scan_block<N: Nand>(
     Ok(())
 }
 
-/// What stands in all blocks.
+/// What is in all blocks.
 fn scan_blocks<N: Nand>(alloc: Global, device: &mut N) -> Result<Seen, ScanFault>
     ensures reads { ReadsBlocks (N.state device.old) (N.state device.new) result }
     ensures valid_pages { IfOk result (λ seen. ReportsCounted (N.state device.old) seen.valid_pages.items) }

@@ -17,7 +17,7 @@ use Rattle.chunk_index.specs.Maps.{committed_pages}
 use Rattle.chunk_index.specs.declared.form.CommittedKey.{CommittedKey}
 use Rattle.chunk_index.specs.declared.form.CommittedPage.{CommittedPage}
 use Rattle.chunk_index.specs.declared.index.Index.{Index}
-use Rattle.flash_log.specs.Standing.{AreCommitted, IsCommittedAt}
+use Rattle.flash_log.specs.Consistency.{AreCommitted, IsCommittedAt}
 use Rattle.page_store.specs.Opened.{IsOpenedBy}
 
 -- ---- the keys that are committed, as entries
@@ -116,8 +116,8 @@ opened_as reported d t x n was committed greatest = record {
   low = was.low;
   newest = committed;
   numbers = greatest;
-  ready = λ left.
-      let r = was.ready left in
+  can_write = λ left.
+      let r = was.can_write left in
       record {
         geometry = r.geometry;
         marks = r.marks;

@@ -30,7 +30,7 @@ scan_knows d t t' x n knows unwritten opened honest left some = knows (record {
   honest = honest;
   geometry = opened.tables.geometry;
   unwritten = unwritten;
-  handed = (opened.tables.ready left).below honest;
+  handed = (opened.tables.can_write left).below honest;
   some = let next = opened.tables.seq left in omega (arith, next, some);
 })
 

@@ -20,7 +20,7 @@ use Rattle.chunk_index.specs.Counts.{Recounts}
 use Rattle.chunk_index.specs.Maps.{committed_pages}
 use Rattle.chunk_index.specs.declared.form.CommittedPage.{CommittedPage}
 use Rattle.chunk_index.specs.declared.index.Index.{Index}
-use Rattle.flash_log.specs.Standing.{AreCommitted}
+use Rattle.flash_log.specs.Consistency.{AreCommitted}
 use Rattle.name_index.specs.declared.index.NameIndex.{NameIndex}
 use Rattle.page_store.specs.Checked.{HasTrueFlash}
 use Rattle.page_store.specs.FoundTables.{FindsItsTree, KnowsItsFirsts, WhyNotFound}

@@ -22,11 +22,11 @@ use Rattle.page_store.specs.Shown.{committed_data}
 use Rattle.pages.specs.Maps.{PageMap, has}
 use Rattle.pages.specs.State.{PagesState}
 use Rattle.pages.specs.Stores.{bad_on}
-use Rattle.paged_objects.specs.Standing.{volume_of, Shown}
+use Rattle.paged_objects.specs.Representing.{volume_of, Shown}
 use Rattle.paged_objects.specs.laws.Showing.{committed_shown}
 use Rattle.page_store.specs.ReadOnly.{IsWorn}
 use Rattle.name_index.specs.declared.index.NameIndex.{NameIndex}
-use Rattle.flash_log.specs.Standing.{AreCommitted}
+use Rattle.flash_log.specs.Consistency.{AreCommitted}
 use Rattle.chunk_index.specs.Maps.{committed_pages}
 use Rattle.tree_walk.specs.Covering.{CoversObjects}
 use Rattle.tree_walk.specs.Hashes.{CoversTree}
@@ -144,7 +144,7 @@ module _ (d : Device) (x : Index) (n : Numbers) (spare : ℕ) (p : PagesState) (
     mounted_with = record {
       answers = subst (λ (k : Device). Answers k.geometry k.flash (IsTreeOf p.spare objects)) (sym pages.device_is)
           (subst (λ s. Answers d.geometry d.flash (IsTreeOf s objects)) (sym pages.spare_is) answers);
-      stands = record {
+      represents = record {
         sound = pages.sound honest;
         sizes = refl;
         page_bytes = page_bytes_is;

@@ -12,7 +12,7 @@ use Rattle.nand_model.specs.declared.nand.PageKind.TheVariants as page_kinds
 use Rattle.flash_tree.specs.declared.place.Key.{Key}
 use Rattle.flash_tree.specs.Mount.{sizes_of}
 use Rattle.flash_tree.specs.laws.Place.{same_flash}
-use Rattle.flash_log.specs.Standing.{IsCommittedAt, AreCommitted}
+use Rattle.flash_log.specs.Consistency.{IsCommittedAt, AreCommitted}
 use Rattle.chunk_index.specs.declared.form.CommittedPage.{CommittedPage}
 use Rattle.chunk_index.specs.declared.index.Index.{Index}
 use Rattle.chunk_index.specs.Maps.{committed_pages}

@@ -4,7 +4,7 @@ pub mod Covering
 pub mod Lent
 pub mod Parting
 pub mod Shown
-pub mod Standing
+pub mod Consistency
 pub mod Entering
 pub mod Noting
 pub mod Firsts

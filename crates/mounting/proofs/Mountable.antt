@@ -23,7 +23,7 @@ use Rattle.flash_log.specs.Erased.{TracksErased}
 use Rattle.flash_log.specs.Mountable.{IsMountable, IsMountableSince}
 use Rattle.flash_log.specs.Snapshots.{Snapshot, flash_of, remembered_flash}
 use Rattle.flash_log.specs.laws.Snapshots.{snapshot, remembered}
-use Rattle.flash_log.specs.Standing.{AreFound, AreCommitted}
+use Rattle.flash_log.specs.Consistency.{AreFound, AreCommitted}
 use Rattle.page_store.specs.KnownFirsts.{KnowsFirsts, MayKnowErased}
 use Rattle.page_store.specs.Opened.{IsOpenedBy}
 use Rattle.page_store.specs.Shown.{committed_data}
@@ -61,13 +61,13 @@ module _ (d : Device) (t : Table) (x : Index) (spare : ℕ) (objects : Objects) 
         | inr more ↦ (found o c (p, is)).in_order o c 0 spot (refl, refl) k.newest (omega (arith, more)) first
       ]
 
-  module _ (noted : Option ℕ) (n : Numbers) (opened : IsOpenedBy noted d t x n) (ready : IsReady d t) (within : IsWithin d.geometry.pages d.geometry.blocks d.flash)
+  module _ (noted : Option ℕ) (n : Numbers) (opened : IsOpenedBy noted d t x n) (can_write : IsReady d t) (within : IsWithin d.geometry.pages d.geometry.blocks d.flash)
       (firsts : KnowsFirsts d.flash t) (checkpoint : HoldsWhole d t.checkpoint) (none : (b : ℕ) → HoldsNone (committed_pages x) b → count_committed_in x b ≡ 0) (law : ErasedLaw) where
     may_know : MayKnowErased d t
     may_know = record {
       geometry = opened.geometry;
       within = within;
-      marks = ready.marks;
+      marks = can_write.marks;
       closed = opened.closed;
       first = began.summarized.first;
       committed = λ b erased. opened.counts.counts b ∙ none b (holds_none b erased);

@@ -9,7 +9,7 @@ use Rattle.nand_model.specs.declared.geometry.Geometry.{Geometry}
 use Rattle.nand_model.specs.laws.Changes.{only_reads_on}
 use Rattle.page_tags.specs.declared.check.CheckEntry.{CheckEntry}
 use Rattle.posix_profile.specs.State.{Objects}
-use Rattle.flash_tree.specs.Checkpoints.{Checkpoint, IsWhole, IsRight, IsTrueFlash, IsChecked, StandsOnly}
+use Rattle.flash_tree.specs.Checkpoints.{Checkpoint, IsWhole, IsRight, IsTrueFlash, IsChecked, LiesOnlyIn}
 use Rattle.flash_tree.specs.Mount.{Wholly, GoesThrough, sizes_of, IsVolume}
 use Rattle.flash_tree.specs.Newest.{Spot, IsNewest, HasNewest, Numbers}
 use Rattle.flash_tree.specs.Tree.{Shows, InFootprint, IsSingle}
@@ -22,7 +22,7 @@ use Rattle.block_state.specs.Table.{Table}
 use Rattle.chunk_index.specs.Committed.{HoldsNone}
 use Rattle.chunk_index.specs.Maps.{committed_pages, count_committed_in}
 use Rattle.chunk_index.specs.declared.index.Index.{Index}
-use Rattle.flash_log.specs.Standing.{AreCommitted}
+use Rattle.flash_log.specs.Consistency.{AreCommitted}
 use Rattle.page_store.specs.Checked.{HasTrueFlash, IsConsistent}
 use Rattle.page_store.specs.Opened.{IsOpenedBy}
 use Rattle.paged_objects.specs.laws.Findable.{one_spare}
@@ -70,8 +70,8 @@ module _ (d : Device) (t : Table) (x : Index) (n : Numbers) (b : ℕ) (opened : 
     low = opened.low;
     newest = opened.newest;
     numbers = opened.numbers;
-    ready = λ left.
-        let was = opened.ready left in
+    can_write = λ left.
+        let was = opened.can_write left in
         record {
           geometry = was.geometry;
           marks = was.marks;
@@ -148,7 +148,7 @@ holds_none flash x keeps b committed others apart o k p is = elim (cases_Bool (k
 ]
 
 -- what is noted then is what may have one
-pub noted_checked : (g : Geometry) (flash : Flash) (at : Option ℕ) (t u : Table) → IsTrueFlash g flash → StandsOnly g flash at → NotesFree at t u
+pub noted_checked : (g : Geometry) (flash : Flash) (at : Option ℕ) (t u : Table) → IsTrueFlash g flash → LiesOnlyIn g flash at → NotesFree at t u
     → ((b : ℕ) → flash.bad b ≡ false → (t.entry b).bad ≡ false) → ((c : Checkpoint) → IsWhole g flash c → (t.entry c.block).committed ≡ 0) → IsChecked g flash u.checkpoint
 noted_checked g flash at t u true_flash only notes good empty = record {
   right = true_flash;
@@ -200,7 +200,7 @@ may_after a b at reads may = record {
       let was : a.honest ≡ true = sym reads.lasts.honest ∙ honest in
       let flash : b.flash ≡ a.flash = same_flash a b reads was in
       let true_was : IsTrueFlash a.geometry a.flash = subst (λ (g : Geometry). IsTrueFlash g a.flash) reads.lasts.geometry (subst (λ (f : Flash). IsTrueFlash b.geometry f) flash is) in
-      subst (λ (g : Geometry). StandsOnly g b.flash at) (sym reads.lasts.geometry) (subst (λ (f : Flash). StandsOnly a.geometry f at) (sym flash) (may.only was true_was));
+      subst (λ (g : Geometry). LiesOnlyIn g b.flash at) (sym reads.lasts.geometry) (subst (λ (f : Flash). LiesOnlyIn a.geometry f at) (sym flash) (may.only was true_was));
 }
 
 -- ---- a volume that goes on after a scan

@@ -17,24 +17,24 @@ use Rattle.chunk_index.specs.Maps.{committed_pages, count_committed_in}
 use Rattle.chunk_index.specs.declared.form.CommittedPage.{CommittedPage}
 use Rattle.chunk_index.specs.declared.index.Index.{Index}
 use Rattle.transactions.specs.Ready.{IsReady}
-use Rattle.flash_log.specs.Standing.{AreHeld, IsCommittedKey, Stands, HasFreeBlocks, KeepsOrdinary, TablesAgree}
+use Rattle.flash_log.specs.Consistency.{AreHeld, IsCommittedKey, IsConsistentLog, HasFreeBlocks, KeepsOrdinary, TablesAgree}
 use Rattle.flash_log.specs.laws.FreeBlocks.{leaves_fewer, leaves_uncommitted, same_bad_blocks}
 use Rattle.flash_log.specs.laws.Moves.{are_held}
-use Rattle.page_store.specs.BufferOf.{buffered, most_pages}
+use Rattle.page_store.specs.BufferOf.{contents, most_pages}
 use Rattle.page_store.specs.Shown.{data_at, data_by, committed_data, present_data}
 use Rattle.pages.specs.Maps.{PageMap, known_pages}
 use Rattle.pages.specs.State.{PagesState}
 use Rattle.pages.specs.Stores.{bad_on, Carries, FindsSince, HasPage, HasNumbersLeft, IsCarried}
 use Rattle.page_store.specs.StoreOf.{committed_data_map, next_numbers}
 use Rattle.page_store.specs.StoreState.{StoreState, committed_in, seen_of}
-use Rattle.page_store.specs.Newest.{seen}
+use Rattle.page_store.specs.Newest.{seen_pages}
 use Rattle.page_store.specs.ReadOnly.{IsWorn, only_read, next_after}
 use Rattle.mounting.specs.Made.{ArePagesOn, CanBeWritten, Remembers}
 use Rattle.mounting.specs.Marked.{marked, AreFitting}
 use Rattle.mounting.specs.Mounted.{HasRoomOn}
 use Rattle.mounting.specs.Tables.{IsPruned}
 use Rattle.mounting.proofs.Shown.{committed_newest}
-use Rattle.mounting.proofs.Standing.{stands_pruned, tables_pruned}
+use Rattle.mounting.proofs.Consistency.{consistent_pruned, tables_pruned}
 
 -- a key with data is committed
 pub committed_of_data : (flash : Flash) (xs : List ℕ) (m : Option CommittedPage) → option_and_then (data_at flash) m ≡ Some xs → (p : CommittedPage) × (m ≡ Some p)
@@ -57,18 +57,18 @@ module _ (keeps : ℕ → ℕ → Bool) (d : Device) (t : Table) (x : Index) (n 
   present_committed o c = ap (data_by d.flash []) (pruned.tables.shown o c) ∙ data_committed d.flash (committed_pages x o c)
 
   module _ (fits : AreFitting t) (room : HasRoomOn d t spare) (can : CanBeWritten d n spare) where
-    pub ready : IsReady d t
-    ready = pruned.tables.ready can.0
+    pub can_write : IsReady d t
+    can_write = pruned.tables.can_write can.0
 
     pub within_limit : bad_count t ≤ spare
-    within_limit = let same : bad_on d ≡ bad_count t = same_bad_blocks d t ready in let le = can.1 in omega (arith, same, le)
+    within_limit = let same : bad_on d ≡ bad_count t = same_bad_blocks d t can_write in let le = can.1 in omega (arith, same, le)
 
     counts : SameCounts t (marked d.flash t)
-    counts = record { bad = λ b. sym (ready.marks b); committed = λ b. refl; geometry = refl }
+    counts = record { bad = λ b. sym (can_write.marks b); committed = λ b. refl; geometry = refl }
 
     pub free : HasFreeBlocks t spare
     free =
-        let same : bad_on d ≡ bad_count t = same_bad_blocks d t ready in
+        let same : bad_on d ≡ bad_count t = same_bad_blocks d t can_write in
         let sufficient : 1 + spare ≤ uncommitted_count (marked d.flash t) + bad_on d = room can.1 in
         let uncommitted : uncommitted_count (marked d.flash t) ≡ uncommitted_count t = same_uncommitted_count t (marked d.flash t) counts in
         let closed : free_count t ≡ uncommitted_count t = free_where_closed t pruned.tables.closed in
@@ -77,8 +77,8 @@ module _ (keeps : ℕ → ℕ → Bool) (d : Device) (t : Table) (x : Index) (n 
     tables : TablesAgree spare t x
     tables = tables_pruned keeps spare d t x n pruned can.0 fits free
 
-    pub stands : (d.honest ≡ true → KeepsOrdinary x) → Stands spare d t x
-    stands = stands_pruned keeps spare d t x n pruned can.0 fits free
+    pub consistent : (d.honest ≡ true → KeepsOrdinary x) → IsConsistentLog spare d t x
+    consistent = consistent_pruned keeps spare d t x n pruned can.0 fits free
 
     module _ (none : (b : ℕ) → count_committed_in x b ≡ 0 → HoldsNone (committed_pages x) b) where
       held : AreHeld t x
@@ -88,7 +88,7 @@ module _ (keeps : ℕ → ℕ → Bool) (d : Device) (t : Table) (x : Index) (n 
       carried honest = record {
         newest = committed_newest d.flash x (pruned.tables.newest honest);
         free = λ left. leaves_fewer d.geometry d.flash spare (IsCommittedKey (committed_pages x)) (HasPage (committed_data x d.flash)) (λ o c (xs, is). committed_of_data d.flash xs (committed_pages x o c) is)
-            (leaves_uncommitted spare d t x ready tables held (pruned.tables.newest honest));
+            (leaves_uncommitted spare d t x can_write tables held (pruned.tables.newest honest));
       }
 
       next_is : next_numbers t ≡ next_after n
@@ -97,7 +97,7 @@ module _ (keeps : ℕ → ℕ → Bool) (d : Device) (t : Table) (x : Index) (n 
 
       -- the pages of a new store
       pub store_pages : (a : StoreState) (lent : List ℕ) → a.log.device ≡ d → (a.log.table ≡ t) × (a.spare ≡ spare) → a.broken ≡ false → most_pages a.buffer ≡ d.geometry.pages / 4
-          → ((o c : ℕ) → committed_in a o c ≡ committed_data_map d x o c) → ((o c : ℕ) → present_data a.index (buffered a.buffer) d.flash o c ≡ present_data x [] d.flash o c)
+          → ((o c : ℕ) → committed_in a o c ≡ committed_data_map d x o c) → ((o c : ℕ) → present_data a.index (contents a.buffer) d.flash o c ≡ present_data x [] d.flash o c)
           → FindsSince (seen_of a lent) (committed_data x d.flash) → Remembers d (seen_of a lent) → ArePagesOn d x n spare (seen_of a lent)
       store_pages a lent device same whole most committed pages lookups remembers = record {
         device_is = device;
@@ -107,8 +107,8 @@ module _ (keeps : ℕ → ℕ → Bool) (d : Device) (t : Table) (x : Index) (n 
         next = ap next_numbers same.0 ∙ next_is;
         sound = λ honest. ap (λ (k : Device). k.honest && not a.broken) device ∙ ap (λ h. h && not a.broken) honest ∙ ap (λ b. true && not b) whole;
         present = λ honest o c.
-            subst (λ (k : Device). known_pages k.honest (present_data a.index (buffered a.buffer) k.flash) o c ≡ committed_data x d.flash o c) (sym device)
-            (ap (λ h. known_pages h (present_data a.index (buffered a.buffer) d.flash) o c) honest ∙ pages o c ∙ present_committed o c);
+            subst (λ (k : Device). known_pages k.honest (present_data a.index (contents a.buffer) k.flash) o c ≡ committed_data x d.flash o c) (sym device)
+            (ap (λ h. known_pages h (present_data a.index (contents a.buffer) d.flash) o c) honest ∙ pages o c ∙ present_committed o c);
         committed = λ honest. record {
           carried = λ is. carried_as (seen_of a lent) d spare (committed_data x d.flash) device same.1 (carried honest);
           committed = λ sound o c. committed o c ∙ ap (λ h. known_pages h (committed_data x d.flash) o c) honest;
@@ -140,7 +140,7 @@ module _ (keeps : ℕ → ℕ → Bool) (d : Device) (t : Table) (x : Index) (n 
 
     -- the pages of a device that is only read
     pub worn_pages : (e : Device) (y : Index) (page : List ℕ) (at : Option ℕ) → e ≡ d → y ≡ x
-        → ArePagesOn d x n spare (only_read (record (seen e y page) { checkpoint = at }) n spare (d.geometry.pages / 4) false)
+        → ArePagesOn d x n spare (only_read (record (seen_pages e y page) { checkpoint = at }) n spare (d.geometry.pages / 4) false)
     worn_pages e y page at device index = record {
       device_is = device;
       spare_is = refl;
@@ -150,7 +150,7 @@ module _ (keeps : ℕ → ℕ → Bool) (d : Device) (t : Table) (x : Index) (n 
       sound = λ honest. ap (λ (k : Device). k.honest && true) device ∙ ap (λ h. h && true) honest;
       present = λ honest o c. there honest o c;
       committed = λ honest. record {
-        carried = λ is. carried_as (only_read (record (seen e y page) { checkpoint = at }) n spare (d.geometry.pages / 4) false) d spare (committed_data x d.flash) device refl (worn_carried honest);
+        carried = λ is. carried_as (only_read (record (seen_pages e y page) { checkpoint = at }) n spare (d.geometry.pages / 4) false) d spare (committed_data x d.flash) device refl (worn_carried honest);
         committed = λ sound o c. there honest o c;
         found = λ begun. absurd begun.1;
       };

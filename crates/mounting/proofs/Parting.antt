@@ -19,7 +19,7 @@ use Rattle.flash_tree.specs.laws.NewestReported.{data_or_none}
 use Rattle.flash_tree.specs.laws.OneTree.{one_slot}
 use Rattle.flash_tree.specs.laws.Part.{through_all, volume_all, twice_back}
 use Rattle.flash_tree.specs.laws.WholeList.{IsThereOn, IsWholeList, whole_list}
-use Rattle.flash_log.specs.Standing.{AreCommitted}
+use Rattle.flash_log.specs.Consistency.{AreCommitted}
 use Rattle.chunk_index.specs.declared.form.CommittedPage.{CommittedPage}
 use Rattle.chunk_index.specs.declared.index.Index.{Index}
 use Rattle.chunk_index.specs.Maps.{committed_pages}

@@ -25,7 +25,7 @@ use Rattle.chunk_index.specs.declared.index.Index.{Index}
 use Rattle.chunk_index.specs.Committed.{HoldsNone}
 use Rattle.transactions.specs.Ready.{IsReady}
 use Rattle.flash_log.specs.Taking.{LiesApart}
-use Rattle.flash_log.specs.Standing.{IsCommittedAt, AreCommitted, MayLie}
+use Rattle.flash_log.specs.Consistency.{IsCommittedAt, AreCommitted, MayLie}
 use Rattle.page_store.specs.Opened.{IsOpened, IsOpenedBy, AreLeft, committed_at}
 use Rattle.mounting.specs.Marked.{AreFitting}
 use Rattle.mounting.specs.Tables.{KeepsOnly, IsPruned}
@@ -74,9 +74,9 @@ module _ (keeps : ℕ → ℕ → Bool) (noted : Option ℕ) (a b : Device) (t u
   geometry : u.geometry ≡ b.geometry
   geometry = recounts.geometry ∙ opened.geometry ∙ sym reads.lasts.geometry
 
-  ready : AreLeft n → IsReady b u
-  ready left =
-      let was = opened.ready left in
+  can_write : AreLeft n → IsReady b u
+  can_write left =
+      let was = opened.can_write left in
       record {
         geometry = geometry;
         marks = λ k. recounts.bad k ∙ was.marks k ∙ sym (ap (λ (f : ℕ → Bool). f k) reads.bad);
@@ -94,7 +94,7 @@ module _ (keeps : ℕ → ℕ → Bool) (noted : Option ℕ) (a b : Device) (t u
         below : b.honest ≡ true → (k p : ℕ) (tag : Tag) → b.flash.bad k ≡ false → HasTag b.flash k p tag → (tag.version < u.next_group) × (tag.group < u.next_group) × (tag.seq < u.next_seq)
         below honest k p tag good has =
             let same : b.flash ≡ a.flash = flash_is honest in
-            let before = (opened.ready left).below (was_honest honest) k p tag (sym (ap (λ (f : Flash). f.bad k) same) ∙ good) (subst (λ (f : Flash). HasTag f k p tag) same has) in
+            let before = (opened.can_write left).below (was_honest honest) k p tag (sym (ap (λ (f : Flash). f.bad k) same) ∙ good) (subst (λ (f : Flash). HasTag f k p tag) same has) in
             (subst (λ m. tag.version < m) (sym recounts.next_group) before.0, subst (λ m. tag.group < m) (sym recounts.next_group) before.1, subst (λ m. tag.seq < m) (sym recounts.next_seq) before.2)
 
   lie : AreLeft n → (o c : ℕ) (p : CommittedPage) → committed_pages y o c ≡ Some p → MayLie u o c p
@@ -125,7 +125,7 @@ module _ (keeps : ℕ → ℕ → Bool) (noted : Option ℕ) (a b : Device) (t u
     low = λ o c p is. opened.low o c p (was_committed o c p is);
     newest = λ honest o c p is. subst (λ (f : Flash). IsCommittedAt f o c p) (sym (flash_is honest)) (opened.newest (was_honest honest) o c p (was_committed o c p is));
     numbers = λ honest. subst (λ (f : Flash). AreGreatest f n) (sym (flash_is honest)) (opened.numbers (was_honest honest));
-    ready = ready;
+    can_write = can_write;
     group = λ left. recounts.next_group ∙ opened.group left;
     seq = λ left. recounts.next_seq ∙ opened.seq left;
     lie = lie;

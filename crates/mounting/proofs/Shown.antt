@@ -21,7 +21,7 @@ use Rattle.pages.specs.laws.Low.{looked_low}
 use Rattle.chunk_index.specs.Maps.{CommittedMap, committed_pages, CountsAgree}
 use Rattle.chunk_index.specs.declared.form.CommittedPage.{CommittedPage}
 use Rattle.chunk_index.specs.declared.index.Index.{Index}
-use Rattle.flash_log.specs.Standing.{AreCommitted, IsCommittedAt}
+use Rattle.flash_log.specs.Consistency.{AreCommitted, IsCommittedAt}
 use Rattle.paged_objects.specs.Holding.{HoldsObjects}
 use Rattle.page_store.specs.Shown.{data_of, data_at, committed_data}
 use Rattle.pages.specs.Maps.{PageMap, has}

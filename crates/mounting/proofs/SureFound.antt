@@ -18,7 +18,7 @@ use Rattle.flash_tree.specs.laws.Shown.{Each, IsThere, ends_well}
 use Rattle.flash_tree.specs.laws.Tree.{footprint_law}
 use Rattle.chunk_index.specs.Maps.{committed_pages}
 use Rattle.chunk_index.specs.declared.index.Index.{Index}
-use Rattle.flash_log.specs.Standing.{IsCommittedAt, AreCommitted}
+use Rattle.flash_log.specs.Consistency.{IsCommittedAt, AreCommitted}
 use Rattle.page_store.specs.FoundTables.{FindsItsTree}
 use Rattle.page_store.specs.Opened.{committed_at}
 use Rattle.page_store.specs.declared.opening.Opened.{Opened}

@@ -9,7 +9,7 @@ use Rattle.chunk_index.specs.declared.index.Index.{Index}
 use Rattle.chunk_index.specs.Maps.{committed_pages}
 use Rattle.pages.specs.Maps.{PageMap, known_pages}
 use Rattle.pages.specs.State.{PagesState}
-use Rattle.page_store.specs.Newest.{seen}
+use Rattle.page_store.specs.Newest.{seen_pages}
 
 -- the data of a page that is written; of any other page so many zeros
 abbrev pub data_or_zeros : ℕ → Page → List ℕ
@@ -36,4 +36,4 @@ candidate_pages x device = candidate_data device.geometry.bytes x device.flash
 -- Committed pages that are read where they can be: known where the device is honest.
 abbrev pub candidates : Device → Index → List ℕ → PagesState
 candidates device x page =
-    record (seen device x page) { present = known_pages device.honest (candidate_pages x device); committed = known_pages device.honest (candidate_pages x device) }
+    record (seen_pages device x page) { present = known_pages device.honest (candidate_pages x device); committed = known_pages device.honest (candidate_pages x device) }

@@ -2,7 +2,7 @@
 -- From: this project.
 use Rattle.std.specs.Prelude.{◌≡◌, ◌≤◌, ◌<◌, ◌⊎◌, ℕ, true, false, Option, Some, None}
 use Rattle.nand_model.specs.Calls.{Device}
-use Rattle.flash_tree.specs.Checkpoints.{IsTrueFlash, StandsOnly}
+use Rattle.flash_tree.specs.Checkpoints.{IsTrueFlash, LiesOnlyIn}
 use Rattle.flash_tree.specs.Mount.{Answers, IsDamaged, IsTreeOf, IsWrong, sizes_of}
 use Rattle.flash_tree.specs.Places.{numbers_of}
 use Rattle.block_state.specs.Table.{Table}
@@ -51,7 +51,7 @@ IsGoodOn device b = (b < device.geometry.blocks) × (device.flash.bad b ≡ fals
 pub record MayBeNoted (device : Device) (at : Option ℕ) : Type 0 where
   pub good : (b : ℕ) → at ≡ Some b → IsGoodOn device b
   pub whole : HoldsWhole device at
-  pub only : device.honest ≡ true → IsTrueFlash device.geometry device.flash → StandsOnly device.geometry device.flash at
+  pub only : device.honest ≡ true → IsTrueFlash device.geometry device.flash → LiesOnlyIn device.geometry device.flash at
 
 -- The block is noted where it is free, and else nothing changes.
 pub record NotesFree (at : Option ℕ) (old new : Table) : Type 0 where

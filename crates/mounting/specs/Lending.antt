@@ -8,12 +8,12 @@ use Rattle.flash_tree.specs.declared.place.Key.{Key}
 use Rattle.chunk_index.specs.declared.form.CommittedPage.{CommittedPage}
 use Rattle.chunk_index.specs.declared.index.Index.{Index}
 use Rattle.chunk_index.specs.Maps.{committed_pages}
-use Rattle.flash_log.specs.Standing.{AreCommitted, IsCommittedAt}
+use Rattle.flash_log.specs.Consistency.{AreCommitted, IsCommittedAt}
 use Rattle.pages.specs.State.{PagesState}
 use Rattle.nand_model.specs.Trusting.{trusted_as}
 use Rattle.volume_terms.specs.declared.fault.StoreFault.{StoreFault}
 use Rattle.volume_terms.specs.declared.fault.StoreFault.TheVariants as faults
-use Rattle.page_store.specs.Newest.{seen}
+use Rattle.page_store.specs.Newest.{seen_pages}
 
 -- each committed page lies on the device
 abbrev pub LieWithin : Device → Index → Type 0
@@ -29,7 +29,7 @@ IsTagOf bytes key at = (t : Tag) × IsTag t × (bytes ≡ tag_bytes t) × (t.obj
 
 -- Committed pages as they are read: known where the device is honest and trusted. The device is as it is.
 abbrev pub lent : Bool → Device → Index → List ℕ → PagesState
-lent reported device x page = record (seen (trusted_as reported device) x page) { device = device }
+lent reported device x page = record (seen_pages (trusted_as reported device) x page) { device = device }
 
 -- no page was read: the device is gone, or it is honest and has no such page there
 abbrev pub IsNotReadAt : Device → Device → Key → CommittedPage → StoreFault → Type 0

@@ -20,7 +20,7 @@ use Rattle.object_store.specs.declared.table.ObjectTable.{ObjectTable}
 use Rattle.page_store.specs.Shown.{committed_data}
 use Rattle.pages.specs.State.{PagesState, NextNumbers}
 use Rattle.pages.specs.Stores.{BeganMountably, IsOrdered, bad_on, SamePages, CommittedAs}
-use Rattle.paged_objects.specs.Standing.{volume_of, StandsFor, Shown}
+use Rattle.paged_objects.specs.Representing.{volume_of, PagesRepresent, Shown}
 use Rattle.posix_profile.specs.State.{Objects}
 use Rattle.page_store.specs.Opened.{AreLeft}
 use Rattle.tree_walk.specs.Covering.{CoversObjects}
@@ -56,11 +56,11 @@ pub record ArePagesOn (device : Device) (x : Index) (n : Numbers) (spare : ℕ) 
   pub committed : device.honest ≡ true → CommittedAs p (committed_data x device.flash)
   pub remembers : Remembers device p
 
--- nothing can be written: more blocks are bad than there are to spare, or a number of 2^62 or more stands on the device
+-- nothing can be written: more blocks are bad than there are to spare, or a number of 2^62 or more is on the device
 abbrev pub CanOnlyBeRead : PagesState → Type 0
 CanOnlyBeRead p = (p.spare < bad_on p.device) ⊎ (number_end < p.next.group) ⊎ (number_end < p.next.seq)
 
--- the next numbers are one above the greatest that stand on the flash
+-- the next numbers are one above the greatest that are on the flash
 abbrev pub AreNext : Flash → NextNumbers → Type 0
 AreNext flash next = (n : Numbers) × AreGreatest flash n × (next ≡ next_after n)
 
@@ -74,7 +74,7 @@ pub record HasSizes (p : PagesState) (table : ObjectTable) : Type 0 where
 -- them, and the index has the hashes of their names.
 pub record IsMountedWith (p : PagesState) (table : ObjectTable) (names : NameIndex) (objects : Objects) : Type 0 where
   pub answers : Answers p.device.geometry p.device.flash (IsTreeOf p.spare objects)
-  pub stands : StandsFor (volume_of p) p objects
+  pub represents : PagesRepresent (volume_of p) p objects
   pub shown : Shown (volume_of p) p objects
   pub can : CanHave (volume_of p) objects
   pub settles : settled objects ≡ objects

@@ -9,7 +9,7 @@ ghost use Rattle.mounting.specs.Lending.{LieWithin};
 use chunk_index::{CommittedPage, Index};
 use flash_tree::Key;
 use nand_model::{Nand, PageKind};
-use pages::{KnownPages, Pages, Presence, has_power};
+use pages::{Pages, Presence, has_power};
 use std::alloc::{AllocError, Global};
 use volume_terms::StoreFault;
 
@@ -118,6 +118,10 @@ impl<N: Nand> Pages for CandidatePages<'_, N> {
         }
     }
 
+    fn has(&self, key: Key) -> bool {
+        self.index.committed(key).is_some()
+    }
+
     fn has_power(&mut self) -> bool {
         has_power(&mut self.device)
     }
@@ -132,11 +136,5 @@ impl<N: Nand> Pages for CandidatePages<'_, N> {
 
     fn return_frame(&mut self, frame: Vec<u8>) {
         let _frame = frame;
-    }
-}
-
-impl<N: Nand> KnownPages for CandidatePages<'_, N> {
-    fn has(&self, key: Key) -> bool {
-        self.index.committed(key).is_some()
     }
 }

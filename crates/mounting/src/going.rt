@@ -1,7 +1,7 @@
 // The tree with which a volume goes on: by a checkpoint, by the summaries of blocks, or by a scan.
 ghost use Rattle.std.specs.Prelude.{◌≡◌, ◌<◌, ℕ, true, false, Some, None, IfOk, IfErr};
 ghost use Rattle.nand_model.specs.Changes.{OnlyReads};
-ghost use Rattle.flash_tree.specs.Checkpoints.{StandsOnly};
+ghost use Rattle.flash_tree.specs.Checkpoints.{LiesOnlyIn};
 ghost use Rattle.block_state.specs.TableOf.{table};
 ghost use Rattle.mount_scan.specs.FoundCheckpoint.{HasForm, IsWholeOn, checkpoint_of};
 ghost use Rattle.mount_scan.specs.FirstPages.{AreFirstsOf};
@@ -79,7 +79,7 @@ fn by_summaries<N: Nand>(
     firsts: &FirstPages,
 ) -> Result<Going<TrustedNand<N>>, (N, RootFault)>
     requires firsts { AreFirstsOf (N.state device) firsts.now }
-    requires none { HasTrueFlash (N.state device) → StandsOnly (N.state device).geometry (N.state device).flash None }
+    requires none { HasTrueFlash (N.state device) → LiesOnlyIn (N.state device).geometry (N.state device).flash None }
     ensures read { IfOk result (λ going. IsOnSince N.state (N.state device) going.named.on) }
     ensures going { IfOk result (λ going. IsGoing (seen_on N.state going.named.on) going) }
     ensures checked { HasTrueFlash (N.state device)
@@ -145,7 +145,7 @@ fn by_scan<N: Nand>(
     Ok(Going { named, sizes })
 }
 
-/// Goes on by a scan after a checkpoint's entries or the summaries of blocks did not do, unless power went or memory was refused. This
+/// Goes on by a scan after a checkpoint's entries or the summaries of blocks did not do, unless power was lost or memory was refused. This
 /// block is noted, unless committed pages lie in it.
 fn scan_after<N: Nand>(
     alloc: Global,

@@ -5,7 +5,7 @@ ghost use Rattle.block_state.specs.TableOf.{table};
 ghost use Rattle.page_store.specs.FlashParts.{device_in};
 ghost use Rattle.page_store.specs.ReadOnly.{IsWorn};
 ghost use Rattle.page_store.specs.NewestParts.{device_of, index_of};
-ghost use Rattle.flash_log.specs.Standing.{KeepsOrdinary};
+ghost use Rattle.flash_log.specs.Consistency.{KeepsOrdinary};
 ghost use Rattle.mounting.specs.Made.{ArePagesOn, CanBeWritten, MayWrite};
 ghost use Rattle.mounting.specs.Marked.{AreFitting};
 ghost use Rattle.mounting.specs.Mounted.{IsTreeRead, HasRoomOn};
@@ -22,7 +22,7 @@ use std::alloc::{AllocError, Global};
 use std::num::NonZeroUsize;
 use volume_terms::{BUFFERS_IN_BLOCK, NUMBER_END};
 
-/// Whether nothing can be written any more: a number stands at the limit, or more blocks are bad than there are to spare.
+/// Whether nothing can be written any more: a number is at the limit, or more blocks are bad than there are to spare.
 pub(crate) fn is_worn<N: Nand>(on: &TreeOn<N>) -> bool
     ensures worn { result ≡ true → IsWorn (N.state on.now.device) (numbers_of on.now.numbers) on.now.spare }
     ensures left { result ≡ false → CanBeWritten (N.state on.now.device) (numbers_of on.now.numbers) on.now.spare }

@@ -11,7 +11,7 @@ use crate::tagged::read_tagged;
 use chunk_index::{CommittedPage, Index};
 use flash_tree::Key;
 use nand_model::{Nand, Trust};
-use pages::{KnownPages, Pages, Presence, has_power};
+use pages::{Pages, Presence, has_power};
 use std::alloc::{AllocError, Global};
 use volume_terms::StoreFault;
 
@@ -95,6 +95,10 @@ impl<N: Nand> Pages for LentPages<'_, N> {
         }
     }
 
+    fn has(&self, key: Key) -> bool {
+        self.index.committed(key).is_some()
+    }
+
     fn has_power(&mut self) -> bool {
         has_power(&mut self.device)
     }
@@ -109,11 +113,5 @@ impl<N: Nand> Pages for LentPages<'_, N> {
 
     fn return_frame(&mut self, frame: Vec<u8>) {
         let _frame = frame;
-    }
-}
-
-impl<N: Nand> KnownPages for LentPages<'_, N> {
-    fn has(&self, key: Key) -> bool {
-        self.index.committed(key).is_some()
     }
 }

@@ -7,7 +7,7 @@ ghost use Rattle.mounting.specs.FoundTrees.{IssuesForTree, HasNamesIn, IsFoundIn
 use crate::first_fault;
 use name_index::NameIndex;
 use nand_model::Geometry;
-use pages::KnownPages;
+use pages::Pages;
 use std::alloc::Global;
 use tree_walk::{RootFault, Tree, spare_of, walk};
 
@@ -21,7 +21,7 @@ pub(crate) struct FoundTree {
 
 /// Goes through the tree of a volume on a device of these sizes. Each header is looked up once, and so is each page of a
 /// directory's slots.
-pub(crate) fn find_tree<P: KnownPages>(
+pub(crate) fn find_tree<P: Pages>(
     alloc: Global,
     pages: &mut P,
     geometry: Geometry,

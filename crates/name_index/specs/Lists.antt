@@ -5,7 +5,7 @@ use Rattle.std.specs.Prelude.{◌≡◌, ◌≢◌, ◌⊎◌, ◌<◌, ◌≤�
 abbrev pub Rises : List ℕ → Type 0
 Rises xs = (i j : ℕ) → i < j → j < length xs → slice_index xs i < slice_index xs j
 
--- the number stands in the list
+-- the number is in the list
 abbrev pub IsIn : List ℕ → ℕ → Type 0
 IsIn xs x = (i : ℕ) × (i < length xs) × (slice_index xs i ≡ x)
 

@@ -47,7 +47,7 @@ reported_size image = 32 + reported_blocks image + reported_blocks image * repor
 abbrev pub kind_of_byte : ℕ → PageKind
 kind_of_byte byte = if nat_eq byte 0 then kinds.Erased else (if nat_eq byte 1 then kinds.Written else kinds.Uncorrectable)
 
--- the page of so many bytes of data that stands at the front: its kind, its tag and its data
+-- the page of so many bytes of data that is at the front: its kind, its tag and its data
 abbrev pub page_in : ℕ → List ℕ → Page
 page_in size image = page_of (kind_of_byte (slice_index image 0)) (take size (drop 49 image)) (take 48 (drop 1 image))
 

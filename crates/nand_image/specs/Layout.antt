@@ -1,4 +1,4 @@
--- Where what of a flash stands in its image: a head, a mark for each block, and then the pages, block by block.
+-- Where what of a flash is in its image: a head, a mark for each block, and then the pages, block by block.
 use Rattle.std.specs.Prelude.{ℕ, ◌+◌, ◌*◌}
 use Rattle.nand_model.specs.declared.geometry.Geometry.{Geometry}
 

@@ -51,7 +51,7 @@ pub record IsHead (head left : List ℕ) (now : Option (List ℕ)) : Type 0 wher
 abbrev pub TakesHead : Option (List ℕ) → Option (List ℕ) → List ℕ → Type 0
 TakesHead old new head = (left : List ℕ) → old ≡ Some left → IsHead head left new
 
--- Magic, where no head stands there, or Read
+-- Magic, where no head is there, or Read
 abbrev pub IsNoHead : Option (List ℕ) → ImageFault → Type 0
 IsNoHead old faults.Read = Unit {0}
 IsNoHead old faults.Write = ⊥
@@ -97,7 +97,7 @@ IsLong old faults.Magic = ⊥
 IsLong old faults.BadGeometry = ⊥
 IsLong old faults.NoMemory = ⊥
 
--- what stands in an image after its head
+-- what is in an image after its head
 abbrev pub body_size : Geometry → ℕ
 body_size g = g.blocks + g.blocks * g.pages * slot_size g
 

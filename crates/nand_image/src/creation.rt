@@ -48,7 +48,7 @@ fn write_slots<F: Write>(file: &mut F, slot: &[u8], count: u32) -> Result<(), Im
     Ok(())
 }
 
-/// Writes a new image with erased pages and no bad block to the file, which stands at its start and is empty, and
+/// Writes a new image with erased pages and no bad block to the file, which is at its start and is empty, and
 /// makes a device of it. The file is not moved before.
 pub fn create_image<F: Read + Write + Seek + Drop>(
     alloc: Global,

@@ -1,4 +1,4 @@
-// A device whose flash stands in memory and is written through to a file.
+// A device whose flash is in memory and is written through to a file.
 ghost use Rattle.std.specs.Prelude.{◌≡◌, ◌≢◌, ◌<◌, [], true, false, length, Some, None, IfOk, IfErr, IsOk, OnErr};
 ghost use Rattle.nand_model.specs.Calls.{Reads, ReadReports, Fills, bytes_of, tag_of, Programs, Erases, Marks};
 ghost use Rattle.nand_model.specs.Changes.{PowersUp};
@@ -12,7 +12,7 @@ use std::alloc::AllocError;
 
 /// A device in a file. It is honest.
 ///
-/// Its flash stands in memory, and each change is written to the file first. A write or a seek that fails is a cut:
+/// Its flash is in memory, and each change is written to the file first. A write or a seek that fails is a cut:
 /// the flash in memory is as before the call, and the device is gone. Nothing is read from the file.
 #[derive(Drop)]
 pub struct ImageNand<F> {
@@ -34,7 +34,7 @@ impl<F> ImageNand<F> {
         Ok(copy)
     }
 
-    /// The file, which stands where the last write left it.
+    /// The file, which is where the last write left it.
     pub fn into_file(self) -> F
         ensures { result ≡ self.file }
     {

@@ -1,4 +1,4 @@
-// Where what stands in an image.
+// Where what is in an image.
 ghost use Rattle.std.specs.Prelude.{◌≡◌, ◌<◌};
 ghost use Rattle.nand_image.specs.Layout as spec;
 

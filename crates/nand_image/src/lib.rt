@@ -1,4 +1,4 @@
-//! A NAND flash device in a file: the flash stands in memory, and each change is written through to the file.
+//! A NAND flash device in a file: the flash is in memory, and each change is written through to the file.
 #![tactic(auto)]
 
 mod creation;

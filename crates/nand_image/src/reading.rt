@@ -214,7 +214,7 @@ fn read_flash<F: Read>(
     Ok(memory)
 }
 
-/// The device in a file that holds an image and stands at its start. The file is not moved before, and not written: its
+/// The device in a file that holds an image and is at its start. The file is not moved before, and not written: its
 /// type has no means to.
 pub fn open_image<F: Read + Drop>(alloc: Global, file: F) -> Result<ImageNand<F>, ImageFault>
     ensures gone { IfOk result (λ d. (image.device d).gone ≡ false) }

@@ -1,4 +1,4 @@
--- What the blocks of a device in memory stand for.
+-- What the blocks of a device in memory represent.
 use Rattle.std.specs.Prelude.{◌≡◌, ◌<◌, ◌≤◌, ℕ, Bool, false, Option, Some, None, List, length, slice_get, []}
 use Rattle.std.specs.Option.{option_map_or}
 use Rattle.nand_model.specs.Flash.{Flash, Page, Erased, Written, Uncorrectable, IsClean, IsSized}
@@ -8,7 +8,7 @@ use Rattle.nand_model.specs.declared.nand.PageKind.TheVariants as kinds
 use Rattle.nand_model.specs.declared.block.MemPage.{MemPage}
 use Rattle.nand_model.specs.declared.block.MemBlock.{MemBlock}
 
--- the page of this kind; data and tag stand for nothing where it isn't written
+-- the page of this kind; data and tag represent nothing where it isn't written
 abbrev pub page_of : PageKind → List ℕ → List ℕ → Page
 page_of kinds.Erased bytes tag = Erased
 page_of kinds.Written bytes tag = Written bytes tag

@@ -1,4 +1,4 @@
--- What a device in memory stands for.
+-- What a device in memory represents.
 use Rattle.std.specs.Prelude.{true}
 use Rattle.nand_model.specs.Calls.{Device}
 use Rattle.nand_model.specs.Memory.{flash_of}

@@ -1,4 +1,4 @@
--- What the script of a device in memory stands for.
+-- What the script of a device in memory represents.
 use Rattle.std.specs.Option.{option_map}
 use Rattle.nand_model.specs.Plans.{Plan, listed}
 use Rattle.nand_model.specs.declared.plan.Script.{Script}

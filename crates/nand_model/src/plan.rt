@@ -77,7 +77,7 @@ impl Script {
 
     /// The fates of the first failure that is at this call.
     fn failure(&self) -> Option<&[Fate]>
-        ensures some { IfSome result (λ fates. failure_at (plan self.now).failures (plan self.now).calls ≡ Some fates.now) }
+        ensures fates { IfSome result (λ fates. failure_at (plan self.now).failures (plan self.now).calls ≡ Some fates.now) }
         ensures none { IfNone result (failure_at (plan self.now).failures (plan self.now).calls ≡ None) }
     {
         for (call, fates) in &self.failures {

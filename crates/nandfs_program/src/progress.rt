@@ -81,6 +81,8 @@ impl<'a, R: Eprint, V: Answers> Metered<'a, R, V> {
 }
 
 impl<R: Eprint, V: Answers> Answers for Metered<'_, R, V> {
+    ghost serves = { λ old command reply new. V.serves old.volume command reply new.volume };
+
     ghost shows = { λ metered. V.shows metered.volume };
 
     fn answer(&mut self, stamped: &Stamped) -> Reply {

@@ -19,7 +19,7 @@ use Rattle.object_store.specs.declared.refusal.Refusal.{Refusal}
 use Rattle.command_plans.specs.Classes.{Class, Reporting, Changing, Syncing, class_of, is_error}
 use Rattle.object_commands.specs.Endings.{IsAt, IsOnlyRead, StaysReading, Leaves, IsDone, CommandEnds, ReportsRefusal}
 use Rattle.object_commands.specs.laws.Steps.{leaves_shows}
-use Rattle.command_plans.specs.Plans.{IsPlan, Plans, Suits, Did, worked, planned, handled, does_nothing, frees}
+use Rattle.command_plans.specs.Plans.{IsPlan, Plans, Suits, Did, worked, planned, handles_after, does_nothing, frees}
 use Rattle.command_plans.specs.Tables.{handles_in}
 use Rattle.command_plans.specs.declared.plan.Plan.{Plan}
 use Rattle.command_plans.specs.declared.plan.StoreWork.{StoreWork}
@@ -60,11 +60,11 @@ leaves_on m law Syncing reply old new a b c reads left = (left.0, go left.1)
     go (inr done) = inr (done.0, law.commits_on a b c old reads done.1)
 
 -- the store has what it stands for after a call
-has_after : {S : Type 0} (m : Meaning S) (law : IsLawful m) (z : Sizes) (old : Objects) (s : State) (a b : S) → Has m z old a → m.lasts a b → m.stands b s.objects → IsSound z s → Has m z s.objects b
-has_after m law z old s a b has lasts stands sound = record {
+has_after : {S : Type 0} (m : Meaning S) (law : IsLawful m) (z : Sizes) (old : Objects) (s : State) (a b : S) → Has m z old a → m.lasts a b → m.represents b s.objects → IsSound z s → Has m z s.objects b
+has_after m law z old s a b has lasts represents sound = record {
   numbers = has.numbers;
   sizes = law.lasts_sizes a b lasts ∙ has.sizes;
-  stands = stands;
+  represents = represents;
   forest = sound.well_formed.forest;
   fit = sound.fit;
 }
@@ -93,17 +93,17 @@ still_only_read m old new a b only stays turns = record {
 }
 
 pub is_done : {S : Type 0} (m : Meaning S) (law : IsLawful m) (z : Sizes) (class : Class) (s : State) (meant : Outcome) (plan : Plan) (a b : Volume S) → IsAt m z s a → IsPlan z class s meant plan → IsSound z meant.state → b.read_only ≡ a.read_only → (a.read_only ≡ true → StaysReading s meant.state)
-    → m.lasts a.store b.store → m.stands b.store (worked s.objects plan.work) → Did m s.objects plan.work a.store b.store → handles_in b.table ≡ handled (handles_in a.table) plan.handles → b.stopped ≡ false
+    → m.lasts a.store b.store → m.represents b.store (worked s.objects plan.work) → Did m s.objects plan.work a.store b.store → handles_in b.table ≡ handles_after (handles_in a.table) plan.handles → b.stopped ≡ false
     → IsDone m z class s meant a b plan.reply
-is_done m law z class s meant plan a b at is sound committed stays lasts stands did same goes =
+is_done m law z class s meant plan a b at is sound committed stays lasts represents did same goes =
     let left = work_leaves m class plan.reply s.objects plan.work a.store b.store is.suits did in
     let stays' : a.read_only ≡ true → StaysReading s (planned s plan).state = subst (λ (o : Outcome). a.read_only ≡ true → StaysReading s o.state) (sym is.means) stays in
     let sound' : IsSound z (planned s plan).state = subst (λ (o : Outcome). IsSound z o.state) (sym is.means) sound in
     subst (λ o. IsDone m z class s o a b plan.reply) is.means (record {
       reply = refl;
       state = record {
-        has = has_after m law z s.objects (planned s plan).state a.store b.store at.has lasts stands sound';
-        handles = same ∙ ap (λ h. handled h plan.handles) at.handles;
+        has = has_after m law z s.objects (planned s plan).state a.store b.store at.has lasts represents sound';
+        handles = same ∙ ap (λ h. handles_after h plan.handles) at.handles;
         sound = sound';
         only_read = λ only.
             let was = sym committed ∙ only in

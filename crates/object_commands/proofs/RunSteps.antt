@@ -135,7 +135,7 @@ ran_more m z s cs rs c r a b d at ran goes lasts one only unread leaves law =
     let more = after_more z a.read_only s cs rs c r at in
     record {
       holds = holds_more z a.read_only s cs rs c r at ran.holds one.replies (λ stop. absurd (true≢false (sym stop ∙ none)));
-      losses = λ t shown. loss_more (m.shows b.store) (m.shows d.store) t z a.read_only s cs rs c r at one.loss one.sync (ran.losses t shown);
+      power_losses = λ t shown. loss_more (m.shows b.store) (m.shows d.store) t z a.read_only s cs rs c r at one.power_loss one.sync (ran.power_losses t shown);
       stops = one.stops ∙ sym (any_push is_stop rs r ∙ ap (λ b. b || is_stop r) none);
       failure = λ stop. fails_last m z a.read_only s cs rs c r a.store b.store d.store at lasts (one.fails (sym one.stops ∙ stop));
       state = λ still. subst (λ x. IsAt m z x d) (sym more) (one.state (sym one.stops ∙ still));
@@ -159,7 +159,7 @@ ran_stopped m z s cs rs c r a b d at ran stopped reported same =
     let some : list_any is_stop rs ≡ true = sym ran.stops ∙ stopped in
     subst (λ d. Ran m z s cs (rs ++ r ∷ []) a d) (sym same) (record {
       holds = holds_more z a.read_only s cs rs c r at ran.holds (inr (inr stop)) (λ _. stop);
-      losses = λ t shown. loss_more (m.shows b.store) (m.shows b.store) t z a.read_only s cs rs c r at (λ t is. inl is) (λ synced. absurd (error_unsynced c.command errors.EIO (ap (is_synced c.command) (sym reported) ∙ synced))) (ran.losses t shown);
+      power_losses = λ t shown. loss_more (m.shows b.store) (m.shows b.store) t z a.read_only s cs rs c r at (λ t is. inl is) (λ synced. absurd (error_unsynced c.command errors.EIO (ap (is_synced c.command) (sym reported) ∙ synced))) (ran.power_losses t shown);
       stops = stopped ∙ sym (any_push is_stop rs r ∙ ap (λ b. b || is_stop r) some);
       failure = λ stop. fails_before m z a.read_only s cs rs r a.store b.store (ran.failure stop);
       state = λ goes. absurd (true≢false (sym stopped ∙ goes));
@@ -224,7 +224,7 @@ runs_none m law cs before a = record {
   power = λ none had. had;
   ran = λ going z s has. record {
     holds = tt;
-    losses = λ t shown. inr (λ i done. absurd (none_at i done.1 done.3), shown);
+    power_losses = λ t shown. inr (λ i done. absurd (none_at i done.1 done.3), shown);
     stops = going;
     failure = λ stop. absurd (true≢false (sym stop ∙ going));
     state = λ _. has;

@@ -7,6 +7,6 @@ use Rattle.object_store.specs.Stores.{Meaning}
 use Rattle.posix_profile.specs.State.{State}
 use Rattle.volume_terms.specs.Sizes.{Sizes}
 
--- it goes on, and stands for this state
+-- it goes on, and represents this state
 abbrev pub ShowsState : {S : Type 0} → Meaning S → Volume S → Sizes → Bool → State → Type 0
 ShowsState m v z read_only s = (is_stopped v ≡ false) × (is_read_only v ≡ read_only) × IsAt m z s v

@@ -33,14 +33,14 @@ pub record StaysReading (old new : State) : Type 0 where
   pub objects : new.objects ≡ old.objects
   pub handles : AreReading new.handles
 
--- The volume stands for a state that it can have; of a read-only one nothing can be changed or lost.
+-- The volume represents a state that it can have; of a read-only one nothing can be changed or lost.
 pub record IsAt {S : Type 0} (m : Meaning S) (z : Sizes) (s : State) (v : Volume S) : Type 0 where
   pub has : Has m z s.objects v.store
   pub handles : handles_in v.table ≡ s.handles
   pub sound : IsSound z s
   pub only_read : v.read_only ≡ true → IsOnlyRead m s v.store
 
--- this holds, by the sizes of the volume, at each state that the volume stands for
+-- this holds, by the sizes of the volume, at each state that the volume represents
 abbrev pub OfVolume : {S : Type 0} (m : Meaning S) → Volume S → (Sizes → State → Type 0) → Type 0
 OfVolume m v A = (z : Sizes) (s : State) → IsAt m z s v → A z s
 
@@ -89,7 +89,7 @@ CommandEnds m z class takes_none s meant a b reported =
     ⊎ ((takes_none ≡ false) × IsPassedOver m z s a b reported)
     ⊎ IsStopped m class s meant a b reported
 
--- From each state that the volume stands for it ends as the command does that the plan is for, whatever that is, if it leads to
+-- From each state that the volume represents it ends as the command does that the plan is for, whatever that is, if it leads to
 -- a sound state, is not answered by EIO, changes nothing by an error, and of a read-only volume nothing at all.
 abbrev pub CarriesOut : {S : Type 0} (m : Meaning S) → Volume S → Plan → Reply → Volume S → Type 0
 CarriesOut m old plan reply new = OfVolume m old (λ z s. (class : Class) (meant : Outcome) → IsPlan z class s meant plan

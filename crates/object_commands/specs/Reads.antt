@@ -33,9 +33,9 @@ read_of s fd handle count bytes = read_reported s fd handle (take count (drop ha
 abbrev pub bytes_at : Objects → OpenDescription → ℕ → List ℕ
 bytes_at objects description count = bytes_from objects description.object description.offset count
 
--- The descriptor stands for a file that it may read: a read of it answers bytes of the file.
+-- The descriptor refers to a file that it may read: a read of it answers bytes of the file.
 pub record IsReadable (s : State) (fd : ℕ) (description : OpenDescription) : Type 0 where
-  pub stands : map.get s.handles fd ≡ Some (handle_of description)
+  pub represents : map.get s.handles fd ≡ Some (handle_of description)
   pub file : IsFile s.objects description.object
   pub means : (count : ℕ) → read_of s fd (handle_of description) count (bytes_of (map.get s.objects description.object)) ≡ read_step s fd count
 

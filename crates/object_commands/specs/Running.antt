@@ -1,7 +1,7 @@
 -- What a run of commands answers and leaves.
 use Rattle.std.specs.Prelude.{◌≡◌, ◌⊎◌, ◌<◌, ◌≤◌, ◌||◌, ◌++◌, ℕ, zero, suc, Bool, true, false, List, [], ◌∷◌, length, take, All, Some, slice_get, Result, OnOk}
 use Rattle.std.specs.List.{list_any}
-use Rattle.posix_profile.specs.Losses.{LossLeaves}
+use Rattle.posix_profile.specs.Losses.{PowerLossLeaves}
 use Rattle.posix_profile.specs.Runs.{is_stop, is_no_memory, after_one, after, AllStopped, StopsFor, RunHolds}
 use Rattle.volume_terms.specs.Sizes.{Sizes}
 use Rattle.posix_profile.specs.State.{Objects, State}
@@ -60,13 +60,13 @@ pub record Failure {S : Type 0} (m : Meaning S) (z : Sizes) (read_only : Bool) (
   pub fails : m.fails (after z read_only s commands (take place answered)).objects (step z read_only (after z read_only s commands (take place answered)) command).state.objects from b
 
 -- From a state: the replies are right, a mount shows the tree after some of the commands, at least those that a sync covers,
--- the volume is stopped exactly where a reply is EIO, and then for a failure of the store, and else it stands for the state
+-- the volume is stopped exactly where a reply is EIO, and then for a failure of the store, and else it represents the state
 -- after the commands that were answered. Where the last of them was refused memory the device has power. The store was only read
 -- where each of them only reports at its state; and it was only read, or its device left, of a read-only volume, and where each of
 -- them only reports or makes no call. A read-only volume is stopped only where a read failed.
 pub record Ran {S : Type 0} (m : Meaning S) (z : Sizes) (s : State) (commands : List Stamped) (answered : List Reply) (a b : Volume S) : Type 0 where
   pub holds : RunHolds z (is_read_only a) s commands answered
-  pub losses : (tree : Objects) → m.shows (store_of a) tree → LossLeaves (m.shows (store_of b)) tree z (is_read_only a) s commands answered
+  pub power_losses : (tree : Objects) → m.shows (store_of a) tree → PowerLossLeaves (m.shows (store_of b)) tree z (is_read_only a) s commands answered
   pub stops : is_stopped b ≡ list_any is_stop answered
   pub failure : is_stopped b ≡ true → Failure m z (is_read_only a) s commands answered (store_of a) (store_of b)
   pub state : is_stopped b ≡ false → IsAt m z (after z (is_read_only a) s commands answered) b

@@ -13,7 +13,7 @@ use Rattle.command_plans.specs.Tables.{handle_of}
 use Rattle.command_plans.specs.declared.plan.Plan.{Plan}
 use Rattle.command_plans.specs.declared.table.OpenDescription.{OpenDescription}
 
--- Of what the descriptor stands for: a plan for the seek, or the error that is meant.
+-- Of what the descriptor refers to: a plan for the seek, or the error that is meant.
 abbrev pub SeeksOn : ℕ → OpenDescription → ℤ → Whence → Result Plan Errno → Sizes → State → Type 0
 SeeksOn fd description offset whence r z s = map.get s.handles fd ≡ Some (handle_of description)
     → Tries z Reporting s (at_file s (map.get s.objects description.object) errors.EINVAL

@@ -8,11 +8,11 @@ use Rattle.command_plans.specs.Plans.{Holds}
 use Rattle.command_plans.specs.Tables.{handles_in}
 use Rattle.command_plans.specs.declared.table.DescriptorTable.{DescriptorTable}
 
--- this holds, by the sizes of the volume, of the objects that the store stands for
+-- this holds, by the sizes of the volume, of the objects that the store represents
 abbrev pub OfObjects : {S : Type 0} (m : Meaning S) → S → (Sizes → Objects → Type 0) → Type 0
 OfObjects m a A = (z : Sizes) (objects : Objects) → Has m z objects a → A z objects
 
--- this holds, by the sizes of the volume, at each state whose objects the store stands for
+-- this holds, by the sizes of the volume, at each state whose objects the store represents
 abbrev pub OfStore : {S : Type 0} (m : Meaning S) → S → (Sizes → State → Type 0) → Type 0
 OfStore m a A = (z : Sizes) (s : State) → Holds m z s a → A z s
 

@@ -23,7 +23,7 @@ Task = Sizes → State → Class × Outcome
 abbrev pub TriesTo : Sizes → State → Outcome → Result Plan Errno → Type 0
 TriesTo z s meant r = Tries z Changing s meant r
 
--- At each state whose objects the store stands for: a plan for the task, or the error that is meant, unless a read fails or is
+-- At each state whose objects the store represents: a plan for the task, or the error that is meant, unless a read fails or is
 -- refused memory. Of the store it says how it was and how it is then.
 abbrev pub PlansOn : {S : Type 0} (m : Meaning S) → S × S → Task → Result Plan Refusal → Type 0
 PlansOn m stores task r = (z : Sizes) (s : State) → Holds m z s stores.0 → Plans m z (task z s).0 s (task z s).1 stores.0 stores.1 r

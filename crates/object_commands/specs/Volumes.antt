@@ -10,7 +10,7 @@ use Rattle.object_commands.specs.declared.volume.Volume.{Volume}
 abbrev pub store_of : {S : Type 0} → Volume S → S
 store_of v = v.store
 
--- what its descriptors stand for
+-- what its descriptors refer to
 abbrev pub handles_of : {S : Type 0} → Volume S → Handles
 handles_of v = handles_in v.table
 
@@ -34,6 +34,6 @@ with_stop v = record v { stopped = true }
 abbrev pub ended : {S : Type 0} → Volume S → Reply → Volume S
 ended v reply = record v { stopped = is_stop reply }
 
--- the volume is over this store, its descriptors stand for this, and it is read-only, and stopped, or not
+-- the volume is over this store, its descriptors refer to this, and it is read-only, and stopped, or not
 abbrev pub HasParts : {S : Type 0} → S → Handles → Bool → Bool → Volume S → Type 0
 HasParts store handles read_only stopped v = (store_of v ≡ store) × (handles_of v ≡ handles) × (is_read_only v ≡ read_only) × (is_stopped v ≡ stopped)

@@ -13,7 +13,7 @@ use Rattle.command_plans.specs.Tables.{handle_of}
 use Rattle.command_plans.specs.declared.plan.Plan.{Plan}
 use Rattle.command_plans.specs.declared.table.OpenDescription.{OpenDescription}
 
--- this holds, of what a descriptor that there is stands for, if it is a file, and of the bytes of the file
+-- this holds, of what a descriptor that there is represents, if it is a file, and of the bytes of the file
 abbrev pub OfOpenFile : State → ℕ → OpenDescription → (Handle → List ℕ → Type 0) → Type 0
 OfOpenFile s fd description A = IsFile s.objects description.object → fd < descriptors → A (handle_of description) (bytes_of (map.get s.objects description.object))
 

@@ -24,7 +24,7 @@ use posix_profile::{Errno, Kind, OpenFlags, Reply};
 use std::alloc::Global;
 use volume_terms::ROOT;
 
-/// What goes with a descriptor that stands for this object: the object, if nothing else keeps it.
+/// What goes with a descriptor that represents this object: the object, if nothing else keeps it.
 fn forgotten<'a, S: ObjectStore>(
     store: &S,
     table: &DescriptorTable,

@@ -73,7 +73,7 @@ fn may_read(access: Access) -> bool
     }
 }
 
-/// What a descriptor stands for that may read a file.
+/// What a descriptor refers to that may read a file.
 fn readable<S: ObjectStore>(
     store: &S,
     table: &DescriptorTable,
@@ -109,7 +109,7 @@ fn room_for<S: ObjectStore>(
     vec![in alloc; 0; rest.min(u64::from(count)) as usize]
 }
 
-/// What a descriptor stands for once so many bytes were read.
+/// What a descriptor refers to once so many bytes were read.
 fn moved(description: OpenDescription, count: usize) -> OpenDescription
     ensures { result ≡ record description { offset = min (description.offset + count) (2 ^ 64 - 1) } }
 {
@@ -143,7 +143,7 @@ pub(crate) fn read<'a, S: ObjectStore>(
     })
 }
 
-/// What was read into a buffer: how many bytes, and what the descriptor stands for then.
+/// What was read into a buffer: how many bytes, and what the descriptor refers to then.
 #[derive(Clone, Copy)]
 pub(crate) struct Filled {
     pub count: usize,
@@ -228,7 +228,7 @@ fn seek_signed<'a>(fd: u32, description: OpenDescription, target: i128) -> Resul
     seek_to(fd, description, target.unsigned_abs())
 }
 
-/// Seek of what the descriptor stands for.
+/// Seek of what the descriptor refers to.
 fn seek_open<'a, S: ObjectStore>(
     store: &S,
     fd: u32,

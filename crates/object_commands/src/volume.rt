@@ -10,7 +10,7 @@ ghost use Rattle.posix_profile.specs.declared.reply.Reply.TheVariants as replies
 ghost use Rattle.object_store.specs.Stores.{KeepsPower};
 ghost use Rattle.volume_terms.specs.declared.fault.StoreFault.TheVariants as faults;
 ghost use Rattle.command_plans.specs.Classes.{makes_no_call};
-ghost use Rattle.command_plans.specs.Plans.{Works, TakesNone, LeavesDevice, CanDo, InRange, does_nothing, frees, leaves_device, handled};
+ghost use Rattle.command_plans.specs.Plans.{Works, TakesNone, LeavesDevice, CanDo, InRange, does_nothing, frees, leaves_device, handles_after};
 ghost use Rattle.command_plans.specs.Tables.{handles_in};
 ghost use Rattle.object_commands.specs.States.{OfObjects};
 ghost use Rattle.object_commands.specs.Tasks.{PlansAt, task_of};
@@ -101,7 +101,7 @@ fn work<S: ObjectStore>(store: &mut S, issued: &StoreWork<'_>) -> Result<(), Sto
 
 /// Changes the descriptors.
 fn handle(table: &mut DescriptorTable, change: HandleChange)
-    ensures { InRange change → handles_in table.new ≡ handled (handles_in table.old) change }
+    ensures { InRange change → handles_in table.new ≡ handles_after (handles_in table.old) change }
 {
     match change {
         HandleChange::Nothing => {}
@@ -117,7 +117,7 @@ fn is_stop(reply: &Reply) -> bool
     matches!(reply, Reply::Error(Errno::EIO))
 }
 
-/// A volume: a store, and what its descriptors stand for. One that is stopped answers EIO to each command.
+/// A volume: a store, and what its descriptors refer to. One that is stopped answers EIO to each command.
 #[derive(Drop)]
 pub struct Volume<S> {
     alloc: Global,
@@ -228,7 +228,7 @@ impl<S: ObjectStore> Volume<S> {
         self.stopped
     }
 
-    /// What Stat reports of the object that a descriptor stands for, which need not have a name. It reads nothing.
+    /// What Stat reports of the object that a descriptor refers to, which need not have a name. It reads nothing.
     pub fn describe(&self, fd: u32) -> Result<Info, Errno>
         ensures stopped { is_stopped self.now ≡ true → result ≡ Err errors.EIO }
         ensures describes { is_stopped self.now ≡ false → OfVolume S.meaning self.now (λ z s. Describes s fd result) }
@@ -245,7 +245,7 @@ impl<S: ObjectStore> Volume<S> {
         }
     }
 
-    /// The error where memory was refused: where the device's power went meanwhile it is the stop. Its caller stops the volume
+    /// The error where memory was refused: where the device's power was lost meanwhile it is the stop. Its caller stops the volume
     /// by it.
     fn pass_over(&mut self) -> Errno
         ensures same { self.new ≡ record self.old { store = store_of self.new } }

@@ -1,4 +1,4 @@
--- What a table that is being made stands for.
+-- What a table that is being made represents.
 use Rattle.std.specs.Prelude.{◌≡◌, ℕ, length, None}
 use Rattle.std.specs.FinMap as map
 use Rattle.volume_terms.specs.Sizes.{Sizes}

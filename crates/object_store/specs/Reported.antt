@@ -1,4 +1,4 @@
--- What a table of objects stands for.
+-- What a table of objects represents.
 use Rattle.std.specs.Prelude.{◌≡◌, ℕ, true, Option, None, ◌<◌, ◌+◌, ◌^◌, List, length, Some}
 use Rattle.volume_terms.specs.Sizes.{Sizes}
 use Rattle.posix_profile.specs.State.{Name, Object, Objects, IsDirectory, IsFile}

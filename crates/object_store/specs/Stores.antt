@@ -1,4 +1,4 @@
--- What a store of objects stands for, and what its calls leave.
+-- What a store of objects represents, and what its calls leave.
 use Rattle.std.specs.Prelude.{◌≡◌, ◌⊎◌, Bool, true, false, Result, Ok, Err, ℕ}
 use Rattle.std.specs.FinMap as map
 use Rattle.volume_terms.specs.Sizes.{Sizes, IsSizes}
@@ -18,13 +18,13 @@ use Rattle.object_store.specs.declared.refusal.Refusal.TheVariants as refusals
 abbrev pub settled : Objects → Objects
 settled objects = (settle (record { objects = objects; handles = map.empty })).objects
 
--- What a store stands for: the numbers of its volume, its objects, the tree that a mount would show, and whether its device has
+-- What a store represents: the numbers of its volume, its objects, the tree that a mount would show, and whether its device has
 -- power. And what is left by every call, by a call that leaves the device as it is, by calls that only read, by calls that only read
 -- and of which the last failed, by a done change from these objects to those, by a call that the device ended, which was to make
 -- those of these, and by a done commit of these objects.
 pub record Meaning (S : Type 0) : Type 1 where
   pub sizes : S → Sizes
-  pub stands : S → Objects → Type 0
+  pub represents : S → Objects → Type 0
   pub shows : S → Objects → Type 0
   pub has_power : S → Bool
   pub lasts : S → S → Type 0
@@ -41,7 +41,7 @@ KeepsOrSettles m objects a b = (tree : Objects) → m.shows a tree → m.shows b
 
 -- Without a call the device is left. Reads leave what was, and reads before a call do not matter. A change, and a call that
 -- fails, leave the tree that a mount shows or settle the objects that were; a done commit settles them. Where a read failed the
--- call has, and where the power went in a read it failed.
+-- call has, and where the power was lost in a read it failed.
 pub record IsLawful {S : Type 0} (m : Meaning S) : Type 0 where
   pub leaves_nothing : (a : S) → m.leaves a a
   pub reads_nothing : (a : S) → m.reads a a
@@ -49,7 +49,7 @@ pub record IsLawful {S : Type 0} (m : Meaning S) : Type 0 where
   pub reads_lasts : (a b : S) → m.reads a b → m.lasts a b
   pub lasts_on : (a b c : S) → m.lasts a b → m.lasts b c → m.lasts a c
   pub lasts_sizes : (a b : S) → m.lasts a b → m.sizes b ≡ m.sizes a
-  pub reads_stands : (a b : S) (objects : Objects) → m.reads a b → m.stands a objects → m.stands b objects
+  pub reads_represent : (a b : S) (objects : Objects) → m.reads a b → m.represents a objects → m.represents b objects
   pub reads_shows : (a b : S) (tree : Objects) → m.reads a b → m.shows a tree → m.shows b tree
   pub changes_on : (a b c : S) (old new : Objects) → m.reads a b → m.changes old new b c → m.changes old new a c
   pub changes_shows : (a b : S) (old new : Objects) → m.changes old new a b → KeepsOrSettles m old a b
@@ -68,11 +68,11 @@ pub record CanHave (z : Sizes) (objects : Objects) : Type 0 where
   pub forest : IsForest z objects
   pub fit : fits z objects ≡ true
 
--- The store stands for objects that its volume can have.
+-- The store represents objects that its volume can have.
 pub record Has {S : Type 0} (m : Meaning S) (z : Sizes) (objects : Objects) (a : S) : Type 0 where
   pub numbers : IsSizes z
   pub sizes : m.sizes a ≡ z
-  pub stands : m.stands a objects
+  pub represents : m.represents a objects
   pub forest : IsForest z objects
   pub fit : fits z objects ≡ true
 
@@ -96,7 +96,7 @@ Finds m meant a b (Err fault) = ReadFaults m a b fault
 
 -- the end of a change
 abbrev pub Applies : {S : Type 0} (m : Meaning S) → Objects → Objects → S → S → Result (Unit {0}) StoreFault → Type 0
-Applies m old new a b (Ok done) = m.stands b new × m.changes old new a b
+Applies m old new a b (Ok done) = m.represents b new × m.changes old new a b
 Applies m old new a b (Err fault) = Faults m old new a b fault
 
 -- the end of this change
@@ -105,7 +105,7 @@ Makes m objects change a b result = Applies m objects (made objects change) a b 
 
 -- the end of a commit
 abbrev pub Commits : {S : Type 0} (m : Meaning S) → Objects → S → S → Result (Unit {0}) StoreFault → Type 0
-Commits m objects a b (Ok done) = m.stands b objects × m.commits objects a b
+Commits m objects a b (Ok done) = m.represents b objects × m.commits objects a b
 Commits m objects a b (Err fault) = Faults m objects objects a b fault
 
 -- what is reported of a value, or of an error, unless a read failed or was refused memory

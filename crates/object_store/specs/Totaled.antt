@@ -1,4 +1,4 @@
--- What facts in totals stand for.
+-- What facts in totals represent.
 use Rattle.std.specs.Prelude.{◌≡◌, ◌≢◌, ◌<◌, ◌-◌, ◌+◌, ◌^◌, min, ℕ, Option, Some, None, IsSome, is_some, List, length}
 use Rattle.std.specs.FinMap as map
 use Rattle.std.specs.Ordering.{nat_cmp}

@@ -20,7 +20,7 @@ use volume_terms::{StoreFault, VolumeSizes};
 /// A fault other than `NoMemory` ends the use of the store: then its objects are known no longer, and only the tree that
 /// a mount would show is.
 pub trait ObjectStore {
-    /// What it stands for, and what its calls leave.
+    /// What it represents, and what its calls leave.
     ghost meaning: { Meaning Self };
 
     /// The numbers of its volume.

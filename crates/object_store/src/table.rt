@@ -188,7 +188,7 @@ impl ObjectTable {
     /// A name of a directory goes, if it led anywhere.
     fn remove_name(&mut self, directory: u64, number: Option<u64>, moment: u64)
         ensures size { table_sizes self.new ≡ table_sizes self.old }
-        ensures some { ReportsUnnamed self.old self.new moment directory number }
+        ensures unnamed { ReportsUnnamed self.old self.new moment directory number }
         ensures none { (objects : Objects) → number ≡ None → Reports self.old objects → Reports self.new objects }
     {
         match number {

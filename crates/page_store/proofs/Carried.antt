@@ -13,7 +13,7 @@ use Rattle.chunk_index.specs.Maps.{committed_pages, count_committed_in, SameComm
 use Rattle.transactions.specs.Checking.{LogState, log_of}
 use Rattle.transactions.specs.Ready.{IsReady}
 use Rattle.flash_log.specs.Mountable.{IsMountable}
-use Rattle.flash_log.specs.Standing.{IsCommittedKey, IsCommittedAt, AreCommitted, TablesAgree}
+use Rattle.flash_log.specs.Consistency.{IsCommittedKey, IsCommittedAt, AreCommitted, TablesAgree}
 use Rattle.flash_log.specs.laws.FreeBlocks.{leaves_fewer, leaves_uncommitted}
 use Rattle.flash_log.specs.laws.Moves.{are_held}
 use Rattle.page_store.specs.Carrying.{CarriesFound}
@@ -77,12 +77,12 @@ committed_of_data f None xs is = absurd (let two : None ≡ Some xs = is in cc)
 committed_of_data f (Some p) xs is = (p, refl)
 
 -- the device carries the committed pages, where they are the newest of their keys
-module _ (spare : ℕ) (d : Device) (t : Table) (x : Index) (none : (y : Index) (b : ℕ) → count_committed_in y b ≡ 0 → HoldsNone (committed_pages y) b) (ready : IsReady d t) (tables : TablesAgree spare t x) (committed : AreCommitted d.flash (committed_pages x)) where
+module _ (spare : ℕ) (d : Device) (t : Table) (x : Index) (none : (y : Index) (b : ℕ) → count_committed_in y b ≡ 0 → HoldsNone (committed_pages y) b) (can_write : IsReady d t) (tables : TablesAgree spare t x) (committed : AreCommitted d.flash (committed_pages x)) where
   pub committed_is_carried : IsCarried d spare (committed_data x d.flash)
   committed_is_carried = record {
     newest = committed_carried d.flash x committed;
     free = λ _. leaves_fewer d.geometry d.flash spare (IsCommittedKey (committed_pages x)) (HasPage (committed_data x d.flash)) (λ o c has. committed_of_data d.flash (committed_pages x o c) has.0 has.1)
-        (leaves_uncommitted spare d t x ready tables (are_held t x (none x) tables.counts) committed);
+        (leaves_uncommitted spare d t x can_write tables (are_held t x (none x) tables.counts) committed);
   }
 
   -- and a mount by summaries finds them, if it finds them
@@ -102,8 +102,8 @@ newest_committed_page f x y same committed o c p is = committed o c p (sym (same
 -- and after a commit: with nothing buffered there was no call of the device and no page moved, and else the device has power
 pub newest_committed : (pages : List FreshPage) (d e : Device) (x y : Index) → (pages ≡ [] → e ≡ d) → (pages ≡ [] → (o c : ℕ) (p : CommittedPage) → committed_pages y o c ≡ Some p → committed_pages x o c ≡ Some p)
     → AreCommitted d.flash (committed_pages x) → (1 ≤ length pages → e.gone ≡ false) → (e.gone ≡ false → AreCommitted e.flash (committed_pages y)) → AreCommitted e.flash (committed_pages y)
-newest_committed [] d e x y still same committed power stands = λ o c p is. subst (λ (k : Device). IsCommittedAt k.flash o c p) (sym (still refl)) (committed o c p (same refl o c p is))
-newest_committed (q ∷ qs) d e x y still same committed power stands = stands (power (omega arith))
+newest_committed [] d e x y still same committed power consistent = λ o c p is. subst (λ (k : Device). IsCommittedAt k.flash o c p) (sym (still refl)) (committed o c p (same refl o c p is))
+newest_committed (q ∷ qs) d e x y still same committed power consistent = consistent (power (omega arith))
 
 -- a committed key has a page
 pub has_page : (d : Device) (x : Index) (o c : ℕ) (k : CommittedPage) → d.honest ≡ true → AreCommitted d.flash (committed_pages x) → committed_pages x o c ≡ Some k → HasPage (committed_data_map d x) o c

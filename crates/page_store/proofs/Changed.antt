@@ -6,7 +6,7 @@ use Rattle.nand_model.specs.laws.Calls.{lasts_here}
 use Rattle.nand_model.specs.Counts.{ReadsFew, ReadsFor, unfinished}
 use Rattle.flash_log.specs.laws.Bills.{pays_none}
 use Rattle.page_store.specs.Committing.{KeepsOpen, PaysCommit, PaysUpTo}
-use Rattle.page_store.specs.BufferOf.{buffered}
+use Rattle.page_store.specs.BufferOf.{contents}
 use Rattle.page_store.specs.declared.buffer.Buffer.{Buffer}
 use Rattle.pages.specs.Stores.{SamePages}
 use Rattle.transactions.specs.Checking.{LogState}
@@ -77,7 +77,7 @@ module _ (a b c d : StoreState) (before : Prepares a b) (after : SameBeside c d)
   still_after = ap (λ (l : LogState). l.device) after.log
 
   long : waiting b ≡ waiting a
-  long = ap (λ (x : Buffer). length (buffered x)) before.buffer
+  long = ap (λ (x : Buffer). length (contents x)) before.buffer
 
   commits_after : d.counts.commits.total ≡ c.counts.commits.total
   commits_after = ap (λ (k : StoreCounts). k.commits.total) after.counts

@@ -9,7 +9,7 @@ use Rattle.flash_tree.specs.Newest.{HasNewest}
 use Rattle.chunk_index.specs.declared.form.CommittedPage.{CommittedPage}
 use Rattle.chunk_index.specs.declared.index.Index.{Index}
 use Rattle.chunk_index.specs.Maps.{committed_pages}
-use Rattle.flash_log.specs.Standing.{IsCommittedAt, AreCommitted}
+use Rattle.flash_log.specs.Consistency.{IsCommittedAt, AreCommitted}
 use Rattle.page_store.specs.Shown.{data_of, data_at, committed_data}
 use Rattle.pages.specs.Stores.{Carries}
 

@@ -75,9 +75,9 @@ room_most t = go t.open_block where
 
 -- so pages that the open block has room for are no more than a block has
 pub fits_block : (count : ℕ) (a b : LogState) → IsReady a.device a.table → b.device.geometry ≡ a.device.geometry → FitsOpen count a.table → count ≤ b.device.geometry.pages
-fits_block count a b ready same fits =
+fits_block count a b can_write same fits =
     let most = room_most a.table in
-    let size : a.table.geometry.pages ≡ b.device.geometry.pages = ap (λ (g : Geometry). g.pages) (ready.geometry ∙ sym same) in
+    let size : a.table.geometry.pages ≡ b.device.geometry.pages = ap (λ (g : Geometry). g.pages) (can_write.geometry ∙ sym same) in
     omega (arith, most, size, fits)
 
 -- ---- bills
@@ -143,12 +143,12 @@ had_none a d e still rise failed = omega (arith, still, rise, failed)
 
 -- where the open block has room, no block may have a checkpoint
 pub none_with_room : (n : ℕ) (d : Device) (t : Table) → IsReady d t → 1 ≤ n → n ≤ room t → t.checkpoint ≡ None
-none_with_room n d t ready some fits = go t.open_block refl where
+none_with_room n d t can_write some fits = go t.open_block refl where
   go : (o : Option ℕ) → t.open_block ≡ o → t.checkpoint ≡ None
   go None is =
       let none : room t ≡ 0 = ap (λ z. option_map_or (λ b. t.geometry.pages - (t.entry b).next) z 0) is in
       absurd (omega (arith, none, some, fits))
-  go (Some b) is = none_waits d t b ready is
+  go (Some b) is = none_waits d t b can_write is
 
 -- pages that can be written can be it still
 pub writable_on : (a b : Device) (pages : List FreshPage) → Lasts a b → AreWritable a pages → AreWritable b pages

@@ -11,7 +11,7 @@ use Rattle.chunk_index.specs.declared.form.CommittedPage.{CommittedPage}
 use Rattle.chunk_index.specs.declared.index.Index.{Index}
 use Rattle.chunk_index.specs.Maps.{committed_pages}
 use Rattle.page_store.specs.Shown.{data_of, data_at, committed_data}
-use Rattle.flash_log.specs.Standing.{AreCommitted, IsCommittedAt}
+use Rattle.flash_log.specs.Consistency.{AreCommitted, IsCommittedAt}
 use Rattle.page_store.specs.Opened.{IsOpened}
 
 -- the data of a page that is the newest of its key

@@ -26,7 +26,7 @@ use Rattle.chunk_index.specs.declared.form.CommittedPage.{CommittedPage}
 use Rattle.chunk_index.specs.declared.form.Present.TheVariants as presents
 use Rattle.chunk_index.specs.declared.index.Index.{Index}
 use Rattle.transactions.specs.Ready.{IsWaiting}
-use Rattle.flash_log.specs.Standing.{AreCommitted, MayLie}
+use Rattle.flash_log.specs.Consistency.{AreCommitted, MayLie}
 use Rattle.flash_log.specs.Taking.{LiesApart}
 use Rattle.mount_scan.specs.FoundCheckpoint.{HasForm}
 use Rattle.page_store.specs.Checked.{numbers_at, MayAllBeCommitted, IsAsSaid, IsTrustedFor}
@@ -226,7 +226,7 @@ module _ (d : Device) (c : Checkpoint) (t0 t1 t2 t3 : Table) (x : Index) (form :
     low = lies_low d c x form placed list;
     newest = λ both. are_newest d c x form placed list d.flash (said both).newest;
     numbers = λ both. greatest_at d.geometry d.flash c (whole (honest_of d.honest reported both)) (said both).above;
-    ready = λ left.
+    can_write = λ left.
         ready_from (trusted_as reported d) (numbers_at c) noted geometry (λ b. recounts.bad b ∙ only.bad b ∙ is.marks left b) closed (waiting reported) (group left) (seq left) (λ both. (said both).above);
     group = group;
     seq = seq;

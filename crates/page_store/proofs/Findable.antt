@@ -40,7 +40,7 @@ use Rattle.transactions.specs.laws.Newest.{commit_comes_last}
 use Rattle.flash_log.specs.Erased.{KnowsErased, LeadsErased, TracksErased}
 use Rattle.flash_log.specs.Mountable.{IsMountable, IsMountableSince, KeepsMountable}
 use Rattle.flash_log.specs.Snapshots.{Snapshot}
-use Rattle.flash_log.specs.Standing.{AreFound, IsCommittedKey}
+use Rattle.flash_log.specs.Consistency.{AreFound, IsCommittedKey}
 use Rattle.flash_log.specs.Steps.{MovesCommitted}
 use Rattle.flash_log.specs.laws.Erased.{erased_written}
 use Rattle.flash_log.specs.laws.Keeping.{same_ends}
@@ -135,7 +135,7 @@ tracks_counted d t v before after counts none was = record {
 
 -- ---- the group of the buffered pages
 
-module _ (d e : Device) (t : Table) (x : Index) (pages : List FreshPage) (o : ℕ) (ready : IsReady d t) (opened : t.open_block ≡ Some o) (buffers : Buffers x pages)
+module _ (d e : Device) (t : Table) (x : Index) (pages : List FreshPage) (o : ℕ) (can_write : IsReady d t) (opened : t.open_block ≡ Some o) (buffers : Buffers x pages)
     (writable : AreWritable d pages) (lasts : Lasts d e) (honest : d.honest ≡ true) (writes : WritesOpen t d.flash e.flash)
     (right : AreSummariesRight d.geometry d.flash) (found : AreFound d.geometry d.flash (committed_pages x)) where
   abbrev g : Group
@@ -169,11 +169,11 @@ module _ (d e : Device) (t : Table) (x : Index) (pages : List FreshPage) (o : �
       adds = adds.group;
       all = adds.pages;
       no_summary = λ begins. ordinary 0 ((adds.group g).1 (inr refl)).some begins.0;
-      in_order = ((ready.open_block o opened).in_order honest).written;
+      in_order = ((can_write.open_block o opened).in_order honest).written;
     }
 
     commits : IsCommit g name d.flash
-    commits = record { versions = λ i lt. refl; seq = t.next_seq; below = ready.below honest }
+    commits = record { versions = λ i lt. refl; seq = t.next_seq; below = can_write.below honest }
 
     -- a key that it does not name is found by the page that it had
     finds_other : (q c : ℕ) → ((i : ℕ) → present x q c ≡ presents.InBuffer i → ⊥) → IsCommittedKey (committed_pages x) q c → IsFindable e.geometry e.flash q c
@@ -230,22 +230,22 @@ module _ (d e : Device) (t : Table) (x : Index) (pages : List FreshPage) (o : �
 
 -- ---- the log
 
-module _ (d e : Device) (t u : Table) (x : Index) (pages : List FreshPage) (o : ℕ) (ready : IsReady d t) (opened : t.open_block ≡ Some o) (buffers : Buffers x pages)
+module _ (d e : Device) (t u : Table) (x : Index) (pages : List FreshPage) (o : ℕ) (can_write : IsReady d t) (opened : t.open_block ≡ Some o) (buffers : Buffers x pages)
     (writable : AreWritable d pages) (lasts : Lasts d e) (numbers : HandsOut d e t u) (writes : d.honest ≡ true → WritesOpen t d.flash e.flash) where
   -- after a fault
   pub mountable_short : (fault : GroupFault) → (d.honest ≡ true → GroupsAfter (next_group t (length pages) o) (fresh_name pages t.next_group) (fresh_bytes pages) d.flash e.flash (Err fault))
       → TableEnds (length pages) t u (Err fault) → KeepsMountable (log_of d t) (log_of e u) x x
   mountable_short fault after table honest was = record {
     summaries = numbers.truth.summaries honest was.summaries;
-    erased = erased_written d e t o (length pages) (fresh_name pages t.next_group) (fresh_bytes pages) ready opened lasts writes u (Err fault) after table honest was.erased;
-    found = found_short d e t x pages o ready opened buffers writable lasts honest (writes honest) was.summaries was.found fault (after honest);
+    erased = erased_written d e t o (length pages) (fresh_name pages t.next_group) (fresh_bytes pages) can_write opened lasts writes u (Err fault) after table honest was.erased;
+    found = found_short d e t x pages o can_write opened buffers writable lasts honest (writes honest) was.summaries was.found fault (after honest);
   }
 
   -- the group is valid
   module _ (placed : Placed) (groups : d.honest ≡ true → AddsPages (next_group t (length pages) o) (fresh_name pages t.next_group) (fresh_bytes pages) d.flash e.flash) where
     -- each current key is found
     pub current_found : d.honest ≡ true → IsMountable (log_of d t) x → FindsAll e (present_data x pages d.flash)
-    current_found honest was = finds_present d e t x pages o ready opened buffers writable lasts honest (writes honest) was.summaries was.found (groups honest)
+    current_found honest was = finds_present d e t x pages o can_write opened buffers writable lasts honest (writes honest) was.summaries was.found (groups honest)
 
     -- its block does not begin erased
     begun : d.honest ≡ true → BeginsErased e.flash o → ⊥
@@ -261,8 +261,8 @@ module _ (d e : Device) (t u : Table) (x : Index) (pages : List FreshPage) (o : 
     mountable_whole lists v y w there settles before agree counts table honest was = record {
       summaries = numbers.truth.summaries honest was.summaries;
       erased = tracks_counted e u v (count_committed_in x) (count_committed_in y) counts none
-          (erased_written d e t o (length pages) (fresh_name pages t.next_group) (fresh_bytes pages) ready opened lasts writes u (Ok placed) groups table honest was.erased);
-      found = found_settled d e t x pages o ready opened buffers writable lasts honest (writes honest) was.summaries was.found (groups honest) w y settles;
+          (erased_written d e t o (length pages) (fresh_name pages t.next_group) (fresh_bytes pages) can_write opened lasts writes u (Ok placed) groups table honest was.erased);
+      found = found_settled d e t x pages o can_write opened buffers writable lasts honest (writes honest) was.summaries was.found (groups honest) w y settles;
     } where
       none : (b : ℕ) → BeginsErased e.flash b → (u.entry b).committed ≡ 0 → (v.entry b).committed ≡ 0
       none b begins zero_committed = elim (cases_eq b w.block) [

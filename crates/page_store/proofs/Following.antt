@@ -17,7 +17,7 @@ use Rattle.chunk_index.specs.Maps.{committed_pages, present, moved_to}
 use Rattle.chunk_index.specs.Shelves.{look}
 use Rattle.page_store.specs.Buffering.{Buffers}
 use Rattle.page_store.specs.Shown.{data_of, data_at, data_by, committed_data, present_data}
-use Rattle.flash_log.specs.Standing.{AreCommitted, HasVersion, IsCommittedAt, SameData}
+use Rattle.flash_log.specs.Consistency.{AreCommitted, HasVersion, IsCommittedAt, SameData}
 use Rattle.pages.specs.Stores.{Carries}
 use Rattle.flash_log.specs.Steps.{MovesCommitted}
 

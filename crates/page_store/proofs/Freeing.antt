@@ -7,7 +7,7 @@ use Rattle.block_state.specs.laws.Counting.{one_if, sum_below-suc, counts_same}
 use Rattle.block_state.specs.Committed.{bad_count, free_count, uncommitted_count, is_uncommitted}
 use Rattle.block_state.specs.laws.Committed.{uncommitted_if}
 use Rattle.block_state.specs.Table.{Table, is_bad, is_free, is_open}
-use Rattle.flash_log.specs.Standing.{HasFreeBlocks}
+use Rattle.flash_log.specs.Consistency.{HasFreeBlocks}
 
 -- as many have a property where each keeps it
 counts_more : (f g : ℕ → Bool) (n : ℕ) → ((k : ℕ) → f k ≡ true → g k ≡ true) → how_many f n ≤ how_many g n

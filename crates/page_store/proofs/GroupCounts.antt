@@ -17,7 +17,7 @@ use Rattle.chunk_index.specs.Listing.{block_keys}
 use Rattle.chunk_index.specs.Maps.{committed_pages, count_committed_in, present, once_written, CountsAgree, Settles}
 use Rattle.page_store.specs.Buffering.{Buffers, key_at}
 use Rattle.page_store.specs.laws.Buffering.{place_within}
-use Rattle.flash_log.specs.Standing.{AreHeld}
+use Rattle.flash_log.specs.Consistency.{AreHeld}
 use Rattle.page_store.proofs.Following.{on_flash_committed}
 
 -- the lists of the keys that are committed in a block are whole

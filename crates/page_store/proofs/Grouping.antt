@@ -36,7 +36,7 @@ use Rattle.transactions.specs.declared.group.GroupFault.{GroupFault}
 use Rattle.transactions.specs.declared.group.Placed.{Placed}
 use Rattle.transactions.specs.laws.Newest.{added_shows, commit_comes_last, newest_after}
 use Rattle.transactions.specs.declared.group.GroupFault.TheVariants as group_faults
-use Rattle.flash_log.specs.Standing.{AreHeld, AreCommitted, HasFreeBlocks, IsCommittedKey, IsCommittedAt, KeepsFree, SameData, Stands, TablesAgree}
+use Rattle.flash_log.specs.Consistency.{AreHeld, AreCommitted, HasFreeBlocks, IsCommittedKey, IsCommittedAt, KeepsFree, SameData, IsConsistentLog, TablesAgree}
 use Rattle.flash_log.specs.laws.FreeBlocks.{leaves_uncommitted, newest_where_committed}
 use Rattle.flash_tree.specs.laws.Place.{had_power}
 use Rattle.flash_log.specs.laws.Keeping.{limits_ends}
@@ -76,26 +76,26 @@ committed_group x f g keeps committed o c p at =
     record { tag = k.tag; newest = (keeps o c spot k.newest).newest; version = k.version }
 
 -- blocks that were free of committed pages are it still
-pub free_group : (spare : ℕ) (d e : Device) (t u : Table) (x : Index) → Stands spare d t x → AreHeld t x → u ≡ closed t → Lasts d e → IsReady e u → (d.honest ≡ true → KeepsNewest d.flash e.flash) → KeepsFree spare d e x x
-free_group spare d e t u x stands held is lasts ready newest honest free = elim (cases_Bool d.gone) [
+pub free_group : (spare : ℕ) (d e : Device) (t u : Table) (x : Index) → IsConsistentLog spare d t x → AreHeld t x → u ≡ closed t → Lasts d e → IsReady e u → (d.honest ≡ true → KeepsNewest d.flash e.flash) → KeepsFree spare d e x x
+free_group spare d e t u x consistent held is lasts can_write newest honest free = elim (cases_Bool d.gone) [
   | inl gone ↦ subst (λ (z : Device). LeavesFree z.geometry z.flash spare (IsCommittedKey (committed_pages x))) (sym (lasts.gone gone)) free
-  | inr power ↦ leaves_uncommitted spare e u x ready (subst (λ (s : Table). TablesAgree spare s x) (sym is) (tables_closed spare t x stands.tables))
-      (subst (λ (s : Table). AreHeld s x) (sym is) held) (committed_group x d.flash e.flash (newest honest) (stands.newest honest power))
+  | inr power ↦ leaves_uncommitted spare e u x can_write (subst (λ (s : Table). TablesAgree spare s x) (sym is) (tables_closed spare t x consistent.tables))
+      (subst (λ (s : Table). AreHeld s x) (sym is) held) (committed_group x d.flash e.flash (newest honest) (consistent.newest honest power))
 ]
 
-pub keeps_group : (spare : ℕ) (d e : Device) (t u : Table) (x : Index) → Stands spare d t x → AreHeld t x → t.next_group < 2 ^ 62 → u ≡ closed t → Lasts d e → IsReady e u → HandsOut d e t u
+pub keeps_group : (spare : ℕ) (d e : Device) (t u : Table) (x : Index) → IsConsistentLog spare d t x → AreHeld t x → t.next_group < 2 ^ 62 → u ≡ closed t → Lasts d e → IsReady e u → HandsOut d e t u
     → (d.honest ≡ true → KeepsNewest d.flash e.flash) → (d.honest ≡ true → KeepsFound t d e) → KeepsErased d e t u
     → Step spare (log_of d t) (log_of e u) x x
-keeps_group spare d e t u x stands held less is lasts ready numbers newest found erased = record {
+keeps_group spare d e t u x consistent held less is lasts can_write numbers newest found erased = record {
   lasts = lasts;
-  ready = ready;
-  stands = record {
-    tables = subst (λ (s : Table). TablesAgree spare s x) (sym is) (tables_closed spare t x stands.tables);
+  can_write = can_write;
+  consistent = record {
+    tables = subst (λ (s : Table). TablesAgree spare s x) (sym is) (tables_closed spare t x consistent.tables);
     newest = λ honest power.
         let was : d.honest ≡ true = sym lasts.honest ∙ honest in
-        committed_group x d.flash e.flash (newest was) (stands.newest was (had_power d e lasts power));
-    ordinary = λ honest. stands.ordinary (sym lasts.honest ∙ honest);
-    limits = limits_ends 0 t u (Err group_faults.Failed) is less stands.limits;
+        committed_group x d.flash e.flash (newest was) (consistent.newest was (had_power d e lasts power));
+    ordinary = λ honest. consistent.ordinary (sym lasts.honest ∙ honest);
+    limits = limits_ends 0 t u (Err group_faults.Failed) is less consistent.limits;
   };
   numbers = numbers;
   geometry = ap (λ (s : Table). s.geometry) is;
@@ -103,8 +103,8 @@ keeps_group spare d e t u x stands held less is lasts ready numbers newest found
   committed_count = ap committed_count is;
   index = moves_committed_none x;
   same_data = λ honest. same_committed_pages x d.flash e.flash (newest honest);
-  free = free_group spare d e t u x stands held is lasts ready newest;
-  findable = findable_still spare d e t x held lasts stands found;
+  free = free_group spare d e t u x consistent held is lasts can_write newest;
+  findable = findable_still spare d e t x held lasts consistent found;
   erased = erased;
 }
 
@@ -140,18 +140,18 @@ bytes_is pages i lt =
 pub newest_written : (d e : Device) (t : Table) (pages : List FreshPage) (o : ℕ) → IsReady d t → d.honest ≡ true → Grows d.flash e.flash → (result : Result Placed GroupFault)
     → GroupsAfter (next_group t (length pages) o) (fresh_name pages t.next_group) (fresh_bytes pages) d.flash e.flash result
     → NewestAfter (next_group t (length pages) o) (fresh_name pages t.next_group) (fresh_bytes pages) d.flash e.flash result
-newest_written d e t pages o ready honest grows result groups =
+newest_written d e t pages o can_write honest grows result groups =
     newest_after (next_group t (length pages) o) (fresh_name pages t.next_group) (fresh_bytes pages) d.flash e.flash grows
-    (commit_comes_last (next_group t (length pages) o) (fresh_name pages t.next_group) d.flash (record { versions = λ i lt. refl; seq = t.next_seq; below = ready.below honest }))
+    (commit_comes_last (next_group t (length pages) o) (fresh_name pages t.next_group) d.flash (record { versions = λ i lt. refl; seq = t.next_seq; below = can_write.below honest }))
     result groups
 
 -- once the group is added
 pub shows_written : (d e : Device) (t : Table) (pages : List FreshPage) (o : ℕ) → IsReady d t → d.honest ≡ true → Grows d.flash e.flash
     → AddsPages (next_group t (length pages) o) (fresh_name pages t.next_group) (fresh_bytes pages) d.flash e.flash
     → ShowsGroup (next_group t (length pages) o) (fresh_name pages t.next_group) (fresh_bytes pages) d.flash e.flash
-shows_written d e t pages o ready honest grows =
+shows_written d e t pages o can_write honest grows =
     added_shows (next_group t (length pages) o) (fresh_name pages t.next_group) (fresh_bytes pages) d.flash e.flash grows
-    (commit_comes_last (next_group t (length pages) o) (fresh_name pages t.next_group) d.flash (record { versions = λ i lt. refl; seq = t.next_seq; below = ready.below honest }))
+    (commit_comes_last (next_group t (length pages) o) (fresh_name pages t.next_group) d.flash (record { versions = λ i lt. refl; seq = t.next_seq; below = can_write.below honest }))
 
 -- ---- a group that counts
 

@@ -1,5 +1,5 @@
 -- What reads of the device leave of a store.
-use Rattle.std.specs.Prelude.{◌≡◌, ◌<◌, ℕ, Bool, true, false, not, ◌&&◌, ◌||◌, zero, suc, List, [], ◌∷◌, length, Option, Some, None, IsSome, Result, Ok, Err, IfOk, IfErr}
+use Rattle.std.specs.Prelude.{◌≡◌, ◌<◌, ℕ, Bool, true, false, not, ◌&&◌, ◌||◌, ◌↔◌, zero, suc, List, [], ◌∷◌, length, Option, Some, None, IsSome, IsTrue, Result, Ok, Err, IfOk, IfErr}
 use Rattle.std.proofs.Common.{refl, sym, ◌∙◌, ap, subst, inl, inr, arith}
 use Rattle.std.proofs.lemmas.Bool.{cases_Bool, or_left, or_right}
 use Rattle.page_store.specs.Buffering.{lacks}
@@ -10,7 +10,7 @@ use Rattle.flash_tree.specs.laws.Place.{same_flash, had_power}
 use Rattle.block_state.specs.Table.{Table}
 use Rattle.transactions.specs.Ready.{IsReady}
 use Rattle.flash_log.specs.Snapshots.{Snapshot, remembered_flash}
-use Rattle.flash_log.specs.Standing.{IsCommittedAt, AreCommitted, MayLie, Stands}
+use Rattle.flash_log.specs.Consistency.{IsCommittedAt, AreCommitted, MayLie, IsConsistentLog}
 use Rattle.nand_model.specs.Changes.{OnlyReads}
 use Rattle.nand_model.specs.declared.geometry.Geometry.{Geometry}
 use Rattle.flash_tree.specs.declared.place.FreshPage.{FreshPage}
@@ -26,14 +26,14 @@ use Rattle.chunk_index.specs.Shelves.{look}
 use Rattle.chunk_index.specs.Maps.{committed_pages, present}
 use Rattle.page_store.specs.Shown.{data_of, data_at, data_by, data_in, committed_data, present_data}
 use Rattle.page_store.specs.declared.cache.PageCache.{PageCache}
-use Rattle.pages.specs.Maps.{known_pages}
+use Rattle.pages.specs.Maps.{PageMap, known_pages}
 use Rattle.pages.specs.laws.Known.{known_same}
 use Rattle.pages.specs.State.{OnlyFinds, FindsPage, FailsBy}
 use Rattle.pages.specs.declared.store.Presence.{Presence}
 use Rattle.pages.specs.declared.store.Presence.TheVariants as presences
 use Rattle.volume_terms.specs.declared.fault.StoreFault.{StoreFault}
 use Rattle.volume_terms.specs.declared.fault.StoreFault.TheVariants as faults
-use Rattle.page_store.specs.BufferOf.{buffered, most_pages}
+use Rattle.page_store.specs.BufferOf.{contents, most_pages}
 use Rattle.page_store.specs.declared.buffer.Buffer.{Buffer}
 use Rattle.page_store.specs.Found.{bytes_or}
 use Rattle.page_store.specs.Caching.{Shows}
@@ -62,21 +62,21 @@ pub committed_there : (x : Index) (o c : ℕ) (k : CommittedPage) → present x 
 committed_there x o c k is = of_entry (look x.shelf.objects o c) k is
 
 -- a page that is present on the flash lies on the device
-pub lies : (spare : ℕ) (d : Device) (t : Table) (x : Index) (o c : ℕ) (k : CommittedPage) → IsReady d t → Stands spare d t x → present x o c ≡ presents.OnFlash k
+pub lies : (spare : ℕ) (d : Device) (t : Table) (x : Index) (o c : ℕ) (k : CommittedPage) → IsReady d t → IsConsistentLog spare d t x → present x o c ≡ presents.OnFlash k
     → (k.block < d.geometry.blocks) × (k.page < d.geometry.pages)
-lies spare d t x o c k ready stands is =
-    let at : MayLie t o c k = stands.tables.within o c k (committed_there x o c k is) in
-    (subst (λ (g : Geometry). k.block < g.blocks) ready.geometry at.block, subst (λ (g : Geometry). k.page < g.pages) ready.geometry at.page)
+lies spare d t x o c k can_write consistent is =
+    let at : MayLie t o c k = consistent.tables.within o c k (committed_there x o c k is) in
+    (subst (λ (g : Geometry). k.block < g.blocks) can_write.geometry at.block, subst (λ (g : Geometry). k.page < g.pages) can_write.geometry at.page)
 
 -- what stands still does
-pub stands_read : (spare : ℕ) (a b : Device) (t : Table) (x : Index) → OnlyReads a b → Stands spare a t x → Stands spare b t x
-stands_read spare a b t x reads stands = record {
-  tables = stands.tables;
+pub consistent_read : (spare : ℕ) (a b : Device) (t : Table) (x : Index) → OnlyReads a b → IsConsistentLog spare a t x → IsConsistentLog spare b t x
+consistent_read spare a b t x reads consistent = record {
+  tables = consistent.tables;
   newest = λ honest power.
       let before : a.honest ≡ true = sym reads.lasts.honest ∙ honest in
-      subst (λ (f : Flash). AreCommitted f (committed_pages x)) (sym (same_flash a b reads before)) (stands.newest before (had_power a b reads.lasts power));
-  ordinary = λ honest. stands.ordinary (sym reads.lasts.honest ∙ honest);
-  limits = stands.limits;
+      subst (λ (f : Flash). AreCommitted f (committed_pages x)) (sym (same_flash a b reads before)) (consistent.newest before (had_power a b reads.lasts power));
+  ordinary = λ honest. consistent.ordinary (sym reads.lasts.honest ∙ honest);
+  limits = consistent.limits;
 }
 
 -- committed pages are still the newest of their keys
@@ -109,17 +109,17 @@ committed_written f x o c k committed is none =
     absurd cc
 
 -- each fault of a load has its cause
-pub load_fails : (a b : StoreState) (o c : ℕ) (at : CommittedPage) (fault : StoreFault) → OnlyReads a.log.device b.log.device → Stands a.spare a.log.device a.log.table a.index
+pub load_fails : (a b : StoreState) (o c : ℕ) (at : CommittedPage) (fault : StoreFault) → OnlyReads a.log.device b.log.device → IsConsistentLog a.spare a.log.device a.log.table a.index
     → present a.index o c ≡ presents.OnFlash at → IsLoadFault a.log.device b.log.device at fault → (fault ≡ faults.NoMemory → IsRefused a.counts b.counts) → IsFindFault a b fault
-load_fails a b o c at faults.NoMemory reads stands there why is = is refl
-load_fails a b o c at faults.Worn reads stands there why is = why
-load_fails a b o c at faults.Device reads stands there why is = elim why [
+load_fails a b o c at faults.NoMemory reads consistent there why is = is refl
+load_fails a b o c at faults.Worn reads consistent there why is = why
+load_fails a b o c at faults.Device reads consistent there why is = elim why [
   | inl gone ↦ inl gone
   | inr none ↦ elim (cases_Bool a.log.device.honest) [
     | inr lies' ↦ inr (inl (reads.lasts.honest ∙ lies'))
     | inl honest ↦ elim (cases_Bool a.log.device.gone) [
       | inl gone ↦ inl (ap (λ (d : Device). d.gone) (reads.lasts.gone gone) ∙ gone)
-      | inr power ↦ absurd (committed_written a.log.device.flash a.index o c at (stands.newest honest power) (committed_there a.index o c at there) (none honest))
+      | inr power ↦ absurd (committed_written a.log.device.flash a.index o c at (consistent.newest honest power) (committed_there a.index o c at there) (none honest))
     ]
   ]
 ]
@@ -129,11 +129,11 @@ pub finds_seen : (a b : StoreState) (lent lent' : List ℕ) → Looks a b → On
 finds_seen a b lent lent' looks = record {
   page_bytes = ap (λ (g : Geometry). g.bytes) lasts.geometry;
   most = ap most_pages looks.buffer;
-  present = ap (λ i. known_pages e.honest (present_data i (buffered b.buffer) e.flash)) looks.index
-      ∙ ap (λ i. known_pages e.honest (present_data a.index (buffered i) e.flash)) looks.buffer
-      ∙ known_same d e (present_data a.index (buffered a.buffer)) looks.reads;
+  present = ap (λ i. known_pages e.honest (present_data i (contents b.buffer) e.flash)) looks.index
+      ∙ ap (λ i. known_pages e.honest (present_data a.index (contents i) e.flash)) looks.buffer
+      ∙ known_same d e (present_data a.index (contents a.buffer)) looks.reads;
   committed = ap (λ i. known_pages e.honest (committed_data i e.flash)) looks.index ∙ known_same d e (committed_data a.index) looks.reads;
-  buffered = ap (λ (i : Buffer). length (buffered i)) looks.buffer;
+  in_buffer = ap (λ (i : Buffer). length (contents i)) looks.buffer;
   sound = ap (λ h. h && not b.broken) lasts.honest ∙ ap (λ w. d.honest && not w) looks.broken;
   failed = failed;
   refused = looks.counts.refused;
@@ -196,7 +196,7 @@ committed_lent a lent o c at (Ok reported) is sound there page =
     let d : Device = a.log.device in
     let honest = sound_honest d.honest a.broken sound in
     subst (FindsPage (current_in a) o c lent) (sym there)
-    (ap (λ h. known_pages h (present_data a.index (buffered a.buffer) d.flash) o c) honest ∙ ap (data_by d.flash (buffered a.buffer)) is ∙ page (sound_whole d.honest a.broken sound) honest)
+    (ap (λ h. known_pages h (present_data a.index (contents a.buffer) d.flash) o c) honest ∙ ap (data_by d.flash (contents a.buffer)) is ∙ page (sound_whole d.honest a.broken sound) honest)
 
 -- and so it has one
 pub not_absent : (a : Device) (x : Index) (pages : List FreshPage) (o c : ℕ) (at : CommittedPage) (broken : Bool) → present x o c ≡ presents.OnFlash at
@@ -206,6 +206,25 @@ not_absent a x pages o c at broken is committed sound none =
     let here : known_pages a.honest (present_data x pages a.flash) o c ≡ data_at a.flash at =
     ap (λ h. known_pages h (present_data x pages a.flash) o c) honest ∙ ap (data_by a.flash pages) is in
     committed_written a.flash x o c at (committed (sound_whole a.honest broken sound) honest) (committed_there x o c at is) (sym here ∙ none)
+
+-- a key that is absent has none
+pub absent_has_none : (a : Device) (x : Index) (pages : List FreshPage) (o c : ℕ) → present x o c ≡ presents.Absent → IsTrue false ↔ IsSome (known_pages a.honest (present_data x pages a.flash) o c)
+absent_has_none a x pages o c is = (
+  λ yes. absurd cc,
+  λ some.
+      let none = none_known a.honest (present_data x pages a.flash) (ap (data_by a.flash pages) is) in
+      let no' : IsSome {T = List ℕ} None = subst (λ (n : Option (List ℕ)). IsSome n) none some in
+      absurd cc,
+)
+  where
+    none_known : (h : Bool) (m : PageMap) → m o c ≡ None → known_pages h m o c ≡ None
+    none_known true m none = none
+    none_known false m none = refl
+
+-- a page that is there
+pub there_has_one : (m : Option (List ℕ)) → (m ≡ None → ⊥) → IsTrue true ↔ IsSome m
+there_has_one None some = absurd (some refl)
+there_has_one (Some xs) some = (λ yes. refl, λ here. refl)
 
 -- each fault has its cause
 pub fault_seen : (a b : StoreState) (lent lent' : List ℕ) (result : Result Presence StoreFault) → IfErr result (IsFindFault a b) → IfErr result (FailsBy (seen_of a lent) (seen_of b lent'))

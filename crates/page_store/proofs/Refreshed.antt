@@ -18,7 +18,7 @@ use Rattle.transactions.specs.Ready.{IsReady}
 use Rattle.flash_log.specs.Bills.{PaysCollection}
 use Rattle.flash_log.specs.Moving.{WhyNotMoved}
 use Rattle.flash_log.specs.Refreshing.{IsClearedOut, IsWrittenAnew, MovesNothing}
-use Rattle.flash_log.specs.Standing.{AreHeld, AreCommitted, IsCommittedKey, Stands}
+use Rattle.flash_log.specs.Consistency.{AreHeld, AreCommitted, IsCommittedKey, IsConsistentLog}
 use Rattle.flash_log.specs.Steps.{Step}
 use Rattle.flash_log.specs.declared.fault.MoveFault.{MoveFault}
 use Rattle.flash_log.specs.declared.fault.MoveFault.TheVariants as moves
@@ -44,17 +44,17 @@ use Rattle.page_store.proofs.Reported.{CarriesSince, is_sound, committed_still, 
 use Rattle.page_store.proofs.Turning.{data_committed, committed_moved}
 
 -- a step of the log from one state to another, with the committed pages where they were
-module _ (spare : ℕ) (d e : Device) (t u : Table) (x y : Index) (step : Step spare (log_of d t) (log_of e u) x y) (ready : IsReady d t) (stands : Stands spare d t x)
+module _ (spare : ℕ) (d e : Device) (t u : Table) (x y : Index) (step : Step spare (log_of d t) (log_of e u) x y) (can_write : IsReady d t) (consistent : IsConsistentLog spare d t x)
     (law : (z : Index) (b : ℕ) → count_committed_in z b ≡ 0 → HoldsNone (committed_pages z) b) (honest : d.honest ≡ true) (was : AreCommitted d.flash (committed_pages x)) where
   held : AreHeld t x
-  held = are_held t x (law x) stands.tables.counts
+  held = are_held t x (law x) consistent.tables.counts
 
   -- the committed pages are carried, perhaps elsewhere
   carried_moved : IsCarried e spare (committed_data x d.flash)
   carried_moved = record {
     newest = carries_committed x d.flash e.flash was (step.same_data honest);
     free = λ left. leaves_fewer e.geometry e.flash spare (IsCommittedKey (committed_pages y)) (HasPage (committed_data x d.flash))
-        (λ o c has. committed_moved x y step.index o c (data_committed x d.flash o c has)) (step.free honest (leaves_uncommitted spare d t x ready stands.tables held was));
+        (λ o c has. committed_moved x y step.index o c (data_committed x d.flash o c has)) (step.free honest (leaves_uncommitted spare d t x can_write consistent.tables held was));
   }
 
   -- and a mount by summaries finds them
@@ -73,7 +73,7 @@ module _ (spare : ℕ) (d e : Device) (t u : Table) (x y : Index) (step : Step s
   none_idle v (inr bad) o c p at here =
       let k = was o c p at in
       let there : k.newest.holds.group.block ≡ v = sym k.newest.holds.block ∙ here in
-      let two : true ≡ false = sym bad ∙ ready.marks v ∙ ap d.flash.bad (sym there) ∙ k.newest.holds.whole.good in
+      let two : true ≡ false = sym bad ∙ can_write.marks v ∙ ap d.flash.bad (sym there) ∙ k.newest.holds.whole.good in
       cc
 
   -- the newest page of a committed key lies where that is committed
@@ -96,7 +96,7 @@ module _ (spare : ℕ) (d e : Device) (t u : Table) (x y : Index) (step : Step s
         let there : m.at.block ≡ v = ap (λ (z : Spot). z.block) same ∙ here in
         let above : t.next_group ≤ s.tag.group = anew honest power o c m.at s m.is there again in
         let good : d.flash.bad s.block ≡ false = ap d.flash.bad newest.holds.block ∙ newest.holds.whole.good in
-        let below = (ready.below honest s.block s.page s.tag good newest.holds.has).1 in
+        let below = (can_write.below honest s.block s.page s.tag good newest.holds.has).1 in
         omega (arith, above, below)
 
     pub leaves_refreshed : (v : ℕ) → MovesNothing v t ⊎ (IsClearedOut v u × (e.gone ≡ false)) → IsWrittenAnew v (log_of d t) (log_of e u) y → LeavesBlock v d.flash e.flash (committed_data x d.flash)
@@ -110,9 +110,9 @@ module _ (spare : ℕ) (d e : Device) (t u : Table) (x y : Index) (step : Step s
     current_refreshed pages = same_present x y d.flash e.flash step.index was now (step.same_data honest) pages
 
 -- no committed page lies past the last block
-pub none_outside : (spare : ℕ) (d : Device) (t : Table) (x : Index) (block : ℕ) → IsReady d t → Stands spare d t x → d.geometry.blocks ≤ block → HoldsNone (committed_pages x) block
-none_outside spare d t x block ready stands past o c p at here =
-    let inside : p.block < d.geometry.blocks = subst (λ (g : Geometry). p.block < g.blocks) ready.geometry (stands.tables.within o c p at).block in
+pub none_outside : (spare : ℕ) (d : Device) (t : Table) (x : Index) (block : ℕ) → IsReady d t → IsConsistentLog spare d t x → d.geometry.blocks ≤ block → HoldsNone (committed_pages x) block
+none_outside spare d t x block can_write consistent past o c p at here =
+    let inside : p.block < d.geometry.blocks = subst (λ (g : Geometry). p.block < g.blocks) can_write.geometry (consistent.tables.within o c p at).block in
     omega (arith, past, inside, here)
 
 -- nothing was moved, or the device has power: what is committed is the newest of its keys
@@ -173,20 +173,20 @@ refreshed_seen (Err fault) block a b lent lent' lasts honest ends = tt
 
 pub refresh_reported : (result : Result (Unit {0}) StoreFault) (block : ℕ) (a b : StoreState) (lent : List ℕ) → b.spare ≡ a.spare → IsReady b.log.device b.log.table → a.broken ≡ false → RefreshEnds block a b result
     → IfErr result (RefreshFailsBy (seen_of b lent))
-refresh_reported (Ok done) block a b lent spare ready whole ends = tt
-refresh_reported (Err faults.NoMemory) block a b lent spare ready whole ends = ends.1
-refresh_reported (Err faults.Device) block a b lent spare ready whole ends = elim ends.1 [
+refresh_reported (Ok done) block a b lent spare can_write whole ends = tt
+refresh_reported (Err faults.NoMemory) block a b lent spare can_write whole ends = ends.1
+refresh_reported (Err faults.Device) block a b lent spare can_write whole ends = elim ends.1 [
   | inl gone ↦ inl gone
   | inr rest ↦ elim rest [
     | inl lies ↦ inr lies
     | inr broken ↦ absurd (let two : true ≡ false = sym broken ∙ whole in cc)
   ]
 ]
-refresh_reported (Err faults.Worn) block a b lent spare ready whole ends = elim ends.1 [
+refresh_reported (Err faults.Worn) block a b lent spare can_write whole ends = elim ends.1 [
   | inl seq ↦ inr (inl seq)
   | inr rest ↦ elim rest [
     | inl group ↦ inl group
-    | inr more ↦ let bad = same_bad_blocks b.log.device b.log.table ready in let over = more.0 in inr (inr (omega (arith, spare, bad, over)))
+    | inr more ↦ let bad = same_bad_blocks b.log.device b.log.table can_write in let over = more.0 in inr (inr (omega (arith, spare, bad, over)))
   ]
 ]
 

@@ -21,7 +21,7 @@ use Rattle.transactions.specs.Ready.{IsReady}
 use Rattle.flash_log.specs.Mountable.{IsMountable, IsMountableSince}
 use Rattle.flash_log.specs.Moving.{MarksFailures}
 use Rattle.flash_log.specs.Snapshots.{Snapshot, remembered_flash}
-use Rattle.flash_log.specs.Standing.{IsWithinLimits}
+use Rattle.flash_log.specs.Consistency.{IsWithinLimits}
 use Rattle.flash_log.specs.laws.FreeBlocks.{same_bad_blocks}
 use Rattle.pages.specs.Maps.{PageMap}
 use Rattle.pages.specs.State.{PagesState}
@@ -61,8 +61,8 @@ marks_reported d e t u before after marks =
 
 -- no number of 2^62 was written
 pub limits_reported : (e : Device) (u : Table) → IsReady e u → IsWithinLimits u → e.honest ≡ true → HasNumbersLeft e.flash
-limits_reported e u ready limits honest b p tag good has =
-    let below = ready.below honest b p tag good has in
+limits_reported e u can_write limits honest b p tag good has =
+    let below = can_write.below honest b p tag good has in
     (omega (arith, below.0, limits.0), omega (arith, below.1, limits.0), omega (arith, below.2, limits.1))
 
 -- a store that failed has failed
@@ -292,13 +292,13 @@ unchanged change (Err faults.Worn) a b ends is = absurd cc
 
 -- Of a sound store, before a call and after it.
 module _ (a b : StoreState) (lent lent' : List ℕ) (table_is : a.log.table.geometry ≡ a.log.device.geometry) (sizes : b.log.device.geometry ≡ a.log.device.geometry) (spare : b.spare ≡ a.spare)
-    (ready : IsReady b.log.device b.log.table) (fits : most_pages a.buffer ≤ a.log.device.geometry.pages) (few_pages : waiting a ≤ most_pages a.buffer) (within_limit : bad_count a.log.table ≤ a.spare)
+    (can_write : IsReady b.log.device b.log.table) (fits : most_pages a.buffer ≤ a.log.device.geometry.pages) (few_pages : waiting a ≤ most_pages a.buffer) (within_limit : bad_count a.log.table ≤ a.spare)
     (listed : HasCommitted (committed_pages a.index) (committed_count a.log.table)) (pages : (o c : ℕ) (k : CommittedPage) → committed_pages a.index o c ≡ Some k → HasPage (committed_in a) o c) where
   worn_reported : HasNothingLeft a.spare (waiting a) b.log.device a.log.table b.log.table → stores.HasNothingLeft (seen_of a lent) (seen_of b lent')
   worn_reported (inl (inl seq)) = inr (inl seq)
   worn_reported (inl (inr (inl group))) = inl group
   worn_reported (inl (inr (inr more))) =
-      let bad = same_bad_blocks b.log.device b.log.table ready in
+      let bad = same_bad_blocks b.log.device b.log.table can_write in
       let over = more.0 in
       inr (inr (inl (omega (arith, spare, bad, over))))
   worn_reported (inr full) = elim (cases_lt b.log.device.geometry.blocks (b.spare + 2)) [

@@ -22,7 +22,7 @@ use Rattle.transactions.specs.laws.Handing.{hands_nothing}
 use Rattle.posix_profile.specs.State.{Objects}
 use Rattle.flash_log.specs.Mountable.{IsMountable, IsMountableSince}
 use Rattle.flash_log.specs.Moving.{MarksFailures}
-use Rattle.flash_log.specs.Standing.{AreCommitted, IsCommittedKey, IsCommittedAt, HasVersion, SameData, Stands}
+use Rattle.flash_log.specs.Consistency.{AreCommitted, IsCommittedKey, IsCommittedAt, HasVersion, SameData, IsConsistentLog}
 use Rattle.flash_log.specs.laws.FreeBlocks.{leaves_fewer, leaves_uncommitted, same_bad_blocks}
 use Rattle.flash_log.specs.laws.Mountable.{mountable_on, mountable_seals}
 use Rattle.flash_log.specs.laws.Moves.{are_held}
@@ -90,14 +90,14 @@ module _ (a : StoreState) (lent : List ℕ) where
   abbrev broken : Bool
   broken = a.broken
 
-  abbrev seen : PagesState
-  seen = seen_of a lent
+  abbrev seen_pages : PagesState
+  seen_pages = seen_of a lent
 
   -- what is committed is what the log keeps
-  pub exact_committed : broken ≡ false → (broken ≡ false → d.honest ≡ true → AreCommitted d.flash (committed_pages x)) → IsExact seen → writing.IsExact d x
+  pub exact_committed : broken ≡ false → (broken ≡ false → d.honest ≡ true → AreCommitted d.flash (committed_pages x)) → IsExact seen_pages → writing.IsExact d x
   exact_committed whole newest exact honest =
       let tree : Objects = (exact (is_sound d.honest broken honest whole) honest).0 in
-      let is : KeepsTree seen tree = (exact (is_sound d.honest broken honest whole) honest).1 in (
+      let is : KeepsTree seen_pages tree = (exact (is_sound d.honest broken honest whole) honest).1 in (
         spare,
         tree,
         record {
@@ -109,9 +109,9 @@ module _ (a : StoreState) (lent : List ℕ) where
       )
 
   -- a store that is broken is given up as it is
-  pub sealed_broken : (due : Type 0) (e : Device) → e ≡ d → broken ≡ true → IsSealed due seen e (Err faults.Device)
+  pub sealed_broken : (due : Type 0) (e : Device) → e ≡ d → broken ≡ true → IsSealed due seen_pages e (Err faults.Device)
   sealed_broken due e same is = record {
-    pages = seen;
+    pages = seen_pages;
     device_is = sym same;
     ends_on = record {
       page_bytes = refl;
@@ -126,7 +126,7 @@ module _ (a : StoreState) (lent : List ℕ) where
       marks = omega arith;
       limits = λ honest left. left;
       summaries = λ honest right. right;
-      mountable = mountable_read seen seen (only_reads_here d) refl refl;
+      mountable = mountable_read seen_pages seen_pages (only_reads_here d) refl refl;
     };
     checked = λ _ honest was. was;
     committed = λ sound. absurd (let two : false ≡ true = sym (not_sound d.honest broken is) ∙ sound in cc);
@@ -134,34 +134,34 @@ module _ (a : StoreState) (lent : List ℕ) where
     ends = inr (not_sound d.honest broken is);
   }
 
-  module _ (e : Device) (u : Table) (before : IsReady d t) (stands : Stands spare d t x) (whole : broken ≡ false) (newest : broken ≡ false → d.honest ≡ true → AreCommitted d.flash (committed_pages x)) (none : (y : Index) (b : ℕ) → count_committed_in y b ≡ 0 → HoldsNone (committed_pages y) b)
+  module _ (e : Device) (u : Table) (before : IsReady d t) (consistent : IsConsistentLog spare d t x) (whole : broken ≡ false) (newest : broken ≡ false → d.honest ≡ true → AreCommitted d.flash (committed_pages x)) (none : (y : Index) (b : ℕ) → count_committed_in y b ≡ 0 → HoldsNone (committed_pages y) b)
       (seals : writing.Seals spare x (log_of d t) (log_of e u)) (marks : MarksFailures 0 0 d e t u) (was : IsMountableSince a.first (log_of d t) x) where
     still_carried : d.honest ≡ true → IsCarried e spare (committed_data_map d x)
     still_carried honest = carried_known d.honest e spare (committed_data x d.flash) (record {
       newest = carries_still d.flash e.flash x (newest whole honest) (seals.same_data honest);
       free = λ left. leaves_fewer e.geometry e.flash spare (IsCommittedKey (committed_pages x)) (HasPage (committed_data x d.flash)) (λ o c has. committed_of_data d.flash (committed_pages x o c) has.0 has.1)
-          (seals.free honest (leaves_uncommitted spare d t x before stands.tables (are_held t x (none x) stands.tables.counts) (newest whole honest)));
+          (seals.free honest (leaves_uncommitted spare d t x before consistent.tables (are_held t x (none x) consistent.tables.counts) (newest whole honest)));
     })
 
     -- the blocks that begin erased are ordered, and the committed pages are found
     since : IsMountableSince a.first (log_of e u) x
     since = mountable_on a.first (log_of d t) (log_of e u) x x seals.keeps.lasts (mountable_seals spare x (log_of d t) (log_of e u) seals) was
 
-    left_mountable : StaysMountable seen (left_by seen e u)
+    left_mountable : StaysMountable seen_pages (left_by seen_pages e u)
     left_mountable = record {
       first = refl;
       ordered = λ begun _.
-          let now = begun_on seen (left_by seen e u) seals.keeps.lasts refl begun in
+          let now = begun_on seen_pages (left_by seen_pages e u) seals.keeps.lasts refl begun in
           ∥∥₁_elim (since now.1 now.0) (λ m n. squash₁ m n) (λ (is : IsMountable (log_of e u) x). ∣ record { first = is.erased.first; noted = is.erased.leads.noted } ∣₁);
       reads = λ worn. let two : false ≡ true = worn in absurd cc;
     }
 
-    left_found : FindsSince (left_by seen e u) (committed_data_map d x)
+    left_found : FindsSince (left_by seen_pages e u) (committed_data_map d x)
     left_found begun =
         ∥∥₁_elim (since begun.1 begun.0) (λ m n. squash₁ m n) (λ (is : IsMountable (log_of e u) x).
         ∣ (λ o c (xs, has). finds_committed e x d.flash is.found o c (xs, known_there d.honest (committed_data x d.flash) o c xs has)) ∣₁)
 
-    left_on : EndsOn seen (left_by seen e u)
+    left_on : EndsOn seen_pages (left_by seen_pages e u)
     left_on = record {
       page_bytes = refl;
       most = refl;
@@ -169,22 +169,22 @@ module _ (a : StoreState) (lent : List ℕ) where
       worn = refl;
       refused = omega arith;
       commits = omega arith;
-      failed = λ yes. or_left seen.failed e.gone yes;
+      failed = λ yes. or_left seen_pages.failed e.gone yes;
       device = seals.keeps.lasts;
       numbers = numbers_reported d e t u seals.keeps.numbers;
-      marks = marks_reported d e t u before seals.keeps.ready marks;
-      limits = λ honest left. limits_reported e u seals.keeps.ready seals.stands.limits (seals.keeps.lasts.honest ∙ honest);
+      marks = marks_reported d e t u before seals.keeps.can_write marks;
+      limits = λ honest left. limits_reported e u seals.keeps.can_write seals.consistent.limits (seals.keeps.lasts.honest ∙ honest);
       summaries = seals.keeps.summaries;
       mountable = left_mountable;
     }
 
-    left_right : IsExact seen → StaysRight seen (left_by seen e u)
+    left_right : IsExact seen_pages → StaysRight seen_pages (left_by seen_pages e u)
     left_right exact honest = seals.checked (exact_committed whole newest exact) honest
 
-    left_committed : seen.sound ≡ true → CommittedAs (left_by seen e u) seen.committed
+    left_committed : seen_pages.sound ≡ true → CommittedAs (left_by seen_pages e u) seen_pages.committed
     left_committed sound = record { carried = λ honest. still_carried (sound_honest d.honest broken sound); committed = λ yes o c. refl; found = left_found }
 
-    stays_same : log_of e u ≡ log_of d t → StaysSame seen (left_by seen e u)
+    stays_same : log_of e u ≡ log_of d t → StaysSame seen_pages (left_by seen_pages e u)
     stays_same same = record {
       present = λ o c. refl;
       committed = λ o c. refl;
@@ -195,16 +195,16 @@ module _ (a : StoreState) (lent : List ℕ) where
       first = refl;
     }
 
-    leaves_one : endings.LeavesOne x (log_of d t) (log_of e u) → (e.gone ≡ false) × LeavesOne seen (left_by seen e u)
+    leaves_one : endings.LeavesOne x (log_of d t) (log_of e u) → (e.gone ≡ false) × LeavesOne seen_pages (left_by seen_pages e u)
     leaves_one (power, inl has) = (power, inl (record { checkpoint = has.checkpoint; noted = has.noted; whole = has.whole }))
     leaves_one (power, inr failed) = (power, inr failed)
 
-    ends_done : endings.SealEnds spare x (log_of d t) (log_of e u) (Ok tt) → SealEnds (IsDue spare t) seen (left_by seen e u) (Ok tt)
+    ends_done : endings.SealEnds spare x (log_of d t) (log_of e u) (Ok tt) → SealEnds (IsDue spare t) seen_pages (left_by seen_pages e u) (Ok tt)
     ends_done (inl (none, same)) = inl (none, stays_same same)
     ends_done (inr (due, leaves)) = let one = leaves_one leaves in inr (due, one.0, one.1)
 
-    ends_failed : (fault : SealFault) → endings.SealEnds spare x (log_of d t) (log_of e u) (Err fault) → SealEnds (IsDue spare t) seen (left_by seen e u) (Err (seal_fault_of fault))
-    ends_failed causes.Worn (due, why) = let more = why.0 in let same = same_bad_blocks e u seals.keeps.ready in omega (arith, more, same)
+    ends_failed : (fault : SealFault) → endings.SealEnds spare x (log_of d t) (log_of e u) (Err fault) → SealEnds (IsDue spare t) seen_pages (left_by seen_pages e u) (Err (seal_fault_of fault))
+    ends_failed causes.Worn (due, why) = let more = why.0 in let same = same_bad_blocks e u seals.keeps.can_write in omega (arith, more, same)
     ends_failed causes.Lost (due, why) = inl (inr why)
     ends_failed causes.Gone (due, why) = inl (inl why)
 
@@ -212,20 +212,20 @@ module _ (a : StoreState) (lent : List ℕ) where
     few_sealed : (bad_count t ≤ spare → bad_count u ≤ spare) → bad_on d ≤ spare → bad_on e ≤ spare
     few_sealed within_limit was =
         let old = same_bad_blocks d t before in
-        let new = same_bad_blocks e u seals.keeps.ready in
+        let new = same_bad_blocks e u seals.keeps.can_write in
         let is : bad_count u ≤ spare = within_limit (omega (arith, was, old)) in
         omega (arith, is, new)
 
-    pub sealed_done : (bad_count t ≤ spare → bad_count u ≤ spare) → endings.SealEnds spare x (log_of d t) (log_of e u) (Ok tt) → IsSealed (IsDue spare t) seen e (Ok tt)
-    sealed_done within_limit ends = record { pages = left_by seen e u; device_is = refl; ends_on = left_on; checked = left_right; committed = left_committed; within_limit = few_sealed within_limit; ends = ends_done ends }
+    pub sealed_done : (bad_count t ≤ spare → bad_count u ≤ spare) → endings.SealEnds spare x (log_of d t) (log_of e u) (Ok tt) → IsSealed (IsDue spare t) seen_pages e (Ok tt)
+    sealed_done within_limit ends = record { pages = left_by seen_pages e u; device_is = refl; ends_on = left_on; checked = left_right; committed = left_committed; within_limit = few_sealed within_limit; ends = ends_done ends }
 
-    pub sealed_failed : (fault : SealFault) (reported : StoreFault) → reported ≡ seal_fault_of fault → endings.SealEnds spare x (log_of d t) (log_of e u) (Err fault) → IsSealed (IsDue spare t) seen e (Err reported)
+    pub sealed_failed : (fault : SealFault) (reported : StoreFault) → reported ≡ seal_fault_of fault → endings.SealEnds spare x (log_of d t) (log_of e u) (Err fault) → IsSealed (IsDue spare t) seen_pages e (Err reported)
     sealed_failed fault reported same ends = record {
-      pages = left_by seen e u;
+      pages = left_by seen_pages e u;
       device_is = refl;
       ends_on = left_on;
       checked = left_right;
       committed = left_committed;
       within_limit = λ _. tt;
-      ends = subst (λ (f : StoreFault). SealEnds (IsDue spare t) seen (left_by seen e u) (Err f)) (sym same) (ends_failed fault ends);
+      ends = subst (λ (f : StoreFault). SealEnds (IsDue spare t) seen_pages (left_by seen_pages e u) (Err f)) (sym same) (ends_failed fault ends);
     }

@@ -33,7 +33,7 @@ use Rattle.flash_tree.specs.Slots.{check_object}
 use Rattle.flash_tree.specs.laws.Truth.{none_after}
 use Rattle.transactions.specs.laws.Ready.{none_waits}
 use Rattle.flash_log.specs.Mountable.{IsMountable, KeepsMountable}
-use Rattle.flash_log.specs.Standing.{AreCommitted, KeepsOrdinary, HasFreeBlocks, IsCommittedAt, IsWithinLimits, MayLie, Stands, TablesAgree}
+use Rattle.flash_log.specs.Consistency.{AreCommitted, KeepsOrdinary, HasFreeBlocks, IsCommittedAt, IsWithinLimits, MayLie, IsConsistentLog, TablesAgree}
 use Rattle.flash_log.specs.laws.FreeBlocks.{leaves_fewer}
 use Rattle.flash_tree.specs.laws.Place.{had_power}
 use Rattle.flash_log.specs.laws.Moves.{may_lie_later}
@@ -48,11 +48,11 @@ use Rattle.page_store.proofs.Grouping.{committed_buffered, reads_buffered, commi
 
 -- the table is ready still, since only counts changed
 pub ready_counted : (d : Device) (t u : Table) (before after : ℕ → ℕ) → Recounts before after t u → IsReady d t → IsReady d u
-ready_counted d t u before after counts ready = record {
-  geometry = counts.geometry ∙ ready.geometry;
-  marks = λ b. counts.bad b ∙ ready.marks b;
+ready_counted d t u before after counts can_write = record {
+  geometry = counts.geometry ∙ can_write.geometry;
+  marks = λ b. counts.bad b ∙ can_write.marks b;
   open_block = λ o opened.
-      let was = ready.open_block o (sym counts.open_block ∙ opened) in
+      let was = can_write.open_block o (sym counts.open_block ∙ opened) in
       let next = counts.next o in
       let seq = counts.seq o in
       let next_seq = counts.next_seq in
@@ -67,10 +67,10 @@ ready_counted d t u before after counts ready = record {
             (subst (λ s. IsWrittenInOrder d.flash o (t.entry o).next s) (sym seq) (was.in_order honest));
       };
   waits = λ c is.
-      let was = ready.waits c (sym counts.checkpoint ∙ is) in
+      let was = can_write.waits c (sym counts.checkpoint ∙ is) in
       record { within = was.within; good = was.good; closed = counts.open_block ∙ was.closed };
-  numbers = (let group = counts.next_group in let one = ready.numbers.0 in omega (arith, group, one), let seq = counts.next_seq in let one = ready.numbers.1 in omega (arith, seq, one));
-  below = λ honest. subst (λ n. AreBelow d.flash n u.next_seq) (sym counts.next_group) (subst (λ n. AreBelow d.flash t.next_group n) (sym counts.next_seq) (ready.below honest));
+  numbers = (let group = counts.next_group in let one = can_write.numbers.0 in omega (arith, group, one), let seq = counts.next_seq in let one = can_write.numbers.1 in omega (arith, seq, one));
+  below = λ honest. subst (λ n. AreBelow d.flash n u.next_seq) (sym counts.next_group) (subst (λ n. AreBelow d.flash t.next_group n) (sym counts.next_seq) (can_write.below honest));
 }
 
 -- no number past the limit is the next
@@ -167,7 +167,7 @@ module _ (spare : ℕ) (lists : ListsAreWhole) (w : WrittenGroup) (t u v : Table
 -- the newest pages are committed, where those of the buffer are newest and all others that are present stay so
 pub newest_settled : (w : WrittenGroup) (f : Flash) (x y : Index) → Settles w x y → ((q c i : ℕ) → present x q c ≡ presents.InBuffer i → IsCommittedAt f q c (written_page w i))
     → ((q c : ℕ) (k : CommittedPage) → present x q c ≡ presents.OnFlash k → IsCommittedAt f q c k) → AreCommitted f (committed_pages y)
-newest_settled w f x y settles buffered on_flash q c p is = go (present x q c) refl where
+newest_settled w f x y settles contents on_flash q c p is = go (present x q c) refl where
   go : (r : Present) → present x q c ≡ r → IsCommittedAt f q c p
   go presents.Absent at = let two : None ≡ Some p = sym (settles.committed q c ∙ ap (once_written w) at) ∙ is in absurd cc
   go (presents.OnFlash k) at =
@@ -177,15 +177,15 @@ newest_settled w f x y settles buffered on_flash q c p is = go (present x q c) r
   go (presents.InBuffer i) at =
       let both : Some (written_page w i) ≡ Some p = sym (settles.committed q c ∙ ap (once_written w) at) ∙ is in
       let e : written_page w i ≡ p = cc in
-      subst (IsCommittedAt f q c) e (buffered q c i at)
+      subst (IsCommittedAt f q c) e (contents q c i at)
 
 -- no page is of the object of checkpoints, where none was and no page of the buffer is
 pub ordinary_settled : (w : WrittenGroup) (x y : Index) → Settles w x y → ((q c i : ℕ) → present x q c ≡ presents.InBuffer i → q ≢ check_object) → KeepsOrdinary x → KeepsOrdinary y
-ordinary_settled w x y settles buffered committed q c p is = go (present x q c) refl where
+ordinary_settled w x y settles contents committed q c p is = go (present x q c) refl where
   go : (r : Present) → present x q c ≡ r → q ≢ check_object
   go presents.Absent at = let two : None ≡ Some p = sym (settles.committed q c ∙ ap (once_written w) at) ∙ is in absurd cc
   go (presents.OnFlash k) at = committed q c k (on_flash_committed x q c k at)
-  go (presents.InBuffer i) at = buffered q c i at
+  go (presents.InBuffer i) at = contents q c i at
 
 -- ---- the table after a group that counts
 
@@ -200,7 +200,7 @@ open_after false count o t u is takes = inl (takes.open_block, ap (λ (e : Block
 -- ---- the group of the buffered pages counts, and the index is settled
 
 module _ (spare : ℕ) (lists : ListsAreWhole) (d e : Device) (t u v : Table) (x y : Index) (pages : List FreshPage) (o : ℕ)
-    (buffers : Buffers x pages) (is : t.open_block ≡ Some o) (ready : IsReady d t) (stands : Stands spare d t x) (free : HasFreeBlocks t spare)
+    (buffers : Buffers x pages) (is : t.open_block ≡ Some o) (can_write : IsReady d t) (consistent : IsConsistentLog spare d t x) (free : HasFreeBlocks t spare)
     (writable : AreWritable d pages) (ranges : HaveRanges pages) (fit : length pages ≤ room t)
     (lasts : Lasts d e) (then : IsReady e u) (numbers : HandsOut d e t u) (same : SameCounts t u) (after : StaysOrCloses (length pages) o t u) (limits : IsWithinLimits t → IsWithinLimits u) (power : e.gone ≡ false)
     (shows : d.honest ≡ true → ShowsGroup (next_group t (length pages) o) (fresh_name pages t.next_group) (fresh_bytes pages) d.flash e.flash)
@@ -214,7 +214,7 @@ module _ (spare : ℕ) (lists : ListsAreWhole) (d e : Device) (t u v : Table) (x
   pages_fit : (t.entry o).next + length pages ≤ t.geometry.pages
   pages_fit =
       let room = room_is in
-      let next : (t.entry o).next ≤ t.geometry.pages = subst (λ (z : Geometry). (t.entry o).next ≤ z.pages) (sym ready.geometry) (ready.open_block o is).pages in
+      let next : (t.entry o).next ≤ t.geometry.pages = subst (λ (z : Geometry). (t.entry o).next ≤ z.pages) (sym can_write.geometry) (can_write.open_block o is).pages in
       omega (arith, room, fit, next)
 
   lies : (q c i : ℕ) → present x q c ≡ presents.InBuffer i → MayLie v q c (written_page group i)
@@ -231,17 +231,17 @@ module _ (spare : ℕ) (lists : ListsAreWhole) (d e : Device) (t u v : Table) (x
       let rises = counts.next_group in
       let fits = pages_fit in
       record {
-        block = subst (λ (z : Geometry). o < z.blocks) (sym (counts.geometry ∙ same.geometry ∙ ready.geometry)) (ready.open_block o is).within;
+        block = subst (λ (z : Geometry). o < z.blocks) (sym (counts.geometry ∙ same.geometry ∙ can_write.geometry)) (can_write.open_block o is).within;
         page = subst (λ (z : Geometry). (t.entry o).next + i < z.pages) (sym (counts.geometry ∙ same.geometry)) (omega (arith, fits, lt));
         name = record {
           object = (subst (λ (z : Key). 1 ≤ z.object) same_key first, subst (λ (z : Key). z.object < 2 ^ 64) same_key range.object);
           chunk = subst (λ (z : Key). z.chunk < 2 ^ 64) same_key range.chunk;
-          version = (ready.numbers.0, omega (arith, rise, rises));
+          version = (can_write.numbers.0, omega (arith, rise, rises));
         };
       }
 
   fills : (t.entry o).committed + length pages ≤ t.geometry.pages
-  fills = let within_limit = stands.tables.written o is in let fits = pages_fit in omega (arith, within_limit, fits)
+  fills = let within_limit = consistent.tables.written o is in let fits = pages_fit in omega (arith, within_limit, fits)
 
   opened : (b : ℕ) → u.open_block ≡ Some b → (t.entry b).committed + length pages ≤ (u.entry b).next
   opened b at = elim after [
@@ -249,7 +249,7 @@ module _ (spare : ℕ) (lists : ListsAreWhole) (d e : Device) (t u v : Table) (x
     | inl (still, next) ↦
         let both : Some o ≡ Some b = sym is ∙ sym still ∙ at in
         let one : o ≡ b = cc in
-        let within_limit = stands.tables.written o is in
+        let within_limit = consistent.tables.written o is in
         let here : (t.entry o).committed + length pages ≤ (u.entry o).next = omega (arith, within_limit, next) in
         subst (λ k. (t.entry k).committed + length pages ≤ (u.entry k).next) one here
   ]
@@ -265,7 +265,7 @@ module _ (spare : ℕ) (lists : ListsAreWhole) (d e : Device) (t u v : Table) (x
 
   -- a block was open, so none may have a checkpoint
   noted_none : (c : ℕ) → u.checkpoint ≡ Some c → (t.checkpoint ≡ Some c) × (length pages ≡ 0)
-  noted_none c at = let two : None ≡ Some c = sym (none_after d e t.checkpoint u.checkpoint numbers.truth (none_waits d t o ready is)) ∙ at in absurd cc
+  noted_none c at = let two : None ≡ Some c = sym (none_after d e t.checkpoint u.checkpoint numbers.truth (none_waits d t o can_write is)) ∙ at in absurd cc
 
   buffered_ordinary : d.honest ≡ true → (q c i : ℕ) → present x q c ≡ presents.InBuffer i → q ≢ check_object
   buffered_ordinary honest q c i at same =
@@ -277,44 +277,44 @@ module _ (spare : ℕ) (lists : ListsAreWhole) (d e : Device) (t u v : Table) (x
       (writable.numbered i there.0 there.1).1 honest (ap (λ (z : Key). z.object) same_key ∙ same)
 
   pub free_whole : HasFreeBlocks v spare
-  free_whole = free_settled spare lists group t u v x y pages settles buffers agree counts same stands.tables free numbers.numbers.groups_rise lies fills opened not_free shut noted_none
+  free_whole = free_settled spare lists group t u v x y pages settles buffers agree counts same consistent.tables free numbers.numbers.groups_rise lies fills opened not_free shut noted_none
 
   pub commits_whole : (found : d.honest ≡ true → IsMountable (log_of d t) x → FindsAll e (present_data x pages d.flash)) → KeepsMountable (log_of d t) (log_of e v) x y → (last rest written : List FreshPage)
       → Commits spare (record { log = log_of d t; index = x; pages = pages; last = last }) (record { log = log_of e v; index = y; pages = rest; last = written })
   commits_whole found mountable last rest written = record {
     log = record {
       lasts = lasts;
-      ready = ready_counted e u v (count_committed_in x) (count_committed_in y) counts then;
-      stands = record {
-        tables = tables_settled spare lists group t u v x y pages settles buffers agree counts same stands.tables free numbers.numbers.groups_rise lies fills opened not_free shut noted_none;
+      can_write = ready_counted e u v (count_committed_in x) (count_committed_in y) counts then;
+      consistent = record {
+        tables = tables_settled spare lists group t u v x y pages settles buffers agree counts same consistent.tables free numbers.numbers.groups_rise lies fills opened not_free shut noted_none;
         newest = λ honest on.
             let was : d.honest ≡ true = sym lasts.honest ∙ honest in
             newest_settled group e.flash x y settles (committed_buffered t x pages o buffers d.flash e.flash (shows was)) (committed_on_flash t x pages o buffers d.flash e.flash (shows was) (committed was));
-        ordinary = λ honest. ordinary_settled group x y settles (buffered_ordinary (sym lasts.honest ∙ honest)) (stands.ordinary (sym lasts.honest ∙ honest));
-        limits = limits_counted u v (count_committed_in x) (count_committed_in y) counts (limits stands.limits);
+        ordinary = λ honest. ordinary_settled group x y settles (buffered_ordinary (sym lasts.honest ∙ honest)) (consistent.ordinary (sym lasts.honest ∙ honest));
+        limits = limits_counted u v (count_committed_in x) (count_committed_in y) counts (limits consistent.limits);
       };
       numbers = hands_counted d e t u v (count_committed_in x) (count_committed_in y) counts numbers;
       mountable = mountable;
     };
     settled = settles.presents;
-    keys = settles.ready;
+    keys = settles.can_write;
     committed = λ honest on. written_committed group x y pages d.flash e.flash settles buffers (reads_buffered t x pages o buffers d.flash e.flash (shows honest)) (reads_on_flash t x pages o buffers d.flash e.flash (shows honest) (committed honest));
     newest = λ honest. record {
       carries = record {
         newest = carries_present t x pages o buffers d.flash e.flash (shows honest) (committed honest);
         free = free_present t x pages o buffers d.flash e.flash (shows honest) (committed honest) spare e.geometry (sym then.geometry ∙ same.geometry) (λ b. sym (then.marks b) ∙ same.bad b) is
-            (held_lists lists t x stands.tables.counts) free;
+            (held_lists lists t x consistent.tables.counts) free;
       };
       found = found honest;
     };
   } where
     committed : d.honest ≡ true → AreCommitted d.flash (committed_pages x)
-    committed honest = stands.newest honest (had_power d e lasts power)
+    committed honest = consistent.newest honest (had_power d e lasts power)
 
 -- ---- nothing is buffered
 
 module _ (spare : ℕ) (lists : ListsAreWhole) (w : WrittenGroup) (d : Device) (t v : Table) (x y : Index) (pages : List FreshPage) (none : pages ≡ [])
-    (buffers : Buffers x pages) (ready : IsReady d t) (stands : Stands spare d t x) (free : HasFreeBlocks t spare)
+    (buffers : Buffers x pages) (can_write : IsReady d t) (consistent : IsConsistentLog spare d t x) (free : HasFreeBlocks t spare)
     (settles : Settles w x y) (agree : CountsAgree v y) (counts : Recounts (count_committed_in x) (count_committed_in y) t v) where
   no_page : length pages ≡ 0
   no_page = ap length none
@@ -329,23 +329,23 @@ module _ (spare : ℕ) (lists : ListsAreWhole) (w : WrittenGroup) (d : Device) (
   here = record { bad = λ b. refl; committed = λ b. refl; geometry = refl }
 
   full : (t.entry w.block).committed + length pages ≤ t.geometry.pages
-  full = let fit = stands.tables.fits w.block in let zero_long = no_page in omega (arith, fit, zero_long)
+  full = let fit = consistent.tables.fits w.block in let zero_long = no_page in omega (arith, fit, zero_long)
 
   written_is : (b : ℕ) → t.open_block ≡ Some b → (t.entry b).committed + length pages ≤ (t.entry b).next
-  written_is b at = let fit = stands.tables.written b at in let zero_long = no_page in omega (arith, fit, zero_long)
+  written_is b at = let fit = consistent.tables.written b at in let zero_long = no_page in omega (arith, fit, zero_long)
 
   pub free_empty : HasFreeBlocks v spare
-  free_empty = free_settled spare lists w t t v x y pages settles buffers agree counts here stands.tables free (omega arith) (λ q c i at. absurd (not_there q c i at)) full written_is (λ _. no_page) (inl refl) (λ c at. (at, no_page))
+  free_empty = free_settled spare lists w t t v x y pages settles buffers agree counts here consistent.tables free (omega arith) (λ q c i at. absurd (not_there q c i at)) full written_is (λ _. no_page) (inl refl) (λ c at. (at, no_page))
 
   pub bad_empty : bad_count v ≡ bad_count t
-  bad_empty = bad_settled spare lists w t t v x y pages settles buffers agree counts here stands.tables free (omega arith) (λ q c i at. absurd (not_there q c i at)) full written_is (λ _. no_page) (inl refl) (λ c at. (at, no_page))
+  bad_empty = bad_settled spare lists w t t v x y pages settles buffers agree counts here consistent.tables free (omega arith) (λ q c i at. absurd (not_there q c i at)) full written_is (λ _. no_page) (inl refl) (λ c at. (at, no_page))
 
-  pub stands_empty : Stands spare d v y
-  stands_empty = record {
-    tables = tables_settled spare lists w t t v x y pages settles buffers agree counts here stands.tables free (omega arith) (λ q c i at. absurd (not_there q c i at)) full written_is (λ _. no_page) (inl refl) (λ c at. (at, no_page));
-    newest = λ honest power. newest_settled w d.flash x y settles (λ q c i at. absurd (not_there q c i at)) (λ q c k at. stands.newest honest power q c k (on_flash_committed x q c k at));
-    ordinary = λ honest. ordinary_settled w x y settles (λ q c i at. absurd (not_there q c i at)) (stands.ordinary honest);
-    limits = limits_counted t v (count_committed_in x) (count_committed_in y) counts stands.limits;
+  pub consistent_empty : IsConsistentLog spare d v y
+  consistent_empty = record {
+    tables = tables_settled spare lists w t t v x y pages settles buffers agree counts here consistent.tables free (omega arith) (λ q c i at. absurd (not_there q c i at)) full written_is (λ _. no_page) (inl refl) (λ c at. (at, no_page));
+    newest = λ honest power. newest_settled w d.flash x y settles (λ q c i at. absurd (not_there q c i at)) (λ q c k at. consistent.newest honest power q c k (on_flash_committed x q c k at));
+    ordinary = λ honest. ordinary_settled w x y settles (λ q c i at. absurd (not_there q c i at)) (consistent.ordinary honest);
+    limits = limits_counted t v (count_committed_in x) (count_committed_in y) counts consistent.limits;
   }
 
   -- what is present is what is committed of it

@@ -23,9 +23,9 @@ room_open o t is = ap (λ (b : Option ℕ). option_map_or (λ k. t.geometry.page
 
 -- pages that the open block has room for lie in it
 pub lie_in_open : (o n : ℕ) (d : Device) (t : Table) → IsReady d t → t.open_block ≡ Some o → n ≤ room t → (t.entry o).next + n ≤ t.geometry.pages
-lie_in_open o n d t ready opened fit =
+lie_in_open o n d t can_write opened fit =
     let is = room_open o t opened in
-    let next : (t.entry o).next ≤ t.geometry.pages = subst (λ (g : Geometry). (t.entry o).next ≤ g.pages) (sym ready.geometry) (ready.open_block o opened).pages in
+    let next : (t.entry o).next ≤ t.geometry.pages = subst (λ (g : Geometry). (t.entry o).next ≤ g.pages) (sym can_write.geometry) (can_write.open_block o opened).pages in
     omega (arith, is, next, fit)
 
 -- ---- the open block stays open

@@ -21,13 +21,13 @@ use Rattle.transactions.specs.Handing.{HandsOut}
 use Rattle.transactions.specs.laws.Handing.{hands_nothing}
 use Rattle.flash_tree.specs.Slots.{check_object}
 use Rattle.chunk_index.specs.declared.form.CommittedPage.{CommittedPage}
-use Rattle.flash_log.specs.Standing.{MayLie, Stands}
-use Rattle.pages.specs.Maps.{PageMap, known_pages, without_cuts, changed}
+use Rattle.flash_log.specs.Consistency.{MayLie, IsConsistentLog}
+use Rattle.pages.specs.Maps.{PageMap, known_pages, without_cuts, after_change}
 use Rattle.pages.specs.laws.Maps.{page_elsewhere, cut_elsewhere, elsewhere}
 use Rattle.pages.specs.laws.Changes.{cuts_nothing}
 use Rattle.pages.specs.declared.change.Change.{Change}
 use Rattle.pages.specs.declared.change.Cut.{Cut}
-use Rattle.page_store.specs.BufferOf.{buffered, most_pages, bytes_of_page}
+use Rattle.page_store.specs.BufferOf.{contents, most_pages, bytes_of_page}
 use Rattle.page_store.specs.declared.buffer.Buffer.{Buffer}
 use Rattle.page_store.specs.Shown.{data_at, data_by, committed_data, present_data}
 use Rattle.page_store.specs.Buffering.{Buffers, lacks, new_keys, with_new}
@@ -53,7 +53,7 @@ known_alike false m n same = λ o c. refl
 pub known_on : (h k : Bool) (m n : PageMap) → k ≡ h → (h ≡ true → SamePages n m) → SamePages (known_pages k n) (known_pages h m)
 known_on h k m n is same = subst (λ (j : Bool). SamePages (known_pages j n) (known_pages h m)) (sym is) (known_alike h m n same)
 
-pub known_changed : (h : Bool) (change : Change) (m n : PageMap) → h ≡ true → SamePages n (changed change m) → SamePages (known_pages h n) (changed change (known_pages h m))
+pub known_changed : (h : Bool) (change : Change) (m n : PageMap) → h ≡ true → SamePages n (after_change change m) → SamePages (known_pages h n) (after_change change (known_pages h m))
 known_changed true change m n is same = same
 known_changed false change m n is same = absurd (false≢true is)
 
@@ -62,19 +62,19 @@ module _ (x y : Index) (same : SameCommitted x y) where
   pub committed_same : (f : Flash) → SamePages (committed_data y f) (committed_data x f)
   committed_same f o c = ap (option_and_then (data_at f)) (same.committed o c)
 
-  pub stands_committed : (spare : ℕ) (d : Device) (t : Table) → Stands spare d t x → Stands spare d t y
-  stands_committed spare d t stands = record {
+  pub consistent_committed : (spare : ℕ) (d : Device) (t : Table) → IsConsistentLog spare d t x → IsConsistentLog spare d t y
+  consistent_committed spare d t consistent = record {
     tables = record {
-      counts = agree_same t x y same stands.tables.counts;
-      within = λ o c p is. stands.tables.within o c p (sym (same.committed o c) ∙ is);
-      fits = stands.tables.fits;
-      written = stands.tables.written;
-      uncommitted = stands.tables.uncommitted;
-      apart = stands.tables.apart;
+      counts = agree_same t x y same consistent.tables.counts;
+      within = λ o c p is. consistent.tables.within o c p (sym (same.committed o c) ∙ is);
+      fits = consistent.tables.fits;
+      written = consistent.tables.written;
+      uncommitted = consistent.tables.uncommitted;
+      apart = consistent.tables.apart;
     };
-    newest = λ honest power o c p is. stands.newest honest power o c p (sym (same.committed o c) ∙ is);
-    ordinary = λ honest o c p is. stands.ordinary honest o c p (sym (same.committed o c) ∙ is);
-    limits = stands.limits;
+    newest = λ honest power o c p is. consistent.newest honest power o c p (sym (same.committed o c) ∙ is);
+    ordinary = λ honest o c p is. consistent.ordinary honest o c p (sym (same.committed o c) ∙ is);
+    limits = consistent.limits;
   }
 
 -- where no key's present page changes
@@ -118,7 +118,7 @@ lacks_from n y new f buffers none i p there same =
     cc
 
 lacks_changed : (n : ℕ) (x y : Index) (old new : List FreshPage) (change : Change) (f : Flash) → ((l : ℕ) (k : CommittedPage) → committed_pages x n l ≡ Some k → ⊥) → Buffers x old → LacksObject n old
-    → LacksObject n change.pages.items → Buffers y new → SamePages (present_data y new f) (changed change (present_data x old f)) → LacksObject n new
+    → LacksObject n change.pages.items → Buffers y new → SamePages (present_data y new f) (after_change change (present_data x old f)) → LacksObject n new
 lacks_changed n x y old new change f uncommitted before lacks writes after is = lacks_from n y new f after (λ c.
     let m : PageMap = present_data x old f in
     is n c
@@ -131,42 +131,42 @@ lacks_cut n x y old new cuts f uncommitted before lacks after is =
     lacks_from n y new f after (λ c. is n c ∙ cuts_nothing cuts (present_data x old f) n c (none_of n x old f c uncommitted before lacks))
 
 -- no page of object 0 is committed
-committed_zero : (spare : ℕ) (d : Device) (t : Table) (x : Index) → Stands spare d t x → (l : ℕ) (k : CommittedPage) → committed_pages x 0 l ≡ Some k → ⊥
-committed_zero spare d t x stands l k is = let at : MayLie t 0 l k = stands.tables.within 0 l k is in omega (arith, at.name.object.0)
+committed_zero : (spare : ℕ) (d : Device) (t : Table) (x : Index) → IsConsistentLog spare d t x → (l : ℕ) (k : CommittedPage) → committed_pages x 0 l ≡ Some k → ⊥
+committed_zero spare d t x consistent l k is = let at : MayLie t 0 l k = consistent.tables.within 0 l k is in omega (arith, at.name.object.0)
 
 zero_lacked : (d : Device) (pages : List FreshPage) → AreNumbered d pages → LacksObject 0 pages
 zero_lacked d pages numbered i p is same = let some' : 1 ≤ p.key.object = (numbered i p is).0 in omega (arith, some', same)
 
 -- so each page of the buffer is of a number that an object may have
-pub objects_changed : (spare : ℕ) (d : Device) (t : Table) (x y : Index) (old new : List FreshPage) (change : Change) (f : Flash) → Stands spare d t x → Buffers x old → AreNumbered d old → AreOfTrees change.pages.items
-    → Buffers y new → SamePages (present_data y new f) (changed change (present_data x old f)) → AreNumbered d new
-objects_changed spare d t x y old new change f stands before objects writes after is i p there = (some_left, ordinary_left) where
+pub objects_changed : (spare : ℕ) (d : Device) (t : Table) (x y : Index) (old new : List FreshPage) (change : Change) (f : Flash) → IsConsistentLog spare d t x → Buffers x old → AreNumbered d old → AreOfTrees change.pages.items
+    → Buffers y new → SamePages (present_data y new f) (after_change change (present_data x old f)) → AreNumbered d new
+objects_changed spare d t x y old new change f consistent before objects writes after is i p there = (some_left, ordinary_left) where
   some_left : 1 ≤ p.key.object
   some_left =
-      let ne = lacks_changed 0 x y old new change f (committed_zero spare d t x stands) before (zero_lacked d old objects)
+      let ne = lacks_changed 0 x y old new change f (committed_zero spare d t x consistent) before (zero_lacked d old objects)
       (λ j q at same. let some' : 1 ≤ q.key.object = (writes j q at).object.0 in omega (arith, some', same)) after is i p there in
       omega (arith, ne)
 
   ordinary_left : d.honest ≡ true → p.key.object ≢ check_object
   ordinary_left honest =
-      lacks_changed check_object x y old new change f (λ l k at. stands.ordinary honest check_object l k at refl) before (λ j q at. (objects j q at).1 honest)
+      lacks_changed check_object x y old new change f (λ l k at. consistent.ordinary honest check_object l k at refl) before (λ j q at. (objects j q at).1 honest)
       (λ j q at same. let less : q.key.object < check_object = (writes j q at).object.1 in omega (arith, less, same)) after is i p there
 
-pub objects_cut : (spare : ℕ) (d : Device) (t : Table) (x y : Index) (old new : List FreshPage) (cuts : List Cut) (f : Flash) → Stands spare d t x → Buffers x old → AreNumbered d old
+pub objects_cut : (spare : ℕ) (d : Device) (t : Table) (x y : Index) (old new : List FreshPage) (cuts : List Cut) (f : Flash) → IsConsistentLog spare d t x → Buffers x old → AreNumbered d old
     → Buffers y new → SamePages (present_data y new f) (without_cuts cuts (present_data x old f)) → AreNumbered d new
-objects_cut spare d t x y old new cuts f stands before objects after is i p there = (some_left, ordinary_left) where
+objects_cut spare d t x y old new cuts f consistent before objects after is i p there = (some_left, ordinary_left) where
   some_left : 1 ≤ p.key.object
-  some_left = let ne = lacks_cut 0 x y old new cuts f (committed_zero spare d t x stands) before (zero_lacked d old objects) after is i p there in omega (arith, ne)
+  some_left = let ne = lacks_cut 0 x y old new cuts f (committed_zero spare d t x consistent) before (zero_lacked d old objects) after is i p there in omega (arith, ne)
 
   ordinary_left : d.honest ≡ true → p.key.object ≢ check_object
-  ordinary_left honest = lacks_cut check_object x y old new cuts f (λ l k at. stands.ordinary honest check_object l k at refl) before (λ j q at. (objects j q at).1 honest) after is i p there
+  ordinary_left honest = lacks_cut check_object x y old new cuts f (λ l k at. consistent.ordinary honest check_object l k at refl) before (λ j q at. (objects j q at).1 honest) after is i p there
 
 -- on a device that is as honest the pages are so still
 pub numbered_on : (a b : Device) (pages : List FreshPage) → Lasts a b → AreNumbered a pages → AreNumbered b pages
 numbered_on a b pages lasts numbered i p is = ((numbered i p is).0, λ honest. (numbered i p is).1 (sym lasts.honest ∙ honest))
 
 -- what the cache has left is present after a change
-pub shown_changed : (change : Change) (m : PageMap) (a b c : PageCache) → Shows a m → HasNoMore a b → HasNoMore b c → LacksCuts change.cuts.items b → LacksPages change.pages.items c → Shows c (changed change m)
+pub shown_changed : (change : Change) (m : PageMap) (a b c : PageCache) → Shows a m → HasNoMore a b → HasNoMore b c → LacksCuts change.cuts.items b → LacksPages change.pages.items c → Shows c (after_change change m)
 shown_changed change m a b c shows first then cuts pages o k xs is =
     elsewhere change m o k
     (λ i of. absurd (let two : None ≡ Some xs = sym (pages o k i of) ∙ is in cc))
@@ -217,7 +217,7 @@ pub present_map_same : (d e : Device) (x y : Index) (b b' : Buffer) → e ≡ d 
 present_map_same d e x y b b' is same buffers =
     subst (λ (k : Device). SamePages (present_map k y b') (present_map d x b)) (sym is)
     (subst (λ (k : Buffer). SamePages (present_map d y k) (present_map d x b)) (sym buffers)
-    (known_alike d.honest (present_data x (buffered b) d.flash) (present_data y (buffered b) d.flash) (λ _. present_same x y (buffered b) d.flash same)))
+    (known_alike d.honest (present_data x (contents b) d.flash) (present_data y (contents b) d.flash) (λ _. present_same x y (contents b) d.flash same)))
 
 -- each fault of a commit has its cause
 pub commit_fails : (a b : StoreState) (fault : RoomFault) → WhyNoRoom (waiting a) a.spare b.log.device a.log.table b.log.table fault → IsCommitFault a b (fault_of fault)
@@ -227,9 +227,9 @@ commit_fails a b causes.Lost why = inr (inl why)
 commit_fails a b causes.Gone why = inl why
 
 -- the pages of a buffer can be written
-pub writable : (d : Device) (b : Buffer) → AreNumbered d (buffered b) → bytes_of_page b ≡ d.geometry.bytes → AreWritable d (buffered b)
+pub writable : (d : Device) (b : Buffer) → AreNumbered d (contents b) → bytes_of_page b ≡ d.geometry.bytes → AreWritable d (contents b)
 writable d b objects size = record {
-  within_limit = let within_limit : length (buffered b) ≤ b.most = b.within_limit in let small : b.most ≤ 64 = b.small in omega (arith, within_limit, small);
+  within_limit = let within_limit : length (contents b) ≤ b.most = b.within_limit in let small : b.most ≤ 64 = b.small in omega (arith, within_limit, small);
   numbered = objects;
   size = λ i p is. b.sized i p is ∙ size;
 }
@@ -240,10 +240,10 @@ new_same x y [] same = refl
 new_same x y (p ∷ ps) same = omega (arith, ap lacks (same p.key.object p.key.chunk), new_same x y ps same)
 
 -- and so they have room as before
-pub fits_on : (x y : Index) (b b' : Buffer) (ps qs : List FreshPage) → SamePresent x y → b' ≡ b → qs ≡ ps → with_new x (buffered b) ps ≤ most_pages b → with_new y (buffered b') qs ≤ most_pages b'
+pub fits_on : (x y : Index) (b b' : Buffer) (ps qs : List FreshPage) → SamePresent x y → b' ≡ b → qs ≡ ps → with_new x (contents b) ps ≤ most_pages b → with_new y (contents b') qs ≤ most_pages b'
 fits_on x y b b' ps qs same buffers pages fits =
-    subst (λ (k : Buffer). with_new y (buffered k) qs ≤ most_pages k) (sym buffers)
-    (subst (λ (l : List FreshPage). with_new y (buffered b) l ≤ most_pages b) (sym pages) (omega (arith, fits, new_same x y ps same)))
+    subst (λ (k : Buffer). with_new y (contents k) qs ≤ most_pages k) (sym buffers)
+    (subst (λ (l : List FreshPage). with_new y (contents b) l ≤ most_pages b) (sym pages) (omega (arith, fits, new_same x y ps same)))
 
 -- ---- the numbers that are handed out
 

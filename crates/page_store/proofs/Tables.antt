@@ -29,7 +29,7 @@ use Rattle.transactions.specs.Sources.{IsPageName}
 use Rattle.transactions.specs.Ready.{IsReady, IsWaiting}
 use Rattle.transactions.specs.laws.Ready.{above_below}
 use Rattle.mount_scan.specs.Scanned.{IsNewestCopy, AreNewest, ListsNewest}
-use Rattle.flash_log.specs.Standing.{IsCommittedAt, AreCommitted, MayLie}
+use Rattle.flash_log.specs.Consistency.{IsCommittedAt, AreCommitted, MayLie}
 use Rattle.page_store.specs.KnownFirsts.{AreUnwritten}
 use Rattle.page_store.specs.Opened.{name_in, HaveNames, AreLeft, IsTableOf, IsOpened, committed_at}
 use Rattle.flash_tree.specs.laws.Place.{same_flash}
@@ -286,7 +286,7 @@ opened d list x t t' n reports greatest names is indexes counts recounts = recor
     low = lies_low list x indexes d reports;
     newest = are_committed list x indexes d reports;
     numbers = greatest;
-    ready = λ left.
+    can_write = λ left.
         ready_from d n t' (recounts.geometry ∙ is.geometry) (λ b. recounts.bad b ∙ is.marks left b) (recounts.open_block ∙ is.closed)
         (λ c at. absurd (let two : None ≡ Some c = sym (recounts.checkpoint ∙ is.checkpoint) ∙ at in cc))
         (recounts.next_group ∙ is.group left) (recounts.next_seq ∙ is.seq left) (λ honest. (greatest honest).above);

@@ -25,7 +25,7 @@ use Rattle.transactions.specs.Ready.{IsReady}
 use Rattle.transactions.specs.laws.Handing.{hands_on}
 use Rattle.flash_log.specs.Mountable.{IsMountable}
 use Rattle.flash_log.specs.laws.Mountable.{mountable_step}
-use Rattle.flash_log.specs.Standing.{AreFound, AreCommitted, HasFreeBlocks, IsCommittedKey, IsWithinLimits, SameData, Stands}
+use Rattle.flash_log.specs.Consistency.{AreFound, AreCommitted, HasFreeBlocks, IsCommittedKey, IsWithinLimits, SameData, IsConsistentLog}
 use Rattle.flash_log.specs.laws.FreeBlocks.{leaves_fewer}
 use Rattle.flash_log.specs.Steps.{MovesCommitted, Step}
 use Rattle.flash_log.specs.laws.Keeping.{bad_rises}
@@ -72,8 +72,8 @@ carries_same d spare m n same carries = record {
 
 -- numbers are left
 numbers_left : (d : Device) (t : Table) → IsReady d t → IsWithinLimits t → d.honest ≡ true → HasNumbersLeft d.flash
-numbers_left d t ready (groups, seqs) honest b p tag good has =
-    let below = ready.below honest b p tag good has in
+numbers_left d t can_write (groups, seqs) honest b p tag good has =
+    let below = can_write.below honest b p tag good has in
     let version = below.0 in
     let group = below.1 in
     let seq = below.2 in
@@ -85,8 +85,8 @@ numbers_left d t ready (groups, seqs) honest b p tag good has =
 log_committed : (spare : ℕ) (a b : BufferedLog) → Step spare a.log b.log a.index b.index → KeepsLog spare a b
 log_committed spare a b step = record {
   lasts = step.lasts;
-  ready = step.ready;
-  stands = step.stands;
+  can_write = step.can_write;
+  consistent = step.consistent;
   numbers = step.numbers;
   mountable = mountable_step spare a.log b.log a.index b.index step;
 }
@@ -95,8 +95,8 @@ log_committed spare a b step = record {
 log_on : (spare : ℕ) (a b c : BufferedLog) → KeepsLog spare a b → KeepsLog spare b c → KeepsLog spare a c
 log_on spare a b c first then = record {
   lasts = lasts_on a.log.device b.log.device c.log.device first.lasts then.lasts;
-  ready = then.ready;
-  stands = then.stands;
+  can_write = then.can_write;
+  consistent = then.consistent;
   numbers = hands_on a.log.device b.log.device c.log.device a.log.table b.log.table c.log.table first.lasts then.lasts first.numbers then.numbers;
   mountable = λ honest was. then.mountable (first.lasts.honest ∙ honest) (first.mountable honest was);
 }
@@ -111,7 +111,7 @@ leaves_committed_pages spare a b step same buffers = record {
   log = log_committed spare a b step;
   buffers = buffers;
   waits = inl (same, step.index);
-  keys = step.index.ready;
+  keys = step.index.can_write;
   newest = λ honest. inl (record {
     same_data = step.same_data honest;
     free = λ free. leaves_as_committed spare b.log.device a.index b.index step.index (step.free honest free);
@@ -144,17 +144,17 @@ pub answered_after : (spare : ℕ) (a b c : BufferedLog) → Step spare a.log b.
 answered_after spare a b c first then = record { log = then.log; index = then.index; before = step_on spare a.log b.log then.log a.index b.index then.index first then.before; answered = then.answered }
 
 -- what was answered since the call began
-pub answered_here : (spare : ℕ) (a b : BufferedLog) → IsReady a.log.device a.log.table → Stands spare a.log.device a.log.table a.index
+pub answered_here : (spare : ℕ) (a b : BufferedLog) → IsReady a.log.device a.log.table → IsConsistentLog spare a.log.device a.log.table a.index
     → (b.log.device.failures ≡ a.log.device.failures) ⊎ ((o : ℕ) × (a.log.table.open_block ≡ Some o) × ((b.log.table.entry o).bad ≡ true)) → IsAnswered spare a b
-answered_here spare a b ready stands answered = record { log = a.log; index = a.index; before = step_none spare a.log.device a.log.table a.index ready stands; answered = answered }
+answered_here spare a b can_write consistent answered = record { log = a.log; index = a.index; before = step_none spare a.log.device a.log.table a.index can_write consistent; answered = answered }
 
 -- A call after a step in which no buffered page was written.
-module _ (spare : ℕ) (a b c : BufferedLog) (stands : Stands spare a.log.device a.log.table a.index) (first : Step spare a.log b.log a.index b.index) (same : b.pages ≡ a.pages) where
+module _ (spare : ℕ) (a b c : BufferedLog) (consistent : IsConsistentLog spare a.log.device a.log.table a.index) (first : Step spare a.log b.log a.index b.index) (same : b.pages ≡ a.pages) where
   was_committed : a.log.device.honest ≡ true → b.log.device.gone ≡ false → AreCommitted a.log.device.flash (committed_pages a.index)
-  was_committed honest power = stands.newest honest (had_power a.log.device b.log.device first.lasts power)
+  was_committed honest power = consistent.newest honest (had_power a.log.device b.log.device first.lasts power)
 
   now_committed : a.log.device.honest ≡ true → b.log.device.gone ≡ false → AreCommitted b.log.device.flash (committed_pages b.index)
-  now_committed honest power = first.stands.newest (first.lasts.honest ∙ honest) power
+  now_committed honest power = first.consistent.newest (first.lasts.honest ∙ honest) power
 
   same_current : a.log.device.honest ≡ true → b.log.device.gone ≡ false → (o k : ℕ) → current b o k ≡ current a o k
   same_current honest power o k =
@@ -176,7 +176,7 @@ module _ (spare : ℕ) (a b c : BufferedLog) (stands : Stands spare a.log.device
     log = log_on spare a b c (log_committed spare a b first) then.log;
     buffers = then.buffers;
     waits = elim then.waits [ inl (still, moves) ↦ inl (still ∙ same, moves_committed_on a.index b.index c.index first.index moves) | inr settled ↦ inr settled ];
-    keys = λ o k is. then.keys o k (first.index.ready o k is);
+    keys = λ o k is. then.keys o k (first.index.can_write o k is);
     newest = λ honest. newest honest (cases_Bool b.log.device.gone);
   } where
     powered : a.log.device.honest ≡ true → b.log.device.gone ≡ false → StaysOrShows spare b c.log.device → StaysOrShows spare a c.log.device
@@ -201,7 +201,7 @@ module _ (spare : ℕ) (a b c : BufferedLog) (stands : Stands spare a.log.device
       record {
         log = log_on spare a b c (log_committed spare a b first) then.log;
         settled = then.settled;
-        keys = λ o k is. then.keys o k (first.index.ready o k is);
+        keys = λ o k is. then.keys o k (first.index.can_write o k is);
         committed = λ honest still o k. then.committed (first.lasts.honest ∙ honest) still o k ∙ same_current honest power o k;
         newest = λ honest. shows_current honest power (then.newest (first.lasts.honest ∙ honest));
       }
@@ -217,18 +217,18 @@ pub commits_then : (spare : ℕ) (a b c : BufferedLog) → Commits spare a b →
 commits_then spare a b c first then = record {
   log = log_on spare a b c first.log (log_committed spare b c then);
   settled = presents_moved b.index c.index then.index first.settled;
-  keys = λ o k is. then.index.ready o k (first.keys o k is);
+  keys = λ o k is. then.index.can_write o k (first.keys o k is);
   committed = λ honest on o k.
       let mid : b.log.device.honest ≡ true = first.log.lasts.honest ∙ honest in
       let power : b.log.device.gone ≡ false = had_power b.log.device c.log.device then.lasts on in
-      same_committed b.index c.index b.log.device.flash c.log.device.flash then.index (first.log.stands.newest mid power) (then.stands.newest (then.lasts.honest ∙ mid) on) (then.same_data mid) o k ∙ first.committed honest power o k;
+      same_committed b.index c.index b.log.device.flash c.log.device.flash then.index (first.log.consistent.newest mid power) (then.consistent.newest (then.lasts.honest ∙ mid) on) (then.same_data mid) o k ∙ first.committed honest power o k;
   newest = λ honest. newest honest (cases_Bool b.log.device.gone);
 } where
   newest : a.log.device.honest ≡ true → (b.log.device.gone ≡ true) ⊎ (b.log.device.gone ≡ false) → ShowsCurrent spare a c.log.device
   newest honest (inl gone) = subst (ShowsCurrent spare a) (sym (then.lasts.gone gone)) (first.newest honest)
   newest honest (inr power) =
       let mid : b.log.device.honest ≡ true = first.log.lasts.honest ∙ honest in
-      let committed : AreCommitted b.log.device.flash (committed_pages b.index) = first.log.stands.newest mid power in
+      let committed : AreCommitted b.log.device.flash (committed_pages b.index) = first.log.consistent.newest mid power in
       let same : (o k : ℕ) → committed_map b o k ≡ current a o k = first.committed honest power in
       let before = leaves_fewer b.log.device.geometry b.log.device.flash spare (HasPage (current a)) (IsCommittedKey (committed_pages b.index))
       (λ o k is. let has = committed_has b.index b.log.device.flash committed o k is in (has.0, sym (same o k) ∙ has.1)) (first.newest honest).carries.free in
@@ -270,13 +270,13 @@ why_before count spare d t u v faults.Lost geometry committed within_limit why =
 why_before count spare d t u v faults.Gone geometry committed within_limit why = why
 
 -- how a turn ends after a step that made room for it
-pub turn_after : (spare : ℕ) (a b c : BufferedLog) (result : Result Turn RoomFault) → Stands spare a.log.device a.log.table a.index → (first : Step spare a.log b.log a.index b.index) → b.pages ≡ a.pages
+pub turn_after : (spare : ℕ) (a b c : BufferedLog) (result : Result Turn RoomFault) → IsConsistentLog spare a.log.device a.log.table a.index → (first : Step spare a.log b.log a.index b.index) → b.pages ≡ a.pages
     → bad_count b.log.table ≤ spare → TurnEnds spare b c result → TurnEnds spare a c result
-turn_after spare a b c (Ok turns.Written) stands first same within_limit (whole, fits, answered) = (whole_after spare a b c stands first same whole, fits, answered_after spare a b c first answered)
-turn_after spare a b c (Ok turns.Again) stands first same within_limit (waits, free, more, fits, long) =
+turn_after spare a b c (Ok turns.Written) consistent first same within_limit (whole, fits, answered) = (whole_after spare a b c consistent first same whole, fits, answered_after spare a b c first answered)
+turn_after spare a b c (Ok turns.Again) consistent first same within_limit (waits, free, more, fits, long) =
     let rises : bad_count a.log.table ≤ bad_count b.log.table = bad_rises a.log.table b.log.table first.geometry first.marks in
-    (waiting_after spare a b c stands first same waits, free, omega (arith, rises, more), fits, subst (λ (ps : List FreshPage). length ps ≤ c.log.device.geometry.pages) same long)
-turn_after spare a b c (Err fault) stands first same within_limit why =
+    (waiting_after spare a b c consistent first same waits, free, omega (arith, rises, more), fits, subst (λ (ps : List FreshPage). length ps ≤ c.log.device.geometry.pages) same long)
+turn_after spare a b c (Err fault) consistent first same within_limit why =
     why_before (length a.pages) spare c.log.device a.log.table b.log.table c.log.table fault first.geometry first.committed_count within_limit
     (subst (λ (ps : List FreshPage). WhyNoRoom (length ps) spare c.log.device b.log.table c.log.table fault) same why)
 
@@ -298,16 +298,16 @@ keeps_or_shows spare a e (inl stays) = inl stays.same_data
 keeps_or_shows spare a e (inr shows) = inr shows.carries.newest
 
 -- the committed pages are carried still, or the current ones are
-pub carries_either : (spare : ℕ) (a b : BufferedLog) → IsReady a.log.device a.log.table → Stands spare a.log.device a.log.table a.index → KeepsLog spare a b → a.log.device.honest ≡ true → StaysOrShows spare a b.log.device
+pub carries_either : (spare : ℕ) (a b : BufferedLog) → IsReady a.log.device a.log.table → IsConsistentLog spare a.log.device a.log.table a.index → KeepsLog spare a b → a.log.device.honest ≡ true → StaysOrShows spare a b.log.device
     → CarriesEither spare a b.log.device
-carries_either spare a b ready stands log honest (inr shows) was = inr (record { carried = carried b.log.device spare (current a) shows.carries; found = shows.found })
-carries_either spare a b ready stands log honest (inl stays) was = elim (cases_Bool a.log.device.gone) [
+carries_either spare a b can_write consistent log honest (inr shows) was = inr (record { carried = carried b.log.device spare (current a) shows.carries; found = shows.found })
+carries_either spare a b can_write consistent log honest (inl stays) was = elim (cases_Bool a.log.device.gone) [
   | inl gone ↦ inl (record { carried = subst (λ (z : Device). IsCarried z spare (committed_map a)) (sym (log.lasts.gone gone)) was; found = found })
   | inr power ↦
       let d : Device = a.log.device in
       let e : Device = b.log.device in
-      let committed : AreCommitted d.flash (committed_pages a.index) = stands.newest honest power in
-      let before = leaves_fewer d.geometry d.flash spare (HasPage (committed_map a)) (IsCommittedKey (committed_pages a.index)) (committed_has a.index d.flash committed) (was.free (numbers_left d a.log.table ready stands.limits honest)) in
+      let committed : AreCommitted d.flash (committed_pages a.index) = consistent.newest honest power in
+      let before = leaves_fewer d.geometry d.flash spare (HasPage (committed_map a)) (IsCommittedKey (committed_pages a.index)) (committed_has a.index d.flash committed) (was.free (numbers_left d a.log.table can_write consistent.limits honest)) in
       inl (record {
         carried = record {
           newest = carries_committed a.index d.flash e.flash committed stays.same_data;

@@ -4,8 +4,8 @@ use Rattle.flash_tree.specs.declared.place.FreshPage.{FreshPage}
 use Rattle.page_store.specs.declared.buffer.Buffer.{Buffer}
 
 -- its pages, in the order of their places
-abbrev pub buffered : Buffer → List FreshPage
-buffered it = it.pages.items
+abbrev pub contents : Buffer → List FreshPage
+contents it = it.pages.items
 
 -- the pages that were written last and not taken since
 abbrev pub last_written : Buffer → List FreshPage
@@ -21,5 +21,5 @@ bytes_of_page it = it.page_bytes
 
 -- the buffer was written: it has no pages any more, and those that it had are the last written
 pub record HasSettled (old new : Buffer) : Type 0 where
-  pub empty : buffered new ≡ []
-  pub written : last_written new ≡ buffered old
+  pub empty : contents new ≡ []
+  pub written : last_written new ≡ contents old

@@ -8,7 +8,7 @@ use Rattle.block_state.specs.declared.blocks.Blocks.{Blocks}
 use Rattle.flash_tree.specs.declared.place.FreshPage.{FreshPage}
 use Rattle.chunk_index.specs.declared.index.Index.{Index}
 use Rattle.page_store.specs.declared.buffer.Buffer.{Buffer}
-use Rattle.page_store.specs.BufferOf.{buffered, last_written}
+use Rattle.page_store.specs.BufferOf.{contents, last_written}
 use Rattle.page_store.specs.Shown.{committed_data, present_data}
 use Rattle.pages.specs.Maps.{PageMap}
 use Rattle.transactions.specs.Checking.{LogState, log_of}
@@ -24,7 +24,7 @@ pub record BufferedLog : Type 0 where
 
 -- a log with the pages of a buffer
 abbrev pub held : {N : Type 0} {nand : Ghosts N} → Log N nand → Buffer → BufferedLog
-held log b = record { log = log_state log; index = log.index; pages = buffered b; last = last_written b }
+held log b = record { log = log_state log; index = log.index; pages = contents b; last = last_written b }
 
 -- a device, of which this is known, and the table of its blocks
 abbrev pub log_in : {N : Type 0} → (N → Device) → N → Blocks → LogState
@@ -32,7 +32,7 @@ log_in state device blocks = log_of (state device) (table blocks)
 
 -- a log of these parts, with the pages of a buffer
 abbrev pub in_parts : {N : Type 0} → (N → Device) → N → Blocks → Index → Buffer → BufferedLog
-in_parts state device blocks x b = record { log = log_in state device blocks; index = x; pages = buffered b; last = last_written b }
+in_parts state device blocks x b = record { log = log_in state device blocks; index = x; pages = contents b; last = last_written b }
 
 -- the data of the committed pages
 abbrev pub committed_map : BufferedLog → PageMap

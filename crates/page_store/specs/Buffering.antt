@@ -4,7 +4,7 @@ use Rattle.std.specs.Option.{option_map}
 use Rattle.flash_tree.specs.declared.place.Key.{Key}
 use Rattle.nand_model.specs.Flash.{Flash}
 use Rattle.flash_tree.specs.declared.place.FreshPage.{FreshPage}
-use Rattle.pages.specs.Maps.{IsPageOf, changed}
+use Rattle.pages.specs.Maps.{IsPageOf, after_change}
 use Rattle.pages.specs.declared.change.Cut.{Cut}
 use Rattle.pages.specs.declared.change.Change.{Change}
 use Rattle.chunk_index.specs.declared.form.CommittedPage.{CommittedPage}
@@ -94,7 +94,7 @@ pub record CutsPages (cut : Cut) (x y : Index) (old new : List FreshPage) : Type
 
 -- The present pages are changed by a change, on every flash.
 abbrev pub ChangesPages : Change → (x y : Index) (old new : List FreshPage) → Type 0
-ChangesPages change x y old new = (flash : Flash) (o c : ℕ) → present_data y new flash o c ≡ changed change (present_data x old flash) o c
+ChangesPages change x y old new = (flash : Flash) (o c : ℕ) → present_data y new flash o c ≡ after_change change (present_data x old flash) o c
 
 -- The pages were written as this group: page i has its data where the group says.
 abbrev pub HasWritten : WrittenGroup → List FreshPage → Flash → Type 0

@@ -1,4 +1,4 @@
--- What a cache of pages stands for.
+-- What a cache of pages represents.
 use Rattle.std.specs.Prelude.{ℕ, List, length, Option, option_map, option_and_then}
 use Rattle.std.specs.Map.{lookup}
 use Rattle.page_store.specs.Slots.{Held, held_in, page_in, is_key}

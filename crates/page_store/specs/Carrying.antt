@@ -12,7 +12,7 @@ use Rattle.chunk_index.specs.Maps.{committed_pages}
 use Rattle.chunk_index.specs.declared.index.Index.{Index}
 use Rattle.transactions.specs.Checking.{LogState}
 use Rattle.flash_log.specs.Mountable.{IsMountable}
-use Rattle.flash_log.specs.Standing.{AreFound, IsCommittedKey, SameData}
+use Rattle.flash_log.specs.Consistency.{AreFound, IsCommittedKey, SameData}
 use Rattle.page_store.specs.Buffered.{BufferedLog, committed_map, current}
 use Rattle.page_store.specs.Buffering.{Buffers}
 

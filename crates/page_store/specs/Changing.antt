@@ -11,10 +11,10 @@ use Rattle.flash_log.specs.declared.fault.MoveFault.TheVariants as moves
 use Rattle.chunk_index.specs.Maps.{SameCommitted, SamePresent}
 use Rattle.page_store.specs.Committing.{IsUnhindered, KeepsOpen}
 use Rattle.flash_tree.specs.declared.place.FreshPage.{FreshPage}
-use Rattle.page_store.specs.BufferOf.{buffered, most_pages}
+use Rattle.page_store.specs.BufferOf.{contents, most_pages}
 use Rattle.page_store.specs.Buffering.{AreBuffered, with_new}
 use Rattle.page_store.specs.Cached.{held_count, capacity_of}
-use Rattle.pages.specs.Maps.{changed}
+use Rattle.pages.specs.Maps.{after_change}
 use Rattle.pages.specs.Stores.{SamePages}
 use Rattle.pages.specs.declared.change.Change.{Change}
 use Rattle.transactions.specs.Handing.{HandsOut}
@@ -79,8 +79,8 @@ pub record IsCommitted (old new : StoreState) : Type 0 where
   pub whole : StaysWhole old new
   pub committed_map : SamePages (committed_in new) (current_in old)
   pub current : SamePages (current_in new) (current_in old)
-  pub empty : buffered new.buffer ≡ []
-  pub cached : TakesPages (buffered old.buffer) old.cache new.cache
+  pub empty : contents new.buffer ≡ []
+  pub cached : TakesPages (contents old.buffer) old.cache new.cache
   pub keeps_open : KeepsOpen (waiting old) old.log new.log
 
 -- A commit failed, now or before, for its reason: nothing is known of the store's pages any more.
@@ -96,7 +96,7 @@ WriteOutEnds old new (Err fault) = IsBroken old new fault
 
 -- nothing is buffered, or nothing hinders the writing of what is
 abbrev pub HasNoHindrance : StoreState → StoreState → Type 0
-HasNoHindrance old new = (buffered old.buffer ≡ []) ⊎ IsUnhindered (waiting old) old.log new.log
+HasNoHindrance old new = (contents old.buffer ≡ []) ⊎ IsUnhindered (waiting old) old.log new.log
 
 -- the log, the reserve, the flash with which it began and whether a commit failed are as they were, and no commit was begun
 pub record SameLog (old new : StoreState) : Type 0 where
@@ -138,7 +138,7 @@ StaysOrKeepsOpen old new = (new.log.table ≡ old.log.table) ⊎ KeepsOpen (wait
 
 -- the buffer has room for these pages besides its own
 abbrev pub FitsBuffer : List FreshPage → StoreState → Type 0
-FitsBuffer pages s = with_new s.index (buffered s.buffer) pages ≤ most_pages s.buffer
+FitsBuffer pages s = with_new s.index (contents s.buffer) pages ≤ most_pages s.buffer
 
 -- no commit is begun: there is no call of the device, the table stays, and so does what is committed
 pub record CommitsNone (old new : StoreState) : Type 0 where
@@ -167,8 +167,8 @@ RoomEnds pages old new (Err fault) = IsBroken old new fault
 pub record IsChanged (change : Change) (old new : StoreState) : Type 0 where
   pub whole : StaysWhole old new
   pub committed_map : CommitsEither old new
-  pub current : old.log.device.honest ≡ true → SamePages (current_in new) (changed change (current_in old))
-  pub buffered : AreBuffered change.pages.items new.index
+  pub current : old.log.device.honest ≡ true → SamePages (current_in new) (after_change change (current_in old))
+  pub in_buffer : AreBuffered change.pages.items new.index
   pub within_limit : waiting new ≤ waiting old + length change.pages.items
   pub places : held_count old.cache + length change.pages.items ≤ capacity_of old.cache → HaveUncutPlaces change.pages.items change.cuts.items new.cache
   pub keeps_open : StaysOrKeepsOpen old new

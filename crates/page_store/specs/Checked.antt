@@ -18,7 +18,7 @@ use Rattle.block_state.specs.TableOf.{table}
 use Rattle.nand_model.specs.Trusting.{trusted_as}
 use Rattle.chunk_index.specs.declared.form.CommittedPage.{CommittedPage}
 use Rattle.chunk_index.specs.Maps.{committed_pages}
-use Rattle.flash_log.specs.Standing.{AreCommitted}
+use Rattle.flash_log.specs.Consistency.{AreCommitted}
 use Rattle.page_store.specs.KnownFirsts.{KnowsFirsts}
 use Rattle.page_store.specs.declared.opening.Opened.{Opened}
 use Rattle.page_store.specs.Opened.{AreLeft, IsOpenedBy, committed_at}

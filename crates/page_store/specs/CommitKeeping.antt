@@ -11,7 +11,7 @@ use Rattle.transactions.specs.Checking.{LogState}
 use Rattle.transactions.specs.Handing.{HandsOut}
 use Rattle.transactions.specs.Ready.{IsReady}
 use Rattle.flash_log.specs.Mountable.{KeepsMountable}
-use Rattle.flash_log.specs.Standing.{Stands}
+use Rattle.flash_log.specs.Consistency.{IsConsistentLog}
 use Rattle.flash_log.specs.Steps.{MovesCommitted, StaysReady, Step}
 use Rattle.page_store.specs.Buffered.{BufferedLog, committed_map, current}
 use Rattle.page_store.specs.Carrying.{ShowsCurrent, StaysOrShows}
@@ -19,8 +19,8 @@ use Rattle.page_store.specs.Carrying.{ShowsCurrent, StaysOrShows}
 -- What a commit keeps of the log, wherever it ends.
 pub record KeepsLog (spare : ℕ) (old new : BufferedLog) : Type 0 where
   pub lasts : Lasts old.log.device new.log.device
-  pub ready : IsReady new.log.device new.log.table
-  pub stands : Stands spare new.log.device new.log.table new.index
+  pub can_write : IsReady new.log.device new.log.table
+  pub consistent : IsConsistentLog spare new.log.device new.log.table new.index
   pub numbers : HandsOut old.log.device new.log.device old.log.table new.log.table
   pub mountable : KeepsMountable old.log new.log old.index new.index
 

@@ -10,7 +10,7 @@ use Rattle.nand_model.specs.Counts.{Costs, ReadsFor}
 use Rattle.transactions.specs.Checking.{LogState}
 use Rattle.flash_log.specs.Bills.{Bill, Pays}
 use Rattle.flash_log.specs.Moving.{AnswersFailures, MarksFailures}
-use Rattle.flash_log.specs.Standing.{HasFreeBlocks}
+use Rattle.flash_log.specs.Consistency.{HasFreeBlocks}
 use Rattle.flash_log.specs.RoomMaking.{FitsOpen, HasMore, WhyNoRoom}
 use Rattle.flash_log.specs.SummarySource.{summary_size}
 use Rattle.flash_log.specs.declared.room_fault.RoomFault.{RoomFault}

@@ -5,7 +5,7 @@ use Rattle.nand_model.specs.Counts.{ReadsBeside}
 use Rattle.block_state.specs.Committed.{bad_count}
 use Rattle.transactions.specs.Checking.{LogState}
 use Rattle.flash_log.specs.Bills.{Pays, bill_of}
-use Rattle.flash_log.specs.Standing.{HasFreeBlocks, Stands}
+use Rattle.flash_log.specs.Consistency.{HasFreeBlocks, IsConsistentLog}
 use Rattle.flash_log.specs.Steps.{Step}
 use Rattle.flash_log.specs.RoomMaking.{WhyNoRoom}
 use Rattle.flash_log.specs.declared.room_fault.RoomFault.{RoomFault}
@@ -50,7 +50,7 @@ AttemptEnds spare old new (Err faults.Gone) = new.log.device.gone ≡ true
 
 -- what an attempt leaves and how it ends, with however many blocks to spare, where blocks enough were free
 abbrev pub Attempts : BufferedLog → BufferedLog → Result Attempt RoomFault → Type 0
-Attempts old new result = (spare : ℕ) → Stands spare old.log.device old.log.table old.index → HasFreeBlocks old.log.table spare → Leaves spare old new × AttemptEnds spare old new result
+Attempts old new result = (spare : ℕ) → IsConsistentLog spare old.log.device old.log.table old.index → HasFreeBlocks old.log.table spare → Leaves spare old new × AttemptEnds spare old new result
 
 -- a failed group and a suspect one are a failure that no mark has answered yet
 abbrev pub unanswered : Result Attempt RoomFault → ℕ

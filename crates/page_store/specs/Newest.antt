@@ -9,15 +9,15 @@ use Rattle.page_store.specs.Shown.{committed_data}
 
 -- Pages that are committed and only read: they are known of an honest device, and it has failed where it is gone or not honest. Nothing
 -- is changed, and no number is handed out.
-abbrev pub seen : Device → Index → List ℕ → PagesState
-seen device x page = record {
+abbrev pub seen_pages : Device → Index → List ℕ → PagesState
+seen_pages device x page = record {
   page_bytes = device.geometry.bytes;
   most = 0;
   present = known_pages device.honest (committed_data x device.flash);
   committed = known_pages device.honest (committed_data x device.flash);
   lent = page;
   near = λ o c. false;
-  buffered = 0;
+  in_buffer = 0;
   sound = device.honest;
   failed = device.gone || not device.honest;
   refused = 0;

@@ -14,7 +14,7 @@ use Rattle.page_store.specs.Buffering.{IsUnbuffered}
 use Rattle.transactions.specs.Ready.{IsReady}
 use Rattle.transactions.specs.Sources.{IsPageName}
 use Rattle.transactions.specs.declared.source.PageName.{PageName}
-use Rattle.flash_log.specs.Standing.{AreCommitted, MayLie}
+use Rattle.flash_log.specs.Consistency.{AreCommitted, MayLie}
 use Rattle.flash_log.specs.Taking.{LiesApart}
 use Rattle.mount_scan.specs.declared.fault.ScanFault.{ScanFault}
 use Rattle.mount_scan.specs.declared.fault.ScanFault.TheVariants as scans
@@ -84,7 +84,7 @@ pub record IsOpenedBy (checkpoint : Option ℕ) (device : Device) (t : Table) (x
   pub low : (o c : ℕ) (p : CommittedPage) → committed_pages x o c ≡ Some p → c < 2 ^ 32
   pub newest : device.honest ≡ true → AreCommitted device.flash (committed_pages x)
   pub numbers : device.honest ≡ true → AreGreatest device.flash n
-  pub ready : AreLeft n → IsReady device t
+  pub can_write : AreLeft n → IsReady device t
   pub group : AreLeft n → t.next_group ≡ n.group + 1
   pub seq : AreLeft n → t.next_seq ≡ n.seq + 1
   pub lie : AreLeft n → (o c : ℕ) (p : CommittedPage) → committed_pages x o c ≡ Some p → MayLie t o c p

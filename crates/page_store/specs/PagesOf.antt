@@ -3,7 +3,7 @@
 use Rattle.nand_model.specs.declared.nand.Nand.{Ghosts}
 use Rattle.flash_tree.specs.Places.{numbers_of}
 use Rattle.pages.specs.State.{PagesState}
-use Rattle.page_store.specs.Newest.{seen}
+use Rattle.page_store.specs.Newest.{seen_pages}
 use Rattle.page_store.specs.ReadOnly.{only_read}
 use Rattle.page_store.specs.StateOf.{lent_by, state_of}
 use Rattle.page_store.specs.StoreState.{seen_of}
@@ -19,7 +19,7 @@ store_pages store = seen_of (state_of store) (lent_by store)
 
 -- the newest pages of a device
 abbrev pub newest_pages : {N : Type 0} {nand : Ghosts N} → NewestPages N nand → PagesState
-newest_pages {N} {nand} pages = seen (nand.state pages.device) pages.index pages.page.items
+newest_pages {N} {nand} pages = seen_pages (nand.state pages.device) pages.index pages.page.items
 
 -- the newest pages of a device, where they are only read
 abbrev pub read_only_pages : {N : Type 0} {nand : Ghosts N} → ReadOnlyPages N nand → PagesState

@@ -10,7 +10,7 @@ use Rattle.pages.specs.Stores.{bad_on, Carries}
 abbrev pub next_after : Numbers → NextNumbers
 next_after n = record { group = n.group + 1; seq = n.seq + 1 }
 
--- Nothing can be written: a number of 2^62 stands on the device, or more blocks are bad than there are to spare.
+-- Nothing can be written: a number of 2^62 is on the device, or more blocks are bad than there are to spare.
 abbrev pub IsWorn : Device → Numbers → (spare : ℕ) → Type 0
 IsWorn device n spare = n.group < number_end → n.seq < number_end → spare < bad_on device
 
@@ -31,7 +31,7 @@ only_read p n spare most refused_change = record {
   committed = p.present;
   lent = p.lent;
   near = p.near;
-  buffered = 0;
+  in_buffer = 0;
   sound = p.sound && not refused_change;
   failed = p.failed;
   refused = p.refused;

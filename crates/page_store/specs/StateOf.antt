@@ -2,7 +2,7 @@
 -- From: this project.
 use Rattle.std.specs.Prelude.{ℕ, List}
 use Rattle.nand_model.specs.declared.nand.Nand.{Ghosts}
-use Rattle.page_store.specs.BufferOf.{buffered}
+use Rattle.page_store.specs.BufferOf.{contents}
 use Rattle.flash_log.specs.LogOf.{log_state}
 use Rattle.page_store.specs.Found.{found_bytes}
 use Rattle.page_store.specs.StoreState.{StoreState}
@@ -23,4 +23,4 @@ state_of store = record {
 
 -- the page that a store lends
 abbrev pub lent_by : {N : Type 0} {nand : Ghosts N} → Store N nand → List ℕ
-lent_by store = found_bytes (buffered store.buffer) store.cache store.scratch.items store.found
+lent_by store = found_bytes (contents store.buffer) store.cache store.scratch.items store.found

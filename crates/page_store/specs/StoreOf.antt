@@ -7,7 +7,7 @@ use Rattle.chunk_index.specs.declared.index.Index.{Index}
 use Rattle.pages.specs.Maps.{PageMap, known_pages}
 use Rattle.block_state.specs.Table.{Table}
 use Rattle.pages.specs.State.{NextNumbers}
-use Rattle.page_store.specs.BufferOf.{buffered}
+use Rattle.page_store.specs.BufferOf.{contents}
 use Rattle.page_store.specs.Shown.{committed_data, present_data}
 use Rattle.page_store.specs.declared.buffer.Buffer.{Buffer}
 
@@ -17,7 +17,7 @@ committed_data_map device x = known_pages device.honest (committed_data x device
 
 -- the pages that are present, where they are known
 abbrev pub present_map : Device → Index → Buffer → PageMap
-present_map device x buffer = known_pages device.honest (present_data x (buffered buffer) device.flash)
+present_map device x buffer = known_pages device.honest (present_data x (contents buffer) device.flash)
 
 -- the numbers that the next group and the next block get
 abbrev pub next_numbers : Table → NextNumbers

@@ -4,7 +4,7 @@ use Rattle.std.specs.Prelude.{ℕ, Bool, false, not, ◌&&◌, ◌||◌, List, l
 use Rattle.chunk_index.specs.declared.index.Index.{Index}
 use Rattle.chunk_index.specs.Maps.{present}
 use Rattle.flash_log.specs.Snapshots.{Snapshot, remembered_flash}
-use Rattle.page_store.specs.BufferOf.{buffered, most_pages}
+use Rattle.page_store.specs.BufferOf.{contents, most_pages}
 use Rattle.page_store.specs.declared.buffer.Buffer.{Buffer}
 use Rattle.page_store.specs.declared.cache.PageCache.{PageCache}
 use Rattle.page_store.specs.Cached.{cached}
@@ -36,7 +36,7 @@ current_in s = present_map s.log.device s.index s.buffer
 
 -- how many pages wait in the buffer
 abbrev pub waiting : StoreState → ℕ
-waiting s = length (buffered s.buffer)
+waiting s = length (contents s.buffer)
 
 -- A store with the page that it lends, as a store of pages: it is sound where its device is honest and no change or commit failed, and it
 -- has failed where its device has no power or is not honest, or a change or commit failed.
@@ -48,7 +48,7 @@ seen_of s lent = record {
   committed = committed_in s;
   lent = lent;
   near = λ o c. is_near (present s.index o c) (cached s.cache o c);
-  buffered = waiting s;
+  in_buffer = waiting s;
   sound = s.log.device.honest && not s.broken;
   failed = s.log.device.gone || (not s.log.device.honest || s.broken);
   refused = s.counts.refused.total;

@@ -29,12 +29,12 @@ pub struct Buffer {
 }
 
 impl Buffer {
-    ghost use Rattle.page_store.specs.BufferOf.{buffered, last_written, most_pages, bytes_of_page, HasSettled};
+    ghost use Rattle.page_store.specs.BufferOf.{contents, last_written, most_pages, bytes_of_page, HasSettled};
 
     /// An empty buffer, with room for so many pages of so many bytes: at most a quarter of the pages of the largest block.
     pub fn new(alloc: Global, most: u32, page_bytes: u32) -> Result<Buffer, AllocError>
         requires { most ≤ 64 }
-        ensures empty { IfOk result (λ it. buffered it ≡ []) }
+        ensures empty { IfOk result (λ it. contents it ≡ []) }
         ensures most { IfOk result (λ it. most_pages it ≡ most) }
         ensures bytes { IfOk result (λ it. bytes_of_page it ≡ page_bytes) }
     {
@@ -55,16 +55,16 @@ impl Buffer {
 
     /// The pages, each at the place that the index has for its key.
     pub fn pages(&self) -> &[FreshPage]
-        ensures { result.now ≡ buffered self.now }
+        ensures { result.now ≡ contents self.now }
     {
         &self.pages
     }
 
     /// Settles all keys: the pages were written as this group. They are to be taken one by one then.
     pub fn settle(&mut self, index: &mut Index, group: WrittenGroup, blocks: &mut Blocks)
-        requires buffers { Buffers index.old (buffered self.old) }
+        requires buffers { Buffers index.old (contents self.old) }
         requires block { group.block < (table blocks.old).geometry.blocks }
-        requires fits { group.first + length (buffered self.old) ≤ (table blocks.old).geometry.pages }
+        requires fits { group.first + length (contents self.old) ≤ (table blocks.old).geometry.pages }
         requires agree { CountsAgree (table blocks.old) index.old }
         ensures settles { Settles group index.old index.new }
         ensures agree { CountsAgree (table blocks.new) index.new }
@@ -82,7 +82,7 @@ impl Buffer {
     pub fn take_written(&mut self) -> Option<FreshPage>
         ensures written { last_written self.old ≡ last_written self.new ++ option_to_list result }
         ensures all { is_some result ≡ false → last_written self.new ≡ [] }
-        ensures pages { buffered self.new ≡ buffered self.old }
+        ensures pages { contents self.new ≡ contents self.old }
         ensures sizes { (most_pages self.new ≡ most_pages self.old) × (bytes_of_page self.new ≡ bytes_of_page self.old) }
     {
         self.written.pop()

@@ -19,7 +19,7 @@ pub fn prepare(index: &mut Index, pages: &[FreshPage]) -> Result<(), AllocError>
     requires { AreOfTrees pages.now }
     ensures committed { SameCommitted index.old index.new }
     ensures present { SamePresent index.old index.new }
-    ensures ready { OnOk result (AreReady index.new pages.now) }
+    ensures can_write { OnOk result (AreReady index.new pages.now) }
     ensures stays { (o c : ℕ) → IsReadyKey index.old o c → IsReadyKey index.new o c }
     ensures prepared { StaysPrepared index.old index.new }
 {
@@ -54,12 +54,12 @@ fn count_new(index: &Index, pages: &[FreshPage]) -> usize
 }
 
 impl Buffer {
-    ghost use Rattle.page_store.specs.BufferOf.{buffered, most_pages, bytes_of_page};
+    ghost use Rattle.page_store.specs.BufferOf.{contents, most_pages, bytes_of_page};
 
     /// Whether the buffer holds these pages with those that it has, each key once. No key is looked up where it
     /// has room for as many pages more.
     pub fn has_room(&self, index: &Index, pages: &[FreshPage]) -> bool
-        ensures { IsTrue result ↔ (with_new index.now (buffered self.now) pages.now ≤ most_pages self.now) }
+        ensures { IsTrue result ↔ (with_new index.now (contents self.now) pages.now ≤ most_pages self.now) }
     {
         let most = self.most() as usize;
         if pages.len() <= most && self.pages.len() <= most - pages.len() {
@@ -71,14 +71,14 @@ impl Buffer {
 
     /// A page becomes the present one of its key.
     fn put(&mut self, index: &mut Index, page: FreshPage)
-        requires buffers { Buffers index.old (buffered self.old) }
+        requires buffers { Buffers index.old (contents self.old) }
         requires prepared { IsPrepared index.old page.key.object page.key.chunk }
         requires size { length page.bytes.items ≡ bytes_of_page self.old }
-        requires room { length (buffered self.old) + lacks (present index.old page.key.object page.key.chunk) ≤ most_pages self.old }
-        ensures buffers { Buffers index.new (buffered self.new) }
+        requires room { length (contents self.old) + lacks (present index.old page.key.object page.key.chunk) ≤ most_pages self.old }
+        ensures buffers { Buffers index.new (contents self.new) }
         ensures committed { SameCommitted index.old index.new }
         ensures prepared { StaysPrepared index.old index.new }
-        ensures puts { PutsPage page index.old index.new (buffered self.old) (buffered self.new) }
+        ensures puts { PutsPage page index.old index.new (contents self.old) (contents self.new) }
         ensures sizes { (most_pages self.new ≡ most_pages self.old) × (bytes_of_page self.new ≡ bytes_of_page self.old) }
     {
         match index.present(page.key) {
@@ -90,15 +90,15 @@ impl Buffer {
 
     /// A page of a key that has none in the buffer becomes the present one.
     fn push(&mut self, index: &mut Index, page: FreshPage)
-        requires buffers { Buffers index.old (buffered self.old) }
+        requires buffers { Buffers index.old (contents self.old) }
         requires prepared { IsPrepared index.old page.key.object page.key.chunk }
         requires lacking { lacks (present index.old page.key.object page.key.chunk) ≡ 1 }
         requires size { length page.bytes.items ≡ bytes_of_page self.old }
-        requires room { length (buffered self.old) < most_pages self.old }
-        ensures buffers { Buffers index.new (buffered self.new) }
+        requires room { length (contents self.old) < most_pages self.old }
+        ensures buffers { Buffers index.new (contents self.new) }
         ensures committed { SameCommitted index.old index.new }
         ensures prepared { StaysPrepared index.old index.new }
-        ensures puts { PutsPage page index.old index.new (buffered self.old) (buffered self.new) }
+        ensures puts { PutsPage page index.old index.new (contents self.old) (contents self.new) }
         ensures sizes { (most_pages self.new ≡ most_pages self.old) × (bytes_of_page self.new ≡ bytes_of_page self.old) }
     {
         index.place(page.key, Form::Buffered(self.pages.len() as u32));
@@ -107,16 +107,16 @@ impl Buffer {
 
     /// Each page becomes the present one of its key.
     fn put_all(&mut self, index: &mut Index, pages: Vec<FreshPage>)
-        requires buffers { Buffers index.old (buffered self.old) }
+        requires buffers { Buffers index.old (contents self.old) }
         requires prepared { ArePrepared index.old pages.items }
         requires size { AreSized pages.items (bytes_of_page self.old) }
         requires apart { AreApart pages.items }
-        requires room { with_new index.old (buffered self.old) pages.items ≤ most_pages self.old }
-        ensures buffers { Buffers index.new (buffered self.new) }
+        requires room { with_new index.old (contents self.old) pages.items ≤ most_pages self.old }
+        ensures buffers { Buffers index.new (contents self.new) }
         ensures committed { SameCommitted index.old index.new }
         ensures prepared { StaysPrepared index.old index.new }
-        ensures puts { (flash : Flash) (o c : ℕ) → present_data index.new (buffered self.new) flash o c ≡ with_pages pages.items (present_data index.old (buffered self.old) flash) o c }
-        ensures within_limit { length (buffered self.new) ≤ with_new index.old (buffered self.old) pages.items }
+        ensures puts { (flash : Flash) (o c : ℕ) → present_data index.new (contents self.new) flash o c ≡ with_pages pages.items (present_data index.old (contents self.old) flash) o c }
+        ensures within_limit { length (contents self.new) ≤ with_new index.old (contents self.old) pages.items }
         ensures sizes { (most_pages self.new ≡ most_pages self.old) × (bytes_of_page self.new ≡ bytes_of_page self.old) }
     {
         for page in pages {
@@ -126,15 +126,15 @@ impl Buffer {
 
     /// Makes a change, for which there is room in the index and in the buffer.
     pub fn apply(&mut self, index: &mut Index, change: Change)
-        requires buffers { Buffers index.old (buffered self.old) }
+        requires buffers { Buffers index.old (contents self.old) }
         requires pages { CanPut index.old (bytes_of_page self.old) change.pages.items }
-        requires room { with_new index.old (buffered self.old) change.pages.items ≤ most_pages self.old }
-        ensures buffers { Buffers index.new (buffered self.new) }
+        requires room { with_new index.old (contents self.old) change.pages.items ≤ most_pages self.old }
+        ensures buffers { Buffers index.new (contents self.new) }
         ensures committed { SameCommitted index.old index.new }
         ensures prepared { StaysPrepared index.old index.new }
-        ensures changes { ChangesPages change index.old index.new (buffered self.old) (buffered self.new) }
-        ensures buffered { AreBuffered change.pages.items index.new }
-        ensures within_limit { length (buffered self.new) ≤ with_new index.old (buffered self.old) change.pages.items }
+        ensures changes { ChangesPages change index.old index.new (contents self.old) (contents self.new) }
+        ensures in_buffer { AreBuffered change.pages.items index.new }
+        ensures within_limit { length (contents self.new) ≤ with_new index.old (contents self.old) change.pages.items }
         ensures sizes { (most_pages self.new ≡ most_pages self.old) × (bytes_of_page self.new ≡ bytes_of_page self.old) }
     {
         let Change { pages, cuts } = change;

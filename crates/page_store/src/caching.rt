@@ -1,7 +1,7 @@
 // What a change and a commit do to the cache.
 ghost use Rattle.std.specs.Prelude.{◌≡◌, ◌≤◌, ◌+◌, None, false, length, OnOk};
 ghost use Rattle.pages.specs.Maps.{PageMap};
-ghost use Rattle.page_store.specs.BufferOf.{buffered, last_written, most_pages, bytes_of_page};
+ghost use Rattle.page_store.specs.BufferOf.{contents, last_written, most_pages, bytes_of_page};
 ghost use Rattle.page_store.specs.Cached.{cached, held_count, capacity_of, page_bytes_of};
 ghost use Rattle.page_store.specs.Changes.{KeepsSizes};
 ghost use Rattle.page_store.specs.Caching.{Shows, HasNoMore, LacksCuts, LacksPages, AreIn, TakesPages, KeepsUncut, KeepsUnwritten, KeepsKeys, HavePlaces};
@@ -69,7 +69,7 @@ pub(crate) fn drop_committed(cache: &mut PageCache, pages: &[FreshPage], is_comm
 /// many spare frames.
 pub(crate) fn keep_written(buffer: &mut Buffer, cache: &mut PageCache, spares: usize)
     requires size { bytes_of_page buffer.old ≡ page_bytes_of cache.old }
-    ensures pages { buffered buffer.new ≡ buffered buffer.old }
+    ensures pages { contents buffer.new ≡ contents buffer.old }
     ensures buffer_sizes { (most_pages buffer.new ≡ most_pages buffer.old) × (bytes_of_page buffer.new ≡ bytes_of_page buffer.old) }
     ensures sizes { KeepsSizes cache.old cache.new }
     ensures shows { (m : PageMap) → Shows cache.old m → AreIn (last_written buffer.old) m → Shows cache.new m }

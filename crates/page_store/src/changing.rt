@@ -2,12 +2,12 @@
 ghost use Rattle.std.specs.Prelude.{◌≡◌, ◌≤◌, ◌+◌, ◌/◌, length, true, false, OnOk, IfErr};
 ghost use Rattle.chunk_index.specs.Maps.{SameCommitted, SamePresent};
 ghost use Rattle.page_store.specs.Committing.{PaysUpTo};
-ghost use Rattle.page_store.specs.BufferOf.{buffered};
+ghost use Rattle.page_store.specs.BufferOf.{contents};
 ghost use Rattle.page_store.specs.Buffering.{ArePrepared, AreReady, AreBuffered, with_new};
 ghost use Rattle.page_store.specs.Cached.{held_count, capacity_of};
 ghost use Rattle.page_store.specs.Changes.{KeepsSizes};
 ghost use Rattle.pages.specs.Changes.{AreApart, AreSized, AreOfTrees};
-ghost use Rattle.pages.specs.Maps.{changed};
+ghost use Rattle.pages.specs.Maps.{after_change};
 ghost use Rattle.pages.specs.Stores.{SamePages};
 ghost use Rattle.volume_terms.specs.declared.fault.StoreFault.TheVariants as faults;
 ghost use Rattle.page_store.specs.Caching.{HasNoMore, HavePlaces, KeepsUncutKeys, LacksPages};
@@ -60,7 +60,7 @@ impl<N: Nand> Store<N> {
     fn prepare(&mut self, pages: &[FreshPage]) -> Result<(), StoreFault>
         requires { AreOfTrees pages.now }
         ensures same { Prepares (state_of self.old) (state_of self.new) }
-        ensures ready { OnOk result (AreReady self.new.log.index pages.now) }
+        ensures can_write { OnOk result (AreReady self.new.log.index pages.now) }
         ensures places { held_count self.old.cache + length pages.now ≤ capacity_of self.old.cache → OnOk result (HavePlaces pages.now self.new.cache) }
         ensures lacks { OnOk result (LacksPages pages.now self.new.cache) }
         ensures fault { IfErr result (λ fault. (fault ≡ faults.NoMemory) × IsRefused self.old.counts self.new.counts) }
@@ -104,9 +104,9 @@ impl<N: Nand> Store<N> {
         requires room { FitsBuffer change.pages.items (state_of self.old) }
         ensures same { SameBeside (state_of self.old) (state_of self.new) }
         ensures committed_map { SamePages (committed_in (state_of self.new)) (committed_in (state_of self.old)) }
-        ensures current { (N.state self.old.log.device).honest ≡ true → SamePages (current_in (state_of self.new)) (changed change (current_in (state_of self.old))) }
-        ensures buffered { AreBuffered change.pages.items self.new.log.index }
-        ensures within_limit { length (buffered self.new.buffer) ≤ with_new self.old.log.index (buffered self.old.buffer) change.pages.items }
+        ensures current { (N.state self.old.log.device).honest ≡ true → SamePages (current_in (state_of self.new)) (after_change change (current_in (state_of self.old))) }
+        ensures in_buffer { AreBuffered change.pages.items self.new.log.index }
+        ensures within_limit { length (contents self.new.buffer) ≤ with_new self.old.log.index (contents self.old.buffer) change.pages.items }
         ensures places { KeepsUncutKeys change.cuts.items self.old.cache self.new.cache }
     {
         self.found = Found::Nowhere;
@@ -125,7 +125,7 @@ fn prepare_all(
     requires { AreOfTrees pages.now }
     ensures committed { SameCommitted index.old index.new }
     ensures present { SamePresent index.old index.new }
-    ensures ready { OnOk result (AreReady index.new pages.now) }
+    ensures can_write { OnOk result (AreReady index.new pages.now) }
     ensures places { held_count cache.old + length pages.now ≤ capacity_of cache.old → OnOk result (HavePlaces pages.now cache.new) }
     ensures lacks { OnOk result (LacksPages pages.now cache.new) }
     ensures sizes { KeepsSizes cache.old cache.new }

@@ -6,7 +6,7 @@ ghost use Rattle.page_store.specs.Checked.{HasTrueFlash, IsOpenedFor, KeepsItsTr
 
 use crate::first_pages::note_firsts;
 use crate::opening::{Opened, table_above};
-use chunk_index::{Index, the_counts_are_of_the_keys};
+use chunk_index::{Index, PlacedPages, the_counts_are_of_the_keys};
 use flash_tree::{CHECK_OBJECT, CHUNK_END, TagNumbers};
 use mount_scan::{FirstPages, FoundCheckpoint};
 use nand_model::Nand;
@@ -56,7 +56,7 @@ pub fn open_committed<N: Nand>(
     ensures opened { IfOk result (λ made. IfSome made (IsOpenedFor (N.state device.now) (checkpoint_of found.now))) }
     ensures tree { HasTrueFlash (N.state device.now) → IfOk result (λ made. IfSome made (KeepsItsTree (N.state device.now))) }
     ensures firsts { IfOk result (λ made. IfSome made (KnowsFirstsBy (N.state device.now) (checkpoint_of found.now))) }
-    ensures some { HasTrueFlash (N.state device.now) → IfOk result (λ made. IsSome made) }
+    ensures made { HasTrueFlash (N.state device.now) → IfOk result (λ made. IsSome made) }
 {
     the_counts_are_of_the_keys();
     if !may_all_be_committed(device, found) {
@@ -69,7 +69,11 @@ pub fn open_committed<N: Nand>(
     };
     let mut blocks = table_above(alloc, device, numbers)?;
     note_firsts(&firsts.pages, &mut blocks);
-    let (index, blocks) = Index::from_committed(alloc, &found.entries, blocks)?;
+    let (index, blocks) = Index::from_committed(
+        alloc,
+        PlacedPages::Entries(&found.entries),
+        blocks,
+    )?;
     let mut blocks = blocks;
     blocks.note_checkpoint(found.block);
     Ok(Some(Opened {

@@ -1,6 +1,6 @@
 // The commit of a store's pages.
 ghost use Rattle.std.specs.Prelude.{◌≡◌, [], false, IsOk};
-ghost use Rattle.page_store.specs.BufferOf.{buffered};
+ghost use Rattle.page_store.specs.BufferOf.{contents};
 ghost use Rattle.page_store.specs.Committing.{PaysCommit};
 ghost use Rattle.page_store.specs.Changing.{CommitKeeps, HasNoHindrance, StaysCarried, WriteOutEnds, fault_of};
 ghost use Rattle.page_store.specs.StoreState.{waiting};
@@ -39,7 +39,7 @@ impl<N: Nand> Store<N> {
         ensures carried { StaysCarried (state_of self.old) (state_of self.new) }
         // A commit of nothing is done, and so is one that nothing hinders.
         ensures unhindered { self.old.broken ≡ false → HasNoHindrance (state_of self.old) (state_of self.new) → IsOk result }
-        ensures nothing { buffered self.old.buffer ≡ [] → N.state self.new.log.device ≡ N.state self.old.log.device }
+        ensures nothing { contents self.old.buffer ≡ [] → N.state self.new.log.device ≡ N.state self.old.log.device }
         ensures ends { WriteOutEnds (state_of self.old) (state_of self.new) result }
     {
         if self.broken {

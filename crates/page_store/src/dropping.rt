@@ -13,16 +13,16 @@ use chunk_index::{Form, Index};
 use pages::Cut;
 
 impl Buffer {
-    ghost use Rattle.page_store.specs.BufferOf.{buffered, most_pages, bytes_of_page};
+    ghost use Rattle.page_store.specs.BufferOf.{contents, most_pages, bytes_of_page};
 
     /// The page at a place goes, and its key has none then. The last page takes the place.
     fn drop_slot(&mut self, index: &mut Index, slot: u32)
-        requires buffers { Buffers index.old (buffered self.old) }
-        requires slot { slot < length (buffered self.old) }
-        ensures buffers { Buffers index.new (buffered self.new) }
+        requires buffers { Buffers index.old (contents self.old) }
+        requires slot { slot < length (contents self.old) }
+        ensures buffers { Buffers index.new (contents self.new) }
         ensures committed { SameCommitted index.old index.new }
         ensures prepared { StaysPrepared index.old index.new }
-        ensures drops { DropsSlot slot index.old index.new (buffered self.old) (buffered self.new) }
+        ensures drops { DropsSlot slot index.old index.new (contents self.old) (contents self.new) }
         ensures sizes { (most_pages self.new ≡ most_pages self.old) × (bytes_of_page self.new ≡ bytes_of_page self.old) }
     {
         let key = self.pages[slot as usize].key;
@@ -38,12 +38,12 @@ impl Buffer {
 
     /// The pages that a cut takes go out of the buffer.
     fn drop_cut(&mut self, index: &mut Index, cut: Cut)
-        requires buffers { Buffers index.old (buffered self.old) }
-        ensures buffers { Buffers index.new (buffered self.new) }
+        requires buffers { Buffers index.old (contents self.old) }
+        ensures buffers { Buffers index.new (contents self.new) }
         ensures committed { SameCommitted index.old index.new }
         ensures prepared { StaysPrepared index.old index.new }
-        ensures drops { DropsCut cut index.old index.new (buffered self.old) (buffered self.new) }
-        ensures room { (ps : List FreshPage) → AreApart ps → with_new index.new (buffered self.new) ps ≤ with_new index.old (buffered self.old) ps }
+        ensures drops { DropsCut cut index.old index.new (contents self.old) (contents self.new) }
+        ensures room { (ps : List FreshPage) → AreApart ps → with_new index.new (contents self.new) ps ≤ with_new index.old (contents self.old) ps }
         ensures sizes { (most_pages self.new ≡ most_pages self.old) × (bytes_of_page self.new ≡ bytes_of_page self.old) }
     {
         let mut slot: u32 = 0;
@@ -58,12 +58,12 @@ impl Buffer {
 
     /// Nothing that a cut takes is present any more.
     pub(crate) fn cut(&mut self, index: &mut Index, cut: Cut)
-        requires buffers { Buffers index.old (buffered self.old) }
-        ensures buffers { Buffers index.new (buffered self.new) }
+        requires buffers { Buffers index.old (contents self.old) }
+        ensures buffers { Buffers index.new (contents self.new) }
         ensures committed { SameCommitted index.old index.new }
         ensures prepared { StaysPrepared index.old index.new }
-        ensures cuts { CutsPages cut index.old index.new (buffered self.old) (buffered self.new) }
-        ensures room { (ps : List FreshPage) → AreApart ps → with_new index.new (buffered self.new) ps ≤ with_new index.old (buffered self.old) ps }
+        ensures cuts { CutsPages cut index.old index.new (contents self.old) (contents self.new) }
+        ensures room { (ps : List FreshPage) → AreApart ps → with_new index.new (contents self.new) ps ≤ with_new index.old (contents self.old) ps }
         ensures sizes { (most_pages self.new ≡ most_pages self.old) × (bytes_of_page self.new ≡ bytes_of_page self.old) }
     {
         self.drop_cut(index, cut);
@@ -72,13 +72,13 @@ impl Buffer {
 
     /// Nothing that one of the cuts takes is present any more.
     pub fn cut_all(&mut self, index: &mut Index, cuts: &[Cut])
-        requires buffers { Buffers index.old (buffered self.old) }
-        ensures buffers { Buffers index.new (buffered self.new) }
+        requires buffers { Buffers index.old (contents self.old) }
+        ensures buffers { Buffers index.new (contents self.new) }
         ensures committed { SameCommitted index.old index.new }
         ensures prepared { StaysPrepared index.old index.new }
-        ensures cuts { (flash : Flash) (o c : ℕ) → present_data index.new (buffered self.new) flash o c ≡ without_cuts cuts.now (present_data index.old (buffered self.old) flash) o c }
-        ensures fewer { length (buffered self.new) ≤ length (buffered self.old) }
-        ensures room { (ps : List FreshPage) → AreApart ps → with_new index.new (buffered self.new) ps ≤ with_new index.old (buffered self.old) ps }
+        ensures cuts { (flash : Flash) (o c : ℕ) → present_data index.new (contents self.new) flash o c ≡ without_cuts cuts.now (present_data index.old (contents self.old) flash) o c }
+        ensures fewer { length (contents self.new) ≤ length (contents self.old) }
+        ensures room { (ps : List FreshPage) → AreApart ps → with_new index.new (contents self.new) ps ≤ with_new index.old (contents self.old) ps }
         ensures sizes { (most_pages self.new ≡ most_pages self.old) × (bytes_of_page self.new ≡ bytes_of_page self.old) }
     {
         for cut in cuts {

@@ -73,6 +73,13 @@ impl<N: Nand> Pages for FlashPages<N> {
         }
     }
 
+    fn has(&self, key: Key) -> bool {
+        match self {
+            FlashPages::Store(store) => store.has(key),
+            FlashPages::ReadOnly(pages) => pages.has(key),
+        }
+    }
+
     fn has_power(&mut self) -> bool {
         match self {
             FlashPages::Store(store) => store.has_power(),
@@ -113,7 +120,7 @@ impl<N: Nand> PageStore for FlashPages<N> {
     ] };
 
     ghost within_limit = { elim [
-      | kinds.Store s ↦ λ sound fresh. few_bad (store_pages s).device (table s.log.blocks) s.log.spare s.broken s.log.ready s.within_limit sound
+      | kinds.Store s ↦ λ sound fresh. few_bad (store_pages s).device (table s.log.blocks) s.log.spare s.broken s.log.can_write s.within_limit sound
       | kinds.ReadOnly s ↦ λ sound fresh. only_worn _ _ fresh
     ] };
 

@@ -4,10 +4,10 @@ ghost use Rattle.volume_terms.specs.Sizes.{number_end};
 ghost use Rattle.nand_model.specs.Calls.{Lasts};
 ghost use Rattle.block_state.specs.Committed.{bad_count};
 ghost use Rattle.block_state.specs.TableOf.{table};
-ghost use Rattle.page_store.specs.BufferOf.{buffered};
+ghost use Rattle.page_store.specs.BufferOf.{contents};
 ghost use Rattle.page_store.specs.Buffering.{Buffers};
 ghost use Rattle.transactions.specs.Ready.{IsReady};
-ghost use Rattle.flash_log.specs.Standing.{Stands};
+ghost use Rattle.flash_log.specs.Consistency.{IsConsistentLog};
 ghost use Rattle.flash_log.specs.RoomMaking.{FitsOpen};
 ghost use Rattle.flash_log.specs.Mountable.{KeepsMountable};
 ghost use Rattle.page_store.specs.Buffered.{in_parts, log_in};
@@ -43,21 +43,21 @@ pub(crate) fn write_buffered<N: Nand>(
     buffer: &mut Buffer,
     scratch: &mut [u8],
 ) -> Result<Attempt, RoomFault>
-    requires ready { IsReady (N.state device.old) (table blocks.old) }
+    requires can_write { IsReady (N.state device.old) (table blocks.old) }
     requires number { (table blocks.old).next_group < number_end }
-    requires stands { (spare : ℕ) × Stands spare (N.state device.old) (table blocks.old) index.old }
-    requires buffers { Buffers index.old (buffered buffer.old) }
-    requires some { 1 ≤ length (buffered buffer.old) }
-    requires pages { AreWritable (N.state device.old) (buffered buffer.old) }
-    requires fits { FitsOpen (length (buffered buffer.old)) (table blocks.old) }
+    requires consistent { (spare : ℕ) × IsConsistentLog spare (N.state device.old) (table blocks.old) index.old }
+    requires buffers { Buffers index.old (contents buffer.old) }
+    requires not_empty { 1 ≤ length (contents buffer.old) }
+    requires pages { AreWritable (N.state device.old) (contents buffer.old) }
+    requires fits { FitsOpen (length (contents buffer.old)) (table blocks.old) }
     requires size { length scratch.old ≡ (N.state device.old).geometry.bytes }
     ensures lasts { Lasts (N.state device.old) (N.state device.new) }
-    ensures ready { IsReady (N.state device.new) (table blocks.new) }
+    ensures can_write { IsReady (N.state device.new) (table blocks.new) }
     ensures bad { bad_count (table blocks.new) ≡ bad_count (table blocks.old) }
-    ensures pays { PaysAttempt (length (buffered buffer.old)) (log_in N.state device.old blocks.old) (log_in N.state device.new blocks.new) result }
-    ensures keeps_open { TrustsOpen (length (buffered buffer.old)) (log_in N.state device.old blocks.old) (log_in N.state device.new blocks.new) result }
+    ensures pays { PaysAttempt (length (contents buffer.old)) (log_in N.state device.old blocks.old) (log_in N.state device.new blocks.new) result }
+    ensures keeps_open { TrustsOpen (length (contents buffer.old)) (log_in N.state device.old blocks.old) (log_in N.state device.new blocks.new) result }
     ensures attempts { Attempts (in_parts N.state device.old blocks.old index.old buffer.old) (in_parts N.state device.new blocks.new index.new buffer.new) result }
-    // Wherever power goes, the next mount may go by summaries, if it might before.
+    // Wherever power is lost, the next mount may go by summaries, if it might before.
     ensures mountable { KeepsMountable (log_in N.state device.old blocks.old) (log_in N.state device.new blocks.new) index.old index.new }
     ensures sizes { SameSizes buffer.old buffer.new }
 {

@@ -4,10 +4,10 @@ ghost use Rattle.block_state.specs.TableOf.{table};
 ghost use Rattle.chunk_index.specs.declared.form.WrittenGroup.{WrittenGroup};
 ghost use Rattle.chunk_index.specs.Counts.{Recounts};
 ghost use Rattle.chunk_index.specs.Maps.{CountsAgree, Settles, count_committed_in};
-ghost use Rattle.page_store.specs.BufferOf.{buffered, last_written};
+ghost use Rattle.page_store.specs.BufferOf.{contents, last_written};
 ghost use Rattle.page_store.specs.Buffering.{Buffers, IsUnbuffered};
 ghost use Rattle.flash_log.specs.LogOf.{HasReserve, SameTerms, log_state, terms_of};
-ghost use Rattle.flash_log.specs.Standing.{HasFreeBlocks};
+ghost use Rattle.flash_log.specs.Consistency.{HasFreeBlocks};
 ghost use Rattle.page_store.specs.Buffered.{held};
 ghost use Rattle.page_store.specs.Carrying.{CanWriteBuffer, CarriesOrShows};
 ghost use Rattle.page_store.specs.Committing.{CommitEnds, CommitsNothing, PaysCommit};
@@ -23,15 +23,15 @@ use nand_model::Nand;
 
 /// Settles the index, where no page is buffered: what was dropped is not committed any more.
 fn settle_empty(index: &mut Index, buffer: &mut Buffer, blocks: &mut Blocks)
-    requires buffers { Buffers index.old (buffered buffer.old) }
-    requires none { buffered buffer.old ≡ [] }
+    requires buffers { Buffers index.old (contents buffer.old) }
+    requires none { contents buffer.old ≡ [] }
     requires agree { CountsAgree (table blocks.old) index.old }
     ensures settles { (g : WrittenGroup) × Settles g index.old index.new }
     ensures agree { CountsAgree (table blocks.new) index.new }
     ensures counts { Recounts (count_committed_in index.old) (count_committed_in index.new) (table blocks.old) (table blocks.new) }
     ensures unbuffered { IsUnbuffered index.new }
-    ensures empty { buffered buffer.new ≡ [] }
-    ensures last { last_written buffer.new ≡ buffered buffer.old }
+    ensures empty { contents buffer.new ≡ [] }
+    ensures last { last_written buffer.new ≡ contents buffer.old }
     ensures sizes { SameSizes buffer.old buffer.new }
 {
     let group = WrittenGroup {
@@ -50,9 +50,9 @@ pub fn commit<N: Nand>(log: &mut Log<N>, buffer: &mut Buffer) -> Result<(), Room
     requires buffers { CanWriteBuffer (held log.old buffer.old) }
     ensures log { KeepsLog log.old.spare (held log.old buffer.old) (held log.new buffer.new) }
     ensures terms { SameTerms (terms_of log.old) (terms_of log.new) }
-    ensures pays { PaysCommit (length (buffered buffer.old)) log.old.spare (log_state log.old) (log_state log.new) result }
+    ensures pays { PaysCommit (length (contents buffer.old)) log.old.spare (log_state log.old) (log_state log.new) result }
     // The open block is closed only where it lacks the pages, or a program failed; and what nothing hinders is done.
-    ensures well { GoesWell (length (buffered buffer.old)) (log_state log.old) (log_state log.new) result }
+    ensures well { GoesWell (length (contents buffer.old)) (log_state log.old) (log_state log.new) result }
     ensures buffer { SameSizes buffer.old buffer.new × KeepsBuffer (held log.old buffer.old) (held log.new buffer.new) }
     // Wherever it ends, the device carries what was committed, or all that was current, with blocks enough free of it.
     ensures carries { (N.state log.old.device).honest ≡ true → CarriesOrShows log.old.spare (held log.old buffer.old) (N.state log.new.device) }

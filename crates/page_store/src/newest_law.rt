@@ -8,7 +8,7 @@ ghost use Rattle.block_state.specs.Table.{Table};
 ghost use Rattle.chunk_index.specs.declared.index.Index.{Index};
 ghost use Rattle.chunk_index.specs.Maps.{committed_pages};
 ghost use Rattle.page_store.specs.Shown.{committed_data, HaveData};
-ghost use Rattle.flash_log.specs.Standing.{AreCommitted};
+ghost use Rattle.flash_log.specs.Consistency.{AreCommitted};
 ghost use Rattle.page_store.specs.Opened.{IsOpened};
 
 /// Committed pages that are the newest of their keys have data. Of a device that was opened the committed pages are the newest

@@ -10,7 +10,7 @@ use crate::read_committed;
 use chunk_index::{CommittedPage, Index};
 use flash_tree::Key;
 use nand_model::Nand;
-use pages::{KnownPages, Pages, Presence, has_power};
+use pages::{Pages, Presence, has_power};
 use std::alloc::{AllocError, Global};
 use volume_terms::StoreFault;
 
@@ -90,6 +90,10 @@ impl<N: Nand> Pages for NewestPages<N> {
         }
     }
 
+    fn has(&self, key: Key) -> bool {
+        self.index.committed(key).is_some()
+    }
+
     fn has_power(&mut self) -> bool {
         has_power(&mut self.device)
     }
@@ -104,11 +108,5 @@ impl<N: Nand> Pages for NewestPages<N> {
 
     fn return_frame(&mut self, frame: Vec<u8>) {
         let _frame = frame;
-    }
-}
-
-impl<N: Nand> KnownPages for NewestPages<N> {
-    fn has(&self, key: Key) -> bool {
-        self.index.committed(key).is_some()
     }
 }

@@ -6,7 +6,7 @@ ghost use Rattle.page_store.specs.Opened.{name_in, HaveNames};
 
 use mount_scan::{BUCKETS, FoundPages, PageCopy};
 
-/// Whether the page's name may stand in a tag of the group of this number.
+/// Whether the page's name may be in a tag of the group of this number.
 fn has_name(found: PageCopy, number: u64) -> bool
     ensures { IsTrue result ↔ IsPageName number (name_in found) }
 {

@@ -1,7 +1,7 @@
 // Pages of a worn device, which are read and not changed.
 ghost use Rattle.std.specs.Prelude.{◌≡◌, ◌≤◌, true, false, OnOk, IfErr};
 ghost use Rattle.flash_tree.specs.Places.{numbers_of};
-ghost use Rattle.page_store.specs.Newest.{seen};
+ghost use Rattle.page_store.specs.Newest.{seen_pages};
 ghost use Rattle.page_store.specs.NewestParts.{device_of, index_of, page_of};
 ghost use Rattle.volume_terms.specs.declared.fault.StoreFault.TheVariants as faults;
 ghost use Rattle.page_store.specs.ReadOnly.{IsWorn, HasGreatest, IsCarrying, only_read};
@@ -18,7 +18,7 @@ use volume_terms::StoreFault;
 #[derive(Drop)]
 pub struct ReadOnlyPages<N: Nand> {
     pages: NewestPages<N>,
-    // The greatest numbers that stand on the device.
+    // The greatest numbers that are on the device.
     greatest: TagNumbers,
     // How many blocks may be bad.
     spare: u32,
@@ -30,7 +30,7 @@ pub struct ReadOnlyPages<N: Nand> {
     refused_change: bool,
     ghost worn: { IsWorn (N.state (device_of pages)) (numbers_of greatest) spare },
     ghost numbers: { HasGreatest (N.state (device_of pages)) (numbers_of greatest) },
-    ghost carrying: { IsCarrying (seen (N.state (device_of pages)) (index_of pages) (page_of pages)) } by { carrying_prop (seen (N.state (device_of pages)) (index_of pages) (page_of pages)) },
+    ghost carrying: { IsCarrying (seen_pages (N.state (device_of pages)) (index_of pages) (page_of pages)) } by { carrying_prop (seen_pages (N.state (device_of pages)) (index_of pages) (page_of pages)) },
 }
 
 impl<N: Nand> ReadOnlyPages<N> {
@@ -90,6 +90,10 @@ impl<N: Nand> Pages for ReadOnlyPages<N> {
 
     fn find(&mut self, key: Key) -> Result<Presence, StoreFault> {
         self.pages.find(key)
+    }
+
+    fn has(&self, key: Key) -> bool {
+        self.pages.has(key)
     }
 
     fn has_power(&mut self) -> bool {

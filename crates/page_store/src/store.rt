@@ -2,11 +2,11 @@
 ghost use Rattle.std.specs.Prelude.{◌≡◌, ◌<◌, ◌≤◌, ℕ, List, length, true, false, None, IsSome, IfOk, IfErr, OnOk, ◌/◌, []};
 ghost use Rattle.std.specs.NonZero.{non_zero_usize_get};
 ghost use Rattle.block_state.specs.TableOf.{table};
-ghost use Rattle.flash_log.specs.Standing.{AreCommitted, HasFreeBlocks};
+ghost use Rattle.flash_log.specs.Consistency.{AreCommitted, HasFreeBlocks};
 ghost use Rattle.chunk_index.specs.Maps.{committed_pages, present};
 ghost use Rattle.chunk_index.specs.declared.form.Present.TheVariants as presents;
 ghost use Rattle.page_store.specs.Buffering.{Buffers, IsUnbuffered};
-ghost use Rattle.page_store.specs.BufferOf.{buffered, most_pages, bytes_of_page};
+ghost use Rattle.page_store.specs.BufferOf.{contents, most_pages, bytes_of_page};
 ghost use Rattle.page_store.specs.Shown.{present_data};
 ghost use Rattle.page_store.specs.Cached.{held, cached, capacity_of, page_bytes_of};
 ghost use Rattle.page_store.specs.Found.{IsFound};
@@ -51,18 +51,18 @@ pub struct Store<N: Nand> {
     // Whether a commit failed, so that nothing is known of the pages any more.
     pub(crate) broken: bool,
     pub(crate) counts: StoreCounts,
-    ghost buffers: { Buffers log.index (buffered buffer) },
-    ghost objects: { broken ≡ false → AreNumbered (N.state log.device) (buffered buffer) },
+    ghost buffers: { Buffers log.index (contents buffer) },
+    ghost objects: { broken ≡ false → AreNumbered (N.state log.device) (contents buffer) },
     ghost most: { most_pages buffer ≡ (N.state log.device).geometry.pages / 4 },
     ghost size: { length scratch.items ≡ (N.state log.device).geometry.bytes },
     ghost buffer_size: { bytes_of_page buffer ≡ (N.state log.device).geometry.bytes },
     ghost cache_size: { page_bytes_of cache ≡ (N.state log.device).geometry.bytes },
-    ghost place: { IsFound (buffered buffer) found },
+    ghost place: { IsFound (contents buffer) found },
     ghost within_limit: { broken ≡ false → HasReserve log },
     ghost free: { broken ≡ false → HasFreeBlocks (table log.blocks) log.spare },
     // Each committed page is the newest of its key, also where the device has gone in a read.
     ghost newest: { broken ≡ false → (N.state log.device).honest ≡ true → AreCommitted (N.state log.device).flash (committed_pages log.index) } by { newest_committed_prop broken (N.state log.device).honest (N.state log.device).flash (committed_pages log.index) },
-    ghost shown: { broken ≡ false → (N.state log.device).honest ≡ true → Shows cache (present_data log.index (buffered buffer) (N.state log.device).flash) },
+    ghost shown: { broken ≡ false → (N.state log.device).honest ≡ true → Shows cache (present_data log.index (contents buffer) (N.state log.device).flash) },
 }
 
 /// What a store takes of memory at once.
@@ -78,7 +78,7 @@ fn make_rooms(
     geometry: Geometry,
     capacity: NonZeroUsize,
 ) -> Result<Rooms, AllocError>
-    ensures empty { IfOk result (λ made. buffered made.buffer ≡ []) }
+    ensures empty { IfOk result (λ made. contents made.buffer ≡ []) }
     ensures buffer { IfOk result (λ made. (most_pages made.buffer ≡ geometry.pages / 4) × (bytes_of_page made.buffer ≡ geometry.bytes)) }
     ensures cache { IfOk result (λ made. (page_bytes_of made.cache ≡ geometry.bytes) × ((o c : ℕ) → held made.cache o c ≡ None)) }
     ensures capacity { IfOk result (λ made. capacity_of made.cache ≡ non_zero_usize_get capacity) }
@@ -109,7 +109,7 @@ impl<N: Nand> Store<N> {
         ensures whole { IfOk result (λ store. store.broken ≡ false) }
         ensures most { IfOk result (λ store. most_pages store.buffer ≡ (N.state log.device).geometry.pages / 4) }
         ensures capacity { IfOk result (λ store. capacity_of store.cache ≡ non_zero_usize_get capacity) }
-        ensures pages { (o c : ℕ) → IfOk result (λ store. present_data log.index (buffered store.buffer) (N.state log.device).flash o c ≡ present_data log.index [] (N.state log.device).flash o c) }
+        ensures pages { (o c : ℕ) → IfOk result (λ store. present_data log.index (contents store.buffer) (N.state log.device).flash o c ≡ present_data log.index [] (N.state log.device).flash o c) }
         ensures given_back { IfErr result (λ back. back.0 ≡ log.device) }
     {
         match make_rooms(alloc, log.device.geometry(), capacity) {
@@ -188,6 +188,14 @@ impl<N: Nand> Pages for Store<N> {
                 Ok(Presence::Present)
             }
             Present::OnFlash(at) => self.find_committed(key, at),
+        }
+    }
+
+    fn has(&self, key: Key) -> bool {
+        match self.log.index.present(key) {
+            Present::Absent => false,
+            Present::InBuffer(_) => true,
+            Present::OnFlash(_) => true,
         }
     }
 

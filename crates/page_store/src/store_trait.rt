@@ -12,7 +12,7 @@ impl<N: Nand> PageStore for Store<N> {
 
     ghost lost = { λ s sound failed. lost_alone (N.state s.log.device).gone (N.state s.log.device).honest s.broken sound failed };
 
-    ghost within_limit = { λ s sound fresh. few_bad (N.state s.log.device) (table s.log.blocks) s.log.spare s.broken s.log.ready s.within_limit sound };
+    ghost within_limit = { λ s sound fresh. few_bad (N.state s.log.device) (table s.log.blocks) s.log.spare s.broken s.log.can_write s.within_limit sound };
 
     fn most_pages(&self) -> u32 {
         self.buffer.most()

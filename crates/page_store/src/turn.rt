@@ -2,10 +2,10 @@
 ghost use Rattle.std.specs.Prelude.{◌<◌, ◌≤◌, length};
 ghost use Rattle.volume_terms.specs.Sizes.{number_end};
 ghost use Rattle.block_state.specs.TableOf.{table};
-ghost use Rattle.page_store.specs.BufferOf.{buffered};
+ghost use Rattle.page_store.specs.BufferOf.{contents};
 ghost use Rattle.page_store.specs.Buffering.{Buffers};
 ghost use Rattle.flash_log.specs.LogOf.{HasReserve, SameTerms, log_state, terms_of};
-ghost use Rattle.flash_log.specs.Standing.{HasFreeBlocks};
+ghost use Rattle.flash_log.specs.Consistency.{HasFreeBlocks};
 ghost use Rattle.flash_log.specs.RoomMaking.{FitsOpen};
 ghost use Rattle.page_store.specs.Buffered.{held};
 ghost use Rattle.page_store.specs.Carrying.{AreWritable};
@@ -32,15 +32,15 @@ pub(crate) enum Turn {
 fn write_in_room<N: Nand>(log: &mut Log<N>, buffer: &mut Buffer) -> Result<Turn, RoomFault>
     requires within_limit { HasReserve log.old }
     requires free { HasFreeBlocks (table log.old.blocks) log.old.spare }
-    requires buffers { Buffers log.old.index (buffered buffer.old) }
-    requires some { 1 ≤ length (buffered buffer.old) }
-    requires pages { AreWritable (N.state log.old.device) (buffered buffer.old) }
-    requires fits { FitsOpen (length (buffered buffer.old)) (table log.old.blocks) }
+    requires buffers { Buffers log.old.index (contents buffer.old) }
+    requires not_empty { 1 ≤ length (contents buffer.old) }
+    requires pages { AreWritable (N.state log.old.device) (contents buffer.old) }
+    requires fits { FitsOpen (length (contents buffer.old)) (table log.old.blocks) }
     requires number { (table log.old.blocks).next_group < number_end }
     ensures terms { SameTerms (terms_of log.old) (terms_of log.new) }
     ensures leaves { Leaves log.old.spare (held log.old buffer.old) (held log.new buffer.new) }
-    ensures pays { PaysWriting (length (buffered buffer.old)) (log_state log.old) (log_state log.new) result }
-    ensures well { GoesWell (length (buffered buffer.old)) (log_state log.old) (log_state log.new) result }
+    ensures pays { PaysWriting (length (contents buffer.old)) (log_state log.old) (log_state log.new) result }
+    ensures well { GoesWell (length (contents buffer.old)) (log_state log.old) (log_state log.new) result }
     ensures sizes { SameSizes buffer.old buffer.new }
     ensures ends { TurnEnds log.old.spare (held log.old buffer.old) (held log.new buffer.new) result }
 {
@@ -67,13 +67,13 @@ fn write_in_room<N: Nand>(log: &mut Log<N>, buffer: &mut Buffer) -> Result<Turn,
 fn take_turn<N: Nand>(log: &mut Log<N>, buffer: &mut Buffer) -> Result<Turn, RoomFault>
     requires within_limit { HasReserve log.old }
     requires free { HasFreeBlocks (table log.old.blocks) log.old.spare }
-    requires buffers { Buffers log.old.index (buffered buffer.old) }
-    requires some { 1 ≤ length (buffered buffer.old) }
-    requires pages { AreWritable (N.state log.old.device) (buffered buffer.old) }
+    requires buffers { Buffers log.old.index (contents buffer.old) }
+    requires not_empty { 1 ≤ length (contents buffer.old) }
+    requires pages { AreWritable (N.state log.old.device) (contents buffer.old) }
     ensures terms { SameTerms (terms_of log.old) (terms_of log.new) }
     ensures leaves { Leaves log.old.spare (held log.old buffer.old) (held log.new buffer.new) }
-    ensures pays { PaysTurn (length (buffered buffer.old)) log.old.spare (log_state log.old) (log_state log.new) result }
-    ensures well { GoesWell (length (buffered buffer.old)) (log_state log.old) (log_state log.new) result }
+    ensures pays { PaysTurn (length (contents buffer.old)) log.old.spare (log_state log.old) (log_state log.new) result }
+    ensures well { GoesWell (length (contents buffer.old)) (log_state log.old) (log_state log.new) result }
     ensures sizes { SameSizes buffer.old buffer.new }
     ensures ends { TurnEnds log.old.spare (held log.old buffer.old) (held log.new buffer.new) result }
 {
@@ -91,13 +91,13 @@ fn take_turn<N: Nand>(log: &mut Log<N>, buffer: &mut Buffer) -> Result<Turn, Roo
 pub(crate) fn write_whole<N: Nand>(log: &mut Log<N>, buffer: &mut Buffer) -> Result<(), RoomFault>
     requires within_limit { HasReserve log.old }
     requires free { HasFreeBlocks (table log.old.blocks) log.old.spare }
-    requires buffers { Buffers log.old.index (buffered buffer.old) }
-    requires some { 1 ≤ length (buffered buffer.old) }
-    requires pages { AreWritable (N.state log.old.device) (buffered buffer.old) }
+    requires buffers { Buffers log.old.index (contents buffer.old) }
+    requires not_empty { 1 ≤ length (contents buffer.old) }
+    requires pages { AreWritable (N.state log.old.device) (contents buffer.old) }
     ensures terms { SameTerms (terms_of log.old) (terms_of log.new) }
     ensures leaves { Leaves log.old.spare (held log.old buffer.old) (held log.new buffer.new) }
-    ensures pays { PaysCommit (length (buffered buffer.old)) log.old.spare (log_state log.old) (log_state log.new) result }
-    ensures well { GoesWell (length (buffered buffer.old)) (log_state log.old) (log_state log.new) result }
+    ensures pays { PaysCommit (length (contents buffer.old)) log.old.spare (log_state log.old) (log_state log.new) result }
+    ensures well { GoesWell (length (contents buffer.old)) (log_state log.old) (log_state log.new) result }
     ensures sizes { SameSizes buffer.old buffer.new }
     ensures ends { WholeEnds log.old.spare (held log.old buffer.old) (held log.new buffer.new) result }
 {

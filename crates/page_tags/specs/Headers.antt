@@ -70,7 +70,7 @@ pub record IsHeaderOf (page : List ℕ) (f : Fields) : Type 0 where
   pub valid : IsHeader (length page) f
   pub encodes : page ≡ header_bytes f
 
--- the numbers that stand in a page
+-- the numbers that are in a page
 abbrev pub length_in : List ℕ → ℕ
 length_in page = little_number 8 (drop 8 page)
 

@@ -157,7 +157,7 @@ pub fn encode_header(header: &Header, page: &mut [u8])
 }
 
 /// Writes the header of a file, in format 2, over the first 32 bytes of a page of 32 to 4096 bytes. The presence bits are
-/// those that stand in the page.
+/// those that are in the page.
 pub fn write_file_header(len: u64, moment: u64, page: &mut [u8])
     requires least { 32 ≤ length page.old }
     requires most { length page.old ≤ 4096 }

@@ -17,7 +17,7 @@ pub fn is_present(bits: &[u8], chunk: u64) -> bool
 
 /// Marks the chunk, from 1 up, as present or not.
 pub fn set_present(bits: &mut [u8], chunk: u64, present: bool)
-    requires some { 1 ≤ chunk }
+    requires not_first { 1 ≤ chunk }
     requires within { chunk ≤ 8 * length bits.old }
     ensures here { is_present bits.new chunk ≡ present }
     ensures others { (c : ℕ) → 1 ≤ c → c ≢ chunk → is_present bits.new c ≡ is_present bits.old c }

@@ -1,5 +1,5 @@
 // Names with equal hashes in one directory. Which words have them was found elsewhere.
-use crate::store::{ROOT, Store, changed, empty_volume, entry};
+use crate::store::{ROOT, Store, after_change, empty_volume, entry};
 use directories::{LeftSlot, left_slot, read_head};
 use name_index::name_hash;
 use object_store::ObjectChange;
@@ -29,7 +29,7 @@ fn with_file(rt: &impl Abort, alloc: Global, store: Store, name: &[u8], number: 
         kind: Kind::File,
         moment: number,
     };
-    changed(rt, alloc, store, file, number)
+    after_change(rt, alloc, store, file, number)
 }
 
 /// A volume in which the names of a pair lead to the files 2 and 3.
@@ -62,7 +62,7 @@ fn names_with_equal_hashes_lead_to_their_own_files(rt: HostRuntime) {
             dropped: Some(2),
             moment: 4,
         };
-        let mut store = changed(&rt, alloc, store, removed, 4);
+        let mut store = after_change(&rt, alloc, store, removed, 4);
         assert_eq!(rt; found(&rt, &mut store, pair), [None, Some(3)]);
         let moved = ObjectChange::Move {
             from: entry(ROOT, second),
@@ -71,7 +71,7 @@ fn names_with_equal_hashes_lead_to_their_own_files(rt: HostRuntime) {
             dropped: None,
             moment: 5,
         };
-        let mut store = changed(&rt, alloc, store, moved, 4);
+        let mut store = after_change(&rt, alloc, store, moved, 4);
         assert_eq!(rt; found(&rt, &mut store, pair), [Some(3), None]);
     }
 }
@@ -89,7 +89,7 @@ fn a_name_gives_way_to_one_with_its_hash(rt: HostRuntime) {
             dropped: Some(2),
             moment: 4,
         };
-        let mut store = changed(&rt, alloc, with_pair(&rt, alloc, pair), moved, 4);
+        let mut store = after_change(&rt, alloc, with_pair(&rt, alloc, pair), moved, 4);
         assert_eq!(rt; found(&rt, &mut store, pair), [Some(3), None]);
     }
 }

@@ -1,5 +1,5 @@
 // A small tree over pages in memory: changes of its objects, and what is read after them.
-use crate::store::{ROOT, Store, changed, empty_volume, entry};
+use crate::store::{ROOT, Store, after_change, empty_volume, entry};
 use directories::read_head;
 use flash_tree::Key;
 use object_store::ObjectChange;
@@ -21,20 +21,20 @@ fn small_volume(rt: &impl Abort, alloc: Global) -> Store {
         kind: Kind::Directory,
         moment: 1,
     };
-    let store = changed(rt, alloc, store, docs, DOCS);
+    let store = after_change(rt, alloc, store, docs, DOCS);
     let file = ObjectChange::Create {
         entry: entry(DOCS, b"a"),
         kind: Kind::File,
         moment: 2,
     };
-    let store = changed(rt, alloc, store, file, FILE);
+    let store = after_change(rt, alloc, store, file, FILE);
     let write = ObjectChange::Write {
         number: FILE,
         offset: 510,
         bytes: b"abcd",
         moment: 3,
     };
-    changed(rt, alloc, store, write, 4)
+    after_change(rt, alloc, store, write, 4)
 }
 
 /// Names lead to their objects; a gap is read as zeros, and no byte past the end.
@@ -71,19 +71,19 @@ fn an_object_that_is_forgotten_has_no_pages(rt: HostRuntime) {
         dropped: None,
         moment: 4,
     };
-    let store = changed(&rt, alloc, store, moved, 4);
+    let store = after_change(&rt, alloc, store, moved, 4);
     let named = ObjectChange::Name {
         entry: entry(ROOT, b"c"),
         number: FILE,
         moment: 5,
     };
-    let store = changed(&rt, alloc, store, named, 4);
+    let store = after_change(&rt, alloc, store, named, 4);
     let removed = ObjectChange::Remove {
         entry: entry(ROOT, b"docs"),
         dropped: Some(DOCS),
         moment: 6,
     };
-    let mut store = changed(&rt, alloc, store, removed, 4);
+    let mut store = after_change(&rt, alloc, store, removed, 4);
     let file = find(&store.names, &mut store.pages, ROOT, 2, b"b").expect(&rt, "a search");
     assert_eq!(rt; file, Some(FILE));
     let docs = find(&store.names, &mut store.pages, ROOT, 2, b"docs").expect(&rt, "a search");
@@ -94,7 +94,7 @@ fn an_object_that_is_forgotten_has_no_pages(rt: HostRuntime) {
     };
     let presence = store.pages.find(header).expect(&rt, "a search");
     assert_eq!(rt; presence, Presence::Absent);
-    let mut store = changed(&rt, alloc, store, ObjectChange::Forget { number: FILE }, 2);
+    let mut store = after_change(&rt, alloc, store, ObjectChange::Forget { number: FILE }, 2);
     for chunk in 0..3 {
         let key = Key {
             object: FILE,

@@ -115,7 +115,7 @@ pub(crate) fn empty_volume(rt: &impl Abort, alloc: Global) -> Store {
 }
 
 /// The store after a change of objects.
-pub(crate) fn changed(
+pub(crate) fn after_change(
     rt: &impl Abort,
     alloc: Global,
     mut store: Store,

@@ -14,7 +14,7 @@ use Rattle.posix_profile.specs.State.{File, Objects, IsFile}
 use Rattle.posix_profile.specs.Changes.{with_bytes, written, resized}
 use Rattle.object_store.specs.Facts.{bytes_of}
 use Rattle.pages.specs.Changes.{IsOnlyOf}
-use Rattle.pages.specs.Maps.{changed}
+use Rattle.pages.specs.Maps.{after_change}
 use Rattle.pages.specs.State.{PagesState}
 use Rattle.pages.specs.laws.Changes.{others_keep}
 use Rattle.pages.specs.declared.change.Change.{Change}
@@ -51,10 +51,10 @@ module _ (p : PagesState) (z : Sizes) (objects : Objects) (h : HoldsIn p z objec
 
   -- the file becomes another, and no other object changes
   pub holds_file : (change : Change) (first end moment : ℕ) (bytes : List ℕ) → IsOnlyOf change o
-      → Becomes z p.present (changed change p.present) o (file_in p z objects h o file).reads.fields first end moment bytes
-      → HoldsObjects z (changed change p.present) (with_bytes objects moment o bytes)
+      → Becomes z p.present (after_change change p.present) o (file_in p z objects h o file).reads.fields first end moment bytes
+      → HoldsObjects z (after_change change p.present) (with_bytes objects moment o bytes)
   holds_file change first end moment bytes only becomes =
-      put_object z p.present (changed change p.present) objects h.holds o (File moment bytes) (λ q c other. others_keep change o only p.present q c other)
+      put_object z p.present (after_change change p.present) objects h.holds o (File moment bytes) (λ q c other. others_keep change o only p.present q c other)
       (record { reads = becomes.reads; only = becomes.only (held_file p z objects h o file).only })
 
   -- its bytes are those that are reported of it

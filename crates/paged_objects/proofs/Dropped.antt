@@ -13,7 +13,7 @@ use Rattle.posix_profile.specs.State.{Objects, Dir, IsDirectory, entries_of}
 use Rattle.posix_profile.specs.laws.Map.{remove_cases}
 use Rattle.object_store.specs.declared.change.ObjectChange.{ObjectChange}
 use Rattle.object_store.specs.declared.change.ObjectChange.TheVariants as changes
-use Rattle.pages.specs.Maps.{PageMap, has, without_cuts, changed}
+use Rattle.pages.specs.Maps.{PageMap, has, without_cuts, after_change}
 use Rattle.pages.specs.Stores.{SamePages}
 use Rattle.pages.specs.declared.change.Change.{Change}
 use Rattle.directories.specs.Leaving.{LeavesName}
@@ -54,12 +54,12 @@ names_forgotten a b z m k objects o drops same names d dir s e less at =
     drops.stays d (fnv1a e.name) s was.0 (names d (dir.0, dir.1, was.1) s e less (cut.0, cuts_leave (record { object = o; from = 0 } ∷ []) m d _ cut.0 cut.1, cut.2, cut.3))
 
 -- a name has left its slot where a change of the pages says so
-left_here : (z : Sizes) (m k : PageMap) (objects : Objects) (planned : Change) (d h : ℕ) (left : Option LeftSlot) → SamePages k (changed planned m)
+left_here : (z : Sizes) (m k : PageMap) (objects : Objects) (planned : Change) (d h : ℕ) (left : Option LeftSlot) → SamePages k (after_change planned m)
     → IfSome left (λ slot. LeavesName z planned d h slot) → HasLeft z k objects d h left
 left_here z m k objects planned d h None same leaves = tt
-left_here z m k objects planned d h (Some left) same leaves = λ dir e less at is. leaves.other (sym (leaves.written m e (same_slot z (changed planned m) k d left.slot e same at)) ∙ is)
+left_here z m k objects planned d h (Some left) same leaves = λ dir e less at is. leaves.other (sym (leaves.written m e (same_slot z (after_change planned m) k d left.slot e same at)) ∙ is)
 
-pub left_by_change : (z : Sizes) (m k : PageMap) (objects : Objects) (planned : Change) (change : ObjectChange) (left : Option LeftSlot) → SamePages k (changed planned m)
+pub left_by_change : (z : Sizes) (m k : PageMap) (objects : Objects) (planned : Change) (change : ObjectChange) (left : Option LeftSlot) → SamePages k (after_change planned m)
     → IfSome left (LeavesBy z planned change) → HasLeftBy z k objects change left
 left_by_change z m k objects planned (changes.Create entry kind moment) left same leaves = tt
 left_by_change z m k objects planned (changes.Name entry number moment) left same leaves = tt

@@ -20,14 +20,14 @@ use Rattle.pages.specs.declared.fault.PageFault.TheVariants as page_faults
 use Rattle.paged_objects.specs.Holding.{HoldsObjects}
 use Rattle.paged_objects.specs.laws.Holding.{cut_object, same_objects}
 use Rattle.paged_objects.specs.Faults.{fault_of, ReadFailsBy}
-use Rattle.paged_objects.specs.Standing.{StandsFor}
+use Rattle.paged_objects.specs.Representing.{PagesRepresent}
 use Rattle.paged_objects.specs.Ending.{StaysAs, Turns, Fails, Commits, HasPages, EndsPages}
 use Rattle.paged_objects.specs.Known.{ObjectsState, sizes_in, HasNamed}
 use Rattle.paged_objects.specs.Changing.{ChangeEnds}
 use Rattle.paged_objects.specs.laws.Going.{finds_stay, refused_stays, stays_on, volume_on}
 use Rattle.paged_objects.proofs.Causes.{used_up}
 use Rattle.paged_objects.proofs.Dropped.{names_forgotten}
-use Rattle.paged_objects.specs.laws.Showing.{stays_stands, changed_stands, still_shown, either_turns, committed_shown, turns_after, fails_after, read_fails}
+use Rattle.paged_objects.specs.laws.Showing.{stays_representing, changed_represents, still_shown, either_turns, committed_shown, turns_after, fails_after, read_fails}
 
 -- a fault of reads, as the store's: one that has failed has lost its device
 pub read_fault : (q : PagesState) (fault : PageFault) → (q.failed ≡ true → q.device.gone ≡ true) → MayLackMemory q fault → ReadFailsBy q (fault_of fault)
@@ -39,7 +39,7 @@ read_fault q page_faults.Full lost why = absurd why
 
 -- objects that are there after look-ups
 pub has_after : (z : Sizes) (p q : PagesState) (objects : Objects) → OnlyFinds p q → HasPages z p objects → HasPages z q objects
-has_after z p q objects lookups has = record { stands = stays_stands z p q objects (finds_stay p q lookups) has.stands; can = has.can }
+has_after z p q objects lookups has = record { represents = stays_representing z p q objects (finds_stay p q lookups) has.represents; can = has.can }
 
 pub named_after : (names : NameIndex) (z : Sizes) (p q : PagesState) (objects : Objects) → OnlyFinds p q → HasNamed names z p objects → HasNamed names z q objects
 named_after names z p q objects lookups has = record {
@@ -52,11 +52,11 @@ pub took : (z : Sizes) (p q : PagesState) (old new : Objects) (m : PageMap) (res
     → OnOk result (p.sound ≡ true → q.sound ≡ true) → OnOk result (SamePages q.present m) → KeepsEither p q → (IsErrOf result faults.NoMemory → StaysSame p q) → IfErr result (ChangeFailsBy p q)
     → EndsPages z p q old new result
 took z p q old new m (Ok done) has holds goes sound same keeps refused why =
-    let turns = either_turns z p q old goes has.stands has.can keeps in
-    (changed_stands z p q old new m goes has.stands (sound has.stands.sound) holds same turns, turns)
+    let turns = either_turns z p q old goes has.represents has.can keeps in
+    (changed_represents z p q old new m goes has.represents (sound has.represents.sound) holds same turns, turns)
 took z p q old new m (Err faults.NoMemory) has holds goes sound same keeps refused why = refused_stays p q goes (refused refl)
-took z p q old new m (Err faults.Device) has holds goes sound same keeps refused why = record { goes_on = goes; turns = either_turns z p q old goes has.stands has.can keeps; cause = inl why }
-took z p q old new m (Err faults.Worn) has holds goes sound same keeps refused why = record { goes_on = goes; turns = either_turns z p q old goes has.stands has.can keeps; cause = inr (used_up z p q old has goes why) }
+took z p q old new m (Err faults.Device) has holds goes sound same keeps refused why = record { goes_on = goes; turns = either_turns z p q old goes has.represents has.can keeps; cause = inl why }
+took z p q old new m (Err faults.Worn) has holds goes sound same keeps refused why = record { goes_on = goes; turns = either_turns z p q old goes has.represents has.can keeps; cause = inr (used_up z p q old has goes why) }
 
 -- reads before a change do not matter
 pub ends_after : (z : Sizes) (p q r : PagesState) (old new : Objects) (result : Result (Unit {0}) StoreFault) → StaysAs p q → EndsPages z q r old new result → EndsPages z p r old new result
@@ -79,15 +79,15 @@ not_made a b old new faults.Worn same more ends = ends
 
 -- what a cut leaves of what a mount shows
 cut_turns : (z : Sizes) (p q : PagesState) (objects : Objects) → HasPages z p objects → GoesOn p q → CommittedAs q p.committed → Turns z objects p q
-cut_turns z p q objects has goes committed tree shown = inl (still_shown z p q tree goes has.stands.sound committed shown)
+cut_turns z p q objects has goes committed tree shown = inl (still_shown z p q tree goes has.represents.sound committed shown)
 
 -- an object whose pages are cut is gone
 pub cut_done : (a b : ObjectsState) (objects : Objects) (number : ℕ) → HasPages (sizes_in a) a.pages objects → GoesOn a.pages b.pages → b.pages.sound ≡ true
     → SamePages b.pages.present (without_cuts (record { object = number; from = 0 } ∷ []) a.pages.present) → CommittedAs b.pages a.pages.committed → Reports b.table (map.remove objects number)
     → HasNames a.names (sizes_in a) a.pages.present objects → DropsDirectory number a.names b.names → ChangeEnds a b objects (map.remove objects number) (Ok tt)
 cut_done a b objects number has goes sound same committed reports named drops = (
-  changed_stands (sizes_in a) a.pages b.pages objects (map.remove objects number) (without_cuts (record { object = number; from = 0 } ∷ []) a.pages.present) goes has.stands sound
-      (cut_object (sizes_in a) a.pages.present objects has.stands.holds number) same (cut_turns (sizes_in a) a.pages b.pages objects has goes committed),
+  changed_represents (sizes_in a) a.pages b.pages objects (map.remove objects number) (without_cuts (record { object = number; from = 0 } ∷ []) a.pages.present) goes has.represents sound
+      (cut_object (sizes_in a) a.pages.present objects has.represents.holds number) same (cut_turns (sizes_in a) a.pages b.pages objects has goes committed),
   reports,
   names_forgotten a.names b.names (sizes_in a) a.pages.present b.pages.present objects number drops same named,
   cut_turns (sizes_in a) a.pages b.pages objects has goes committed,
@@ -108,16 +108,16 @@ cut_failed a b objects new faults.Worn has goes committed why = ended_so (sizes_
 
 -- a commit that is done
 pub committed_map : (z : Sizes) (p q : PagesState) (objects : Objects) → HasPages z p objects → GoesOn p q → q.sound ≡ true → SamePages q.present p.present → KeepsEither p q → CommittedAs q p.present
-    → StandsFor z q objects × Commits z objects p q
+    → PagesRepresent z q objects × Commits z objects p q
 committed_map z p q objects has goes sound same keeps committed = (
-  changed_stands z p q objects objects p.present goes has.stands sound has.stands.holds same (either_turns z p q objects goes has.stands has.can keeps),
+  changed_represents z p q objects objects p.present goes has.represents sound has.represents.holds same (either_turns z p q objects goes has.represents has.can keeps),
   record {
     goes_on = goes;
-    shown = committed_shown z q p.present objects (volume_on p q goes ∙ has.stands.sizes) committed has.stands.holds has.can;
-    holds = λ is. same_objects z p.present q.committed objects has.stands.holds (committed.committed is);
+    shown = committed_shown z q p.present objects (volume_on p q goes ∙ has.represents.sizes) committed has.represents.holds has.can;
+    holds = λ is. same_objects z p.present q.committed objects has.represents.holds (committed.committed is);
   },
 )
 
 -- one that ended the use of the store
 pub commit_failed : (z : Sizes) (p q : PagesState) (objects : Objects) (fault : StoreFault) → HasPages z p objects → GoesOn p q → KeepsEither p q → CommitFailsBy p q fault → Fails z objects p q
-commit_failed z p q objects fault has goes keeps why = ended_so z p q objects fault has goes (either_turns z p q objects goes has.stands has.can keeps) why
+commit_failed z p q objects fault has goes keeps why = ended_so z p q objects fault has goes (either_turns z p q objects goes has.represents has.can keeps) why

@@ -17,7 +17,7 @@ use Rattle.posix_profile.specs.declared.reply.Kind.{Kind}
 use Rattle.posix_profile.specs.declared.reply.Kind.TheVariants as kinds
 use Rattle.object_store.specs.Changes.{without, empty_object}
 use Rattle.pages.specs.Changes.{IsOnlyOf}
-use Rattle.pages.specs.Maps.{PageMap, no_pages, without_cuts, changed}
+use Rattle.pages.specs.Maps.{PageMap, no_pages, without_cuts, after_change}
 use Rattle.pages.specs.laws.Changes.{others_keep}
 use Rattle.pages.specs.laws.Maps.{page_elsewhere, first_here}
 use Rattle.directories.specs.Writes.{HasKey}
@@ -39,10 +39,10 @@ has_hashes names z m objects has d (Some (File moment bytes)) is s e less at = a
 has_hashes names z m objects has d (Some (Dir moment entries)) is s e less at = has d (moment, entries, is) s e less at
 
 -- what the pages of a change write of a directory's slots
-pub writes_slots : (z : Sizes) (m : PageMap) (change : Change) (old new : Objects) → HoldsObjects z (changed change m) new → IsSizes z → fits z new ≡ true → WritesNames z change old new → (d : ℕ) (dir : IsDirectory new d)
+pub writes_slots : (z : Sizes) (m : PageMap) (change : Change) (old new : Objects) → HoldsObjects z (after_change change m) new → IsSizes z → fits z new ≡ true → WritesNames z change old new → (d : ℕ) (dir : IsDirectory new d)
     → WritesNewSlots z m change d (map.len (entries_of (map.get old d))) (map.len dir.1)
 writes_slots z m change old new holds numbers fit writes d dir =
-    let here : HoldsDirectory z (changed change m) d dir.0 dir.1 = subst (HoldsObject z (changed change m) d) dir.2 (holds.each d) in
+    let here : HoldsDirectory z (after_change change m) d dir.0 dir.1 = subst (HoldsObject z (after_change change m) d) dir.2 (holds.each d) in
     let within_limit : map.len dir.1 < 4294967295 = few_fitting z new numbers fit d dir in
     record {
       fields = here.reads.fields;
@@ -179,13 +179,13 @@ moved_names z change objects moment d t target apart from to o slots =
 
 -- ---- an object that goes besides
 
-key_there : (change : Change) (m : PageMap) (o c : ℕ) → HasKey change o c → (xs : List ℕ) × (changed change m o c ≡ Some xs)
+key_there : (change : Change) (m : PageMap) (o c : ℕ) → HasKey change o c → (xs : List ℕ) × (after_change change m o c ≡ Some xs)
 key_there change m o c key = elim (first_or_none change.pages.items o c) [
   | inl x ↦ (x.1.0.page.bytes.items, first_here change.pages.items (without_cuts change.cuts.items m) o c x.0 x.1.0.page x.1.0.there x.1.0.object x.1.0.chunk x.1.1)
   | inr none ↦ absurd (none key.0 key.1)
 ]
 
-key_is : (change : Change) (o c : ℕ) (xs : List ℕ) → changed change no_pages o c ≡ Some xs → HasKey change o c
+key_is : (change : Change) (o c : ℕ) (xs : List ℕ) → after_change change no_pages o c ≡ Some xs → HasKey change o c
 key_is change o c xs there = elim (first_or_none change.pages.items o c) [
   | inl x ↦ (x.0, x.1.0)
   | inr none ↦
@@ -193,7 +193,7 @@ key_is change o c xs there = elim (first_or_none change.pages.items o c) [
       absurd cc
 ]
 
-pub names_cut : (z : Sizes) (change cut both : Change) (number : ℕ) → IsOnlyOf cut number → ((o c : ℕ) → changed both no_pages o c ≡ changed cut (changed change no_pages) o c)
+pub names_cut : (z : Sizes) (change cut both : Change) (number : ℕ) → IsOnlyOf cut number → ((o c : ℕ) → after_change both no_pages o c ≡ after_change cut (after_change change no_pages) o c)
     → (old new : Objects) → WritesNames z change old new → WritesNames z both old (map.remove new number)
 names_cut z change cut both number only same old new writes d s low high =
     let c : ℕ = 1 + s / page_slots z in
@@ -205,7 +205,7 @@ names_cut z change cut both number only same old new writes d s low high =
       | inr other ↦
           let committed : count (map.remove new number) d ≡ count new d = same_count (map.get (map.remove new number) d) (map.get new d) (get_removed nat_cmp_total map.nat_cmp-IsAntisymmetric new number d other) in
           let key = key_there change no_pages d c (writes d s low (omega (arith, committed, high))) in
-          key_is both d c key.0 (same d c ∙ others_keep cut number only (changed change no_pages) d c other ∙ key.1)
+          key_is both d c key.0 (same d c ∙ others_keep cut number only (after_change change no_pages) d c other ∙ key.1)
     ]
 
 -- no more entries of any object, whatever is written

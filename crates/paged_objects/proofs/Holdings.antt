@@ -10,7 +10,7 @@ use Rattle.posix_profile.specs.Changes.{new_number, with_name, without_name, wit
 use Rattle.posix_profile.specs.laws.Map.{get_here, get_there}
 use Rattle.posix_profile.specs.laws.Number.{new_number_is}
 use Rattle.pages.specs.Changes.{IsOnlyOf}
-use Rattle.pages.specs.Maps.{PageMap, changed}
+use Rattle.pages.specs.Maps.{PageMap, after_change}
 use Rattle.pages.specs.State.{PagesState}
 use Rattle.pages.specs.laws.Changes.{others_keep, changed_same}
 use Rattle.pages.specs.declared.change.Change.{Change}
@@ -64,11 +64,11 @@ module _ (p : PagesState) (z : Sizes) (objects : Objects) (h : HoldsIn p z objec
 
   -- the directory becomes another, and no other object changes
   pub holds_directory : (change : Change) (moment : ℕ) (entries : Entries) → IsOnlyOf change d
-      → ReadsDirectory z (changed change p.present) d moment entries (directory_in p z objects h d dir).reads.fields.spare → HasOnly z (changed change p.present) d (map.len entries)
-      → HoldsObjects z (changed change p.present) (map.insert objects d (Dir moment entries))
+      → ReadsDirectory z (after_change change p.present) d moment entries (directory_in p z objects h d dir).reads.fields.spare → HasOnly z (after_change change p.present) d (map.len entries)
+      → HoldsObjects z (after_change change p.present) (map.insert objects d (Dir moment entries))
   holds_directory change moment entries only reads besides =
-      put_object z p.present (changed change p.present) objects h.holds d (Dir moment entries) (λ q c other. others_keep change d only p.present q c other)
-      (now_directory (changed change p.present) moment entries reads besides)
+      put_object z p.present (after_change change p.present) objects h.holds d (Dir moment entries) (λ q c other. others_keep change d only p.present q c other)
+      (now_directory (after_change change p.present) moment entries reads besides)
 
   -- its entries are those that are reported of it
   pub entries_are : dir.1 ≡ entries_of (map.get objects d)
@@ -88,22 +88,22 @@ module _ (p : PagesState) (z : Sizes) (objects : Objects) (h : HoldsIn p z objec
 
   -- an object is new, and the directory names it
   pub holds_new : (x : Object) (o : ℕ) → o ≡ new_number objects → (first second : Change) (moment : ℕ) (put name : Name) (got : ℕ) → put ≡ name → got ≡ o
-      → IsOnlyOf first o → IsOnlyOf second d → HoldsObject z (changed first p.present) o (Some x)
-      → ReadsDirectory z (changed second p.present) d moment (map.insert dir.1 put got) (directory_in p z objects h d dir).reads.fields.spare
-      → HasOnly z (changed second p.present) d (map.len (map.insert dir.1 put got))
-      → HoldsObjects z (changed second (changed first p.present)) (with_object objects moment d name x)
+      → IsOnlyOf first o → IsOnlyOf second d → HoldsObject z (after_change first p.present) o (Some x)
+      → ReadsDirectory z (after_change second p.present) d moment (map.insert dir.1 put got) (directory_in p z objects h d dir).reads.fields.spare
+      → HasOnly z (after_change second p.present) d (map.len (map.insert dir.1 put got))
+      → HoldsObjects z (after_change second (after_change first p.present)) (with_object objects moment d name x)
   holds_new x o is first second moment put name got same_name same_number only_first only_second made reads besides =
       let m : PageMap = p.present in
-      let n : PageMap = changed second (changed first m) in
+      let n : PageMap = after_change second (after_change first m) in
       let free : map.get objects o ≡ None = ap (map.get objects) is ∙ (new_number_is objects).free in
       let apart : d ≢ o = other_number o free in
-      let new' : HoldsObject z n o (Some x) = same_object z (changed first m) n o (λ c. others_keep second d only_second (changed first m) o c (λ same. apart (sym same))) (Some x) made in
+      let new' : HoldsObject z n o (Some x) = same_object z (after_change first m) n o (λ c. others_keep second d only_second (after_change first m) o c (λ same. apart (sym same))) (Some x) made in
       let entries : Entries = map.insert dir.1 put got in
-      let named : HoldsDirectory z (changed second m) d moment entries = now_directory (changed second m) moment entries reads besides in
-      let named_there : HoldsObject z n d (Some (Dir moment entries)) = same_object z (changed second m) n d
-      (λ c. changed_same second (changed first m) m d c (others_keep first o only_first m d c apart)) (Some (Dir moment entries)) named in
+      let named : HoldsDirectory z (after_change second m) d moment entries = now_directory (after_change second m) moment entries reads besides in
+      let named_there : HoldsObject z n d (Some (Dir moment entries)) = same_object z (after_change second m) n d
+      (λ c. changed_same second (after_change first m) m d c (others_keep first o only_first m d c apart)) (Some (Dir moment entries)) named in
       let both : HoldsObjects z n (map.insert (map.insert objects o x) d (Dir moment entries)) = put_two z m n objects h.holds o d x (Dir moment entries) apart
-      (λ q c not_o not_d. others_keep second d only_second (changed first m) q c not_d ∙ others_keep first o only_first m q c not_o) new' named_there in
+      (λ q c not_o not_d. others_keep second d only_second (after_change first m) q c not_d ∙ others_keep first o only_first m q c not_o) new' named_there in
       let reported : dir.1 ≡ entries_of (map.get (map.insert objects o x) d) = entries_are ∙ ap entries_of (sym (get_there nat_cmp_total map.nat_cmp-IsAntisymmetric objects o x d apart)) in
       subst (λ k. HoldsObjects z n (map.insert (map.insert objects k x) d (Dir moment (map.insert (entries_of (map.get (map.insert objects k x) d)) name k)))) is
       (subst (λ (es : Entries). HoldsObjects z n (map.insert (map.insert objects o x) d (Dir moment (map.insert es name o)))) reported
@@ -111,12 +111,12 @@ module _ (p : PagesState) (z : Sizes) (objects : Objects) (h : HoldsIn p z objec
       (subst (λ (k : Name). HoldsObjects z n (map.insert (map.insert objects o x) d (Dir moment (map.insert dir.1 k got)))) same_name both)))
 
   -- a name goes from the directory and another is put there
-  pub holds_renamed : (change : Change) (moment : ℕ) (from to : Name) (o : ℕ) → ((q c : ℕ) → q ≢ d → changed change p.present q c ≡ p.present q c)
-      → ReadsDirectory z (changed change p.present) d moment (map.insert (map.remove dir.1 from) to o) (directory_in p z objects h d dir).reads.fields.spare
-      → HasOnly z (changed change p.present) d (map.len (map.insert (map.remove dir.1 from) to o))
-      → HoldsObjects z (changed change p.present) (with_name (without_name objects moment d from) moment d to o)
+  pub holds_renamed : (change : Change) (moment : ℕ) (from to : Name) (o : ℕ) → ((q c : ℕ) → q ≢ d → after_change change p.present q c ≡ p.present q c)
+      → ReadsDirectory z (after_change change p.present) d moment (map.insert (map.remove dir.1 from) to o) (directory_in p z objects h d dir).reads.fields.spare
+      → HasOnly z (after_change change p.present) d (map.len (map.insert (map.remove dir.1 from) to o))
+      → HoldsObjects z (after_change change p.present) (with_name (without_name objects moment d from) moment d to o)
   holds_renamed change moment from to o others reads besides =
-      let n : PageMap = changed change p.present in
+      let n : PageMap = after_change change p.present in
       let entries : Entries = map.insert (map.remove dir.1 from) to o in
       let first : Object = Dir moment (map.remove (entries_of (map.get objects d)) from) in
       let one : HoldsObjects z n (map.insert objects d (Dir moment entries)) = put_object z p.present n objects h.holds d (Dir moment entries) others
@@ -129,12 +129,12 @@ module _ (p : PagesState) (z : Sizes) (objects : Objects) (h : HoldsIn p z objec
 
   -- a name goes from the directory and is put into another
   pub holds_moved : (t : ℕ) (target : IsDirectory objects t) → d ≢ t → (change : Change) (moment : ℕ) (from to : Name) (o : ℕ)
-      → ((q c : ℕ) → q ≢ d → q ≢ t → changed change p.present q c ≡ p.present q c)
-      → HoldsDirectory z (changed change p.present) d moment (map.remove dir.1 from)
-      → HoldsDirectory z (changed change p.present) t moment (map.insert target.1 to o)
-      → HoldsObjects z (changed change p.present) (with_name (without_name objects moment d from) moment t to o)
+      → ((q c : ℕ) → q ≢ d → q ≢ t → after_change change p.present q c ≡ p.present q c)
+      → HoldsDirectory z (after_change change p.present) d moment (map.remove dir.1 from)
+      → HoldsDirectory z (after_change change p.present) t moment (map.insert target.1 to o)
+      → HoldsObjects z (after_change change p.present) (with_name (without_name objects moment d from) moment t to o)
   holds_moved t target apart change moment from to o others source there =
-      let n : PageMap = changed change p.present in
+      let n : PageMap = after_change change p.present in
       let first : Object = Dir moment (map.remove dir.1 from) in
       let was : Object = Dir moment (map.remove (entries_of (map.get objects d)) from) in
       let both : HoldsObjects z n (map.insert (map.insert objects d first) t (Dir moment (map.insert target.1 to o))) =

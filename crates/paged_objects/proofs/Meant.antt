@@ -21,7 +21,7 @@ use Rattle.paged_objects.specs.Naming.{HasNames}
 use Rattle.pages.specs.State.{OnlyFinds}
 use Rattle.pages.specs.Stores.{GoesOn, SamePages, CommittedAs, KeepsEither, CommitFailsBy}
 use Rattle.paged_objects.specs.Faults.{ReadFailsBy}
-use Rattle.paged_objects.specs.Standing.{StandsFor}
+use Rattle.paged_objects.specs.Representing.{PagesRepresent}
 use Rattle.paged_objects.specs.Known.{ObjectsState, sizes_in, StaysIn, HasNamed, HasObjects}
 use Rattle.paged_objects.specs.Changing.{ChangeEnds}
 use Rattle.paged_objects.specs.Meaning.{paged_meaning}
@@ -33,15 +33,15 @@ use Rattle.paged_objects.proofs.Ends.{committed_map, commit_failed}
 pub has_objects : {S : Type 0} (state : S → ObjectsState) (a : S) (z : Sizes) (objects : Objects) → Has (paged_meaning state) z objects a → HasObjects (state a) objects
 has_objects state a z objects has = record {
   pages = record {
-    stands = has.stands.stands;
+    represents = has.represents.represents;
     can = record {
       numbers = subst IsSizes (sym has.sizes) has.numbers;
       forest = subst (λ (k : Sizes). IsForest k objects) (sym has.sizes) has.forest;
       fit = subst (λ (k : Sizes). fits k objects ≡ true) (sym has.sizes) has.fit;
     };
   };
-  reports = has.stands.reports;
-  named = has.stands.named;
+  reports = has.represents.reports;
+  named = has.represents.named;
 }
 
 pub has_named : (s : ObjectsState) (objects : Objects) → HasObjects s objects → HasNamed s.names (sizes_in s) s.pages objects
@@ -79,9 +79,9 @@ module _ {S : Type 0} (state : S → ObjectsState) where
   commits a b objects (Ok done) has table names goes sound present keeps committed why =
       let z : Sizes = sizes_in (state a) in
       let sizes : sizes_in (state b) ≡ z = ap table_sizes table in
-      let done = committed_map z (state a).pages (state b).pages objects has.pages goes (sound has.pages.stands.sound) present keeps committed in (
+      let done = committed_map z (state a).pages (state b).pages objects has.pages goes (sound has.pages.represents.sound) present keeps committed in (
         record {
-          stands = subst (λ (k : Sizes). StandsFor k (state b).pages objects) (sym sizes) done.0;
+          represents = subst (λ (k : Sizes). PagesRepresent k (state b).pages objects) (sym sizes) done.0;
           reports = subst (λ (t : ObjectTable). Reports t objects) (sym table) has.reports;
           named = subst (λ (k : Sizes). HasNames (state b).names k (state b).pages.present objects) (sym sizes)
               (more_names z (state a).names (state b).names (state a).pages.present (state b).pages.present objects (λ d h t is. subst (λ (x : NameIndex). Holds x d h t) (sym names) is) present has.named);
@@ -97,7 +97,7 @@ module _ {S : Type 0} (state : S → ObjectsState) where
       → ChangeEnds (state a) (state b) old new result → Applies (paged_meaning state) old new a b result
   applied a b old new (Ok done) goes same ends = (
     record {
-      stands = subst (λ (k : Sizes). StandsFor k (state b).pages new) (sym same) ends.0;
+      represents = subst (λ (k : Sizes). PagesRepresent k (state b).pages new) (sym same) ends.0;
       reports = ends.1;
       named = subst (λ (k : Sizes). HasNames (state b).names k (state b).pages.present new) (sym same) ends.2;
     },

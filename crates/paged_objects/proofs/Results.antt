@@ -1,7 +1,7 @@
 -- Results that say more.
 use Rattle.std.specs.Prelude.{◌≡◌, ◌≢◌, ℕ, Option, Some, None, Result, Ok, Err, IfOk, IfErr, IfSome}
 use Rattle.pages.specs.Faults.{MayLackMemory}
-use Rattle.pages.specs.Maps.{PageMap, changed}
+use Rattle.pages.specs.Maps.{PageMap, after_change}
 use Rattle.pages.specs.State.{PagesState}
 use Rattle.pages.specs.declared.change.Change.{Change}
 use Rattle.pages.specs.declared.fault.PageFault.{PageFault}
@@ -60,8 +60,8 @@ on_made_three P Q S T (Ok None) f p q s = tt
 on_made_three P Q S T (Err e) f p q s = tt
 
 -- a change that keeps each page of other objects keeps all of them
-pub each_within : {E : Type 0} (r : Result (Option Change) E) (m : PageMap) (d : ℕ) → ((q k : ℕ) → q ≢ d → IfOk r (λ made. IfSome made (λ change. changed change m q k ≡ m q k)))
-    → IfOk r (λ made. IfSome made (λ change. (q k : ℕ) → q ≢ d → changed change m q k ≡ m q k))
+pub each_within : {E : Type 0} (r : Result (Option Change) E) (m : PageMap) (d : ℕ) → ((q k : ℕ) → q ≢ d → IfOk r (λ made. IfSome made (λ change. after_change change m q k ≡ m q k)))
+    → IfOk r (λ made. IfSome made (λ change. (q k : ℕ) → q ≢ d → after_change change m q k ≡ m q k))
 each_within (Ok (Some change)) m d f = f
 each_within (Ok None) m d f = tt
 each_within (Err e) m d f = tt

@@ -17,7 +17,7 @@ use Rattle.flash_tree.specs.Slots.{IsSlotNumber}
 use Rattle.flash_tree.specs.Truth.{IsObjectNumber}
 use Rattle.flash_tree.specs.declared.place.FreshPage.{FreshPage}
 use Rattle.pages.specs.Changes.{AreApart, IsTreeKey}
-use Rattle.pages.specs.Maps.{PageMap, changed, IsPageOf}
+use Rattle.pages.specs.Maps.{PageMap, after_change, IsPageOf}
 use Rattle.pages.specs.laws.Maps.{here}
 use Rattle.pages.specs.declared.change.Change.{Change}
 use Rattle.paged_objects.specs.Holding.{HoldsObject, HoldsObjects}
@@ -88,31 +88,31 @@ made_numbered z objects can change sensible = go change sensible
     go (changes.Forget number) is = numbered_less objects all number
 
 -- a page of a change is of an object that is there afterwards
-page_there : (z : Sizes) (m : PageMap) (change : Change) (objects : Objects) → AreApart change.pages.items → HoldsObjects z (changed change m) objects
+page_there : (z : Sizes) (m : PageMap) (change : Change) (objects : Objects) → AreApart change.pages.items → HoldsObjects z (after_change change m) objects
     → (o c i : ℕ) → IsPageOf change.pages.items o c i → (x : Object) × (map.get objects o ≡ Some x)
 page_there z m change objects apart holds o c i is = go (map.get objects o) (holds.each o)
   where
-    written : changed change m o c ≡ Some is.page.bytes.items
+    written : after_change change m o c ≡ Some is.page.bytes.items
     written =
-        ap (λ k. changed change m k c) (sym is.object) ∙ ap (changed change m is.page.key.object) (sym is.chunk)
+        ap (λ k. after_change change m k c) (sym is.object) ∙ ap (after_change change m is.page.key.object) (sym is.chunk)
         ∙ here change m apart i is.page is.there
 
-    go : (x : Option Object) → HoldsObject z (changed change m) o x → (y : Object) × (x ≡ Some y)
+    go : (x : Option Object) → HoldsObject z (after_change change m) o x → (y : Object) × (x ≡ Some y)
     go None none = let two : None ≡ Some is.page.bytes.items = sym (none c) ∙ written in absurd cc
     go (Some y) held = (y, λ i. Some y)
 
 -- and of a chunk that a tree may look up
-page_low : (z : Sizes) (m : PageMap) (change : Change) (objects : Objects) → IsSizes z → AreApart change.pages.items → HoldsObjects z (changed change m) objects
+page_low : (z : Sizes) (m : PageMap) (change : Change) (objects : Objects) → IsSizes z → AreApart change.pages.items → HoldsObjects z (after_change change m) objects
     → (o c i : ℕ) → IsPageOf change.pages.items o c i → c < 2 ^ 32
-page_low z m change objects sizes apart holds o c i is = held_low z sizes (changed change m) o c is.page.bytes.items written (map.get objects o) (holds.each o) where
-  written : changed change m o c ≡ Some is.page.bytes.items
+page_low z m change objects sizes apart holds o c i is = held_low z sizes (after_change change m) o c is.page.bytes.items written (map.get objects o) (holds.each o) where
+  written : after_change change m o c ≡ Some is.page.bytes.items
   written =
-      ap (λ k. changed change m k c) (sym is.object) ∙ ap (changed change m is.page.key.object) (sym is.chunk)
+      ap (λ k. after_change change m k c) (sym is.object) ∙ ap (after_change change m is.page.key.object) (sym is.chunk)
       ∙ here change m apart i is.page is.there
 
 -- so each is of a key that a tree may look up
 pub none_of_others : (z : Sizes) (m : PageMap) (objects : Objects) → CanHave z objects → (change : ObjectChange) → CanMake z objects change → (pages : Change) → AreApart pages.pages.items
-    → HoldsObjects z (changed pages m) (made objects change) → (i : ℕ) (p : FreshPage) → slice_get pages.pages.items i ≡ Some p → (IsTreeKey p.key → ⊥) → ⊥
+    → HoldsObjects z (after_change pages m) (made objects change) → (i : ℕ) (p : FreshPage) → slice_get pages.pages.items i ≡ Some p → (IsTreeKey p.key → ⊥) → ⊥
 none_of_others z m objects can change make pages apart holds i p is other =
     let of : IsPageOf pages.pages.items p.key.object p.key.chunk i = record { page = p; there = is; object = refl; chunk = refl } in
     let there = page_there z m pages (made objects change) apart holds p.key.object p.key.chunk i of in

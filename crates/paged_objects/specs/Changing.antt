@@ -16,7 +16,7 @@ use Rattle.pages.specs.declared.change.Change.{Change}
 use Rattle.directories.specs.Leaving.{LeavesName}
 use Rattle.directories.specs.declared.leaving.LeftSlot.{LeftSlot}
 use Rattle.paged_objects.specs.Naming.{HasNames}
-use Rattle.paged_objects.specs.Standing.{StandsFor}
+use Rattle.paged_objects.specs.Representing.{PagesRepresent}
 use Rattle.paged_objects.specs.Ending.{Turns, Fails}
 use Rattle.paged_objects.specs.Known.{ObjectsState, sizes_in, StaysIn}
 
@@ -27,7 +27,7 @@ outcome_of (Err fault) = Err fault
 
 -- how a change ends that was to make the second objects of the first
 abbrev pub ChangeEnds : ObjectsState → ObjectsState → Objects → Objects → Result (Unit {0}) StoreFault → Type 0
-ChangeEnds a b old new (Ok done) = StandsFor (sizes_in a) b.pages new × Reports b.table new × HasNames b.names (sizes_in a) b.pages.present new × Turns (sizes_in a) old a.pages b.pages
+ChangeEnds a b old new (Ok done) = PagesRepresent (sizes_in a) b.pages new × Reports b.table new × HasNames b.names (sizes_in a) b.pages.present new × Turns (sizes_in a) old a.pages b.pages
 ChangeEnds a b old new (Err faults.NoMemory) = StaysIn a b
 ChangeEnds a b old new (Err faults.Device) = Fails (sizes_in a) old a.pages b.pages
 ChangeEnds a b old new (Err faults.Worn) = Fails (sizes_in a) old a.pages b.pages

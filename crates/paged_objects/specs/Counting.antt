@@ -4,7 +4,7 @@ use Rattle.flash_tree.specs.declared.place.Key.{Key}
 use Rattle.pages.specs.Maps.{PageMap}
 use Rattle.pages.specs.Stores.{HasPage}
 
--- no key stands twice in the list
+-- no key is there twice in the list
 abbrev pub IsOnce : List Key → Type 0
 IsOnce keys = (i j : ℕ) (k : Key) → slice_get keys i ≡ Some k → slice_get keys j ≡ Some k → i ≡ j
 

@@ -10,7 +10,7 @@ use Rattle.pages.specs.State.{PagesState}
 use Rattle.pages.specs.Stores.{Begins, SamePages, GoesOn, HasFailed, bad_on}
 use Rattle.paged_objects.specs.Holding.{HoldsObjects}
 use Rattle.object_store.specs.Stores.{CanHave}
-use Rattle.paged_objects.specs.Standing.{StandsFor, Shown}
+use Rattle.paged_objects.specs.Representing.{PagesRepresent, Shown}
 
 -- The pages are the same, and the device was only read: so look-ups leave them, and a change that was refused memory.
 pub record StaysAs (old new : PagesState) : Type 0 where
@@ -69,12 +69,12 @@ pub record Commits (z : Sizes) (objects : Objects) (p q : PagesState) : Type 0 w
 
 -- a store of pages holds objects that its volume can have
 pub record HasPages (z : Sizes) (p : PagesState) (objects : Objects) : Type 0 where
-  pub stands : StandsFor z p objects
+  pub represents : PagesRepresent z p objects
   pub can : CanHave z objects
 
 -- how a change of the pages ends, which was to make the second objects of the first
 abbrev pub EndsPages : Sizes → PagesState → PagesState → Objects → Objects → Result (Unit {0}) StoreFault → Type 0
-EndsPages z p q old new (Ok done) = StandsFor z q new × Turns z old p q
+EndsPages z p q old new (Ok done) = PagesRepresent z q new × Turns z old p q
 EndsPages z p q old new (Err faults.NoMemory) = StaysAs p q
 EndsPages z p q old new (Err faults.Device) = Fails z old p q
 EndsPages z p q old new (Err faults.Worn) = Fails z old p q

@@ -1,4 +1,4 @@
--- What a store of objects in pages is, and what it stands for.
+-- What a store of objects in pages is, and what it represents.
 use Rattle.name_index.specs.declared.index.NameIndex.{NameIndex}
 use Rattle.volume_terms.specs.Sizes.{Sizes}
 use Rattle.posix_profile.specs.State.{Objects}
@@ -7,7 +7,7 @@ use Rattle.object_store.specs.declared.table.ObjectTable.{ObjectTable}
 use Rattle.pages.specs.State.{PagesState}
 use Rattle.directories.specs.Hashing.{HoldsMore}
 use Rattle.paged_objects.specs.Naming.{HasNames}
-use Rattle.paged_objects.specs.Standing.{StandsFor}
+use Rattle.paged_objects.specs.Representing.{PagesRepresent}
 use Rattle.paged_objects.specs.Ending.{StaysAs, HasPages}
 
 -- the pages of a store, and what is in memory of their objects: the table, and the index of their names
@@ -25,8 +25,8 @@ abbrev pub sizes_in : ObjectsState → Sizes
 sizes_in s = table_sizes s.table
 
 -- The pages hold these objects, the table reports them, and the index has the hashes of all their names.
-pub record StandsIn (s : ObjectsState) (objects : Objects) : Type 0 where
-  pub stands : StandsFor (sizes_in s) s.pages objects
+pub record Represents (s : ObjectsState) (objects : Objects) : Type 0 where
+  pub represents : PagesRepresent (sizes_in s) s.pages objects
   pub reports : Reports s.table objects
   pub named : HasNames s.names (sizes_in s) s.pages.present objects
 

@@ -1,4 +1,4 @@
-pub mod Standing
+pub mod Representing
 pub mod Ending
 pub mod Known
 pub mod Changing

@@ -20,7 +20,7 @@ use Rattle.object_store.specs.declared.change.DirectoryEntry.{DirectoryEntry}
 use Rattle.object_store.specs.declared.change.ObjectChange.{ObjectChange}
 use Rattle.object_store.specs.declared.change.ObjectChange.TheVariants as changes
 use Rattle.object_store.specs.declared.table.ObjectTable.{ObjectTable}
-use Rattle.pages.specs.Maps.{PageMap, changed}
+use Rattle.pages.specs.Maps.{PageMap, after_change}
 use Rattle.pages.specs.State.{PagesState}
 use Rattle.pages.specs.declared.change.Change.{Change}
 use Rattle.directories.specs.Directories.{IsNamed}
@@ -34,7 +34,7 @@ use Rattle.paged_objects.specs.Placed.{AreAllowed, PlacedObjects, placed}
 
 -- after the change the pages are those of these objects, and no others
 abbrev pub HoldsAfter : Sizes → PageMap → Objects → Change → Type 0
-HoldsAfter z m objects change = HoldsObjects z (changed change m) objects
+HoldsAfter z m objects change = HoldsObjects z (after_change change m) objects
 
 -- after the change the store's pages are those of the second objects
 abbrev pub MakesAll : PlacedObjects → Objects → Change → Type 0
@@ -58,7 +58,7 @@ MayWrite a change planned = IfSome planned (WritesBy a change)
 
 -- the index has the names of the objects that the change makes, with their slots in the pages after the change of pages
 abbrev pub NamesBy : PlacedObjects → NameIndex → ObjectChange → Change → Type 0
-NamesBy a names change it = HasNames names a.sizes (changed it a.pages.present) (made a.objects change)
+NamesBy a names change it = HasNames names a.sizes (after_change it a.pages.present) (made a.objects change)
 
 -- the index has them, with their slots in the pages that the second store has
 abbrev pub NamesMade : PlacedObjects → NameIndex → PagesState → ObjectChange → Type 0
@@ -147,7 +147,7 @@ OfTaken p planned A =
 abbrev pub OfHashed : NameIndex → PagesState → Change → (Sizes → PageMap → Objects → Type 0) → Type 0
 OfHashed names p change A =
     (z : Sizes) (old new : Objects) → HoldsNamed names p z old → WritesNames z change old new → HoldsAfter z p.present new change → IsSizes z
-    → fits z new ≡ true → A z (changed change p.present) new
+    → fits z new ≡ true → A z (after_change change p.present) new
 
 -- this holds of objects whose names the index has, and which the table reports
 abbrev pub OfNames : NameIndex → ObjectTable → (Sizes → PageMap → Objects → Type 0) → Type 0

@@ -1,10 +1,10 @@
--- What objects over pages stand for.
+-- What objects over pages represent.
 use Rattle.std.specs.Prelude.{◌≡◌, not}
 use Rattle.object_store.specs.Stores.{Meaning}
 use Rattle.pages.specs.Stores.{GoesOn, HasFailed}
-use Rattle.paged_objects.specs.Standing.{Shown}
+use Rattle.paged_objects.specs.Representing.{Shown}
 use Rattle.paged_objects.specs.Ending.{Changes, Fails, Commits}
-use Rattle.paged_objects.specs.Known.{ObjectsState, sizes_in, StandsIn, StaysIn}
+use Rattle.paged_objects.specs.Known.{ObjectsState, sizes_in, Represents, StaysIn}
 
 -- The objects that the pages hold, the table reports and the index names. A mount shows those that names keep of what the device committed
 -- last. Each call goes on with the same volume; one that only reads leaves pages and table as they were, and a read fails where the
@@ -12,7 +12,7 @@ use Rattle.paged_objects.specs.Known.{ObjectsState, sizes_in, StandsIn, StaysIn}
 abbrev pub paged_meaning : {S : Type 0} (state : S → ObjectsState) → Meaning S
 paged_meaning state = record {
   sizes = λ s. sizes_in (state s);
-  stands = λ s objects. StandsIn (state s) objects;
+  represents = λ s objects. Represents (state s) objects;
   shows = λ s tree. Shown (sizes_in (state s)) (state s).pages tree;
   has_power = λ s. not (state s).pages.device.gone;
   lasts = λ a b. GoesOn (state a).pages (state b).pages × (sizes_in (state b) ≡ sizes_in (state a));

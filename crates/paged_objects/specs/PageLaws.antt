@@ -14,7 +14,7 @@ use Rattle.pages.specs.State.{PagesState}
 use Rattle.pages.specs.Stores.{HasNumbersLeft, bad_on}
 use Rattle.paged_objects.specs.Counting.{HavePages, IsOnce}
 use Rattle.paged_objects.specs.Holding.{HoldsObjects}
-use Rattle.paged_objects.specs.Standing.{Shown}
+use Rattle.paged_objects.specs.Representing.{Shown}
 
 -- a tree that a mount would show is sound on the flash of an honest device, as long as numbers are left and no more blocks are bad than are
 -- to spare

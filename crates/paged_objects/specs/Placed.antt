@@ -41,7 +41,7 @@ OfNamed names p A = (z : Sizes) (objects : Objects) → HoldsNamed names p z obj
 abbrev pub OfLed : NameIndex → PagesState → DirectoryEntry → (PlacedObjects → Type 0) → Type 0
 OfLed names p entry A = (z : Sizes) (objects : Objects) (o : ℕ) → HoldsNamed names p z objects → LeadsTo objects entry o → A (placed p z objects)
 
--- this holds of objects that the volume can have and the store stands for, where the index has the hashes of all their names
+-- this holds of objects that the volume can have and the store represents, where the index has the hashes of all their names
 abbrev pub OfStored : NameIndex → PagesState → (PlacedObjects → Type 0) → Type 0
 OfStored names p A = (z : Sizes) (objects : Objects) → HasNamed names z p objects → A (placed p z objects)
 

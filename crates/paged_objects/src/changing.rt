@@ -9,7 +9,7 @@ ghost use Rattle.object_store.specs.Changes.{CanMake};
 ghost use Rattle.object_store.specs.declared.change.ObjectChange.TheVariants as changes;
 ghost use Rattle.object_store.specs.Reported.{table_sizes, IsReadyFor, LedBefore, ReportsTheSame};
 ghost use Rattle.pages.specs.Changes.{AreApart, AreSized, AreOfTrees};
-ghost use Rattle.pages.specs.Maps.{changed};
+ghost use Rattle.pages.specs.Maps.{after_change};
 ghost use Rattle.pages.specs.State.{OnlyFinds, KeepsPower};
 ghost use Rattle.pages.specs.Stores.{GoesOn, SamePages};
 ghost use Rattle.directories.specs.Hashing.{HoldsMore};
@@ -35,7 +35,7 @@ use volume_terms::StoreFault;
 /// Makes room in the table for a new object, where the change makes one.
 fn prepare(table: &mut ObjectTable, change: &ObjectChange<'_>) -> Result<(), AllocError>
     ensures same { ReportsTheSame table.old table.new }
-    ensures ready { OnOk result (IsReadyFor table.new change.now) }
+    ensures can_write { OnOk result (IsReadyFor table.new change.now) }
 {
     match change {
         ObjectChange::Create { .. } => table.prepare(),
@@ -101,7 +101,7 @@ fn take<P: PageStore>(pages: &mut P, planned: Change) -> Result<(), StoreFault>
     requires trees { AreOfTrees planned.pages.items }
     ensures goes_on { GoesOn (P.state pages.old) (P.state pages.new) }
     ensures power { OnOk result (KeepsPower (P.state pages.old) (P.state pages.new)) }
-    ensures present { (P.state pages.old).sound ≡ true → OnOk result (SamePages (P.state pages.new).present (changed planned (P.state pages.old).present)) }
+    ensures present { (P.state pages.old).sound ≡ true → OnOk result (SamePages (P.state pages.new).present (after_change planned (P.state pages.old).present)) }
     ensures makes { OfTaken (P.state pages.old) planned (λ z old new. EndsPages z (P.state pages.old) (P.state pages.new) old new result) }
     ensures refused { IsErrOf result faults.NoMemory → StaysAs (P.state pages.old) (P.state pages.new) }
 {

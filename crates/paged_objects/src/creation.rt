@@ -1,7 +1,7 @@
 // The pages of a new object.
 ghost use Rattle.std.specs.Prelude.{◌≡◌, ◌≢◌, ◌≤◌, Some, IfOk, IfErr, length};
 ghost use Rattle.pages.specs.Changes.{IsOnlyOf};
-ghost use Rattle.pages.specs.Maps.{changed};
+ghost use Rattle.pages.specs.Maps.{after_change};
 ghost use Rattle.pages.specs.declared.fault.PageFault.TheVariants as faults;
 ghost use Rattle.file_io.specs.Writes.{IsChangeIn};
 ghost use Rattle.paged_objects.specs.Making.{HoldsEmpty, OfBare, OfUnused};
@@ -50,7 +50,7 @@ pub(crate) fn new_object<P: Pages>(
 ) -> Result<Change, PageFault>
     ensures change { IfOk result (IsChangeIn (P.state pages.now) 1) }
     ensures only { IfOk result (λ change. IsOnlyOf change number) }
-    ensures holds { OfUnused (P.state pages.now) number (λ z m. IfOk result (λ change. HoldsEmpty z (changed change m) number kind moment)) }
+    ensures holds { OfUnused (P.state pages.now) number (λ z m. IfOk result (λ change. HoldsEmpty z (after_change change m) number kind moment)) }
     ensures fault { IfErr result (λ e. e ≡ faults.NoMemory) }
 {
     let page = first_page(pages, alloc, number, kind, moment)?;

@@ -1,6 +1,6 @@
 -- A store's pages as they are after an earlier change, if there is one, that the store has not taken yet.
 use Rattle.std.specs.Prelude.{◌≡◌, ◌<◌, ℕ, true, List, length, slice_get, Option, Some, None, Result, IfOk}
-use Rattle.pages.specs.Maps.{PageMap, changed}
+use Rattle.pages.specs.Maps.{PageMap, after_change}
 use Rattle.pages.specs.Changes.{AreSized}
 use Rattle.pages.specs.State.{PagesState}
 use Rattle.flash_tree.specs.declared.place.FreshPage.{FreshPage}
@@ -12,7 +12,7 @@ use Rattle.pages.specs.declared.after.Source.TheVariants as sources
 -- the pages after the change
 abbrev pub changed_by : Option Change → PageMap → PageMap
 changed_by None m = m
-changed_by (Some change) m = changed change m
+changed_by (Some change) m = after_change change m
 
 -- the store, with these pages
 abbrev pub after : Option Change → PagesState → PagesState
@@ -23,7 +23,7 @@ after earlier p = record {
   committed = p.committed;
   lent = p.lent;
   near = p.near;
-  buffered = p.buffered;
+  in_buffer = p.in_buffer;
   sound = p.sound;
   failed = p.failed;
   refused = p.refused;

@@ -7,7 +7,7 @@ use Rattle.flash_tree.specs.declared.place.Key.{Key}
 use Rattle.pages.specs.declared.change.Cut.{Cut}
 use Rattle.pages.specs.declared.change.Change.{Change}
 
--- no key stands twice among the pages
+-- no key is there twice among the pages
 abbrev pub AreApart : List FreshPage → Type 0
 AreApart pages = (o c i j : ℕ) → IsPageOf pages o c i → IsPageOf pages o c j → i ≡ j
 

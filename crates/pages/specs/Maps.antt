@@ -41,8 +41,8 @@ without_cuts [] m o c = m o c
 without_cuts (cut ∷ cuts) m o c = cond (takes cut o c) None (without_cuts cuts m o c)
 
 -- the pages after a change
-abbrev pub changed : Change → PageMap → PageMap
-changed change m = with_pages change.pages.items (without_cuts change.cuts.items m)
+abbrev pub after_change : Change → PageMap → PageMap
+after_change change m = with_pages change.pages.items (without_cuts change.cuts.items m)
 
 -- the page at place i is of this key
 pub record IsPageOf (pages : List FreshPage) (o c i : ℕ) : Type 0 where

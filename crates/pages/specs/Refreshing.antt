@@ -50,7 +50,7 @@ pub record RefreshEnds (block : ℕ) (old new : PagesState) (result : Result (Un
 pub record Refreshes (block : ℕ) (old new : PagesState) (result : Result (Unit {0}) StoreFault) : Type 0 where
   pub goes_on : GoesOn old new
   pub commits : new.commits ≡ old.commits
-  pub buffered : new.buffered ≡ old.buffered
+  pub in_buffer : new.in_buffer ≡ old.in_buffer
   pub lent : new.lent ≡ old.lent
   pub power : OnOk result (KeepsPower old new)
   pub stops : IfErr result (λ fault. new.sound ≡ false)

@@ -30,7 +30,7 @@ pub record PagesState : Type 0 where
   pub committed : PageMap
   pub lent : List ℕ
   pub near : ℕ → ℕ → Bool
-  pub buffered : ℕ
+  pub in_buffer : ℕ
   pub sound : Bool
   pub failed : Bool
   pub refused : ℕ
@@ -49,7 +49,7 @@ pub record OnlyFinds (old new : PagesState) : Type 0 where
   pub most : new.most ≡ old.most
   pub present : new.present ≡ old.present
   pub committed : new.committed ≡ old.committed
-  pub buffered : new.buffered ≡ old.buffered
+  pub in_buffer : new.in_buffer ≡ old.in_buffer
   pub sound : new.sound ≡ old.sound
   pub failed : old.failed ≡ true → new.failed ≡ true
   pub refused : old.refused ≤ new.refused

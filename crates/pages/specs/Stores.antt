@@ -17,7 +17,7 @@ use Rattle.flash_tree.specs.declared.place.Key.{Key}
 use Rattle.volume_terms.specs.Sizes.{number_limit, number_end}
 use Rattle.volume_terms.specs.declared.fault.StoreFault.{StoreFault}
 use Rattle.volume_terms.specs.declared.fault.StoreFault.TheVariants as faults
-use Rattle.pages.specs.Maps.{PageMap, changed, without_cuts}
+use Rattle.pages.specs.Maps.{PageMap, after_change, without_cuts}
 use Rattle.pages.specs.State.{PagesState, NextNumbers, KeepsPower}
 use Rattle.pages.specs.Changes.{AreApart, AreSized, AreOfTrees}
 use Rattle.pages.specs.declared.change.Change.{Change}
@@ -45,8 +45,8 @@ pub record IsCarried (device : Device) (spare : ℕ) (m : PageMap) : Type 0 wher
   pub free : HasNumbersLeft device.flash → LeavesFree device.geometry device.flash spare (HasPage m)
 
 -- No number is taken back, and no more are handed out than the device had changes: block numbers on every path, and
--- group numbers where an honest device still has power. Where the next numbers were above all that stood on an honest device
--- they are so still; and what stands there now is below the first ones and one more for each change, also where power went.
+-- group numbers where an honest device still has power. Where the next numbers were above all that was on an honest device
+-- they are so still; and what is there now is below the first ones and one more for each change, also where power was lost.
 pub record HandsOutNumbers (old new : Device) (n n' : NextNumbers) : Type 0 where
   pub groups_rise : n.group ≤ n'.group
   pub seqs_rise : n.seq ≤ n'.seq
@@ -120,7 +120,7 @@ KeepsEither old new = CommittedAs new old.committed ⊎ CommittedAs new old.pres
 -- What one commit costs: the device counts at most as many changes as pages were buffered, a block's pages and one more, and
 -- three times a block's pages and three more for each failure.
 abbrev pub CostsACommit : PagesState → PagesState → Type 0
-CostsACommit old new = Costs (old.buffered + old.device.geometry.pages + 1) (3 * old.device.geometry.pages + 3) 0 old.device new.device
+CostsACommit old new = Costs (old.in_buffer + old.device.geometry.pages + 1) (3 * old.device.geometry.pages + 3) 0 old.device new.device
 
 -- no commit is begun, and no call of the device is made
 pub record CommitsNothing (old new : PagesState) : Type 0 where
@@ -190,12 +190,12 @@ pub record CanApply (p : PagesState) (pages : List FreshPage) : Type 0 where
 -- a sound store with a done change: it is sound, and its current pages are the changed ones
 pub record MakesCurrent (change : Change) (old new : PagesState) : Type 0 where
   pub sound : new.sound ≡ true
-  pub present : SamePages new.present (changed change old.present)
+  pub present : SamePages new.present (after_change change old.present)
 
 -- what a done change takes: power is as it was, no more pages are buffered than before with these, and none of these is read again
 pub record BuffersPages (pages : List FreshPage) (old new : PagesState) : Type 0 where
   pub power : KeepsPower old new
-  pub buffered : new.buffered ≤ old.buffered + length pages
+  pub in_buffer : new.in_buffer ≤ old.in_buffer + length pages
   pub near : AreNear pages new
 
 -- a change costs what a commit does, and few reads
@@ -209,7 +209,7 @@ CutsCurrent cut old new = SamePages new.present (without_cuts (cut ∷ []) old.p
 
 -- the buffer has room for so many pages more
 abbrev pub HasBufferFor : ℕ → PagesState → Type 0
-HasBufferFor count p = p.buffered + count ≤ p.most
+HasBufferFor count p = p.in_buffer + count ≤ p.most
 
 -- a sound store with a done commit: it is sound, its current pages stay, and they are committed
 pub record MakesDurable (old new : PagesState) : Type 0 where
@@ -220,7 +220,7 @@ pub record MakesDurable (old new : PagesState) : Type 0 where
 -- a done commit leaves nothing buffered, and power as it was
 pub record EmptiesBuffer (old new : PagesState) : Type 0 where
   pub power : KeepsPower old new
-  pub empty : new.buffered ≡ 0
+  pub empty : new.in_buffer ≡ 0
 
 -- a commit with nothing buffered begins none, and is done where the store is sound
 pub record IsIdle {T E : Type 0} (old new : PagesState) (result : Result T E) : Type 0 where

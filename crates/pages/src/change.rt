@@ -1,6 +1,6 @@
 // What is changed together.
 ghost use Rattle.std.specs.Prelude.{◌≡◌, ◌≤◌, ◌+◌, ◌↔◌, ℕ, true, false, IsTrue, IfOk, OnOk, IfSome, IfNone, length};
-ghost use Rattle.pages.specs.Maps.{PageMap, changed, IsPageOf, IsFirstOf, takes, IsCut};
+ghost use Rattle.pages.specs.Maps.{PageMap, after_change, IsPageOf, IsFirstOf, takes, IsCut};
 ghost use Rattle.pages.specs.Changes.{AreApart, AreSized, HasFewerPages, IsNothing, IsPutBehind};
 
 use flash_tree::{FreshPage, Key};
@@ -31,7 +31,7 @@ pub struct Change {
 
 /// The place of the first page of a key.
 pub(crate) fn place_of(pages: &[FreshPage], key: Key) -> Option<usize>
-    ensures some { IfSome result (IsFirstOf pages.now key.object key.chunk) }
+    ensures first { IfSome result (IsFirstOf pages.now key.object key.chunk) }
     ensures none { IfNone result ((i : ℕ) → IsPageOf pages.now key.object key.chunk i → ⊥) }
 {
     for (place, page) in pages.iter().enumerate() {
@@ -90,7 +90,7 @@ impl Change {
 
     /// This change and then another, as one: of a key that both write it has the later page.
     pub fn then(self, next: Change) -> Result<Change, AllocError>
-        ensures pages { (m : PageMap) (o c : ℕ) → IfOk result (λ both. changed both m o c ≡ changed next (changed self m) o c) }
+        ensures pages { (m : PageMap) (o c : ℕ) → IfOk result (λ both. after_change both m o c ≡ after_change next (after_change self m) o c) }
         ensures apart { AreApart self.pages.items → AreApart next.pages.items → IfOk result (λ both. AreApart both.pages.items) }
         ensures size { (bytes : ℕ) → AreSized self.pages.items bytes → AreSized next.pages.items bytes → IfOk result (λ both. AreSized both.pages.items bytes) }
         ensures within_limit { IfOk result (λ both. length both.pages.items ≤ length self.pages.items + length next.pages.items) }

@@ -15,7 +15,7 @@ pub enum PageFault {
     Device,
     /// There are no more blocks, or no more numbers, to write with.
     Worn,
-    /// What stands there is not such an object, or a page of it is missing or is none of its pages.
+    /// What is there is not such an object, or a page of it is missing or is none of its pages.
     Damaged,
     /// The object is as large as its header can say.
     Full,

@@ -5,7 +5,6 @@ mod after;
 mod change;
 mod fault;
 mod frames;
-mod known;
 mod law;
 mod loading;
 mod memory;
@@ -17,7 +16,6 @@ pub use after::{Source, load_after, page_after};
 pub use change::{Change, Cut, are_sized};
 pub use fault::PageFault;
 pub use frames::{blank_page, copied_page, filled_page};
-pub use known::KnownPages;
 pub use law::{
     changes_of_two_objects_commute, no_change_keeps_all_pages, other_objects_keep_their_pages,
 };

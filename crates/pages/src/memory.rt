@@ -1,6 +1,6 @@
 // Pages in memory, for tests.
 ghost use Rattle.std.specs.Prelude.{◌≡◌, ◌≤◌, ◌+◌, ℕ, true, false, Some, None, IfOk, IfErr, OnOk, length};
-ghost use Rattle.pages.specs.Maps.{changed};
+ghost use Rattle.pages.specs.Maps.{after_change};
 ghost use Rattle.pages.specs.Changes.{AreSized};
 ghost use Rattle.pages.specs.State.{FailsBy};
 
@@ -75,7 +75,7 @@ impl MemPages {
         requires { AreSized change.pages.items (committed self).page_bytes }
         ensures size { IfOk result (λ it. (committed it).page_bytes ≡ (committed self).page_bytes) }
         ensures sound { IfOk result (λ it. (committed it).sound ≡ (committed self).sound) }
-        ensures pages { (o c : ℕ) → IfOk result (λ it. (committed it).present o c ≡ changed change (committed self).present o c) }
+        ensures pages { (o c : ℕ) → IfOk result (λ it. (committed it).present o c ≡ after_change change (committed self).present o c) }
         ensures issued { IfOk result (λ it. (committed it).issued ≡ (committed self).issued) }
         ensures failed { IfOk result (λ it. (committed it).failed ≡ (committed self).failed) }
         ensures refused { IfOk result (λ it. (committed it).refused ≡ (committed self).refused) }
@@ -171,6 +171,10 @@ impl Pages for MemPages {
             }
             None => Ok(Presence::Absent),
         }
+    }
+
+    fn has(&self, key: Key) -> bool {
+        place_of(&self.pages, key).is_some()
     }
 
     fn has_power(&mut self) -> bool {

@@ -40,7 +40,7 @@ pub trait PageStore: Pages {
         ensures committed { (Self.state self.old).sound ≡ true → CommittedAs (Self.state self.new) (Self.state self.old).committed }
         ensures device { (Self.state self.new).device ≡ (Self.state self.old).device }
         ensures next { (Self.state self.new).next ≡ (Self.state self.old).next }
-        ensures buffered { (Self.state self.new).buffered ≤ (Self.state self.old).buffered }
+        ensures in_buffer { (Self.state self.new).in_buffer ≤ (Self.state self.old).in_buffer }
         ensures memory { IsErrOf result faults.NoMemory → ⊥ }
         ensures stops { IfErr result (λ fault. (Self.state self.new).sound ≡ false) }
         ensures fault { (Self.state self.old).sound ≡ true → IfErr result (CommitFailsBy (Self.state self.old) (Self.state self.new)) };
@@ -52,10 +52,10 @@ pub trait PageStore: Pages {
         ensures empties { OnOk result (EmptiesBuffer (Self.state self.old) (Self.state self.new)) }
         ensures committed { (Self.state self.old).sound ≡ true → KeepsEither (Self.state self.old) (Self.state self.new) }
         // Where nothing is buffered nothing is committed, and it is done.
-        ensures idle { (Self.state self.old).buffered ≡ 0 → IsIdle (Self.state self.old) (Self.state self.new) result }
+        ensures idle { (Self.state self.old).in_buffer ≡ 0 → IsIdle (Self.state self.old) (Self.state self.new) result }
         ensures costs { CostsACommit (Self.state self.old) (Self.state self.new) }
         // What is buffered is written without a read.
-        ensures reads { ReadsFor (Self.state self.old).buffered (Self.state self.old).device (Self.state self.new).device result }
+        ensures reads { ReadsFor (Self.state self.old).in_buffer (Self.state self.old).device (Self.state self.new).device result }
         ensures memory { IsErrOf result faults.NoMemory → ⊥ }
         ensures stops { IfErr result (λ fault. (Self.state self.new).sound ≡ false) }
         ensures fault { (Self.state self.old).sound ≡ true → IfErr result (CommitFailsBy (Self.state self.old) (Self.state self.new)) };

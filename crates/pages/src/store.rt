@@ -1,5 +1,5 @@
 // The trait of pages.
-ghost use Rattle.std.specs.Prelude.{◌≡◌, ◌≤◌, ◌+◌, true, not, None, length, OnOk, IfOk, IfErr, IfSome};
+ghost use Rattle.std.specs.Prelude.{◌≡◌, ◌↔◌, ◌≤◌, ◌+◌, true, not, None, length, IsTrue, IsSome, OnOk, IfOk, IfErr, IfSome};
 ghost use Rattle.pages.specs.State.{PagesState, OnlyFinds, KeepsPower, FindsPage, FailsBy};
 
 use flash_tree::Key;
@@ -34,6 +34,10 @@ pub trait Pages {
         // An answer is given by a device that has not lost its power in the call.
         ensures power { OnOk result (KeepsPower (state self.old) (state self.new)) }
         ensures fault { IfErr result (FailsBy (state self.old) (state self.new)) };
+
+    /// Whether the key has a page. No page is looked up.
+    fn has(&self, key: Key) -> bool
+        ensures { (state self.now).sound ≡ true → IsTrue result ↔ IsSome ((state self.now).present key.object key.chunk) };
 
     /// Whether the device has power still. It may ask the device, as for a page.
     fn has_power(&mut self) -> bool

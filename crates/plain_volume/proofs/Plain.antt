@@ -21,13 +21,13 @@ use Rattle.object_store.specs.Stores.{settled}
 use Rattle.plain_volume.specs.PlainMeaning.{numbers_of, plain_meaning}
 use Rattle.plain_volume.specs.declared.objects.store.PlainObjects.{PlainObjects}
 use Rattle.plain_volume.specs.Views.{PlainView}
-use Rattle.plain_volume.specs.Standing.{state_of, view_of, IsPlain}
+use Rattle.plain_volume.specs.Representing.{state_of, view_of, IsPlain}
 use Rattle.plain_volume.specs.Runs.{RunsPlain}
 
 -- the volume stands for its state
 pub plain_at : (v : Volume PlainObjects) → IsPlain v → IsAt plain_meaning (numbers_of (store_of v)) (state_of v) v
 plain_at v is = record {
-  has = record { numbers = is.numbers; sizes = refl; stands = refl; forest = is.sound.well_formed.forest; fit = is.sound.fit };
+  has = record { numbers = is.numbers; sizes = refl; represents = refl; forest = is.sound.well_formed.forest; fit = is.sound.fit };
   handles = refl;
   sound = is.sound;
   only_read = λ only. record { handles = is.reading only; named = is.named only; shown = tt };
@@ -35,7 +35,7 @@ plain_at v is = record {
 
 -- and for no other
 pub at_state : (z : Sizes) (s : State) (v : Volume PlainObjects) → IsAt plain_meaning z s v → state_of v ≡ s
-at_state z s v at = λ i. record { objects = at.has.stands i; handles = at.handles i }
+at_state z s v at = λ i. record { objects = at.has.represents i; handles = at.handles i }
 
 -- a volume that stands for a state, and goes on, is a plain one
 pub at_plain : (z : Sizes) (s : State) (v : Volume PlainObjects) → IsAt plain_meaning z s v → is_stopped v ≡ false → IsPlain v
@@ -44,7 +44,7 @@ at_plain z s v at goes = record {
   sound = subst (λ (n : Sizes). IsSound n (state_of v)) (sym at.has.sizes) (subst (IsSound z) (sym (at_state z s v at)) at.sound);
   goes_on = goes;
   reading = λ only. subst AreReading (sym at.handles) (at.only_read only).handles;
-  named = λ only. subst (λ (o : Objects). settled o ≡ o) (sym at.has.stands) (at.only_read only).named;
+  named = λ only. subst (λ (o : Objects). settled o ≡ o) (sym at.has.represents) (at.only_read only).named;
 }
 
 -- a volume over such maps with such descriptors is a plain one

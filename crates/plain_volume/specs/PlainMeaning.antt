@@ -1,4 +1,4 @@
--- What maps stand for.
+-- What maps represent.
 use Rattle.std.specs.Prelude.{◌≡◌, true}
 use Rattle.volume_terms.specs.Sizes.{Sizes}
 use Rattle.volume_terms.specs.VolumeSizes.{sizes_of}
@@ -20,7 +20,7 @@ numbers_of a = sizes_of a.sizes
 abbrev pub plain_meaning : Meaning PlainObjects
 plain_meaning = record {
   sizes = numbers_of;
-  stands = λ a objects. objects_of a ≡ objects;
+  represents = λ a objects. objects_of a ≡ objects;
   shows = λ a tree. Unit {0};
   has_power = λ a. true;
   lasts = λ a b. numbers_of b ≡ numbers_of a;

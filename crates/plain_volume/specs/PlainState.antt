@@ -1,4 +1,4 @@
--- What maps and vectors stand for.
+-- What maps and vectors represent.
 -- From: this project.
 use Rattle.std.specs.Prelude.{ℕ, map as list_map}
 use Rattle.std.specs.FinMap as map

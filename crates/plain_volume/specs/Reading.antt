@@ -22,7 +22,7 @@ IsReportedBy shows old command new reply = (z : Sizes) (read_only : Bool) (s : S
 abbrev pub Reports : {V : Type 0} → (V → Sizes → Bool → State → Type 0) → V → V → (Objects → Type 0) → Type 0
 Reports shows old new reported = (z : Sizes) (read_only : Bool) (s : State) → shows old z read_only s → reported s.objects × shows new z read_only s
 
--- of the one state the other has the same, but that a descriptor stands for an object, at an offset
+-- of the one state the other has the same, but that a descriptor refers to an object, at an offset
 pub record HasOpen (s : State) (fd o offset : ℕ) (t : State) : Type 0 where
   pub objects : t.objects ≡ s.objects
   pub handle : Handle
@@ -31,7 +31,7 @@ pub record HasOpen (s : State) (fd o offset : ℕ) (t : State) : Type 0 where
   pub offset_is : handle.offset ≡ offset
   pub others : (q : ℕ) → q ≢ fd → map.get t.handles q ≡ map.get s.handles q
 
--- a free descriptor stands for the object to which the path leads
+-- a free descriptor refers to the object to which the path leads
 pub record Opens (s : State) (path : List ℕ) (fd : ℕ) (t : State) : Type 0 where
   pub number : ℕ
   pub opened : HasOpen s fd number 0 t

@@ -5,6 +5,8 @@ use posix_profile::{Answers, Reply, Stamped};
 impl Answers for PlainVolume {
     ghost use Rattle.plain_volume.specs.Answering.{ShowsPlain};
 
+    ghost serves = { λ old command reply new. Unit {0} };
+
     ghost shows = { ShowsPlain };
 
     fn answer(&mut self, stamped: &Stamped) -> Reply {

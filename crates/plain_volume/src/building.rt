@@ -138,7 +138,7 @@ fn give_name(
     Ok(())
 }
 
-/// Gives the names that do not stand in the root, those of outer directories first.
+/// Gives the names that do not are in the root, those of outer directories first.
 fn name_below_root(
     alloc: Global,
     volume: &mut PlainVolume,
@@ -158,7 +158,7 @@ fn name_below_root(
     Ok(())
 }
 
-/// Gives the names of this kind that stand in the root.
+/// Gives the names of this kind that are in the root.
 fn name_in_root(
     alloc: Global,
     volume: &mut PlainVolume,

@@ -35,7 +35,7 @@ impl Model for PlainVolume {
 
     ghost coded = { plain_code };
 
-    ghost use Rattle.plain_volume.specs.Standing.{view_of, IsPlain};
+    ghost use Rattle.plain_volume.specs.Representing.{view_of, IsPlain};
 
     ghost view = { λ v. view_of v.volume };
 

@@ -6,7 +6,7 @@ use Rattle.nand_model.specs.Flash.{AreBytes}
 use Rattle.page_tags.specs.declared.tag.Tag.{Tag}
 use Rattle.page_tags.specs.Tags.{tag_bytes}
 
--- The object that a number of four bytes stands for: the greatest two are the greatest two of eight bytes, held for checkpoints.
+-- The object that a number of four bytes represents: the greatest two are the greatest two of eight bytes, held for checkpoints.
 unfoldable pub object_of : ℕ → ℕ
 object_of n = if nat_le (2 ^ 32 - 2) n then n + (2 ^ 64 - 2 ^ 32) else n
 

@@ -9,7 +9,7 @@ use Rattle.port_nand.specs.declared.request.Answer.TheVariants as answers
 use Rattle.port_nand.specs.declared.request.Request.{Request}
 use Rattle.port_nand.specs.declared.request.Request.TheVariants as requests
 
--- One request, and the result is what its call says. Once power is gone there is none, and the result is as if power went.
+-- One request, and the result is what its call says. Once power is gone there is none, and the result is as if power was lost.
 pub record Issues {R : Type 0} (request : Request) (result_of : Call → R) (old new : List Call) (result : R) : Type 0 where
   pub gone : is_gone (session old) ≡ true → (new ≡ old) × (result ≡ result_of (call request [] answers.Lost))
   pub issued : is_gone (session old) ≡ false → (c : Call) × (new ≡ c ∷ old) × (c.request ≡ request) × (result ≡ result_of c)

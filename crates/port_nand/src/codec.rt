@@ -86,7 +86,7 @@ fn low_bytes(tag: &[u8; 48]) -> [u8; 24]
 
 /// The 24 bytes that say the tag, if any do.
 pub fn pack(tag: &[u8; 48]) -> Option<[u8; 24]>
-    ensures some { IfSome result (PacksTo tag.now) }
+    ensures packs { IfSome result (PacksTo tag.now) }
     ensures only { IfSome result (λ packed. (other : List ℕ) → PacksTo tag.now other → other ≡ packed) }
     ensures none { IfNone result ((packed : List ℕ) → PacksTo tag.now packed → ⊥) }
 {

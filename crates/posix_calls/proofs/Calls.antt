@@ -6,7 +6,7 @@ use Rattle.volume_terms.specs.Sizes.{Sizes}
 use Rattle.nand_model.specs.Calls.{Device}
 use Rattle.nand_model.specs.Changes.{OnlyReads}
 use Rattle.nand_model.specs.laws.Changes.{only_reads_here, only_reads_on}
-use Rattle.posix_profile.specs.Losses.{is_synced, LossLeaves}
+use Rattle.posix_profile.specs.Losses.{is_synced, PowerLossLeaves}
 use Rattle.posix_profile.specs.Runs.{takes_no_memory}
 use Rattle.posix_profile.specs.Steps.{step}
 use Rattle.posix_profile.specs.State.{Objects, State}
@@ -24,7 +24,7 @@ use Rattle.object_store.specs.Reported.{table_sizes}
 use Rattle.paged_objects.specs.Naming.{HasNames}
 use Rattle.paged_objects.specs.Meaning.{paged_meaning}
 use Rattle.paged_objects.specs.Parts.{state_of}
-use Rattle.paged_objects.specs.Standing.{StandsFor, Shown}
+use Rattle.paged_objects.specs.Representing.{PagesRepresent, Shown}
 use Rattle.paged_objects.specs.Ending.{HasEnded}
 use Rattle.paged_objects.specs.laws.Going.{ended_after}
 use Rattle.paged_objects.specs.laws.Lawful.{paged_lawful}
@@ -44,8 +44,8 @@ is_at state z s v is = record {
   has = record {
     numbers = is.numbers;
     sizes = is.sizes;
-    stands = record {
-      stands = subst (λ y. StandsFor y (state (pages_of v)) s.objects) (sym is.sizes) is.stands;
+    represents = record {
+      represents = subst (λ y. PagesRepresent y (state (pages_of v)) s.objects) (sym is.sizes) is.represents;
       reports = is.reports;
       named = subst (λ y. HasNames (names_of v) y (state (pages_of v)).present s.objects) (sym is.sizes) is.hashes;
     };
@@ -70,13 +70,13 @@ pub is_volume : {P : Type 0} (state : P → PagesState) (z : Sizes) (s : State) 
 is_volume state z s v law worn at = record {
   numbers = at.has.numbers;
   sizes = at.has.sizes;
-  stands = subst (λ y. StandsFor y (state (pages_of v)) s.objects) at.has.sizes at.has.stands.stands;
-  reports = at.has.stands.reports;
-  hashes = subst (λ y. HasNames (names_of v) y (state (pages_of v)).present s.objects) at.has.sizes at.has.stands.named;
+  represents = subst (λ y. PagesRepresent y (state (pages_of v)) s.objects) at.has.sizes at.has.represents.represents;
+  reports = at.has.represents.reports;
+  hashes = subst (λ y. HasNames (names_of v) y (state (pages_of v)).present s.objects) at.has.sizes at.has.represents.named;
   handles = at.handles;
   sound = at.sound;
   worn = worn;
-  within_limit = λ writes. law (pages_of v) at.has.stands.stands.sound (worn ∙ writes);
+  within_limit = λ writes. law (pages_of v) at.has.represents.represents.sound (worn ∙ writes);
   reading = λ only. (at.only_read only).handles;
   named = λ only. (at.only_read only).named;
   shown = λ only. subst (λ y. Shown y (state (pages_of v)) s.objects) at.has.sizes (at.only_read only).shown;
@@ -121,7 +121,7 @@ module _ {P : Type 0} (state : P → PagesState) where
   -- what a mount would show after it
   pub tree_after : (z : Sizes) (s : State) (read_only : Bool) (stamped : Stamped) (r : Reply) (a b : PageVolume P) → table_sizes (table_of a) ≡ z → table_sizes (table_of b) ≡ table_sizes (table_of a) → One m z read_only s stamped r a.volume b.volume
       → (tree : Objects) → Shown z (state (pages_of a)) tree → Shown z (state (pages_of b)) tree ⊎ Shown z (state (pages_of b)) (settled s.objects)
-  tree_after z s read_only stamped r a b is same one tree shown = either_from state z b tree (settled s.objects) (same ∙ is) (one.loss tree (shown_to state z a tree is shown))
+  tree_after z s read_only stamped r a b is same one tree shown = either_from state z b tree (settled s.objects) (same ∙ is) (one.power_loss tree (shown_to state z a tree is shown))
 
   pub synced_after : (z : Sizes) (s : State) (read_only : Bool) (stamped : Stamped) (r : Reply) (a b : PageVolume P) → table_sizes (table_of a) ≡ z → table_sizes (table_of b) ≡ table_sizes (table_of a) → One m z read_only s stamped r a.volume b.volume
       → is_synced stamped.command r ≡ true → Shown z (state (pages_of b)) (settled s.objects)
@@ -132,7 +132,7 @@ module _ {P : Type 0} (state : P → PagesState) where
       → FewLaw state → (state (pages_of b)).worn ≡ is_read_only b → Ran m z s commands answered a.volume b.volume → RanPages state z s commands answered a b
   ran_pages z s commands answered a b is same law worn ran = record {
     holds = ran.holds;
-    losses = λ tree shown. losses_from (ran.losses tree (shown_to state z a tree is shown));
+    power_losses = λ tree shown. losses_from (ran.power_losses tree (shown_to state z a tree is shown));
     cause = λ stop. let f = ran.failure stop in ended_after (state (pages_of a)) (state f.from.pages) (state (pages_of b)) f.lasts.0.commits f.fails.0.cause;
     state_is = λ goes. is_volume state z _ b law worn (ran.state goes);
     only_failed = λ only stop. (ran.unread only stop).1.1;
@@ -140,8 +140,8 @@ module _ {P : Type 0} (state : P → PagesState) where
     reports = λ each. (ran.reports each).pages;
     only_reads = λ why. let reads = ran.only why in reads_all reads.0 a.volume.store b.volume.store reads.1;
   } where
-    losses_from : {tree : Objects} → LossLeaves (Shown (table_sizes (table_of b)) (state (pages_of b))) tree z (is_read_only a) s commands answered → LossLeaves (Shown z (state (pages_of b))) tree z (is_read_only a) s commands answered
-    losses_from {tree} left = subst (λ y. LossLeaves (Shown y (state (pages_of b))) tree z (is_read_only a) s commands answered) (same ∙ is) left
+    losses_from : {tree : Objects} → PowerLossLeaves (Shown (table_sizes (table_of b)) (state (pages_of b))) tree z (is_read_only a) s commands answered → PowerLossLeaves (Shown z (state (pages_of b))) tree z (is_read_only a) s commands answered
+    losses_from {tree} left = subst (λ y. PowerLossLeaves (Shown y (state (pages_of b))) tree z (is_read_only a) s commands answered) (same ∙ is) left
 
   same_volume : (a b : PageVolume P) → b.volume ≡ a.volume → b ≡ a
   same_volume a b is = ap (λ v. record { volume = v }) is

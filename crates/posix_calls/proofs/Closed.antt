@@ -24,7 +24,7 @@ use Rattle.object_store.specs.Stores.{settled}
 use Rattle.pages.specs.State.{PagesState}
 use Rattle.pages.specs.Stores.{GoesOn}
 use Rattle.paged_objects.specs.Ending.{HasEnded}
-use Rattle.paged_objects.specs.Standing.{Shown}
+use Rattle.paged_objects.specs.Representing.{Shown}
 use Rattle.paged_objects.specs.laws.Going.{ended_after, goes_here, goes_on}
 use Rattle.posix_calls.specs.Closing.{Closes, IsClosed}
 use Rattle.posix_calls.specs.PageVolumes.{pages_of, is_read_only, is_stopped, IsVolumeOf}
@@ -190,7 +190,7 @@ module _ {P : Type 0} (state : P → PagesState) where
     goes_on = goes_here (state (pages_of a));
     read_only = refl;
     device = refl;
-    stands = λ _ z s is. (s, is, record { closed = λ fd lt. absurd (omega (arith, lt)); settles = refl });
+    represents = λ _ z s is. (s, is, record { closed = λ fd lt. absurd (omega (arith, lt)); settles = refl });
     tree = λ z s is tree shown. inl shown;
     cause = λ stop z s is. absurd (true≢false (sym stop ∙ goes));
   }
@@ -205,7 +205,7 @@ module _ {P : Type 0} (state : P → PagesState) where
       goes_on = subst (λ (v : PageVolume P). GoesOn (state (pages_of a)) (state (pages_of v))) (sym same) so_far.goes_on;
       read_only = ap is_read_only same ∙ so_far.read_only;
       device = ap (λ (v : PageVolume P). (state (pages_of v)).device) same ∙ so_far.device;
-      stands = λ goes. absurd (true≢false (sym stop ∙ sym (ap is_stopped same) ∙ goes));
+      represents = λ goes. absurd (true≢false (sym stop ∙ sym (ap is_stopped same) ∙ goes));
       tree = λ z s is tree shown. subst (λ (v : PageVolume P). Shown z (state (pages_of v)) tree ⊎ Shown z (state (pages_of v)) (settled s.objects)) (sym same) (so_far.tree z s is tree shown);
       cause = λ _ z s is. subst (λ (v : PageVolume P). HasEnded (state (pages_of a)) (state (pages_of v))) (sym same) (so_far.cause stop z s is);
     }
@@ -213,12 +213,12 @@ module _ {P : Type 0} (state : P → PagesState) where
     -- another closes one more descriptor
     module _ (moment : ℕ) (r : Reply) (goes : GoesOn (state (pages_of b)) (state (pages_of c))) (keeps : is_read_only c ≡ is_read_only b) (left : (state (pages_of c)).device ≡ (state (pages_of b)).device) (runs : is_stopped b ≡ false) (stops : is_stopped c ≡ is_stop r)
         (answers : (z : Sizes) (s : State) → IsVolumeOf state z s b → Replies z (is_read_only b) s (record { moment = moment; command = commands.Close n }) r)
-        (stands : (z : Sizes) (s : State) → IsVolumeOf state z s b → is_stop r ≡ false → IsVolumeOf state z (after_one z (is_read_only b) s (record { moment = moment; command = commands.Close n }) r) c)
+        (represents : (z : Sizes) (s : State) → IsVolumeOf state z s b → is_stop r ≡ false → IsVolumeOf state z (after_one z (is_read_only b) s (record { moment = moment; command = commands.Close n }) r) c)
         (tree : (z : Sizes) (s : State) → IsVolumeOf state z s b → (t : Objects) → Shown z (state (pages_of b)) t → Shown z (state (pages_of c)) t ⊎ Shown z (state (pages_of c)) (settled s.objects))
         (cause : (z : Sizes) (s : State) → IsVolumeOf state z s b → is_stop r ≡ true → HasEnded (state (pages_of b)) (state (pages_of c))) where
       shown_more : (z : Sizes) (s : State) → IsVolumeOf state z s a → (t : Objects) → Shown z (state (pages_of b)) t → Shown z (state (pages_of c)) t ⊎ Shown z (state (pages_of c)) (settled s.objects)
       shown_more z s is t shown =
-          let at = so_far.stands runs z s is in
+          let at = so_far.represents runs z s is in
           elim (tree z at.0 at.1 t shown) [
             | inl same ↦ inl same
             | inr settles ↦ inr (subst (λ (objects : Objects). Shown z (state (pages_of c)) objects) at.2.settles settles)
@@ -229,10 +229,10 @@ module _ {P : Type 0} (state : P → PagesState) where
         goes_on = goes_on (state (pages_of a)) (state (pages_of b)) (state (pages_of c)) so_far.goes_on goes;
         read_only = keeps ∙ so_far.read_only;
         device = left ∙ so_far.device;
-        stands = λ still z s is.
-            let at = so_far.stands runs z s is in (
+        represents = λ still z s is.
+            let at = so_far.represents runs z s is in (
               after_one z (is_read_only b) at.0 (record { moment = moment; command = commands.Close n }) r,
-              stands z at.0 at.1 (sym stops ∙ still),
+              represents z at.0 at.1 (sym stops ∙ still),
               closed_after z (is_read_only b) at.0 moment n n s r refl at.1.sound.well_formed.forest at.2 (sym stops ∙ still) (answers z at.0 at.1),
             );
         tree = λ z s is t shown. elim (so_far.tree z s is t shown) [
@@ -243,6 +243,6 @@ module _ {P : Type 0} (state : P → PagesState) where
           ]
         ];
         cause = λ stop z s is.
-            let at = so_far.stands runs z s is in
+            let at = so_far.represents runs z s is in
             ended_after (state (pages_of a)) (state (pages_of b)) (state (pages_of c)) so_far.goes_on.commits (cause z at.0 at.1 (sym stops ∙ stop));
       }

@@ -19,7 +19,7 @@ use Rattle.pages.specs.State.{PagesState}
 use Rattle.pages.specs.Stores.{Carries, HasPage, bad_on}
 use Rattle.paged_objects.specs.Holding.{HoldsFile, HoldsDirectory, HoldsObjects}
 use Rattle.paged_objects.specs.laws.Holding.{held}
-use Rattle.paged_objects.specs.Standing.{Shown}
+use Rattle.paged_objects.specs.Representing.{Shown}
 use Rattle.paged_objects.specs.laws.OnFlash.{footprint_pages}
 use Rattle.object_store.specs.Stores.{Has, Commits}
 use Rattle.paged_objects.specs.declared.store.PagedObjects.{PagedObjects}
@@ -114,7 +114,7 @@ module _ {P : Type 0} (state : P → PagesState) (z : Sizes) where
       → Commits (meaning_of state) objects a b r → ((state b.pages).sound ≡ true → bad_on (state b.pages).device ≤ (state b.pages).spare) → KeepsOnly z (state b.pages) (settled objects)
   commit_exact objects a b has same r done is commits within_limit =
       let ends : Commits (meaning_of state) objects a b (Ok done) = subst (Commits (meaning_of state) objects a b) is commits in
-      let sound = ends.0.stands.sound in
+      let sound = ends.0.represents.sound in
       keeps_only z (state b.pages) objects has.numbers sound (commit_done state z objects a b has r done is commits)
       (subst (λ (y : Sizes). HoldsObjects y (state b.pages).committed objects) has.sizes (ends.1.0.holds sound)) same (within_limit sound)
 

@@ -12,7 +12,7 @@ use Rattle.name_index.specs.declared.index.NameIndex.{NameIndex}
 use Rattle.object_store.specs.Reported.{table_sizes}
 use Rattle.object_store.specs.declared.table.ObjectTable.{ObjectTable}
 use Rattle.pages.specs.State.{PagesState}
-use Rattle.paged_objects.specs.Standing.{volume_of, Shown}
+use Rattle.paged_objects.specs.Representing.{volume_of, Shown}
 use Rattle.nand_model.specs.Calls.{Device}
 use Rattle.nand_model.specs.declared.nand.Nand.{Ghosts}
 use Rattle.page_store.specs.declared.flash_pages.FlashPages.{FlashPages}
@@ -26,7 +26,7 @@ use Rattle.posix_calls.specs.declared.page_volume.PageVolume.{PageVolume}
 use Rattle.paged_objects.specs.Parts as parts
 use Rattle.paged_objects.specs.declared.store.PagedObjects.{PagedObjects}
 use Rattle.mounting.specs.Places.{ArePlaced}
-use Rattle.posix_calls.specs.Mounts.{AreMounted, IsMounted, IsMountedByScan, IsOver, LieAsScanned, StandsForTree}
+use Rattle.posix_calls.specs.Mounts.{AreMounted, IsMounted, IsMountedByScan, IsOver, LieAsScanned, RepresentsTree}
 
 -- a tree that fits is a state that a volume can have
 pub sound_at : (p : PagesState) (table : ObjectTable) (names : NameIndex) (objects : Objects) → table_sizes table ≡ volume_of p → IsMountedWith p table names objects → IsSound (table_sizes table) (at_mount objects)
@@ -36,9 +36,9 @@ sound_at p table names objects same mounted = subst (λ (z : Sizes). IsSound z (
 })
 
 -- what a volume over these pages stands for
-pub stands_for : {P : Type 0} (state : P → PagesState) (p : PagesState) (z : Sizes) (objects : Objects) (v : PageVolume P) (table : ObjectTable) (names : NameIndex)
-    → z ≡ volume_of p → IsMountedWith p table names objects → state (pages_of v) ≡ p → IsVolumeOf state z (at_mount objects) v → StandsForTree state v objects
-stands_for state p z objects v table names same mounted pages volume = record {
+pub refers_to : {P : Type 0} (state : P → PagesState) (p : PagesState) (z : Sizes) (objects : Objects) (v : PageVolume P) (table : ObjectTable) (names : NameIndex)
+    → z ≡ volume_of p → IsMountedWith p table names objects → state (pages_of v) ≡ p → IsVolumeOf state z (at_mount objects) v → RepresentsTree state v objects
+refers_to state p z objects v table names same mounted pages volume = record {
   answers = subst (λ (q : PagesState). Answers q.device.geometry q.device.flash (IsTreeOf q.spare objects)) (sym pages) mounted.answers;
   volume = subst (λ (q : PagesState). IsVolumeOf state (volume_of q) (at_mount objects) v) (sym pages) (subst (λ (k : Sizes). IsVolumeOf state k (at_mount objects) v) same volume);
   shown = subst (λ (q : PagesState). Shown (volume_of q) q objects) (sym pages) mounted.shown;
@@ -51,8 +51,8 @@ module _ {M : Type 0} {nand : Ghosts M} (state : FlashPages M nand → PagesStat
   stored tree is = subst (λ (p : FlashPages M nand). IsMountedWith (state p) (parts.table_of o) (parts.names_of o) tree) (sym in_pages)
       (subst (λ (t : ObjectTable). IsMountedWith (state m.pages) t (parts.names_of o) tree) (sym in_table) (subst (λ (n : NameIndex). IsMountedWith (state m.pages) m.table n tree) (sym in_names) is))
 
-  pub over_given : is_stopped v ≡ false → is_read_only v ≡ m.read_only → ((tree : Objects) → AreMounted state o m.read_only tree → StandsForTree state v tree) → IsOver state m v
-  over_given goes is stands = record {
+  pub over_given : is_stopped v ≡ false → is_read_only v ≡ m.read_only → ((tree : Objects) → AreMounted state o m.read_only tree → RepresentsTree state v tree) → IsOver state m v
+  over_given goes is represents = record {
     pages = same ∙ in_pages;
     goes_on = goes;
     read_only = is;
@@ -63,7 +63,7 @@ module _ {M : Type 0} {nand : Ghosts M} (state : FlashPages M nand → PagesStat
           mounted = stored reported.0 reported.1;
           worn = ap (λ (p : FlashPages M nand). (state p).worn) in_pages ∙ made.worn;
         } in
-        (reported.0, stands reported.0 are);
+        (reported.0, represents reported.0 are);
   }
 
 -- a volume over what a mount gives is mounted

@@ -8,11 +8,11 @@ use Rattle.object_store.specs.declared.table.ObjectTable.{ObjectTable}
 use Rattle.object_commands.specs.Volumes.{with_stop, with_store}
 use Rattle.paged_objects.specs.Ending.{HasEndedAt}
 use Rattle.paged_objects.specs.Naming.{HasNames}
-use Rattle.paged_objects.specs.Standing.{Shown}
+use Rattle.paged_objects.specs.Representing.{Shown}
 use Rattle.paged_objects.specs.declared.store.PagedObjects.{PagedObjects}
 use Rattle.paged_objects.specs.laws.Going.{goes_here}
 use Rattle.paged_objects.specs.laws.Lawful.{more_names}
-use Rattle.paged_objects.specs.laws.Showing.{changed_stands, still_shown}
+use Rattle.paged_objects.specs.laws.Showing.{changed_represents, still_shown}
 use Rattle.pages.specs.Refreshing.{CostsAMove, RefreshFailsBy, Refreshes}
 use Rattle.pages.specs.Refreshing as refreshing
 use Rattle.pages.specs.State.{PagesState}
@@ -49,7 +49,7 @@ module _ {P : Type 0} (state : P → PagesState) (block : ℕ) (v : PageVolume P
     refused = λ goes only. absurd (true≢false (sym stop ∙ goes));
     stops = λ goes written. absurd (true≢false (sym stop ∙ goes));
     power = λ is. absurd (not_ok errors.EIO is);
-    stands = λ is z s at. absurd (not_ok errors.EIO is);
+    represents = λ is z s at. absurd (not_ok errors.EIO is);
     leaves = λ is z s at. absurd (not_ok errors.EIO is);
     tree = λ z s at tree shown. shown;
     cause = λ goes z s at is. absurd (true≢false (sym stop ∙ goes));
@@ -65,7 +65,7 @@ module _ {P : Type 0} (state : P → PagesState) (block : ℕ) (v : PageVolume P
     refused = λ _ _. (refl, refl);
     stops = λ _ written. absurd (true≢false (sym only ∙ written));
     power = λ is. absurd (not_ok errors.EROFS is);
-    stands = λ is z s at. absurd (not_ok errors.EROFS is);
+    represents = λ is z s at. absurd (not_ok errors.EROFS is);
     leaves = λ is z s at. absurd (not_ok errors.EROFS is);
     tree = λ z s at tree shown. shown;
     cause = λ _ z s at is. let two : errors.EROFS ≡ errors.EIO = cc in absurd cc;
@@ -95,16 +95,16 @@ module _ {P : Type 0} (state : P → PagesState) (within_limit : FewLaw state) (
   module _ (result : Result (Unit {0}) StoreFault) (refreshes : Refreshes block p q result) where
     -- a mount shows the tree that it did
     shown_still : (z : Sizes) (s : State) → IsVolumeOf state z s a → (tree : Objects) → Shown z p tree → Shown z q tree
-    shown_still z s at tree shown = still_shown z p q tree refreshes.goes_on at.stands.sound (refreshes.ends at.stands.sound).committed shown
+    shown_still z s at tree shown = still_shown z p q tree refreshes.goes_on at.represents.sound (refreshes.ends at.represents.sound).committed shown
 
     -- the volume stands for the state that it stood for
-    stands_still : (z : Sizes) (s : State) → IsVolumeOf state z s a → refreshing.IsRefreshed block p q → IsVolumeOf state z s b
-    stands_still z s at done =
+    represents_still : (z : Sizes) (s : State) → IsVolumeOf state z s a → refreshing.IsRefreshed block p q → IsVolumeOf state z s b
+    represents_still z s at done =
         let worn : q.worn ≡ is_read_only a = refreshes.goes_on.worn ∙ at.worn in
         record {
           numbers = at.numbers;
           sizes = ap table_sizes table ∙ at.sizes;
-          stands = changed_stands z p q s.objects s.objects p.present refreshes.goes_on at.stands done.sound at.stands.holds done.present (λ tree shown. inl (shown_still z s at tree shown));
+          represents = changed_represents z p q s.objects s.objects p.present refreshes.goes_on at.represents done.sound at.represents.holds done.present (λ tree shown. inl (shown_still z s at tree shown));
           reports = subst (λ (t : ObjectTable). Reports t s.objects) (sym table) at.reports;
           hashes = subst (λ (n : NameIndex). HasNames n z q.present s.objects) (sym names)
               (more_names z (names_of a) (names_of a) p.present q.present s.objects (λ d h t is. is) done.present at.hashes);
@@ -127,8 +127,8 @@ module _ {P : Type 0} (state : P → PagesState) (within_limit : FewLaw state) (
     refused = λ _ only. absurd (true≢false (sym only ∙ written));
     stops = λ _ _. inl (refl, goes);
     power = λ _. refreshes.power;
-    stands = λ _ z s at. stands_still (Ok tt) refreshes z s at (refreshes.ends at.stands.sound).done;
-    leaves = λ _ z s at. (refreshes.ends at.stands.sound).done.leaves;
+    represents = λ _ z s at. represents_still (Ok tt) refreshes z s at (refreshes.ends at.represents.sound).done;
+    leaves = λ _ z s at. (refreshes.ends at.represents.sound).done.leaves;
     tree = λ z s at tree shown. shown_still (Ok tt) refreshes z s at tree shown;
     cause = λ _ z s at is. absurd (not_ok errors.EIO (sym is));
   }
@@ -143,8 +143,8 @@ module _ {P : Type 0} (state : P → PagesState) (within_limit : FewLaw state) (
     refused = λ _ only. absurd (true≢false (sym only ∙ written));
     stops = λ _ _. inr (refl, refl);
     power = λ is. absurd (not_ok errors.EIO is);
-    stands = λ is z s at. absurd (not_ok errors.EIO is);
+    represents = λ is z s at. absurd (not_ok errors.EIO is);
     leaves = λ is z s at. absurd (not_ok errors.EIO is);
     tree = λ z s at tree shown. shown_still (Err fault) refreshes z s at tree shown;
-    cause = λ _ z s at is. ended_by q fault (refreshes.ends at.stands.sound).cause;
+    cause = λ _ z s at is. ended_by q fault (refreshes.ends at.represents.sound).cause;
   }

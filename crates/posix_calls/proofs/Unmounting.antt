@@ -17,7 +17,7 @@ use Rattle.posix_calls.specs.declared.page_volume.PageVolume.{PageVolume}
 use Rattle.pages.specs.State.{PagesState}
 use Rattle.pages.specs.Stores.{GoesOn, CommittedAs, bad_on}
 use Rattle.paged_objects.specs.Ending.{HasEnded}
-use Rattle.paged_objects.specs.Standing.{Shown}
+use Rattle.paged_objects.specs.Representing.{Shown}
 use Rattle.paged_objects.specs.laws.OnFlash.{shown_there}
 use Rattle.posix_calls.specs.Endings.{LiesOn, IsUnmounted, CostsACheckpoint, LeavesCheckpoint, EndsWith, reply_of}
 use Rattle.posix_calls.specs.laws.Ending.{ends_after, goes_right, right_after}
@@ -106,7 +106,7 @@ module _ {P : Type 0} (state : P → PagesState) (v : PageVolume P) (p : PagesSt
     goes stopped = not_done (sym (finished.stopped stopped).0 ∙ done)
 
     shown_on : (z : Sizes) (s : State) → IsVolumeOf state z s v → (tree : Objects) → Shown z p tree → Shown z sealed.pages tree
-    shown_on z s stands tree shown = let sound = (finished.exact z s (written, stands) done).sound in sealed_shown z p sealed.pages tree sealed.ends_on sound (sealed.committed sound) shown
+    shown_on z s represents tree shown = let sound = (finished.exact z s (written, represents) done).sound in sealed_shown z p sealed.pages tree sealed.ends_on sound (sealed.committed sound) shown
 
     has_power : (r : Result (Unit {0}) StoreFault) → SealEnds due p sealed.pages r → reply_of r ≡ replies.Done → p.device.gone ≡ false → sealed.pages.device.gone ≡ false
     has_power (Ok done') (inl same) all power = ap (λ (d : Device). d.gone) same.1.device ∙ power
@@ -139,13 +139,13 @@ module _ {P : Type 0} (state : P → PagesState) (v : PageVolume P) (p : PagesSt
       replies_are = λ runs. subst (λ (r : Reply). (r ≡ replies.Done) ⊎ (r ≡ replies.Error errors.EIO)) (sym is) (which result);
       read_only_done = λ runs read_only. absurd (true≢false (sym read_only ∙ written));
       power = λ all was. power_there sealed.pages device lies (has_power result sealed.ends (sym is ∙ all) (finished.power done was));
-      within_limit = λ _ z s stands all. few_there sealed.pages device lies (few_after result (sealed.within_limit (finished.exact z s (written, stands) done).within_limit) (sym is ∙ all));
-      done = λ runs z s stands all. shown_on z s stands (settled s.objects) (finished.done runs z s stands done);
-      tree = λ runs z s stands tree shown. inr (shown_on z s stands (settled s.objects) (finished.done runs z s stands done));
-      cause = λ runs z s stands stop. ended result sealed.ends (finished.exact z s (written, stands) done).sound (sym is ∙ stop);
-      checked = λ runs z s stands.
+      within_limit = λ _ z s represents all. few_there sealed.pages device lies (few_after result (sealed.within_limit (finished.exact z s (written, represents) done).within_limit) (sym is ∙ all));
+      done = λ runs z s represents all. shown_on z s represents (settled s.objects) (finished.done runs z s represents done);
+      tree = λ runs z s represents tree shown. inr (shown_on z s represents (settled s.objects) (finished.done runs z s represents done));
+      cause = λ runs z s represents stop. ended result sealed.ends (finished.exact z s (written, represents) done).sound (sym is ∙ stop);
+      checked = λ runs z s represents.
           right_after (state (pages_of v)) p sealed.pages (ends_going (state (pages_of v)) p finished.goes_on) (goes_right (state (pages_of v)) p finished.goes_on)
-          (sealed.checked (exact_there z p (settled s.objects) (finished.done runs z s stands done) (finished.exact z s (written, stands) done)));
+          (sealed.checked (exact_there z p (settled s.objects) (finished.done runs z s represents done) (finished.exact z s (written, represents) done)));
     }
 
 -- What follows the last reply of a volume that can be written, over the device that is given back.

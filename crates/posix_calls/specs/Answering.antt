@@ -6,6 +6,6 @@ use Rattle.pages.specs.State.{PagesState}
 use Rattle.posix_profile.specs.State.{State}
 use Rattle.volume_terms.specs.Sizes.{Sizes}
 
--- it goes on, and stands for this state
+-- it goes on, and represents this state
 abbrev pub ShowsState : {P : Type 0} → (P → PagesState) → PageVolume P → Sizes → Bool → State → Type 0
 ShowsState state v z read_only s = (is_stopped v ≡ false) × (is_read_only v ≡ read_only) × IsVolumeOf state z s v

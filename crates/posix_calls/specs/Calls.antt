@@ -9,7 +9,7 @@ use Rattle.object_store.specs.Reported.{table_sizes, ReportsTheSame}
 use Rattle.posix_calls.specs.PageVolumes.{pages_of, table_of, handles_of, is_read_only, is_stopped, IsVolumeOf}
 use Rattle.posix_calls.specs.declared.page_volume.PageVolume.{PageVolume}
 use Rattle.paged_objects.specs.Ending.{HasEnded, StaysAs}
-use Rattle.paged_objects.specs.Standing.{Shown}
+use Rattle.paged_objects.specs.Representing.{Shown}
 use Rattle.pages.specs.State.{PagesState}
 use Rattle.pages.specs.Stores.{GoesOn, HasFailed}
 use Rattle.posix_profile.specs.Losses.{is_synced}
@@ -21,7 +21,7 @@ use Rattle.posix_profile.specs.declared.reply.Reply.{Reply}
 use Rattle.posix_profile.specs.declared.reply.Reply.TheVariants as replies
 use Rattle.volume_terms.specs.Sizes.{Sizes}
 
--- From a state: the reply is the profile's and the volume stands for the state after the command, unless it is stopped, and
+-- From a state: the reply is the profile's and the volume represents the state after the command, unless it is stopped, and
 -- then for its reason; a mount shows the tree that it did, or what names keep of the objects before the command, and after
 -- a sync that. Where memory was refused the device has power. What only reports reads alone; so does every call of a read-only volume, which
 -- nothing stops but a device that is gone or not honest.
@@ -41,7 +41,7 @@ pub record VolumeGoesOn {P : Type 0} (state : P → PagesState) (old new : PageV
   pub pages : GoesOn (state (pages_of old)) (state (pages_of new))
   pub read_only : is_read_only new ≡ is_read_only old
 
--- Nothing is changed: the pages are the same and the device was only read, the table has the same objects, and the descriptors stand for
+-- Nothing is changed: the pages are the same and the device was only read, the table has the same objects, and the descriptors refer to
 -- what they did.
 pub record VolumeStays {P : Type 0} (state : P → PagesState) (old new : PageVolume P) : Type 0 where
   pub pages : StaysAs (state (pages_of old)) (state (pages_of new))
@@ -50,7 +50,7 @@ pub record VolumeStays {P : Type 0} (state : P → PagesState) (old new : PageVo
 
 -- What makes no call of the device leaves it, an error other than EIO changes nothing, of any device, and a reply other than EIO leaves its
 -- power. A volume that is stopped answers EIO and stays
--- as it is; another one is stopped by EIO alone, and replies from the state that it stands for.
+-- as it is; another one is stopped by EIO alone, and replies from the state that it represents.
 pub record IsCalled {P : Type 0} (state : P → PagesState) (old : PageVolume P) (command : Stamped) (reply : Reply) (new : PageVolume P) : Type 0 where
   pub goes_on : GoesOn (state (pages_of old)) (state (pages_of new))
   pub read_only : is_read_only new ≡ is_read_only old

@@ -10,7 +10,7 @@ use Rattle.flash_tree.specs.Tree.{InFootprint}
 use Rattle.pages.specs.State.{PagesState}
 use Rattle.pages.specs.Stores.{GoesOn, HasPage, bad_on}
 use Rattle.paged_objects.specs.Ending.{HasEnded}
-use Rattle.paged_objects.specs.Standing.{Shown}
+use Rattle.paged_objects.specs.Representing.{Shown}
 use Rattle.posix_calls.specs.PageVolumes.{pages_of, is_read_only, is_stopped, IsVolumeOf}
 use Rattle.posix_calls.specs.declared.page_volume.PageVolume.{PageVolume}
 
@@ -23,13 +23,13 @@ pub record IsClosed (n : ℕ) (s t : State) : Type 0 where
 abbrev pub ShowsOldOrNew : Sizes → (old new : PagesState) → Objects → Type 0
 ShowsOldOrNew z old new committed = (tree : Objects) → Shown z old tree → Shown z new tree ⊎ Shown z new committed
 
--- The first n descriptors were closed in turn. The volume goes on, and stands for a state in which they are; or it is stopped for its
+-- The first n descriptors were closed in turn. The volume goes on, and represents a state in which they are; or it is stopped for its
 -- reason. A mount shows the tree that it did, or what names keep of the objects. The device is left as it is.
 pub record Closes {P : Type 0} (state : P → PagesState) (n : ℕ) (a b : PageVolume P) : Type 0 where
   pub goes_on : GoesOn (state (pages_of a)) (state (pages_of b))
   pub read_only : is_read_only b ≡ is_read_only a
   pub device : (state (pages_of b)).device ≡ (state (pages_of a)).device
-  pub stands : is_stopped b ≡ false → (z : Sizes) (s : State) → IsVolumeOf state z s a → (t : State) × IsVolumeOf state z t b × IsClosed n s t
+  pub represents : is_stopped b ≡ false → (z : Sizes) (s : State) → IsVolumeOf state z s a → (t : State) × IsVolumeOf state z t b × IsClosed n s t
   pub tree : (z : Sizes) (s : State) → IsVolumeOf state z s a → ShowsOldOrNew z (state (pages_of a)) (state (pages_of b)) (settled s.objects)
   pub cause : is_stopped b ≡ true → (z : Sizes) (s : State) → IsVolumeOf state z s a → HasEnded (state (pages_of a)) (state (pages_of b))
 
@@ -41,6 +41,6 @@ pub record KeepsOnly (z : Sizes) (p : PagesState) (tree : Objects) : Type 0 wher
   pub all : p.device.honest ≡ true → (o c : ℕ) → InFootprint z (HasNewest p.device.flash) tree o c → HasPage p.committed o c
   pub only : p.device.honest ≡ true → (o c : ℕ) → HasPage p.committed o c → InFootprint z (HasNewest p.device.flash) tree o c
 
--- the volume can be written, and stands for this state
+-- the volume can be written, and represents this state
 abbrev pub CanWrite : {P : Type 0} → (P → PagesState) → Sizes → State → PageVolume P → Type 0
 CanWrite state z s v = (is_read_only v ≡ false) × IsVolumeOf state z s v

@@ -10,7 +10,7 @@ use Rattle.posix_profile.specs.declared.reply.Errno.TheVariants as errors
 use Rattle.posix_profile.specs.declared.reply.Info.{Info}
 use Rattle.volume_terms.specs.Sizes.{Sizes}
 
--- A volume that is stopped reports EIO; another one what Stat reports of the descriptor's object in the state that it stands for.
+-- A volume that is stopped reports EIO; another one what Stat reports of the descriptor's object in the state that it represents.
 pub record IsDescribed {P : Type 0} (state : P → PagesState) (v : PageVolume P) (fd : ℕ) (reported : Result Info Errno) : Type 0 where
   pub stopped : is_stopped v ≡ true → reported ≡ Err errors.EIO
   pub describes : is_stopped v ≡ false → (z : Sizes) (s : State) → IsVolumeOf state z s v → Describes s fd reported

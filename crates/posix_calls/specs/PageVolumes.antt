@@ -1,4 +1,4 @@
--- What a volume over pages is, and which state it stands for.
+-- What a volume over pages is, and which state it represents.
 use Rattle.std.specs.Prelude.{◌≡◌, ◌≤◌, Bool, true, false}
 use Rattle.std.specs.FinMap as map
 use Rattle.volume_terms.specs.Sizes.{Sizes, IsSizes}
@@ -14,7 +14,7 @@ use Rattle.object_store.specs.declared.table.ObjectTable.{ObjectTable}
 use Rattle.pages.specs.State.{PagesState}
 use Rattle.pages.specs.Stores.{bad_on}
 use Rattle.paged_objects.specs.Parts as parts
-use Rattle.paged_objects.specs.Standing.{StandsFor, Shown}
+use Rattle.paged_objects.specs.Representing.{PagesRepresent, Shown}
 use Rattle.paged_objects.specs.declared.store.PagedObjects.{PagedObjects}
 use Rattle.posix_calls.specs.declared.page_volume.PageVolume.{PageVolume}
 
@@ -30,7 +30,7 @@ table_of v = parts.table_of (volumes.store_of v.volume)
 abbrev pub names_of : {P : Type 0} → PageVolume P → NameIndex
 names_of v = parts.names_of (volumes.store_of v.volume)
 
--- what its descriptors stand for
+-- what its descriptors refer to
 abbrev pub handles_of : {P : Type 0} → PageVolume P → Handles
 handles_of v = volumes.handles_of v.volume
 
@@ -42,13 +42,13 @@ is_read_only v = volumes.is_read_only v.volume
 abbrev pub is_stopped : {P : Type 0} → PageVolume P → Bool
 is_stopped v = volumes.is_stopped v.volume
 
--- The volume stands for a state: its sound pages hold the objects, its table reports them, its index has the hashes of their names, and
+-- The volume represents a state: its sound pages hold the objects, its table reports them, its index has the hashes of their names, and
 -- its descriptors are those of the state, which is one that a volume of these sizes can have. Of a read-only volume no descriptor may write, each object has
 -- a name, and a mount shows the objects; of another no more blocks are bad than there are to spare.
 pub record IsVolumeOf {P : Type 0} (state : P → PagesState) (z : Sizes) (s : State) (v : PageVolume P) : Type 0 where
   pub numbers : IsSizes z
   pub sizes : table_sizes (table_of v) ≡ z
-  pub stands : StandsFor z (state (pages_of v)) s.objects
+  pub represents : PagesRepresent z (state (pages_of v)) s.objects
   pub reports : Reports (table_of v) s.objects
   pub hashes : HasNames (names_of v) z (state (pages_of v)).present s.objects
   pub handles : volumes.handles_of v.volume ≡ s.handles
@@ -63,7 +63,7 @@ pub record IsVolumeOf {P : Type 0} (state : P → PagesState) (z : Sizes) (s : S
 -- names, and a volume of its sizes can have them.
 pub record IsStored {P : Type 0} (state : P → PagesState) (o : PagedObjects P) (objects : Objects) : Type 0 where
   pub numbers : IsSizes (table_sizes (parts.table_of o))
-  pub stands : StandsFor (table_sizes (parts.table_of o)) (state (parts.pages_of o)) objects
+  pub represents : PagesRepresent (table_sizes (parts.table_of o)) (state (parts.pages_of o)) objects
   pub reports : Reports (parts.table_of o) objects
   pub hashes : HasNames (parts.names_of o) (table_sizes (parts.table_of o)) (state (parts.pages_of o)).present objects
   pub sound : IsSound (table_sizes (parts.table_of o)) (record { objects = objects; handles = map.empty })

@@ -2,7 +2,7 @@
 use Rattle.std.specs.Prelude.{◌≡◌, ◌⊎◌, ◌||◌, ◌++◌, ℕ, true, false, List, length, take, All}
 use Rattle.std.specs.List.{list_any}
 use Rattle.volume_terms.specs.Sizes.{Sizes}
-use Rattle.posix_profile.specs.Losses.{LossLeaves}
+use Rattle.posix_profile.specs.Losses.{PowerLossLeaves}
 use Rattle.nand_model.specs.Changes.{OnlyReads}
 use Rattle.posix_profile.specs.Runs.{is_stop, after, AllStopped, RunHolds}
 use Rattle.posix_profile.specs.State.{Objects, State}
@@ -13,17 +13,17 @@ use Rattle.object_commands.specs.Running.{StaysStopped, ends_refused, OnlyReport
 use Rattle.pages.specs.State.{PagesState}
 use Rattle.pages.specs.Stores.{HasFailed}
 use Rattle.paged_objects.specs.Ending.{StaysAs, HasEnded}
-use Rattle.paged_objects.specs.Standing.{Shown}
+use Rattle.paged_objects.specs.Representing.{Shown}
 use Rattle.posix_calls.specs.PageVolumes.{pages_of, is_read_only, is_stopped, IsVolumeOf}
 use Rattle.posix_calls.specs.declared.page_volume.PageVolume.{PageVolume}
 
 -- From a state: the replies are right, a mount shows the tree after some of the commands, at least those that a sync covers,
--- and the volume is stopped for its reason, which is no want of blocks or numbers where it is read-only, or it stands for the
+-- and the volume is stopped for its reason, which is no want of blocks or numbers where it is read-only, or it represents the
 -- state after the commands that were answered. Where the last of them was refused memory the device has power. Where each of them only reports at its state the pages are as they were. The
 -- device is only read of a read-only volume, and where each of them only reports or makes no call.
 pub record RanPages {P : Type 0} (state : P → PagesState) (z : Sizes) (s : State) (commands : List Stamped) (answered : List Reply) (a b : PageVolume P) : Type 0 where
   pub holds : RunHolds z (is_read_only a) s commands answered
-  pub losses : (tree : Objects) → Shown z (state (pages_of a)) tree → LossLeaves (Shown z (state (pages_of b))) tree z (is_read_only a) s commands answered
+  pub power_losses : (tree : Objects) → Shown z (state (pages_of a)) tree → PowerLossLeaves (Shown z (state (pages_of b))) tree z (is_read_only a) s commands answered
   pub cause : is_stopped b ≡ true → HasEnded (state (pages_of a)) (state (pages_of b))
   pub only_failed : is_read_only a ≡ true → is_stopped b ≡ true → HasFailed (state (pages_of b)).device
   pub state_is : is_stopped b ≡ false → IsVolumeOf state z (after z (is_read_only a) s commands answered) b

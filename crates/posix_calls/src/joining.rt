@@ -5,7 +5,7 @@ ghost use Rattle.command_plans.specs.Tables.{handles_in};
 ghost use Rattle.paged_objects.specs.Parts as parts;
 ghost use Rattle.posix_profile.specs.State.{Objects};
 ghost use Rattle.posix_calls.specs.PageVolumes.{pages_of, is_read_only, is_stopped};
-ghost use Rattle.posix_calls.specs.Mounts.{AreMounted, StandsForTree};
+ghost use Rattle.posix_calls.specs.Mounts.{AreMounted, RepresentsTree};
 
 use crate::PageVolume;
 use command_plans::table::DescriptorTable;
@@ -25,7 +25,7 @@ pub(crate) fn join<P: PageStore>(
     ensures pages { P.state (pages_of result) ≡ P.state (parts.pages_of objects) }
     ensures read_only { is_read_only result ≡ read_only }
     ensures goes_on { is_stopped result ≡ false }
-    ensures tree { (tree : Objects) → AreMounted P.state objects read_only tree → StandsForTree P.state result tree }
+    ensures tree { (tree : Objects) → AreMounted P.state objects read_only tree → RepresentsTree P.state result tree }
 {
     PageVolume::new(alloc, objects, descriptors, read_only)
 }

@@ -11,7 +11,7 @@ ghost use Rattle.object_store.specs.Stores.{settled};
 ghost use Rattle.object_store.specs.Reported.{table_sizes};
 ghost use Rattle.pages.specs.Stores.{GoesOn};
 ghost use Rattle.paged_objects.specs.Ending.{HasEnded};
-ghost use Rattle.paged_objects.specs.Standing.{Shown};
+ghost use Rattle.paged_objects.specs.Representing.{Shown};
 
 use command_plans::table::DescriptorTable;
 use object_commands::Volume;
@@ -151,7 +151,7 @@ impl<P: PageStore> PageVolume<P> {
         self.volume.into_store().into_pages()
     }
 
-    /// What Stat reports of the object that a descriptor stands for, which need not have a name. It makes no call of the device.
+    /// What Stat reports of the object that a descriptor refers to, which need not have a name. It makes no call of the device.
     pub fn describe(&self, fd: u32) -> Result<Info, Errno>
         ensures stopped { is_stopped self.now ≡ true → result ≡ Err errors.EIO }
         ensures describes { is_stopped self.now ≡ false → (z : Sizes) (s : State) → IsVolumeOf P.state z s self.now → Describes s fd result }

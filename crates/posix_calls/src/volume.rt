@@ -104,7 +104,7 @@ impl<N: Nand> Volume<N> {
         self.volume.into_pages().into_device().into_inner()
     }
 
-    /// What Stat reports of the object that a descriptor stands for, which need not have a name. It makes no call of the device.
+    /// What Stat reports of the object that a descriptor refers to, which need not have a name. It makes no call of the device.
     pub fn describe(&self, fd: u32) -> Result<Info, Errno>
         ensures { IsDescribed mounted_pages (over_pages self.now) fd result }
     {

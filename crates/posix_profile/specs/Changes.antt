@@ -36,7 +36,7 @@ abbrev pub with_object : Objects → ℕ → ℕ → Name → Object → Objects
 with_object objects moment directory name object =
     with_name (map.insert objects (new_number objects) object) moment directory name (new_number objects)
 
--- the descriptor stands for this
+-- the descriptor refers to this
 abbrev pub with_handle : State → ℕ → Handle → State
 with_handle s fd handle = record s { handles = map.insert s.handles fd handle }
 

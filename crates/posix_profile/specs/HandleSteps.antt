@@ -30,12 +30,12 @@ may_write access.Read = false
 may_write access.Write = true
 may_write access.Both = true
 
--- what to do with what the descriptor stands for
+-- what to do with what the descriptor refers to
 unfoldable pub at_handle : State → Option Handle → (Handle → Outcome) → Outcome
 at_handle s None act = refuse s errors.EBADF
 at_handle s (Some handle) act = act handle
 
--- what to do with the bytes of the file that the descriptor stands for; its object is always there
+-- what to do with the bytes of the file that the descriptor refers to; its object is always there
 unfoldable pub at_file : State → Option Object → Errno → (List ℕ → Outcome) → Outcome
 at_file s None error act = refuse s errors.EBADF
 at_file s (Some (File moment bytes)) error act = act bytes
@@ -133,7 +133,7 @@ abbrev pub write_bytes : Sizes → ℕ → State → ℕ → Handle → List ℕ
 write_bytes z moment s fd handle [] = answer s (replies.Wrote 0)
 write_bytes z moment s fd handle (byte ∷ bytes) = at_file s (map.get s.objects handle.object) errors.EBADF (write_file z moment s fd handle (byte ∷ bytes))
 
--- Write: to a descriptor that may write, which always stands for a file
+-- Write: to a descriptor that may write, which always represents a file
 abbrev pub write_step : Sizes → ℕ → State → ℕ → List ℕ → Outcome
 write_step z moment s fd new = at_handle s (map.get s.handles fd) (λ handle.
     unless s (
@@ -172,7 +172,7 @@ truncate_to z moment s handle (pos n) =
     (at_file s (map.get s.objects handle.object) errors.EINVAL (λ bytes.
     change_to z s (record s { objects = with_bytes s.objects moment handle.object (resized bytes n) }) replies.Done))
 
--- Truncate: of a descriptor that may write, which always stands for a file; the offset stays
+-- Truncate: of a descriptor that may write, which always represents a file; the offset stays
 abbrev pub truncate_step : Sizes → ℕ → State → ℕ → ℤ → Outcome
 truncate_step z moment s fd length = at_handle s (map.get s.handles fd) (λ handle.
     unless s (

@@ -31,7 +31,7 @@ abbrev pub settled_after : Sizes → Bool → State → List Stamped → List Re
 settled_after z read_only s commands replies k = (settle (after z read_only s commands (take k replies))).objects
 
 -- what a loss of power leaves: the tree after some of the commands, at least all that a done sync covers; or, where no sync is done, the one before
-abbrev pub LossLeaves : (Objects → Type 0) → Objects → Sizes → Bool → State → List Stamped → List Reply → Type 0
-LossLeaves tree first z read_only s commands replies =
+abbrev pub PowerLossLeaves : (Objects → Type 0) → Objects → Sizes → Bool → State → List Stamped → List Reply → Type 0
+PowerLossLeaves tree first z read_only s commands replies =
     ((k : ℕ) × Covers commands replies k × (k ≤ length replies) × tree (settled_after z read_only s commands replies k))
     ⊎ (Covers commands replies 0 × tree first)

@@ -51,11 +51,11 @@ links objects o (Dir moment entries) = 2 + count_by (λ child. is_directory (map
 abbrev pub is_named : Objects → ℕ → Bool
 is_named objects o = list_any (has_entry_to o) (map.values objects)
 
--- whether some descriptor stands for the object
+-- whether some descriptor refers to the object
 abbrev pub is_open : State → ℕ → Bool
 is_open s o = list_any (λ h. nat_eq o h.object) (map.values s.handles)
 
--- the state without each object that is not the root, that no directory names and that no descriptor stands for
+-- the state without each object that is not the root, that no directory names and that no descriptor refers to
 abbrev pub prune : State → State
 prune s = record s { objects = map.retain_keys s.objects (λ o. nat_eq o root_number || is_named s.objects o || is_open s o) }
 

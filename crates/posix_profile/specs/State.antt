@@ -23,13 +23,13 @@ pub data Object : Type 0 where
 abbrev pub Objects : Type 0
 Objects = map.FinMap nat_cmp Object
 
--- what a descriptor stands for: the number of an object, how it was opened, and the offset
+-- what a descriptor refers to: the number of an object, how it was opened, and the offset
 pub record Handle : Type 0 where
   pub object : ℕ
   pub flags : OpenFlags
   pub offset : ℕ
 
--- from descriptors to what they stand for
+-- from descriptors to what they represent
 abbrev pub Handles : Type 0
 Handles = map.FinMap nat_cmp Handle
 

@@ -29,7 +29,7 @@ pub record IsForest (z : Sizes) (objects : Objects) : Type 0 where
   pub reached : (directory o : ℕ) (name : Name) → Names objects directory name o → Reached objects directory
   pub one_name : (o a b : ℕ) (m n : Name) → IsDirectory objects o → Names objects a m o → Names objects b n o → (a ≡ b) × (m ≡ n)
 
--- what an open descriptor stands for: an object that is there, a file where it may write, and an offset
+-- what an open descriptor refers to: an object that is there, a file where it may write, and an offset
 pub record IsHandle (objects : Objects) (fd : ℕ) (handle : Handle) : Type 0 where
   pub descriptor : fd < descriptors
   pub offset : handle.offset ≤ offset_limit
@@ -44,11 +44,11 @@ AreHandles objects handles = (fd : ℕ) (handle : Handle) → map.get handles fd
 abbrev pub IsNamed : Objects → ℕ → Type 0
 IsNamed objects o = (directory : ℕ) × (name : Name) × Names objects directory name o
 
--- some descriptor stands for the object
+-- some descriptor refers to the object
 abbrev pub IsOpen : Handles → ℕ → Type 0
 IsOpen handles o = (fd : ℕ) × (handle : Handle) × (map.get handles fd ≡ Some handle) × (handle.object ≡ o)
 
--- a state that a volume can have: its objects hang together, its descriptors stand for some of them, and no object is left that has neither name nor descriptor
+-- a state that a volume can have: its objects hang together, its descriptors refer to some of them, and no object is left that has neither name nor descriptor
 pub record IsWellFormed (z : Sizes) (s : State) : Type 0 where
   pub forest : IsForest z s.objects
   pub handles : AreHandles s.objects s.handles

@@ -8,7 +8,7 @@ use Rattle.std.proofs.lemmas.List.Folds.{list_any-append}
 use Rattle.std.proofs.lemmas.Option.{slice_get_within}
 use Rattle.volume_terms.specs.Sizes.{Sizes}
 use Rattle.object_store.specs.Stores.{settled}
-use Rattle.posix_profile.specs.Losses.{Covers, LossLeaves, settled_after}
+use Rattle.posix_profile.specs.Losses.{Covers, PowerLossLeaves, settled_after}
 use Rattle.posix_profile.specs.Runs.{Replies, after_one, after, is_stop, RunHolds}
 use Rattle.posix_profile.specs.State.{Objects, State}
 use Rattle.posix_profile.specs.laws.Loss.{loss_more}
@@ -22,7 +22,7 @@ use Rattle.flash_tree.specs.Checkpoints.{IsChecked}
 use Rattle.pages.specs.State.{PagesState}
 use Rattle.pages.specs.Stores.{GoesOn, HasFailed}
 use Rattle.paged_objects.specs.Ending.{HasEndedAt}
-use Rattle.paged_objects.specs.Standing.{Shown}
+use Rattle.paged_objects.specs.Representing.{Shown}
 use Rattle.page_store.specs.Sealing.{EndsOn, StaysRight}
 use Rattle.page_store.specs.laws.Sealing.{ends_going}
 use Rattle.posix_calls.specs.Endings.{LiesOn}
@@ -49,13 +49,13 @@ none_at i r is = cc
 pub record GoesWell {V : Type 0} (m : Meaning V) (z : Sizes) (s : State) (commands : List Stamped) (reported : List Reply) (a b : V) : Type 0 where
   pub holds : RunHolds z (m.read_only a) s commands reported
   pub none : list_any is_stop reported ≡ false
-  pub losses : (tree : Objects) → Shown z (m.pages a) tree → LossLeaves (Shown z (m.pages b)) tree z (m.read_only a) s commands reported
+  pub power_losses : (tree : Objects) → Shown z (m.pages a) tree → PowerLossLeaves (Shown z (m.pages b)) tree z (m.read_only a) s commands reported
   pub goes : m.stopped b ≡ false
-  pub state_is : m.stands z (after z (m.read_only a) s commands reported) b
+  pub state_is : m.represents z (after z (m.read_only a) s commands reported) b
 
 -- from each state that a volume which goes on stands for
 pub GoesSoFar : {V : Type 0} (m : Meaning V) (commands : List Stamped) (reported : List Reply) (a b : V) → Type 0
-GoesSoFar m commands reported a b = m.stopped a ≡ false → (z : Sizes) (s : State) → m.stands z s a → GoesWell m z s commands reported a b
+GoesSoFar m commands reported a b = m.stopped a ≡ false → (z : Sizes) (s : State) → m.represents z s a → GoesWell m z s commands reported a b
 
 -- none is done yet
 pub well_none : {V : Type 0} (m : Meaning V) (commands : List Stamped) (a : V) → GoesSoFar m commands [] a a
@@ -63,15 +63,15 @@ unfolding GoesSoFar
 well_none m commands a goes z s is = record {
   holds = tt;
   none = refl;
-  losses = λ tree shown. inr (λ i done. absurd (none_at i done.1 done.3), shown);
+  power_losses = λ tree shown. inr (λ i done. absurd (none_at i done.1 done.3), shown);
   goes = goes;
   state_is = is;
 }
 
 module _ {V : Type 0} (m : Meaning V) (commands : List Stamped) (reported : List Reply) (c : Stamped) (r : Reply) (a b d : V) (at : slice_get commands (length reported) ≡ Some c)
     (same : m.read_only b ≡ m.read_only a) (so_far : GoesSoFar m commands reported a b)
-    (one : m.stopped b ≡ false → (z : Sizes) (s : State) → m.stands z s b → DoesOne m z s c r b d) (stops : m.stopped b ≡ false → m.stopped d ≡ is_stop r) where
-  module _ (going : m.stopped a ≡ false) (z : Sizes) (s : State) (is : m.stands z s a) where
+    (one : m.stopped b ≡ false → (z : Sizes) (s : State) → m.represents z s b → DoesOne m z s c r b d) (stops : m.stopped b ≡ false → m.stopped d ≡ is_stop r) where
+  module _ (going : m.stopped a ≡ false) (z : Sizes) (s : State) (is : m.represents z s a) where
     was : GoesWell m z s commands reported a b
     unfolding GoesSoFar
     was = so_far going z s is
@@ -87,10 +87,10 @@ module _ {V : Type 0} (m : Meaning V) (commands : List Stamped) (reported : List
         let one = subst (λ ro. Replies z ro now c r) same does_one.right in
         holds_more z (m.read_only a) s commands reported c r at was.holds one (λ stop. absurd (true≢false (sym stop ∙ was.none)))
 
-    losses_now : (t : Objects) → Shown z (m.pages a) t → LossLeaves (Shown z (m.pages d)) t z (m.read_only a) s commands (reported ++ r ∷ [])
+    losses_now : (t : Objects) → Shown z (m.pages a) t → PowerLossLeaves (Shown z (m.pages d)) t z (m.read_only a) s commands (reported ++ r ∷ [])
     losses_now t shown =
         loss_more (Shown z (m.pages b)) (Shown z (m.pages d)) t z (m.read_only a) s commands reported c r at
-        does_one.tree does_one.synced (was.losses t shown)
+        does_one.tree does_one.synced (was.power_losses t shown)
 
     stopped_as : m.stopped d ≡ is_stop r
     stopped_as = stops was.goes
@@ -98,13 +98,13 @@ module _ {V : Type 0} (m : Meaning V) (commands : List Stamped) (reported : List
     well_now : m.stopped d ≡ false → GoesWell m z s commands (reported ++ r ∷ []) a d
     well_now still =
         let quiet : is_stop r ≡ false = sym stopped_as ∙ still in
-        let next = subst (λ ro. m.stands z (after_one z ro now c r) d) same (does_one.stands quiet) in
+        let next = subst (λ ro. m.represents z (after_one z ro now c r) d) same (does_one.represents quiet) in
         record {
           holds = holds_now;
           none = any_push reported r was.none ∙ quiet;
-          losses = losses_now;
+          power_losses = losses_now;
           goes = still;
-          state_is = subst (λ x. m.stands z x d) (sym (after_more z (m.read_only a) s commands reported c r at)) next;
+          state_is = subst (λ x. m.represents z x d) (sym (after_more z (m.read_only a) s commands reported c r at)) next;
         }
 
     stopped_now : m.stopped d ≡ true → DoesCommands m z s commands (reported ++ r ∷ []) a d
@@ -113,11 +113,11 @@ module _ {V : Type 0} (m : Meaning V) (commands : List Stamped) (reported : List
         record {
           holds = holds_now;
           begun = inr (reported, ap (λ (x : Reply). reported ++ x ∷ []) (stop_is r stop));
-          losses = losses_now;
+          power_losses = losses_now;
           stops = stopped ∙ sym (any_push reported r was.none ∙ stop);
           cause = λ _. does_one.cause stop;
           failed = λ only _. does_one.failed (same ∙ only) stop;
-          stands = λ goes. absurd (true≢false (sym stopped ∙ goes));
+          represents = λ goes. absurd (true≢false (sym stopped ∙ goes));
         }
 
   -- one command more
@@ -147,11 +147,11 @@ does_all m commands reported a b all so_far goes same_only = record {
       record {
         holds = was.holds;
         begun = inl all;
-        losses = was.losses;
+        power_losses = was.power_losses;
         stops = was.goes ∙ sym was.none;
         cause = λ stopped. absurd (true≢false (sym stopped ∙ was.goes));
         failed = λ only stopped. absurd (true≢false (sym stopped ∙ was.goes));
-        stands = λ _. was.state_is;
+        represents = λ _. was.state_is;
       };
 }
 
@@ -165,11 +165,11 @@ all_reported z ro s commands reported = ap (λ (x : List Reply). settled (after 
 -- What an unmount of a volume that goes on answers and leaves.
 pub record UnmountsOne {V : Type 0} (m : Meaning V) (v : V) (q : PagesState) (reply : Reply) : Type 0 where
   pub replies_are : (reply ≡ replies.Done) ⊎ (reply ≡ replies.Error errors.EIO)
-  pub done : (z : Sizes) (s : State) → m.stands z s v → reply ≡ replies.Done → Shown z q (settled s.objects)
-  pub tree : (z : Sizes) (s : State) → m.stands z s v → (tree : Objects) → Shown z (m.pages v) tree → Shown z q tree ⊎ Shown z q (settled s.objects)
-  pub cause : (z : Sizes) (s : State) → m.stands z s v → reply ≡ replies.Error errors.EIO → HasEndedAt q
+  pub done : (z : Sizes) (s : State) → m.represents z s v → reply ≡ replies.Done → Shown z q (settled s.objects)
+  pub tree : (z : Sizes) (s : State) → m.represents z s v → (tree : Objects) → Shown z (m.pages v) tree → Shown z q tree ⊎ Shown z q (settled s.objects)
+  pub cause : (z : Sizes) (s : State) → m.represents z s v → reply ≡ replies.Error errors.EIO → HasEndedAt q
   pub only_done : m.read_only v ≡ true → reply ≡ replies.Done
-  pub checked : (z : Sizes) (s : State) → m.stands z s v → StaysRight (m.pages v) q
+  pub checked : (z : Sizes) (s : State) → m.represents z s v → StaysRight (m.pages v) q
 
 module _ {V : Type 0} (m : Meaning V) (commands : List Stamped) (reported : List Reply) (a b : V) (done : Does m commands reported a b) where
   -- the volume is abandoned
@@ -178,11 +178,11 @@ module _ {V : Type 0} (m : Meaning V) (commands : List Stamped) (reported : List
     left = m.pages b;
     device_is = is;
     ends_on = ends_going (m.pages a) (m.pages b) done.goes_on;
-    right = λ going z s stands. goes_right (m.pages a) (m.pages b) done.goes_on;
+    right = λ going z s represents. goes_right (m.pages a) (m.pages b) done.goes_on;
     begun = done.begun;
     abandoned = λ none. (b, done, is);
-    leaves = λ going z s tree stands shown.
-        let does = done.does going z s stands in
+    leaves = λ going z s tree represents shown.
+        let does = done.does going z s represents in
         record {
           holds = does.holds;
           begun = does.begun;
@@ -195,7 +195,7 @@ module _ {V : Type 0} (m : Meaning V) (commands : List Stamped) (reported : List
             | inl stop ↦ does.failed only (does.stops ∙ stop)
             | inr reported ↦ let two : None ≡ Some (replies.Error errors.EIO) = reported in absurd cc
           ];
-          losses = does.losses tree shown;
+          power_losses = does.power_losses tree shown;
           done = λ reported. let two : None ≡ Some replies.Done = reported in absurd cc;
         };
   }
@@ -203,9 +203,9 @@ module _ {V : Type 0} (m : Meaning V) (commands : List Stamped) (reported : List
   -- an unmount of the volume, which leaves these pages, with this reply
   module _ (device : Device) (reply : Reply) (q : PagesState) (device_is : LiesOn q device) (on : EndsOn (m.pages b) q) (stops : m.stopped b ≡ true → (reply ≡ replies.Error errors.EIO) × (q ≡ m.pages b))
       (reads : m.read_only b ≡ true → q ≡ m.pages b) (goes : m.stopped b ≡ false → UnmountsOne m b q reply) where
-    module _ (going : m.stopped a ≡ false) (z : Sizes) (s : State) (tree : Objects) (stands : m.stands z s a) (shown : Shown z (m.pages a) tree) where
+    module _ (going : m.stopped a ≡ false) (z : Sizes) (s : State) (tree : Objects) (represents : m.represents z s a) (shown : Shown z (m.pages a) tree) where
       does : DoesCommands m z s commands reported a b
-      does = done.does going z s stands
+      does = done.does going z s represents
 
       reply_is : (reply ≡ replies.Done) ⊎ (reply ≡ replies.Error errors.EIO)
       reply_is = elim (cases_Bool (m.stopped b)) [
@@ -215,12 +215,12 @@ module _ {V : Type 0} (m : Meaning V) (commands : List Stamped) (reported : List
 
       -- the tree that a mount would show before the unmount, or all of the commands
       turned : m.stopped b ≡ false → (t : Objects) → Shown z (m.pages b) t → Shown z q t ⊎ Shown z q (settled_after z (m.read_only a) s commands reported (length reported))
-      turned still t there = elim ((goes still).tree z (after z (m.read_only a) s commands reported) (does.stands still) t there) [
+      turned still t there = elim ((goes still).tree z (after z (m.read_only a) s commands reported) (does.represents still) t there) [
         | inl still ↦ inl still
         | inr all ↦ inr (subst (Shown z q) (sym (all_reported z (m.read_only a) s commands reported)) all)
       ]
 
-      left_goes : m.stopped b ≡ false → LossLeaves (Shown z (m.pages b)) tree z (m.read_only a) s commands reported → LossLeaves (Shown z q) tree z (m.read_only a) s commands reported
+      left_goes : m.stopped b ≡ false → PowerLossLeaves (Shown z (m.pages b)) tree z (m.read_only a) s commands reported → PowerLossLeaves (Shown z q) tree z (m.read_only a) s commands reported
       left_goes going' (inl some) = elim (turned going' (settled_after z (m.read_only a) s commands reported some.0) some.3) [
         | inl still ↦ inl (some.0, some.1, some.2, still)
         | inr all ↦ inl (length reported, covers_all commands reported, omega arith, all)
@@ -230,16 +230,16 @@ module _ {V : Type 0} (m : Meaning V) (commands : List Stamped) (reported : List
         | inr all ↦ inl (length reported, covers_all commands reported, omega arith, all)
       ]
 
-      left_there : LossLeaves (Shown z q) tree z (m.read_only a) s commands reported
+      left_there : PowerLossLeaves (Shown z q) tree z (m.read_only a) s commands reported
       left_there = elim (cases_Bool (m.stopped b)) [
-        | inl stopped ↦ subst (λ (p : PagesState). LossLeaves (Shown z p) tree z (m.read_only a) s commands reported) (sym (stops stopped).1) (does.losses tree shown)
-        | inr still ↦ left_goes still (does.losses tree shown)
+        | inl stopped ↦ subst (λ (p : PagesState). PowerLossLeaves (Shown z p) tree z (m.read_only a) s commands reported) (sym (stops stopped).1) (does.power_losses tree shown)
+        | inr still ↦ left_goes still (does.power_losses tree shown)
       ]
 
       done_there : reply ≡ replies.Done → Shown z q (settled_after z (m.read_only a) s commands reported (length reported))
       done_there is = elim (cases_Bool (m.stopped b)) [
         | inl stopped ↦ let two : replies.Done ≡ replies.Error errors.EIO = sym is ∙ (stops stopped).0 in absurd cc
-        | inr still ↦ subst (Shown z q) (sym (all_reported z (m.read_only a) s commands reported)) ((goes still).done z (after z (m.read_only a) s commands reported) (does.stands still) is)
+        | inr still ↦ subst (Shown z q) (sym (all_reported z (m.read_only a) s commands reported)) ((goes still).done z (after z (m.read_only a) s commands reported) (does.represents still) is)
       ]
 
       ended_there : (list_any is_stop reported ≡ true) ⊎ (reply ≡ replies.Error errors.EIO) → HasEndedAt q
@@ -247,7 +247,7 @@ module _ {V : Type 0} (m : Meaning V) (commands : List Stamped) (reported : List
         | inl stopped ↦ subst HasEndedAt (sym (stops stopped).1) (does.cause stopped)
         | inr still ↦ elim why [
           | inl stop ↦ absurd (true≢false (sym (does.stops ∙ stop) ∙ still))
-          | inr reported' ↦ (goes still).cause z (after z (m.read_only a) s commands reported) (does.stands still) reported'
+          | inr reported' ↦ (goes still).cause z (after z (m.read_only a) s commands reported) (does.represents still) reported'
         ]
       ]
 
@@ -273,7 +273,7 @@ module _ {V : Type 0} (m : Meaning V) (commands : List Stamped) (reported : List
           | inl stop ↦ inl stop
           | inr is ↦ let one : Some reply ≡ Some (replies.Error errors.EIO) = is in let same : reply ≡ replies.Error errors.EIO = cc in inr same
         ]);
-        losses = left_there;
+        power_losses = left_there;
         done = λ is. let one : Some reply ≡ Some replies.Done = is in let same : reply ≡ replies.Done = cc in done_there same;
       }
 
@@ -281,14 +281,14 @@ module _ {V : Type 0} (m : Meaning V) (commands : List Stamped) (reported : List
     as_left same honest checked = subst (λ (x : PagesState). IsChecked x.device.geometry x.device.flash x.checkpoint) (sym same) checked
 
     -- the checkpoints stay right in the unmount
-    right_there : m.stopped a ≡ false → (z : Sizes) (s : State) → m.stands z s a → StaysRight (m.pages b) q
-    right_there going z s stands = elim (cases_Bool (m.stopped b)) [
+    right_there : m.stopped a ≡ false → (z : Sizes) (s : State) → m.represents z s a → StaysRight (m.pages b) q
+    right_there going z s represents = elim (cases_Bool (m.stopped b)) [
       | inl stopped ↦ as_left (stops stopped).1
       | inr still ↦ elim (cases_Bool (m.read_only b)) [
         | inl only ↦ as_left (reads only)
         | inr written ↦
-            let does = done.does going z s stands in
-            (goes still).checked z (after z (m.read_only a) s commands reported) (does.stands still)
+            let does = done.does going z s represents in
+            (goes still).checked z (after z (m.read_only a) s commands reported) (does.represents still)
       ]
     ]
 
@@ -298,9 +298,9 @@ module _ {V : Type 0} (m : Meaning V) (commands : List Stamped) (reported : List
       left = q;
       device_is = device_is;
       ends_on = ends_after (m.pages a) (m.pages b) q (ends_going (m.pages a) (m.pages b) done.goes_on) on;
-      right = λ going z s stands.
-          right_after (m.pages a) (m.pages b) q (ends_going (m.pages a) (m.pages b) done.goes_on) (goes_right (m.pages a) (m.pages b) done.goes_on) (right_there going z s stands);
+      right = λ going z s represents.
+          right_after (m.pages a) (m.pages b) q (ends_going (m.pages a) (m.pages b) done.goes_on) (goes_right (m.pages a) (m.pages b) done.goes_on) (right_there going z s represents);
       begun = done.begun;
       abandoned = λ none. (let two : Some reply ≡ None = none in absurd cc);
-      leaves = λ going z s tree stands shown. left_from going z s tree stands shown;
+      leaves = λ going z s tree represents shown. left_from going z s tree represents shown;
     }

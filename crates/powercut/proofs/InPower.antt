@@ -40,7 +40,7 @@ use Rattle.mounting.specs.Made.{CanOnlyBeRead, AreNext, Remembers}
 use Rattle.mounting.specs.Named.{IsTrustedSince}
 use Rattle.page_store.specs.Sealing.{EndsOn}
 use Rattle.paged_objects.specs.Ending.{HasEndedAt}
-use Rattle.paged_objects.specs.Standing.{volume_of, Shown}
+use Rattle.paged_objects.specs.Representing.{volume_of, Shown}
 use Rattle.paged_objects.specs.laws.Findable.{tree_findable}
 use Rattle.paged_objects.specs.laws.OnFlash.{shown_sound, shown_there}
 use Rattle.powercut.specs.Commands.{Meaning, LeavesFrom, IsUsed}
@@ -68,7 +68,7 @@ module _ (z : Sizes) (before : Objects) (commands : List Stamped) (reported : Li
   KeepsSome u = (k : ℕ) × Covers commands reported k × (k ≤ length reported) × Shown z left (settled_after z false (at_mount before) commands reported k) × (u ≡ Some replies.Done → k ≡ length reported)
 
   keeps_lost : (u : Option Reply) → (u ≡ Some replies.Done → ⊥) → KeepsSome u
-  keeps_lost u not = let some = loss_keeps (Shown z left) z before commands reported sound leaves.losses in (some.0, some.1, some.2, some.3, λ is. absurd (not is))
+  keeps_lost u not = let some = loss_keeps (Shown z left) z before commands reported sound leaves.power_losses in (some.0, some.1, some.2, some.3, λ is. absurd (not is))
 
   keeps_some : (u : Option Reply) → unmounted ≡ u → KeepsSome u
   keeps_some None is = keeps_lost None (λ done. let two : None ≡ Some replies.Done = done in absurd cc)
@@ -121,16 +121,16 @@ numbers_written p q goes honest n greatest next more risen b k t good has =
     (omega (arith, all.1, group), omega (arith, all.2, seq))
 
 -- The volume stands for the tree that its device shows, with no descriptor open; and a mount would show the tree again.
-pub record Stands {V : Type 0} (m : Meaning V) (v : V) (objects : Objects) : Type 0 where
+pub record Represents {V : Type 0} (m : Meaning V) (v : V) (objects : Objects) : Type 0 where
   pub answers : Answers (m.pages v).device.geometry (m.pages v).device.flash (IsTreeOf (m.pages v).spare objects)
-  pub volume : m.stands (volume_of (m.pages v)) (at_mount objects) v
+  pub volume : m.represents (volume_of (m.pages v)) (at_mount objects) v
   pub sound : IsSound (volume_of (m.pages v)) (at_mount objects)
   pub shown : Shown (volume_of (m.pages v)) (m.pages v) objects
 
 module _ {V : Type 0} (m : Meaning V) (v : V) (d e : Device) (commands : List Stamped) (reported : List Reply) (unmounted : Option Reply) (honest : d.honest ≡ true)
     (one : (g : Geometry) (flash : Flash) (a b : Answer) → Answers g flash a → Answers g flash b → a ≡ b)
     (reads : OnlyReads d (m.pages v).device) (goes : m.stopped v ≡ false) (read_only : (m.read_only v ≡ true) ↔ CanOnlyBeRead (m.pages v))
-    (next : AreNext (m.pages v).device.flash (m.pages v).next) (objects : Objects) (stands : Stands m v objects)
+    (next : AreNext (m.pages v).device.flash (m.pages v).next) (objects : Objects) (represents : Represents m v objects)
     (checked : IsChecked d.geometry d.flash (m.pages v).checkpoint) (used : IsUsed m v commands reported unmounted e) where
   abbrev p : PagesState
   p = m.pages v
@@ -170,7 +170,7 @@ module _ {V : Type 0} (m : Meaning V) (v : V) (d e : Device) (commands : List St
     sound_there = subst (λ (g : Geometry). IsSoundFlash g p.device.flash spare tree) (sym reads.lasts.geometry) (sound_same d.geometry d.flash p.device.flash same spare tree sound)
 
     found : IsTreeOf p.spare objects ≡ IsTreeOf spare tree
-    found = one p.device.geometry p.device.flash (IsTreeOf p.spare objects) (IsTreeOf spare tree) stands.answers (sound_there.volume, sound_there.shows, sound_there.room)
+    found = one p.device.geometry p.device.flash (IsTreeOf p.spare objects) (IsTreeOf spare tree) represents.answers (sound_there.volume, sound_there.shows, sound_there.room)
 
     spare_is : p.spare ≡ spare
     spare_is = let is = found in cc
@@ -231,8 +231,8 @@ module _ {V : Type 0} (m : Meaning V) (v : V) (d e : Device) (commands : List St
     life =
         let leaves =
         subst (λ (ro : Bool). LeavesFrom (volume_of p) ro (at_mount objects) objects commands reported unmounted q) is_written
-        (used.leaves goes (volume_of p) (at_mount objects) objects stands.volume stands.shown) in
-        let session = session_served (volume_of p) objects commands reported unmounted q stands.sound leaves q.device.gone ends_by_cut in
+        (used.leaves goes (volume_of p) (at_mount objects) objects represents.volume represents.shown) in
+        let session = session_served (volume_of p) objects commands reported unmounted q represents.sound leaves q.device.gone ends_by_cut in
         let record_reported = mounted_record commands reported unmounted q.device.gone in
         let from_tree = subst (λ (x : Objects). IsSessionFrom (volume_of p) x record_reported session.0) tree_is session.1 in
         let of_sizes = subst (λ (z : Sizes). IsSessionFrom z tree record_reported session.0) sizes_are from_tree in
@@ -245,11 +245,11 @@ module _ {V : Type 0} (m : Meaning V) (v : V) (d e : Device) (commands : List St
       (subst (λ (f : Flash). IsChecked d.geometry f p.checkpoint) (sym (same_flash d p.device reads honest)) checked)
 
   checked_now : IsChecked q.device.geometry q.device.flash q.checkpoint
-  checked_now = used.right goes (volume_of p) (at_mount objects) stands.volume p_honest checked_there
+  checked_now = used.right goes (volume_of p) (at_mount objects) represents.volume p_honest checked_there
 
   -- some tree is shown in the end
   shown_left : (after : Objects) × Shown (volume_of p) q after
-  shown_left = elim (used.leaves goes (volume_of p) (at_mount objects) objects stands.volume stands.shown).losses [
+  shown_left = elim (used.leaves goes (volume_of p) (at_mount objects) objects represents.volume represents.shown).power_losses [
     | inl some ↦ (settled_after (volume_of p) (m.read_only v) (at_mount objects) commands reported some.0, some.3)
     | inr none ↦ (objects, none.1)
   ]
@@ -330,7 +330,7 @@ module _ {V : Type 0} (m : Meaning V) (v : V) (d e : Device) (commands : List St
   -- the replies are right from the tree on
   pub served_there : IsServedFrom d q.device commands reported unmounted
   served_there =
-      let leaves = used.leaves goes (volume_of p) (at_mount objects) objects stands.volume stands.shown in
+      let leaves = used.leaves goes (volume_of p) (at_mount objects) objects represents.volume represents.shown in
       let bad : bad_on p.device ≡ bad_on d = ap (λ (g : Geometry). bad_blocks g p.device.flash) reads.lasts.geometry ∙ bad_same d.geometry d.flash p.device.flash same in
       let group = next_group in
       let seq = next_seq in
@@ -338,7 +338,7 @@ module _ {V : Type 0} (m : Meaning V) (v : V) (d e : Device) (commands : List St
         spare = p.spare;
         tree = objects;
         shows = answers_same d.geometry p.device.flash d.flash (same_back d.flash p.device.flash same) p.spare objects
-            (subst (λ (g : Geometry). Answers g p.device.flash (IsTreeOf p.spare objects)) reads.lasts.geometry stands.answers);
+            (subst (λ (g : Geometry). Answers g p.device.flash (IsTreeOf p.spare objects)) reads.lasts.geometry represents.answers);
         numbers = n;
         greatest = at_first;
         read_only = m.read_only v;
@@ -392,7 +392,7 @@ module _ {V : Type 0} (m : Meaning V) (v : V) (d e now : Device) (commands : Lis
   module _ (honest : d.honest ≡ true) (one : (g : Geometry) (flash : Flash) (a b : Answer) → Answers g flash a → Answers g flash b → a ≡ b)
       (goes : m.stopped v ≡ false) (read_only : (m.read_only v ≡ true) ↔ CanOnlyBeRead (m.pages v))
       (next : (m.pages v).device.honest ≡ true → AreNext (m.pages v).device.flash (m.pages v).next)
-      (tree : (m.pages v).device.honest ≡ true → (objects : Objects) × Stands m v objects)
+      (tree : (m.pages v).device.honest ≡ true → (objects : Objects) × Represents m v objects)
       (checked : HasTrueFlash d → IsChecked d.geometry d.flash (m.pages v).checkpoint) (remembers : Remembers d (m.pages v)) where
     module _ (truth : IsTrueOn d) where
       reads : OnlyReads d (m.pages v).device

@@ -3,7 +3,7 @@ mod Doing
 mod Ended
 mod InPower
 mod FailedMount
-mod Standing
+mod Representing
 mod Living
 mod Lists
 pub mod Walks

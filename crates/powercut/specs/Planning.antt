@@ -10,7 +10,7 @@ abbrev pub call_of : Option (ℕ × List Fate) → ℕ
 call_of None = 0
 call_of (Some fuse) = fuse.0
 
--- the call at which power goes
+-- the call at which power is lost
 abbrev pub fuse_call : Plan → ℕ
 fuse_call plan = call_of plan.fuse
 
@@ -35,7 +35,7 @@ are_counted (call ∷ calls) = nat_lt call (2 ^ 64 - 1) && are_counted calls
 pub record IsPlanned (plan : Plan) (first last : Device) : Type 0 where
   -- there is one cut where power is gone at the end, and else none
   pub cuts : last.cuts ≡ first.cuts + (if last.gone then 1 else 0)
-  -- power goes at the call of the fuse
+  -- power is lost at the call of the fuse
   pub cut : last.gone ≡ true → (1 ≤ fuse_call plan) × (calls_of last ≡ calls_of first + fuse_call plan)
   -- where it does not go the session makes fewer calls
   pub uncut : last.gone ≡ false → 1 ≤ fuse_call plan → calls_of last < calls_of first + fuse_call plan

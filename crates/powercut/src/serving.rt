@@ -3,33 +3,15 @@ ghost use Rattle.std.specs.Prelude.{◌≡◌, true, false, is_some, IfOk};
 ghost use Rattle.nand_model.specs.Calls.{Lasts};
 ghost use Rattle.page_store.specs.Checked.{HasTrueFlash};
 ghost use Rattle.page_store.specs.PagesOf.{mounted_pages};
-ghost use Rattle.posix_calls.specs.PageVolumes.{pages_of, is_read_only, is_stopped, IsVolumeOf};
 ghost use Rattle.posix_calls.specs.Volumes.{over_pages};
-ghost use Rattle.powercut.specs.Commands.{IsUsed};
+ghost use Rattle.powercut.specs.Commands.{IsUsed, meaning_of};
 ghost use Rattle.powercut.specs.Serving.{HasServed, IsServed, IsServedRight};
 
-use crate::commands::{Commanded, do_commands};
+use crate::commands::do_commands;
 use flash_tree::a_flash_has_one_answer_at_most;
 use nand_model::Nand;
 use posix_calls::{MountFault, Reply, Stamped, Volume};
 use std::alloc::{AllocError, Global};
-
-impl<N: Nand> Commanded for Volume<N> {
-    ghost meaning = { record {
-      pages = λ v. mounted_pages (pages_of (over_pages v));
-      stands = λ z s v. IsVolumeOf mounted_pages z s (over_pages v);
-      stopped = λ v. is_stopped (over_pages v);
-      read_only = λ v. is_read_only (over_pages v);
-    } };
-
-    fn answer(&mut self, stamped: &Stamped) -> Reply {
-        self.call(stamped)
-    }
-
-    fn is_stopped(&self) -> bool {
-        self.stopped()
-    }
-}
 
 /// What was answered in a session.
 #[derive(Drop)]
@@ -46,7 +28,7 @@ fn use_volume<N: Nand + Drop>(
     commands: &[Stamped],
     unmount: bool,
 ) -> Result<(N, Vec<Reply>, Option<Reply>), AllocError>
-    ensures used { IfOk result (λ r. IsUsed ⟦<Volume<N> as Commanded>⟧.meaning volume commands.now r.1.items r.2 (N.state r.0)) }
+    ensures used { IfOk result (λ r. IsUsed (meaning_of mounted_pages over_pages) volume commands.now r.1.items r.2 (N.state r.0)) }
     ensures unmounts { IfOk result (λ r. is_some r.2 ≡ unmount) }
 {
     let replies = do_commands(alloc, &mut volume, commands)?;

@@ -8,7 +8,7 @@ use posix_calls::{MountFault, Reply, Stamped};
 #[derive(Drop)]
 pub struct Session {
     pub commands: Vec<Stamped>,
-    /// The call of the device at which power goes, the first after the power-up being 1, and what it leaves.
+    /// The call of the device at which power is lost, the first after the power-up being 1, and what it leaves.
     pub fuse: Option<(u64, Vec<Fate>)>,
     /// The calls of the device that fail, and what they leave.
     pub failures: Vec<(u64, Vec<Fate>)>,

@@ -4,7 +4,7 @@ use Rattle.std.proofs.Common.{sym, ◌∙◌, arith}
 use Rattle.nand_model.specs.Calls.{Device}
 use Rattle.chunk_index.specs.declared.index.Index.{Index}
 use Rattle.flash_tree.specs.Tree.{IsPageSize, IsSingle}
-use Rattle.page_store.specs.Newest.{seen}
+use Rattle.page_store.specs.Newest.{seen_pages}
 use Rattle.pages.specs.Maps.{PageMap, has}
 use Rattle.pages.specs.State.{PagesState, OnlyFinds}
 use Rattle.volume_terms.specs.Sizes.{Sizes}
@@ -17,7 +17,7 @@ still_seen z p q lookups is = record {
 }
 
 -- the pages of a device have a size that a header can fill
-pub page_size : (z : Sizes) (device : Device) (x : Index) (page : List ℕ) → IsSeen z (seen device x page) → IsPageSize z.page_bytes
+pub page_size : (z : Sizes) (device : Device) (x : Index) (page : List ℕ) → IsSeen z (seen_pages device x page) → IsPageSize z.page_bytes
 page_size z device x page is =
     let same : z.page_bytes ≡ device.geometry.bytes = is.size in
     let least : 512 ≤ device.geometry.bytes = device.geometry.least_bytes in

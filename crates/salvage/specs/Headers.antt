@@ -7,7 +7,7 @@ use Rattle.pages.specs.Maps.{PageMap}
 use Rattle.chunk_index.specs.declared.form.CommittedPage.{CommittedPage}
 use Rattle.chunk_index.specs.Maps.{CommittedMap}
 
--- the number stands on the list
+-- the number is on the list
 abbrev pub IsListed : List ℕ → ℕ → Type 0
 IsListed list o = list_any (nat_eq o) list ≡ true
 
@@ -15,7 +15,7 @@ IsListed list o = list_any (nat_eq o) list ≡ true
 abbrev pub HasHeaders : PageMap → List ℕ → Type 0
 HasHeaders m list = (o : ℕ) (page : List ℕ) → m o 0 ≡ Some page → IsListed list o
 
--- the objects rise, so that none stands on the list twice
+-- the objects rise, so that none is on the list twice
 abbrev pub Rises : List ℕ → Type 0
 Rises list = AllPairs (λ a b. a < b) list
 

@@ -16,7 +16,7 @@ use volume_terms::StoreFault;
 /// The blocks to spare.
 const SPARE: u32 = 1;
 
-/// How many parts the run has, between which the power goes, and how many steps a part has.
+/// How many parts the run has, between which the power is lost, and how many steps a part has.
 const PARTS: u32 = 5;
 
 const STEPS: u32 = 400;

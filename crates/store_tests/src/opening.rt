@@ -16,7 +16,7 @@ use test_devices::{open_committed, open_each, open_noted};
 #[derive(Clone, Copy, Debug)]
 pub(crate) enum Trouble {
     Nothing,
-    /// The power goes at this call since the power-up.
+    /// The power is lost at this call since the power-up.
     Cut(u64, Fate),
     /// This call fails, if it is a program or an erase.
     Failure(u64, Fate),

@@ -9,7 +9,7 @@ use Rattle.surviving_pages.specs.Surviving.{IsLost}
 abbrev pub IsPlaceBefore : LostPlace → LostPlace → Type 0
 IsPlaceBefore x y = (x.block < y.block) ⊎ ((x.block ≡ y.block) × (x.page < y.page))
 
--- exactly the places of lost pages, in their strict order, so that none stands twice
+-- exactly the places of lost pages, in their strict order, so that none is there twice
 pub record ListsLost (flash : Flash) (list : List LostPlace) : Type 0 where
   pub each : (x : LostPlace) → Contains list x ↔ IsLost flash x.block x.page
   pub order : AllPairs IsPlaceBefore list

@@ -10,7 +10,7 @@ use Rattle.chunk_index.specs.Maps.{committed_pages, count_committed_in, CountsAg
 use Rattle.chunk_index.specs.declared.form.CommittedPage.{CommittedPage}
 use Rattle.chunk_index.specs.declared.index.Index.{Index}
 use Rattle.transactions.specs.Ready.{IsReady, IsWaiting}
-use Rattle.flash_log.specs.Standing.{MayLie, Stands}
+use Rattle.flash_log.specs.Consistency.{MayLie, IsConsistentLog}
 use Rattle.test_devices.proofs.Mounting.{ready_counted}
 use Rattle.test_devices.specs.Scanned.{IsScanned}
 
@@ -37,7 +37,7 @@ module _ (keeps : ℕ → ℕ → Bool) (d : Device) (t u : Table) (x y : Index)
   -- it is as after a scan
   pub scanned_still : IsScanned d u y
   scanned_still = record {
-    ready = ready_counted d (count_committed_in x) (count_committed_in y) t u recounts is.ready;
+    can_write = ready_counted d (count_committed_in x) (count_committed_in y) t u recounts is.can_write;
     counts = counts;
     closed = recounts.open_block ∙ is.closed;
     newest = λ o c p at. is.newest o c p (was_committed o c p at);
@@ -59,33 +59,33 @@ uncommitted t c free = grind (arith, free)
 module _ (d : Device) (t : Table) (c : ℕ) (closed : t.open_block ≡ None) (free : is_free t c ≡ true) where
   -- the table in which the block is noted is ready
   pub ready_noted : IsReady d t → c < t.geometry.blocks → (u : Table) → u ≡ record t { checkpoint = Some c } → IsReady d u
-  ready_noted ready within u is = subst (IsReady d) (sym is) (record {
-    geometry = ready.geometry;
-    marks = ready.marks;
+  ready_noted can_write within u is = subst (IsReady d) (sym is) (record {
+    geometry = can_write.geometry;
+    marks = can_write.marks;
     open_block = λ o is. let two : None ≡ Some o = sym closed ∙ is in absurd cc;
     waits = λ b noted.
         let same : c ≡ b = cc in
         subst (λ k. IsWaiting d (record t { checkpoint = Some c }) k) same (record {
-          within = subst (λ (g : Geometry). c < g.blocks) ready.geometry within;
-          good = sym (ready.marks c) ∙ good t c free;
+          within = subst (λ (g : Geometry). c < g.blocks) can_write.geometry within;
+          good = sym (can_write.marks c) ∙ good t c free;
           closed = closed;
         });
-    numbers = ready.numbers;
-    below = ready.below;
+    numbers = can_write.numbers;
+    below = can_write.below;
   })
 
   -- and stands
-  pub stands_noted : (spare : ℕ) (x : Index) → Stands spare d t x → (u : Table) → u ≡ record t { checkpoint = Some c } → Stands spare d u x
-  stands_noted spare x stands u is = subst (λ (v : Table). Stands spare d v x) (sym is) (record {
+  pub consistent_noted : (spare : ℕ) (x : Index) → IsConsistentLog spare d t x → (u : Table) → u ≡ record t { checkpoint = Some c } → IsConsistentLog spare d u x
+  consistent_noted spare x consistent u is = subst (λ (v : Table). IsConsistentLog spare d v x) (sym is) (record {
     tables = record {
-      counts = record { counts = stands.tables.counts.counts; within = stands.tables.counts.within };
-      within = λ o k p at. let was = stands.tables.within o k p at in record { block = was.block; page = was.page; name = was.name };
-      fits = stands.tables.fits;
-      written = stands.tables.written;
-      uncommitted = stands.tables.uncommitted;
+      counts = record { counts = consistent.tables.counts.counts; within = consistent.tables.counts.within };
+      within = λ o k p at. let was = consistent.tables.within o k p at in record { block = was.block; page = was.page; name = was.name };
+      fits = consistent.tables.fits;
+      written = consistent.tables.written;
+      uncommitted = consistent.tables.uncommitted;
       apart = λ b noted. let same : c ≡ b = cc in subst (λ k. (t.entry k).committed ≡ 0) same (uncommitted t c free);
     };
-    newest = stands.newest;
-    ordinary = stands.ordinary;
-    limits = stands.limits;
+    newest = consistent.newest;
+    ordinary = consistent.ordinary;
+    limits = consistent.limits;
   })

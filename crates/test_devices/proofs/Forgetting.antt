@@ -13,7 +13,7 @@ use Rattle.chunk_index.specs.declared.form.CommittedPage.{CommittedPage}
 use Rattle.chunk_index.specs.declared.form.Present.TheVariants as presents
 use Rattle.chunk_index.specs.declared.index.Index.{Index}
 use Rattle.transactions.specs.Ready.{IsReady}
-use Rattle.flash_log.specs.Standing.{MayLie}
+use Rattle.flash_log.specs.Consistency.{MayLie}
 use Rattle.page_store.specs.Opened.{IsOpened, AreLeft}
 use Rattle.test_devices.specs.Keeping.{KeepsNewest}
 
@@ -38,9 +38,9 @@ module _ (keeps : ℕ → ℕ → Bool) (d : Device) (t u : Table) (x y : Index)
   checkpoint : u.checkpoint ≡ None
   checkpoint = recounts.checkpoint ∙ opened.tables.noted
 
-  ready : AreLeft n → IsReady d u
-  ready left =
-      let was = opened.tables.ready left in
+  can_write : AreLeft n → IsReady d u
+  can_write left =
+      let was = opened.tables.can_write left in
       record {
         geometry = recounts.geometry ∙ was.geometry;
         marks = λ k. recounts.bad k ∙ was.marks k;
@@ -71,6 +71,6 @@ module _ (keeps : ℕ → ℕ → Bool) (d : Device) (t u : Table) (x y : Index)
     checkpoint = checkpoint;
     unbuffered = unbuffered;
     newest = λ honest o c p is. opened.tables.newest honest o c p (was_committed o c p is);
-    ready = ready;
+    can_write = can_write;
     lie = lie;
   }

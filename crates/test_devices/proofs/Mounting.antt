@@ -21,7 +21,7 @@ use Rattle.chunk_index.specs.Newest.{IsFoundOf, Indexes, page_of}
 use Rattle.flash_tree.specs.Numbering.{AreBelow}
 use Rattle.transactions.specs.Ready.{IsOpenOn, IsReady, IsWrittenInOrder}
 use Rattle.mount_scan.specs.Scanned.{ListsNewest, AreCopiesPlaced, IsNewestCopy, AreNewest}
-use Rattle.flash_log.specs.Standing.{IsCommittedAt, MayLie, IsWithinLimits}
+use Rattle.flash_log.specs.Consistency.{IsCommittedAt, MayLie, IsWithinLimits}
 use Rattle.test_devices.specs.Scanned.{IsScanned}
 
 -- one of the first n pages is of the key, or none is
@@ -86,7 +86,7 @@ reports_read old new fs reads honest reports =
 -- What was scanned, indexed and in the count.
 pub record IsIndexed (d : Device) (t : Table) (x : Index) (fs : List PageCopy) : Type 0 where
   pub honest : d.honest ≡ true
-  pub ready : IsReady d t
+  pub can_write : IsReady d t
   pub reports : ListsNewest d fs
   pub indexes : Indexes fs (length fs) x
   pub counts : CountsAgree t x
@@ -115,11 +115,11 @@ module _ (d : Device) (t : Table) (x : Index) (fs : List PageCopy) (is : IsIndex
       let place : (f.block < d.geometry.blocks) × (f.page < d.geometry.pages) = All-contains (λ (g : PageCopy). (g.block < d.geometry.blocks) × (g.page < d.geometry.pages)) fs f is.reports.placed listed.has in
       let held = newest.holds in
       let good : d.flash.bad s.block ≡ false = ap d.flash.bad held.block ∙ held.whole.good in
-      let below = is.ready.below is.honest s.block s.page s.tag good held.has in
+      let below = is.can_write.below is.honest s.block s.page s.tag good held.has in
       let valid : IsTag s.tag = held.has.valid in
       record {
-        block = subst (λ (g : Geometry). p.block < g.blocks) (sym is.ready.geometry) (subst (λ (q : CommittedPage). q.block < d.geometry.blocks) listed.is place.0);
-        page = subst (λ (g : Geometry). p.page < g.pages) (sym is.ready.geometry) (subst (λ (q : CommittedPage). q.page < d.geometry.pages) listed.is place.1);
+        block = subst (λ (g : Geometry). p.block < g.blocks) (sym is.can_write.geometry) (subst (λ (q : CommittedPage). q.block < d.geometry.blocks) listed.is place.0);
+        page = subst (λ (g : Geometry). p.page < g.pages) (sym is.can_write.geometry) (subst (λ (q : CommittedPage). q.page < d.geometry.pages) listed.is place.1);
         name = record {
           object = subst (λ k. (1 ≤ k) × (k < 2 ^ 64)) held.object valid.object;
           chunk = subst (λ k. k < 2 ^ 64) held.chunk valid.chunk;
@@ -129,7 +129,7 @@ module _ (d : Device) (t : Table) (x : Index) (fs : List PageCopy) (is : IsIndex
 
   pub is_scanned : IsScanned d t x
   is_scanned = record {
-    ready = is.ready;
+    can_write = is.can_write;
     counts = is.counts;
     closed = is.closed;
     newest = λ o c p at. committed_at o c p (committed_listed fs x o c p is.indexes at);
@@ -146,11 +146,11 @@ above_read old new n reads honest greatest =
 
 -- a table stays ready whose committed pages are in the count anew
 pub ready_counted : (d : Device) (before after : ℕ → ℕ) (t u : Table) → Recounts before after t u → IsReady d t → IsReady d u
-ready_counted d before after t u counts ready = record {
-  geometry = counts.geometry ∙ ready.geometry;
-  marks = λ b. counts.bad b ∙ ready.marks b;
+ready_counted d before after t u counts can_write = record {
+  geometry = counts.geometry ∙ can_write.geometry;
+  marks = λ b. counts.bad b ∙ can_write.marks b;
   open_block = λ o is.
-      let was : IsOpenOn d t o = ready.open_block o (sym counts.open_block ∙ is) in
+      let was : IsOpenOn d t o = can_write.open_block o (sym counts.open_block ∙ is) in
       record {
         within = was.within;
         good = was.good;
@@ -161,9 +161,9 @@ ready_counted d before after t u counts ready = record {
             subst (λ n. IsWrittenInOrder d.flash o n (u.entry o).seq) (sym (counts.next o))
             (subst (λ s. IsWrittenInOrder d.flash o (t.entry o).next s) (sym (counts.seq o)) (was.in_order honest));
       };
-  waits = λ c is. let was = ready.waits c (sym counts.checkpoint ∙ is) in record { within = was.within; good = was.good; closed = counts.open_block ∙ was.closed };
-  numbers = (subst (λ n. 1 ≤ n) (sym counts.next_group) ready.numbers.0, subst (λ n. 1 ≤ n) (sym counts.next_seq) ready.numbers.1);
-  below = λ honest. subst (λ n. AreBelow d.flash n u.next_seq) (sym counts.next_group) (subst (λ n. AreBelow d.flash t.next_group n) (sym counts.next_seq) (ready.below honest));
+  waits = λ c is. let was = can_write.waits c (sym counts.checkpoint ∙ is) in record { within = was.within; good = was.good; closed = counts.open_block ∙ was.closed };
+  numbers = (subst (λ n. 1 ≤ n) (sym counts.next_group) can_write.numbers.0, subst (λ n. 1 ≤ n) (sym counts.next_seq) can_write.numbers.1);
+  below = λ honest. subst (λ n. AreBelow d.flash n u.next_seq) (sym counts.next_group) (subst (λ n. AreBelow d.flash t.next_group n) (sym counts.next_seq) (can_write.below honest));
 }
 
 -- each key with a newest page is committed

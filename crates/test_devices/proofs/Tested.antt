@@ -7,7 +7,7 @@ use Rattle.flash_tree.specs.Newest.{Numbers}
 use Rattle.block_state.specs.Table.{Table}
 use Rattle.block_state.specs.laws.Committed.{free_where_closed}
 use Rattle.chunk_index.specs.declared.index.Index.{Index}
-use Rattle.flash_log.specs.Standing.{Stands, HasFreeBlocks, KeepsOrdinary}
+use Rattle.flash_log.specs.Consistency.{IsConsistentLog, HasFreeBlocks, KeepsOrdinary}
 use Rattle.page_store.specs.Opened.{AreLeft}
 use Rattle.test_devices.specs.Keeping.{KeepsNewest}
 
@@ -27,8 +27,8 @@ fits_all t x d n keeps fits b = elim (cases_lt b t.geometry.blocks) [
 ]
 
 -- what stands then
-pub stands_tested : (spare : ℕ) (d : Device) (t : Table) (x : Index) (n : Numbers) → KeepsNewest d t x n → IsTested spare t n → KeepsOrdinary x → Stands spare d t x
-stands_tested spare d t x n keeps tested ordinary = record {
+pub consistent_tested : (spare : ℕ) (d : Device) (t : Table) (x : Index) (n : Numbers) → KeepsNewest d t x n → IsTested spare t n → KeepsOrdinary x → IsConsistentLog spare d t x
+consistent_tested spare d t x n keeps tested ordinary = record {
   tables = record {
     counts = keeps.counts;
     within = keeps.lie tested.left;

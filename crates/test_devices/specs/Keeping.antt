@@ -8,7 +8,7 @@ use Rattle.chunk_index.specs.declared.index.Index.{Index}
 use Rattle.chunk_index.specs.Maps.{committed_pages, CountsAgree}
 use Rattle.page_store.specs.Buffering.{IsUnbuffered}
 use Rattle.transactions.specs.Ready.{IsReady}
-use Rattle.flash_log.specs.Standing.{AreCommitted, MayLie}
+use Rattle.flash_log.specs.Consistency.{AreCommitted, MayLie}
 use Rattle.page_store.specs.Opened.{AreLeft}
 
 -- What is committed is the newest page of its key, and no page is buffered; no block is open, and the counts of blocks are those of
@@ -19,5 +19,5 @@ pub record KeepsNewest (device : Device) (t : Table) (x : Index) (n : Numbers) :
   pub checkpoint : t.checkpoint ≡ None
   pub unbuffered : IsUnbuffered x
   pub newest : device.honest ≡ true → AreCommitted device.flash (committed_pages x)
-  pub ready : AreLeft n → IsReady device t
+  pub can_write : AreLeft n → IsReady device t
   pub lie : AreLeft n → (o c : ℕ) (p : CommittedPage) → committed_pages x o c ≡ Some p → MayLie t o c p

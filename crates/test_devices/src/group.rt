@@ -45,7 +45,7 @@ fn is_whole<N: Nand>(device: &mut N, member: &Found) -> Result<bool, Gone>
     requires page { member.now.page < (N.state device.old).geometry.pages }
     requires good { (N.state device.old).flash.bad member.now.block ≡ false }
     requires start { member.now.tag.index ≤ member.now.page }
-    requires some { 1 ≤ member.now.tag.count }
+    requires not_empty { 1 ≤ member.now.tag.count }
     ensures reads { OnlyReads (N.state device.old) (N.state device.new) }
     ensures gone { OnErr result ((N.state device.new).gone ≡ true) }
     ensures whole { (N.state device.old).honest ≡ true

@@ -2,7 +2,9 @@
 //! finds them, and a plain search of a flash, which reads tags again and again.
 #![tactic(auto)]
 
+mod build_fault;
 mod change;
+mod consistency;
 mod fault;
 mod flash;
 mod group;
@@ -10,14 +12,12 @@ mod keys;
 mod mount;
 mod opening;
 mod search;
-mod stand_fault;
-mod standing;
 
+pub use build_fault::BuildFault;
 pub use change::{Apart, fits};
+pub use consistency::has_uncommitted;
 pub use fault::LogFault;
 pub use flash::{TestFault, TestFlash};
 pub use mount::{mount_log, mount_log_beside};
 pub use opening::{open_committed, open_each, open_noted};
 pub use search::{greatest, newest};
-pub use stand_fault::StandFault;
-pub use standing::has_uncommitted;

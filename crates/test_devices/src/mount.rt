@@ -9,9 +9,9 @@ ghost use Rattle.flash_log.specs.LogOf.{HasReserve};
 ghost use Rattle.flash_log.specs.Room.{IsRoomFor};
 ghost use Rattle.test_devices.specs.Scanned.{IsScanned};
 
+use crate::consistency::may_be_consistent;
 use crate::fault::LogFault;
 use crate::keys::OrdinaryKeys;
-use crate::standing::may_stand;
 use block_state::Blocks;
 use chunk_index::Index;
 use flash_log::{Log, MoveRoom, Origin};
@@ -60,7 +60,7 @@ pub fn mount_log(alloc: Global, nand: MemNand, spare: u32) -> Result<Log<MemNand
 {
     let mut nand = nand;
     let found = scan_log(alloc, &mut nand)?;
-    if !may_stand(&found.blocks, &found.index, spare) {
+    if !may_be_consistent(&found.blocks, &found.index, spare) {
         return Err(LogFault::Worn);
     }
     Ok(Log {
@@ -89,7 +89,7 @@ pub fn mount_log_beside(
     let mut nand = nand;
     let mut found = scan_log(alloc, &mut nand)?;
     found.index.retain(&OrdinaryKeys, &mut found.blocks);
-    if !may_stand(&found.blocks, &found.index, spare) {
+    if !may_be_consistent(&found.blocks, &found.index, spare) {
         return Err(LogFault::Worn);
     }
     if checkpoint >= found.blocks.geometry().blocks() || !found.blocks.is_free(checkpoint) {

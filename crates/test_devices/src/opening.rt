@@ -6,12 +6,12 @@ ghost use Rattle.block_state.specs.Committed.{bad_count};
 ghost use Rattle.block_state.specs.TableOf.{table};
 ghost use Rattle.chunk_index.specs.Maps.{CountsAgree};
 ghost use Rattle.transactions.specs.Ready.{IsReady};
-ghost use Rattle.flash_log.specs.Standing.{KeepsOrdinary, Stands, HasFreeBlocks};
+ghost use Rattle.flash_log.specs.Consistency.{KeepsOrdinary, IsConsistentLog, HasFreeBlocks};
 ghost use Rattle.page_store.specs.Opened.{IsOpened};
 ghost use Rattle.test_devices.specs.Keeping.{KeepsNewest};
 
+use crate::build_fault::BuildFault;
 use crate::keys::OrdinaryKeys;
-use crate::stand_fault::StandFault;
 use block_state::Blocks;
 use chunk_index::{Index, KeyFilter};
 use flash_log::Log;
@@ -86,11 +86,11 @@ fn keeps_ordinary(index: &Index) -> bool
 
 /// Whether there is what a store with so many blocks to spare needs: numbers are left, no block has too many committed pages, no
 /// more blocks are bad than are to spare, blocks enough are free, and no page of a checkpoint is committed.
-fn may_stand(opened: &Opened, spare: u32) -> bool
-    ensures ready { IsTrue result → (d : Device) → KeepsNewest d (table opened.now.blocks) opened.now.index (numbers_of opened.now.numbers)
+fn may_be_consistent(opened: &Opened, spare: u32) -> bool
+    ensures can_write { IsTrue result → (d : Device) → KeepsNewest d (table opened.now.blocks) opened.now.index (numbers_of opened.now.numbers)
         → IsReady d (table opened.now.blocks) }
-    ensures stands { IsTrue result → (d : Device) → KeepsNewest d (table opened.now.blocks) opened.now.index (numbers_of opened.now.numbers)
-        → Stands spare d (table opened.now.blocks) opened.now.index }
+    ensures consistent { IsTrue result → (d : Device) → KeepsNewest d (table opened.now.blocks) opened.now.index (numbers_of opened.now.numbers)
+        → IsConsistentLog spare d (table opened.now.blocks) opened.now.index }
     ensures within_limit { IsTrue result → bad_count (table opened.now.blocks) ≤ spare }
     ensures free { IsTrue result → HasFreeBlocks (table opened.now.blocks) spare }
 {
@@ -114,11 +114,11 @@ pub fn open_committed<N: Nand + Drop, F: KeyFilter>(
     filter: &F,
     spare: u32,
     capacity: NonZeroUsize,
-) -> Result<Store<N>, StandFault> {
+) -> Result<Store<N>, BuildFault> {
     let mut opened = open_noted(alloc, &mut device)?;
     forget(&mut opened, filter);
-    if !may_stand(&opened, spare) {
-        return Err(StandFault::Worn);
+    if !may_be_consistent(&opened, spare) {
+        return Err(BuildFault::Worn);
     }
     let Opened { blocks, index, .. } = opened;
     let log = match Log::new(alloc, device, blocks, index, spare) {
@@ -137,6 +137,6 @@ pub fn open_each<N: Nand + Drop>(
     device: N,
     spare: u32,
     capacity: NonZeroUsize,
-) -> Result<Store<N>, StandFault> {
+) -> Result<Store<N>, BuildFault> {
     open_committed(alloc, device, &OrdinaryKeys, spare, capacity)
 }

@@ -20,7 +20,7 @@ use Rattle.transactions.specs.Written.{tag_in}
 use Rattle.transactions.specs.laws.Handing.{below_greater}
 use Rattle.transactions.proofs.GroupLaws.{same_there}
 
-module _ {T : Type 0} (pages : Ghosts T) (source : T) (d e : Device) (t : Table) (writes : WritesCheckpoint pages source d t) (tree : ListsTree d.geometry d.flash writes.entries) (ready : IsReady d t) (lasts : Lasts d e)
+module _ {T : Type 0} (pages : Ghosts T) (source : T) (d e : Device) (t : Table) (writes : WritesCheckpoint pages source d t) (tree : ListsTree d.geometry d.flash writes.entries) (can_write : IsReady d t) (lasts : Lasts d e)
     (grows : Grows d.flash e.flash) (stays : Stays t d e) (honest : d.honest ≡ true) (below : BelowAfter t writes.block d.flash e.flash) where
   -- the checkpoint that is written
   abbrev written : Checkpoint
@@ -43,7 +43,7 @@ module _ {T : Type 0} (pages : Ghosts T) (source : T) (d e : Device) (t : Table)
   all_there = same_there group (check_group written) (tag_in group name) (check_tag written) (pages.bytes source d.flash) (check_page d.geometry.bytes writes.entries) e.flash same_group same_tag writes.bytes
 
   good : e.flash.bad writes.block ≡ false
-  good = ap (λ f. f writes.block) stays.bad ∙ (ready.open_block writes.block writes.open_block).good
+  good = ap (λ f. f writes.block) stays.bad ∙ (can_write.open_block writes.block writes.open_block).good
 
   adds : AddsPages group name (pages.bytes source d.flash) d.flash e.flash → AddsCheckpoint d.geometry d.flash e.flash written
   adds added = record {

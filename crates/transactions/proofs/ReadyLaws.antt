@@ -46,10 +46,10 @@ after_numbers block count false t t' is = (ap (λ (x : Table). x.next_group) is,
 
 -- where nothing is written
 pub nothing_written : (d : Device) (t : Table) → IsReady d t → IsClean d.flash → d.honest ≡ true → WritesOpen t d.flash d.flash
-nothing_written d t ready clean h = record {
+nothing_written d t can_write clean h = record {
   grows = λ k l not. refl;
   within = λ o is.
-      let opens = ready.open_block o is in
+      let opens = can_write.open_block o is in
       let ordered = opens.in_order h in
       record {
         grows = λ k l not. refl;
@@ -61,17 +61,17 @@ nothing_written d t ready clean h = record {
           | inr some ↦ ordered.written 0 (omega (arith, some)) blank
           | inl none ↦ tag_not_erased d.flash _ _ _ has (clean o (t.entry o).next l opens.next (omega (arith, none)))
         ];
-        below = let seq : t.next_seq ≡ 1 + (t.entry o).seq = omega (arith, opens.seq) in subst (AreBelow d.flash t.next_group) seq (ready.below h);
+        below = let seq : t.next_seq ≡ 1 + (t.entry o).seq = omega (arith, opens.seq) in subst (AreBelow d.flash t.next_group) seq (can_write.below h);
       };
 }
 
-module _ (old : Device) (t : Table) (count : ℕ) (place : GroupPlace) (ready : IsReady old t) (at : IsPlaceIn t count place) where
+module _ (old : Device) (t : Table) (count : ℕ) (place : GroupPlace) (can_write : IsReady old t) (at : IsPlaceIn t count place) where
   open_now : IsOpenOn old t place.block
-  open_now = ready.open_block place.block at.block
+  open_now = can_write.open_block place.block at.block
 
   -- a block is open, so none may have a checkpoint
   none_now : t.checkpoint ≡ None
-  none_now = none_waits old t place.block ready at.block
+  none_now = none_waits old t place.block can_write at.block
 
   -- the device may write the first page
   pub may_write : MayWrite old place 0
@@ -80,7 +80,7 @@ module _ (old : Device) (t : Table) (count : ℕ) (place : GroupPlace) (ready : 
       record {
         block = open_now.within;
         good = open_now.good;
-        pages = subst (λ (g : Geometry). place.first + place.count ≤ g.pages) ready.geometry (omega (arith, at.pages, at.count_is));
+        pages = subst (λ (g : Geometry). place.first + place.count ≤ g.pages) can_write.geometry (omega (arith, at.pages, at.count_is));
         next = open_now.next ∙ ap Some first;
         seq = omega (arith, at.seq, open_now.seq);
       }
@@ -99,7 +99,7 @@ module _ (old : Device) (t : Table) (count : ℕ) (place : GroupPlace) (ready : 
   module _ (new : Device) (name : ℕ → PageName) (bytes : ℕ → List ℕ) (result : Result LastPage GroupFault) (all : WritesAll old new (group_at place) name bytes result)
       (some : 1 ≤ place.count) (erased : old.honest ≡ true → (l : ℕ) → place.first ≤ l → old.flash.page place.block l ≡ Erased) where
     fresh : old.honest ≡ true → IsFresh old.flash place.block place.group
-    fresh h p u has is = let below = ready.below h place.block p u open_now.good has in absurd (omega (arith, below, is, at.group))
+    fresh h p u has is = let below = can_write.below h place.block p u open_now.good has in absurd (omega (arith, below, is, at.group))
 
     inside_erased : old.honest ≡ true → (i : ℕ) → i < place.count → old.flash.page place.block (place.first + i) ≡ Erased
     inside_erased h i lt = erased h (place.first + i) (omega arith)
@@ -116,7 +116,7 @@ module _ (old : Device) (t : Table) (count : ℕ) (place : GroupPlace) (ready : 
     numbers_below : new.honest ≡ true → AreBelow new.flash (t.next_group + 1) t.next_seq
     numbers_below honest =
         let h : old.honest ≡ true = sym all.lasts.honest ∙ honest in
-        below_seq h t.next_seq (omega (arith, at.seq, open_now.seq)) (ready.below h)
+        below_seq h t.next_seq (omega (arith, at.seq, open_now.seq)) (can_write.below h)
 
     -- numbers above the block's stay above all tags
     pub group_below : old.honest ≡ true → (o : ℕ) → t.open_block ≡ Some o → BelowAfter t o old.flash new.flash
@@ -188,7 +188,7 @@ module _ (old : Device) (t : Table) (count : ℕ) (place : GroupPlace) (ready : 
       begun = begun h;
       below =
           let seq : t.next_seq ≡ 1 + place.seq = open_now.seq.1 ∙ omega (arith, at.seq) in
-          subst (λ n. AreBelow old.flash n (1 + place.seq)) (sym at.group) (subst (AreBelow old.flash t.next_group) seq (ready.below h));
+          subst (λ n. AreBelow old.flash n (1 + place.seq)) (sym at.group) (subst (AreBelow old.flash t.next_group) seq (can_write.below h));
     }
 
     pub group_writes : old.honest ≡ true → WritesOpen t old.flash new.flash
@@ -228,11 +228,11 @@ module _ (old : Device) (t : Table) (count : ℕ) (place : GroupPlace) (ready : 
 
       closed_ready : t' ≡ record (numbered t) { open_block = None } → IsReady new t'
       closed_ready is = subst (IsReady new) (sym is) (record {
-        geometry = ready.geometry ∙ sym all.lasts.geometry;
-        marks = λ b. ready.marks b ∙ ap (λ f. f b) (sym all.bad);
+        geometry = can_write.geometry ∙ sym all.lasts.geometry;
+        marks = λ b. can_write.marks b ∙ ap (λ f. f b) (sym all.bad);
         open_block = λ o none. let two : None ≡ Some o = none in absurd cc;
         waits = λ c is. let two : None ≡ Some c = sym none_now ∙ is in absurd cc;
-        numbers = (omega (arith, ready.numbers), ready.numbers.1);
+        numbers = (omega (arith, can_write.numbers), can_write.numbers.1);
         below = numbers_below;
       })
 
@@ -248,10 +248,10 @@ module _ (old : Device) (t : Table) (count : ℕ) (place : GroupPlace) (ready : 
           let noted = parts.2 in
           let seq = parts.3 in
           record {
-            geometry = sets.geometry ∙ ready.geometry ∙ sym all.lasts.geometry;
+            geometry = sets.geometry ∙ can_write.geometry ∙ sym all.lasts.geometry;
             marks = λ b. elim (cases_eq b place.block) [
-              | inl e ↦ ap (λ k. (t'.entry k).bad) e ∙ ap (λ (x : BlockEntry). x.bad) sets.here ∙ ap (λ k. (t.entry k).bad) (sym e) ∙ ready.marks b ∙ ap (λ f. f b) (sym all.bad)
-              | inr ne ↦ ap (λ (x : BlockEntry). x.bad) (sets.others b ne) ∙ ready.marks b ∙ ap (λ f. f b) (sym all.bad)
+              | inl e ↦ ap (λ k. (t'.entry k).bad) e ∙ ap (λ (x : BlockEntry). x.bad) sets.here ∙ ap (λ k. (t.entry k).bad) (sym e) ∙ can_write.marks b ∙ ap (λ f. f b) (sym all.bad)
+              | inr ne ↦ ap (λ (x : BlockEntry). x.bad) (sets.others b ne) ∙ can_write.marks b ∙ ap (λ f. f b) (sym all.bad)
             ];
             open_block = λ o is.
                 let both : Some place.block ≡ Some o = sym at.block ∙ sym still ∙ is in
@@ -261,7 +261,7 @@ module _ (old : Device) (t : Table) (count : ℕ) (place : GroupPlace) (ready : 
                   good = ap (λ f. f place.block) all.bad ∙ open_now.good;
                   next = next_here _ next ∙ ap (λ (x : BlockEntry). Some x.next) (sym sets.here);
                   pages = subst (λ (x : BlockEntry). x.next ≤ new.geometry.pages) (sym sets.here)
-                      (subst (λ (g : Geometry). (t.entry place.block).next + place.count ≤ g.pages) (ready.geometry ∙ sym all.lasts.geometry) (omega (arith, at.pages, at.first, at.count_is)));
+                      (subst (λ (g : Geometry). (t.entry place.block).next + place.count ≤ g.pages) (can_write.geometry ∙ sym all.lasts.geometry) (omega (arith, at.pages, at.first, at.count_is)));
                   seq = subst (λ n. (1 ≤ (t'.entry place.block).seq) × (n ≡ (t'.entry place.block).seq + 1)) (sym seq)
                       (subst (λ (x : BlockEntry). (1 ≤ x.seq) × (t.next_seq ≡ x.seq + 1)) (sym sets.here) open_now.seq);
                   in_order = λ honest.
@@ -269,7 +269,7 @@ module _ (old : Device) (t : Table) (count : ℕ) (place : GroupPlace) (ready : 
                       subst (λ (x : BlockEntry). IsWrittenInOrder new.flash place.block x.next x.seq) (sym sets.here) (in_order_after h (there h));
                 });
             waits = λ c is. let two : None ≡ Some c = sym none_now ∙ sym noted ∙ is in absurd cc;
-            numbers = (subst (λ n. 1 ≤ n) (sym sets.next_group) (omega (arith, ready.numbers)), subst (λ n. 1 ≤ n) (sym seq) ready.numbers.1);
+            numbers = (subst (λ n. 1 ≤ n) (sym sets.next_group) (omega (arith, can_write.numbers)), subst (λ n. 1 ≤ n) (sym seq) can_write.numbers.1);
             below = λ h. subst (λ n. AreBelow new.flash n t'.next_seq) (sym sets.next_group) (subst (λ n. AreBelow new.flash (t.next_group + 1) n) (sym seq) (numbers_below h));
           }
 
@@ -286,7 +286,7 @@ module _ (old : Device) (t : Table) (count : ℕ) (place : GroupPlace) (ready : 
     below_written honest more totaled = elim (cases_eq more 0) [
       | inl none ↦ λ b p u good_block has.
           let page : new.flash.page b p ≡ old.flash.page b p = all.still honest (omega (arith, totaled, none)) b p in
-          let was = ready.below honest b p u (ap (λ f. f b) (sym all.bad) ∙ good_block) (record { bytes = has.bytes; page = sym page ∙ has.page; valid = has.valid }) in
+          let was = can_write.below honest b p u (ap (λ f. f b) (sym all.bad) ∙ good_block) (record { bytes = has.bytes; page = sym page ∙ has.page; valid = has.valid }) in
           (omega (arith, was), omega (arith, was), omega (arith, was))
       | inr some_more ↦ below_greater new.flash (t.next_group + 1) t.next_seq _ _ (omega (arith, some_more)) (omega arith) (numbers_below (all.lasts.honest ∙ honest))
     ]
@@ -386,7 +386,7 @@ ends_noted count t u (Err faults.Lost) ends = ap (λ (x : Table). x.checkpoint) 
 ends_noted count t u (Err faults.Gone) ends = ap (λ (x : Table). x.checkpoint) ends
 
 module _ (d e : Device) (t u : Table) (count : ℕ) (name : ℕ → PageName) (bytes : ℕ → List ℕ) (result : Result Placed GroupFault) (some : 1 ≤ count)
-    (ready : IsReady d t) (lasts : Lasts d e) (ends : GroupEnds d e count result) (table : TableEnds count t u result)
+    (can_write : IsReady d t) (lasts : Lasts d e) (ends : GroupEnds d e count result) (table : TableEnds count t u result)
     (no_room : room t < count → result ≡ Err faults.NoRoom) where
   -- without an open block nothing is written
   nothing : t.open_block ≡ None → (d_is : e ≡ d) × (u ≡ t)
@@ -405,6 +405,6 @@ module _ (d e : Device) (t u : Table) (count : ℕ) (name : ℕ → PageName) (b
         let same = nothing is in
         subst (λ (k : Device). KeepsTrue d k t.checkpoint u.checkpoint) (sym same.0) (true_same d t.checkpoint u.checkpoint (ap (λ (x : Table). x.checkpoint) same.1))
     go (Some o) is =
-        true_ordinary d e t u lasts (none_waits d t o ready is) (ends_noted count t u result table)
+        true_ordinary d e t u lasts (none_waits d t o can_write is) (ends_noted count t u result table)
         (λ honest. ordinary_after (next_group t count o) name bytes d.flash e.flash (grows honest) bads (omega (arith, some)) (ordinary honest) result (groups honest o is))
         (λ honest. right honest (λ object chunk. ordinary honest 0 (omega (arith, some)) object))

@@ -28,7 +28,7 @@ use Rattle.transactions.proofs.GroupLaws.{same_there}
 
 -- ---- the group that is written is that of the summary
 
-module _ {T : Type 0} (pages : Ghosts T) (source : T) (d e : Device) (t : Table) (writes : WritesSummary pages source d t) (ready : IsReady d t)
+module _ {T : Type 0} (pages : Ghosts T) (source : T) (d e : Device) (t : Table) (writes : WritesSummary pages source d t) (can_write : IsReady d t)
     (within : WritesOpen t d.flash e.flash) (stays : Stays t d e) where
   abbrev written : Summary
   written = writes.summary
@@ -64,7 +64,7 @@ module _ {T : Type 0} (pages : Ghosts T) (source : T) (d e : Device) (t : Table)
   all_there = same_there group (summary_group written) (tag_in group name) (summary_tag written) bytes (summary_page d.geometry.bytes written) e.flash same_group same_tag writes.bytes
 
   good : e.flash.bad written.block ≡ false
-  good = ap (λ f. f written.block) stays.bad ∙ (ready.open_block written.block writes.open_block).good
+  good = ap (λ f. f written.block) stays.bad ∙ (can_write.open_block written.block writes.open_block).good
 
   adds : AddsPages group name bytes d.flash e.flash → AddsGroup (summary_group written) d.flash e.flash × IsWholeSummary d.geometry e.flash written
   adds added = (

@@ -12,8 +12,8 @@ AreBelowNext flash t = AreBelow flash t.next_group t.next_seq
 
 -- No number is taken back, and no more are handed out than the device had changes: block numbers on every path, and
 -- group numbers where an honest device still has power. (A group of which nothing was programmed has used its number.)
--- Where the next numbers were above all that stood on an honest device they are so still; and what stands there now is below
--- the first ones and one more for each change, also where power went.
+-- Where the next numbers were above all that was on an honest device they are so still; and what is there now is below
+-- the first ones and one more for each change, also where power was lost.
 pub record HandsNumbers (old new : Device) (t t' : Table) : Type 0 where
   pub groups_rise : t.next_group ≤ t'.next_group
   pub seqs_rise : t.next_seq ≤ t'.next_seq

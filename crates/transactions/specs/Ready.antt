@@ -33,7 +33,7 @@ pub record IsWaiting (device : Device) (t : Table) (c : ℕ) : Type 0 where
   pub closed : t.open_block ≡ None
 
 -- What every group needs, and keeps: the table is of the device, its marks are the device's, the open block can be
--- written, no block is open while there may be a checkpoint, and the next numbers are above all that stand on an honest device.
+-- written, no block is open while there may be a checkpoint, and the next numbers are above all that are on an honest device.
 pub record IsReady (device : Device) (t : Table) : Type 0 where
   pub geometry : t.geometry ≡ device.geometry
   pub marks : (b : ℕ) → (t.entry b).bad ≡ device.flash.bad b

@@ -19,12 +19,12 @@ pub fn write_checkpoint<N: Nand, S: PageSource>(
     source: &S,
     scratch: &mut [u8],
 ) -> Result<Placed, GroupFault>
-    requires ready { IsReady (N.state device.old) (table blocks.old) }
+    requires can_write { IsReady (N.state device.old) (table blocks.old) }
     requires number { CanWrite scratch.old (N.state device.old) (table blocks.old) }
-    requires source { S.ready source.now (N.state device.old).geometry (table blocks.old).next_group }
+    requires source { S.can_write source.now (N.state device.old).geometry (table blocks.old).next_group }
     requires has { (N.state device.old).honest ≡ true → (i : ℕ) → i < S.count source.now → S.has source.now (N.state device.old).flash i }
     ensures lasts { Lasts (N.state device.old) (N.state device.new) }
-    ensures ready { IsReady (N.state device.new) (table blocks.new) }
+    ensures can_write { IsReady (N.state device.new) (table blocks.new) }
     ensures group { WritesGroup S.PageSource source.now (log_of (N.state device.old) (table blocks.old)) (log_of (N.state device.new) (table blocks.new)) result }
     // Where no checkpoint was whole, and this one lists the device's tree, each that is whole now is right, and in this block.
     ensures checked { ChecksTree S.PageSource source.now (N.state device.old) (table blocks.old)

@@ -36,7 +36,7 @@ impl PageSource for Fresh<'_> {
 
     ghost bytes = { λ s flash i. fresh_bytes s.pages.now i };
 
-    ghost ready = { λ s geometry number. CanCommit s.pages.now geometry number };
+    ghost can_write = { λ s geometry number. CanCommit s.pages.now geometry number };
 
     ghost quiet = { λ s. Unit {0} };
 

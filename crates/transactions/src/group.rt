@@ -47,13 +47,13 @@ pub fn write_group<N: Nand, S: PageSource>(
     source: &S,
     scratch: &mut [u8],
 ) -> Result<Placed, GroupFault>
-    requires ready { IsReady (N.state device.old) (table blocks.old) }
+    requires can_write { IsReady (N.state device.old) (table blocks.old) }
     requires number { CanWrite scratch.old (N.state device.old) (table blocks.old) }
-    requires source { S.ready source.now (N.state device.old).geometry (table blocks.old).next_group }
+    requires source { S.can_write source.now (N.state device.old).geometry (table blocks.old).next_group }
     requires ordinary { (N.state device.old).honest ≡ true → AreOrdinary (S.count source.now) (S.name source.now (table blocks.old).next_group) }
     requires has { (N.state device.old).honest ≡ true → (i : ℕ) → i < S.count source.now → S.has source.now (N.state device.old).flash i }
     ensures lasts { Lasts (N.state device.old) (N.state device.new) }
-    ensures ready { IsReady (N.state device.new) (table blocks.new) }
+    ensures can_write { IsReady (N.state device.new) (table blocks.new) }
     ensures group { WritesGroup S.PageSource source.now (log_of (N.state device.old) (table blocks.old)) (log_of (N.state device.new) (table blocks.new)) result }
     ensures numbers { HandsOut (N.state device.old) (N.state device.new) (table blocks.old) (table blocks.new) }
 {
@@ -67,15 +67,15 @@ pub(crate) fn write_any<N: Nand, S: PageSource>(
     source: &S,
     scratch: &mut [u8],
 ) -> Result<Placed, GroupFault>
-    requires ready { IsReady (N.state device.old) (table blocks.old) }
+    requires can_write { IsReady (N.state device.old) (table blocks.old) }
     requires number { (table blocks.old).next_group < number_end }
     requires size { length scratch.old ≡ (N.state device.old).geometry.bytes }
-    requires source { S.ready source.now (N.state device.old).geometry (table blocks.old).next_group }
+    requires source { S.can_write source.now (N.state device.old).geometry (table blocks.old).next_group }
     requires has { (N.state device.old).honest ≡ true → (i : ℕ) → i < S.count source.now → S.has source.now (N.state device.old).flash i }
     ensures lasts { Lasts (N.state device.old) (N.state device.new) }
-    ensures ready { IsReady (N.state device.new) (table blocks.new) }
+    ensures can_write { IsReady (N.state device.new) (table blocks.new) }
     ensures group { WritesGroup S.PageSource source.now (log_of (N.state device.old) (table blocks.old)) (log_of (N.state device.new) (table blocks.new)) result }
-    ensures some { 1 ≤ S.count source.now }
+    ensures not_empty { 1 ≤ S.count source.now }
     ensures below { LeavesBelow (table blocks.old) (N.state device.old) (N.state device.new) }
 {
     let count = source.count();

@@ -16,10 +16,10 @@ pub fn erase_and_open<N: Nand>(
     blocks: &mut Blocks,
     block: u32,
 ) -> Result<(), EraseFault>
-    requires ready { IsReady (N.state device.old) (table blocks.old) }
+    requires can_write { IsReady (N.state device.old) (table blocks.old) }
     requires block { CanOpen block (N.state device.old) (table blocks.old) }
     ensures erases { Erases block (N.state device.old) (N.state device.new) result }
-    ensures ready { IsReady (N.state device.new) (table blocks.new) }
+    ensures can_write { IsReady (N.state device.new) (table blocks.new) }
     ensures opens { OnOk result (Opens block (table blocks.old) (table blocks.new)) }
     // The tags of all pages are below the number that the block got.
     ensures below { (N.state device.old).honest ≡ true → OnOk result (AreBelowNext (N.state device.new).flash (table blocks.old)) }

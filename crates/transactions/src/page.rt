@@ -85,7 +85,7 @@ fn write_page<N: Nand, S: PageSource>(
     requires at { i < place.now.count }
     requires may { MayWrite (N.state device.old) place.now i }
     requires count { place.now.count ≡ S.count source.now }
-    requires source { S.ready source.now (N.state device.old).geometry place.now.group }
+    requires source { S.can_write source.now (N.state device.old).geometry place.now.group }
     requires has { (N.state device.old).honest ≡ true → S.has source.now (N.state device.old).flash i }
     requires size { length scratch.old ≡ (N.state device.old).geometry.bytes }
     ensures size { length scratch.new ≡ length scratch.old }
@@ -110,10 +110,10 @@ fn write_first<N: Nand, S: PageSource>(
     scratch: &mut [u8],
     place: &GroupPlace,
 ) -> Result<(), GroupFault>
-    requires some { 1 ≤ place.now.count }
+    requires not_empty { 1 ≤ place.now.count }
     requires may { MayWrite (N.state device.old) place.now 0 }
     requires count { place.now.count ≡ S.count source.now }
-    requires source { S.ready source.now (N.state device.old).geometry place.now.group }
+    requires source { S.can_write source.now (N.state device.old).geometry place.now.group }
     requires has { (N.state device.old).honest ≡ true → (i : ℕ) → i < S.count source.now → S.has source.now (N.state device.old).flash i }
     requires size { length scratch.old ≡ (N.state device.old).geometry.bytes }
     ensures size { length scratch.new ≡ length scratch.old }
@@ -156,10 +156,10 @@ fn write_last<N: Nand, S: PageSource>(
     scratch: &mut [u8],
     place: &GroupPlace,
 ) -> Result<LastPage, GroupFault>
-    requires some { 1 ≤ place.now.count }
+    requires not_empty { 1 ≤ place.now.count }
     requires may { MayWrite (N.state device.old) place.now (place.now.count - 1) }
     requires count { place.now.count ≡ S.count source.now }
-    requires source { S.ready source.now (N.state device.old).geometry place.now.group }
+    requires source { S.can_write source.now (N.state device.old).geometry place.now.group }
     requires has { (N.state device.old).honest ≡ true → S.has source.now (N.state device.old).flash (place.now.count - 1) }
     requires size { length scratch.old ≡ (N.state device.old).geometry.bytes }
     // A page that is said to fail is read back.
@@ -191,10 +191,10 @@ pub(crate) fn write_pages<N: Nand, S: PageSource>(
     scratch: &mut [u8],
     place: &GroupPlace,
 ) -> Result<LastPage, GroupFault>
-    requires some { 1 ≤ place.now.count }
+    requires not_empty { 1 ≤ place.now.count }
     requires may { MayWrite (N.state device.old) place.now 0 }
     requires count { place.now.count ≡ S.count source.now }
-    requires source { S.ready source.now (N.state device.old).geometry place.now.group }
+    requires source { S.can_write source.now (N.state device.old).geometry place.now.group }
     requires has { (N.state device.old).honest ≡ true → (i : ℕ) → i < S.count source.now → S.has source.now (N.state device.old).flash i }
     requires size { length scratch.old ≡ (N.state device.old).geometry.bytes }
     ensures quiet { S.quiet source.now → (N.state device.new).reads + (N.state device.old).failures ≤ (N.state device.old).reads + (N.state device.new).failures }

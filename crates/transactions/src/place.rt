@@ -22,12 +22,12 @@ pub(crate) struct GroupPlace {
 
 /// Takes the next group number for so many pages of the open block, where it has room for them.
 pub(crate) fn take_place(blocks: &mut Blocks, count: u32) -> Option<GroupPlace>
-    requires some { 1 ≤ count }
+    requires not_empty { 1 ≤ count }
     requires number { (table blocks.old).next_group < number_end }
     ensures found { IfSome result (λ place. IsPlaceIn (table blocks.old) count place) }
     ensures taken { IfSome result (λ place. table blocks.new ≡ record (table blocks.old) { next_group = (table blocks.old).next_group + 1 }) }
     ensures none { IfNone result ((room (table blocks.old) < count) × (table blocks.new ≡ table blocks.old)) }
-    ensures some { IsSome result ↔ (count ≤ room (table blocks.old)) }
+    ensures fits { IsSome result ↔ (count ≤ room (table blocks.old)) }
 {
     if blocks.open_room() < count {
         return None;

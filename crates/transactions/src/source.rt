@@ -60,7 +60,7 @@ pub trait PageSource {
     ghost bytes: { Self → Flash → ℕ → List ℕ };
 
     /// Whether it can be written in a group of this number, on a device of these sizes.
-    ghost ready: { Self → Geometry → ℕ → Type 0 };
+    ghost can_write: { Self → Geometry → ℕ → Type 0 };
 
     /// Whether it reads no page of the device.
     ghost quiet: { Self → Type 0 };
@@ -70,16 +70,16 @@ pub trait PageSource {
 
     /// How many pages there are, at least one.
     fn count(&self) -> u32
-        requires { (g : Geometry) × (n : ℕ) × ready self.now g n }
+        requires { (g : Geometry) × (n : ℕ) × can_write self.now g n }
         ensures value { result ≡ count self.now }
-        ensures some { 1 ≤ result };
+        ensures not_empty { 1 ≤ result };
 
     /// Lends page `i`, with its name in the group of this number, where it lies in memory as it is to be written.
     fn lent(&self, i: u32, group: u64) -> Option<LentPage<'_>>
         requires place { i < count self.now }
-        requires ready { (g : Geometry) × ready self.now g group }
+        requires can_write { (g : Geometry) × can_write self.now g group }
         ensures name { IfSome result (λ lent. (lent.name ≡ name self.now group i) × IsPageName group lent.name) }
-        ensures size { (g : Geometry) → ready self.now g group → IfSome result (λ lent. length lent.bytes.now ≡ g.bytes) }
+        ensures size { (g : Geometry) → can_write self.now g group → IfSome result (λ lent. length lent.bytes.now ≡ g.bytes) }
         ensures has { (flash : Flash) → IfSome result (λ lent. has self.now flash i) }
         ensures bytes { (flash : Flash) → IfSome result (λ lent. lent.bytes.now ≡ bytes self.now flash i) };
 
@@ -92,7 +92,7 @@ pub trait PageSource {
         page: &mut [u8],
     ) -> Result<PageName, SourceFault>
         requires place { i < count self.now }
-        requires ready { ready self.now (N.state device.old).geometry group }
+        requires can_write { can_write self.now (N.state device.old).geometry group }
         requires size { length page.old ≡ (N.state device.old).geometry.bytes }
         ensures reads { OnlyReads (N.state device.old) (N.state device.new) }
         ensures quiet { quiet self.now → (N.state device.new).reads ≡ (N.state device.old).reads }

@@ -21,13 +21,13 @@ pub fn write_summary<N: Nand, S: PageSource>(
     source: &S,
     scratch: &mut [u8],
 ) -> Result<Placed, GroupFault>
-    requires ready { IsReady (N.state device.old) (table blocks.old) }
+    requires can_write { IsReady (N.state device.old) (table blocks.old) }
     requires number { CanWrite scratch.old (N.state device.old) (table blocks.old) }
-    requires source { S.ready source.now (N.state device.old).geometry (table blocks.old).next_group }
+    requires source { S.can_write source.now (N.state device.old).geometry (table blocks.old).next_group }
     requires has { (N.state device.old).honest ≡ true → (i : ℕ) → i < S.count source.now → S.has source.now (N.state device.old).flash i }
     requires summary { (N.state device.old).honest ≡ true → WritesSummary S.PageSource source.now (N.state device.old) (table blocks.old) }
     ensures lasts { Lasts (N.state device.old) (N.state device.new) }
-    ensures ready { IsReady (N.state device.new) (table blocks.new) }
+    ensures can_write { IsReady (N.state device.new) (table blocks.new) }
     ensures group { WritesGroup S.PageSource source.now (log_of (N.state device.old) (table blocks.old)) (log_of (N.state device.new) (table blocks.new)) result }
     // Each whole checkpoint stays right, and so does each summary, the new one too.
     ensures numbers { HandsOut (N.state device.old) (N.state device.new) (table blocks.old) (table blocks.new) }

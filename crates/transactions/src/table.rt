@@ -56,7 +56,7 @@ pub fn table_of<N: Nand>(
     requires group { greatest.group < 2 ^ 64 - 1 }
     requires seq { greatest.seq < 2 ^ 64 - 1 }
     requires above { (N.state device.now).honest ≡ true → AreAbove (N.state device.now).flash (numbers_of greatest) }
-    ensures ready { IfOk result (λ blocks. IsReady (N.state device.now) (table blocks)) }
+    ensures can_write { IfOk result (λ blocks. IsReady (N.state device.now) (table blocks)) }
     ensures open { IfOk result (λ blocks. (table blocks).open_block ≡ None) }
     ensures checkpoint { IfOk result (λ blocks. (table blocks).checkpoint ≡ None) }
     ensures committed { IfOk result (λ blocks. (b : ℕ) → ((table blocks).entry b).committed ≡ 0) }

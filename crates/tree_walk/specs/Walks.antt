@@ -19,15 +19,15 @@ use Rattle.tree_walk.specs.declared.head.Head.{Head}
 use Rattle.tree_walk.specs.declared.object.Visited.{Visited}
 use Rattle.tree_walk.specs.declared.walking.WalkState.{WalkState}
 
--- the number stands on the list
+-- the number is on the list
 abbrev pub IsOn : List ℕ → ℕ → Type 0
 IsOn list o = (i : ℕ) × (slice_get list i ≡ Some o)
 
--- no number stands there twice
+-- no number is there twice
 abbrev pub IsOnce : List ℕ → Type 0
 IsOnce list = (i j o : ℕ) → slice_get list i ≡ Some o → slice_get list j ≡ Some o → i ≡ j
 
--- it is one of the numbers that are named, and stands on the list already or is named before
+-- it is one of the numbers that are named, and is on the list already or is named before
 pub record IsAgain (list named : List ℕ) (o : ℕ) : Type 0 where
   pub place : ℕ
   pub there : slice_get named place ≡ Some o

@@ -4,10 +4,10 @@ ghost use Rattle.page_tags.specs.Headers.{is_present};
 
 use flash_tree::Key;
 use page_tags::is_present;
-use pages::KnownPages;
+use pages::Pages;
 
 /// The first chunk that a file's presence bits name and that has no page, in pages that are sound.
-pub(crate) fn missing_chunk<P: KnownPages>(pages: &P, file: u64, bits: &[u8]) -> Option<u64>
+pub(crate) fn missing_chunk<P: Pages>(pages: &P, file: u64, bits: &[u8]) -> Option<u64>
     requires { length bits.now ≤ 4064 }
     ensures all { (P.state pages.now).sound ≡ true
         → IfNone result ((c : ℕ) → 1 ≤ c → is_present bits.now c ≡ true → IsSome ((P.state pages.now).present file c)) }

@@ -16,7 +16,7 @@ use crate::head::{Head, read_head};
 use flash_tree::Key;
 use name_index::NameIndex;
 use page_tags::ObjectKind;
-use pages::KnownPages;
+use pages::Pages;
 use std::alloc::Global;
 
 /// What is found of an object: its header, and the objects that it names, in the order of its slots.
@@ -28,7 +28,7 @@ pub struct Visited {
 
 /// Goes through one object. Its header is read, and each page of a directory's slots once; a file's chunks are not read. The
 /// hashes of a directory's names are added to the index.
-pub fn visit<P: KnownPages>(
+pub fn visit<P: Pages>(
     alloc: Global,
     pages: &mut P,
     object: u64,

@@ -18,14 +18,14 @@ use crate::tree::{NamedObject, Tree};
 use flash_tree::Key;
 use name_index::NameIndex;
 use page_tags::ObjectKind;
-use pages::KnownPages;
+use pages::Pages;
 use std::alloc::{AllocError, Global};
 use std::collections::{BTreeMap, BTreeSet};
 use volume_terms::ROOT;
 
 /// Goes through all objects of a tree from the root on, each once, in the order in which they are named. The hashes of all
 /// names are added to the index. Each header is looked up once, and so is each page of a directory's slots.
-pub fn walk<P: KnownPages>(
+pub fn walk<P: Pages>(
     alloc: Global,
     pages: &mut P,
     names: &mut NameIndex,
@@ -99,7 +99,7 @@ fn put_names(names: &mut Vec<NamedObject>, directory: u64, named: &[u64]) -> Res
 
 impl WalkState {
     /// Visits the object at a place.
-    fn step<P: KnownPages>(
+    fn step<P: Pages>(
         &mut self,
         alloc: Global,
         pages: &mut P,

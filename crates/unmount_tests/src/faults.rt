@@ -154,7 +154,7 @@ impl Trial {
         let _looked = self.look(rt, alloc, looked, left.is_done, plan);
     }
 
-    /// Does the session so, which ends with Done unless power goes or more blocks fail than are to spare. Then the trees are looked
+    /// Does the session so, which ends with Done unless power is lost or more blocks fail than are to spare. Then the trees are looked
     /// at.
     fn end(&self, rt: &impl Abort, alloc: Global, plan: Plan<'_>) -> MemNand {
         let left = finish(rt, alloc, self.planned(rt, alloc, plan));

@@ -50,7 +50,7 @@ fn committed(rt: &impl Abort, alloc: Global, nand: MemNand) -> MemNand {
     nand
 }
 
-/// That the commit stands in the block of the checkpoint, with the number after it.
+/// That the commit is in the block of the checkpoint, with the number after it.
 fn expect_next(rt: &impl Abort, nand: &mut MemNand, found: Found) {
     let root = Key {
         object: 1,

@@ -5,9 +5,9 @@ use crate::device::CountedNand;
 use crate::fault::BenchFault;
 use crate::mounts::measure;
 use crate::script::read_parts;
-use line_shell::{Serve, shell};
+use line_shell::shell;
 use nand_model::{Geometry, MemNand};
-use posix_calls::{Reply, Stamped, Volume, format};
+use posix_calls::{Answers, Reply, Stamped, Volume, format};
 use std::alloc::Global;
 use std::time::{CpuClock, Duration};
 
@@ -41,10 +41,12 @@ struct Served {
     errors: u64,
 }
 
-impl Serve for Served {
+impl Answers for Served {
     ghost serves = { λ old command reply new. Unit {0} };
 
-    fn call(&mut self, command: &Stamped) -> Reply {
+    ghost shows = { λ _ _ _ _. ⊥ };
+
+    fn answer(&mut self, command: &Stamped) -> Reply {
         let reply = self.volume.call(command);
         match &reply {
             Reply::Wrote(count) => {
@@ -55,6 +57,8 @@ impl Serve for Served {
         }
         reply
     }
+
+    ghost sound = { λ v z read_only s shown. absurd shown };
 }
 
 /// How large a fresh volume is.

@@ -10,7 +10,7 @@ use Rattle.flash_tree.specs.declared.place.Key.{Key}
 use Rattle.chunk_index.specs.declared.form.CommittedPage.{CommittedPage}
 use Rattle.chunk_index.specs.declared.index.Index.{Index}
 use Rattle.chunk_index.specs.Maps.{committed_pages}
-use Rattle.flash_log.specs.Standing.{AreCommitted}
+use Rattle.flash_log.specs.Consistency.{AreCommitted}
 use Rattle.page_store.specs.Shown.{data_at, committed_data}
 use Rattle.pages.specs.Maps.{PageMap, has}
 use Rattle.mounting.specs.NewestMaps.{IsNewestMap}

@@ -18,11 +18,11 @@ use flash_tree::Key;
 use mounting::{a_map_of_the_newest_pages_answers, a_whole_list_shows_a_tree};
 use nand_model::{Geometry, Nand};
 use page_store::{NewestPages, open, the_opened_pages_are_the_newest};
-use pages::KnownPages;
+use pages::Pages;
 use std::alloc::Global;
 
 /// Finds the first rule that is broken in the tree of a volume on a device of these sizes, and the path of the object that breaks it.
-fn find<P: KnownPages>(
+fn find<P: Pages>(
     alloc: Global,
     pages: &mut P,
     geometry: Geometry,

@@ -6,7 +6,7 @@ ghost use Rattle.volume_check.specs.declared.fault.CheckFault.TheVariants as fau
 use crate::fault::CheckFault;
 use flash_tree::{Key, decode_tree_slot};
 use name_index::NameIndex;
-use pages::{KnownPages, Pages, Presence};
+use pages::{Pages, Presence};
 use std::alloc::{AllocError, Global};
 use std::collections::BTreeMap;
 use tree_walk::{WalkFault, visit};
@@ -31,7 +31,7 @@ impl Parents {
     }
 
     /// Puts what an object names behind the others, where it is a directory that is whole.
-    fn put_named<P: KnownPages>(
+    fn put_named<P: Pages>(
         &mut self,
         alloc: Global,
         pages: &mut P,
@@ -54,7 +54,7 @@ impl Parents {
 }
 
 /// The directories that lead to an object, as far as they are whole.
-fn parents_of<P: KnownPages>(
+fn parents_of<P: Pages>(
     alloc: Global,
     pages: &mut P,
     object: u64,
@@ -144,7 +144,7 @@ fn joined(alloc: Global, names: &[Vec<u8>]) -> Result<Vec<u8>, AllocError> {
 }
 
 /// The path of an object, by the directories that first named each. The root's is `/`.
-pub(crate) fn path_of<P: KnownPages>(
+pub(crate) fn path_of<P: Pages>(
     alloc: Global,
     pages: &mut P,
     object: u64,

@@ -12,13 +12,13 @@ use crate::fault::CheckFault;
 use crate::root::{ROOT_HEADER, root_rule, why_failed};
 use name_index::NameIndex;
 use nand_model::Geometry;
-use pages::KnownPages;
+use pages::Pages;
 use std::alloc::Global;
 use tree_walk::{Broken, WalkFault, walk};
 
 /// The first rule that is broken in the tree of a volume on a device of these sizes, in the order in which a mount meets them; none
 /// where the tree is whole.
-pub(crate) fn find_broken<P: KnownPages>(
+pub(crate) fn find_broken<P: Pages>(
     alloc: Global,
     pages: &mut P,
     geometry: Geometry,

@@ -1,4 +1,4 @@
--- What the numbers of a volume in a program stand for.
+-- What the numbers of a volume in a program represent.
 use Rattle.volume_terms.specs.Sizes.{Sizes}
 use Rattle.volume_terms.specs.declared.sizes.VolumeSizes.{VolumeSizes}
 

@@ -75,7 +75,7 @@ pub refreshes : (answers block : ℕ) (p q : PagesState) (result : Result (Unit 
 refreshes answers block p q result x = record {
   goes_on = goes_on answers answers p q (omega arith) x.goes_on;
   commits = x.commits;
-  buffered = x.buffered;
+  in_buffer = x.in_buffer;
   lent = x.lent;
   power = x.power;
   stops = stops_always result;

@@ -36,7 +36,7 @@ fn read(
     (kind, bytes, tag)
 }
 
-/// That the root with one spare block stands in a block, with this number.
+/// That the root with one spare block is in a block, with this number.
 fn expect_root(rt: &impl Abort, nand: &mut MemNand, block: u32, number: u8) {
     let (kind, bytes, tag) = read(rt, nand, block, 0);
     let mut header = [0u8; 512];
@@ -56,7 +56,7 @@ fn expect_root(rt: &impl Abort, nand: &mut MemNand, block: u32, number: u8) {
     assert_eq!(rt; tag, root);
 }
 
-/// On a fresh device, and on one that was used and whose first block is bad: what stands in good blocks is erased.
+/// On a fresh device, and on one that was used and whose first block is bad: what is in good blocks is erased.
 #[test]
 fn the_root_stands_in_the_first_good_block(rt: HostRuntime) {
     let alloc = rt.alloc();
@@ -87,7 +87,7 @@ fn four_blocks_stand_beside_the_spare_ones(rt: HostRuntime) {
     let _ = tell(&rt, alloc, nand, &[Rows("space -> space 512 72 71")]);
 }
 
-/// A block that fails is marked, and the root stands in another; more marks than spare blocks are reported.
+/// A block that fails is marked, and the root is in another; more marks than spare blocks are reported.
 #[test]
 fn what_fails_is_marked_bad(rt: HostRuntime) {
     let alloc = rt.alloc();

@@ -1,5 +1,5 @@
 //! Tests of a volume on a device in memory, by lines of a shell: how the device is formatted, what sessions are answered, what is
-//! left where power goes, where calls fail and where memory is refused, flashes that no volume wrote, and a plain tree beside it.
+//! left where power is lost, where calls fail and where memory is refused, flashes that no volume wrote, and a plain tree beside it.
 #![tactic(auto)]
 
 mod store;
@@ -25,9 +25,9 @@ mod images;
 #[cfg(test)]
 mod last_number;
 #[cfg(test)]
-mod losses;
-#[cfg(test)]
 mod numbers;
+#[cfg(test)]
+mod power_losses;
 #[cfg(test)]
 mod random;
 #[cfg(test)]

@@ -11,7 +11,7 @@ use rand_pcg::Lcg128Xsl64;
 use std::alloc::{AllocError, Global};
 use std::process::Abort;
 
-/// Lines in which a path stands in place of each `P`, a descriptor for `F`, a number below 4,000 for `N`, and some bytes for `X`.
+/// Lines in which a path is in place of each `P`, a descriptor for `F`, a number below 4,000 for `N`, and some bytes for `X`.
 const LINES: [&str; 30] = [
     "now N",
     "open P rwc",
@@ -75,7 +75,7 @@ fn push_bytes(alloc: Global, lines: &mut String, text: &str, count: u64) -> Resu
     lines.push_str("\\e")
 }
 
-/// Adds what a letter stands for, at random.
+/// Adds what a letter represents, at random.
 fn push_word(
     alloc: Global,
     lines: &mut String,

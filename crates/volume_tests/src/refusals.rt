@@ -3,7 +3,7 @@
 use crate::RefusingPages;
 use crate::devices::formatted;
 use crate::expected::{Expected, expected_of};
-use crate::losses::SESSION;
+use crate::power_losses::SESSION;
 use crate::refused::{FILE, TREE};
 use crate::served::mount;
 use command_plans::table::DescriptorTable;
@@ -24,6 +24,8 @@ struct Refusing {
 }
 
 impl Answers for Refusing {
+    ghost serves = { λ old command reply new. Unit {0} };
+
     ghost shows = { λ _ _ _ _. ⊥ };
 
     fn answer(&mut self, stamped: &Stamped) -> Reply {

@@ -2,7 +2,7 @@
 
 use crate::devices::formatted;
 use crate::expected::{Expected, commands_of, expected_of, new_tree, step, text_of};
-use crate::losses::SESSION;
+use crate::power_losses::SESSION;
 use crate::served::{Served, mount, try_mount};
 use nand_model::MemNand;
 use plain_volume::{Answers, PlainTree};

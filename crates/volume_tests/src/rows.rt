@@ -1,7 +1,7 @@
-// Rows of a session: a line, an arrow, and what is to be answered. `[x*3]` stands for `xxx`.
+// Rows of a session: a line, an arrow, and what is to be answered. `[x*3]` represents `xxx`.
 
 use crate::served::answers;
-use line_shell::Serve;
+use plain_volume::Answers;
 use std::alloc::{AllocError, Global};
 use std::process::Abort;
 
@@ -56,7 +56,7 @@ fn script_of(alloc: Global, rows: &str) -> Result<Script, AllocError> {
 }
 
 /// Issues the lines of the rows, which are to be answered by their replies.
-pub(crate) fn expect<S: Serve>(rt: &impl Abort, alloc: Global, served: &mut S, rows: &str) {
+pub(crate) fn expect<S: Answers>(rt: &impl Abort, alloc: Global, served: &mut S, rows: &str) {
     let Script { lines, replies } = script_of(alloc, &written_out(rt, alloc, rows)).expect(
         rt,
         "script of",

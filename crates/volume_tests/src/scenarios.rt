@@ -2,8 +2,8 @@
 
 use crate::rows::expect;
 use crate::served::{Served, mount};
-use line_shell::Serve;
 use nand_model::MemNand;
+use plain_volume::Answers;
 use std::alloc::Global;
 use std::process::Abort;
 
@@ -11,7 +11,7 @@ use std::process::Abort;
 #[derive(Clone, Copy)]
 pub(crate) enum Part {
     Rows(&'static str),
-    /// Rows, so many times. The number of the turn, from 0, stands in place of each `#`.
+    /// Rows, so many times. The number of the turn, from 0, is in place of each `#`.
     Turns(u32, &'static str),
     /// Power is lost, and the volume mounted again.
     Lost,
@@ -22,7 +22,13 @@ pub(crate) enum Part {
 }
 
 /// Issues rows so many times.
-fn expect_turns<S: Serve>(rt: &impl Abort, alloc: Global, served: &mut S, count: u32, rows: &str) {
+fn expect_turns<S: Answers>(
+    rt: &impl Abort,
+    alloc: Global,
+    served: &mut S,
+    count: u32,
+    rows: &str,
+) {
     for number in 0..count {
         let number = format!(in alloc; "{number}").expect(rt, "memory");
         let rows = rows.replace(alloc, "#", &number).expect(rt, "memory");
@@ -31,7 +37,7 @@ fn expect_turns<S: Serve>(rt: &impl Abort, alloc: Global, served: &mut S, count:
 }
 
 /// Sends the rows of a part, and returns whether the volume goes on.
-pub(crate) fn ask_part<S: Serve>(
+pub(crate) fn ask_part<S: Answers>(
     rt: &impl Abort,
     alloc: Global,
     served: &mut S,

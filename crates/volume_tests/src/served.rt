@@ -1,6 +1,6 @@
 // A volume that a shell serves.
 
-use line_shell::{Serve, shell};
+use line_shell::shell;
 use nand_model::MemNand;
 use plain_volume::Answers;
 use posix_calls::{Errno, MountFault, Reply, Stamped, Volume};
@@ -13,15 +13,9 @@ pub(crate) struct Served {
     volume: Volume<MemNand>,
 }
 
-impl Serve for Served {
+impl Answers for Served {
     ghost serves = { λ old command reply new. Unit {0} };
 
-    fn call(&mut self, command: &Stamped) -> Reply {
-        self.volume.call(command)
-    }
-}
-
-impl Answers for Served {
     ghost shows = { λ _ _ _ _. ⊥ };
 
     fn answer(&mut self, stamped: &Stamped) -> Reply {
@@ -60,7 +54,7 @@ pub(crate) fn mount_by_itself(rt: &impl Abort, alloc: Global, nand: MemNand) -> 
 }
 
 /// What the shell answers to these lines.
-pub(crate) fn answers<S: Serve>(
+pub(crate) fn answers<S: Answers>(
     rt: &impl Abort,
     alloc: Global,
     served: &mut S,

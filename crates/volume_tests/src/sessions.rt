@@ -4,8 +4,7 @@ use crate::devices::formatted;
 use crate::expected::new_tree;
 use crate::scenarios::Part::{Lost, LostAfter, Rows, Turns, Unmounted};
 use crate::scenarios::{Part, ask_part, served_after};
-use line_shell::Serve;
-use plain_volume::PlainTree;
+use plain_volume::{Answers, PlainTree};
 use posix_calls::{Errno, Reply, Stamped};
 use std::process::Abort;
 
@@ -315,15 +314,19 @@ struct Plain {
     tree: PlainTree,
 }
 
-impl Serve for Plain {
+impl Answers for Plain {
     ghost serves = { λ old command reply new. Unit {0} };
 
-    fn call(&mut self, command: &Stamped) -> Reply {
+    ghost shows = { λ _ _ _ _. ⊥ };
+
+    fn answer(&mut self, command: &Stamped) -> Reply {
         match self.tree.step(command) {
             Ok(reply) => reply,
             Err(_) => Reply::Error(Errno::ENOMEM),
         }
     }
+
+    ghost sound = { λ v z read_only s shown. absurd shown };
 }
 
 /// A plain tree answers the same, up to the first loss or unmount of a scenario.

@@ -70,6 +70,10 @@ impl<P: Pages> Pages for RefusingPages<P> {
         self.inner.find(key)
     }
 
+    fn has(&self, key: Key) -> bool {
+        self.inner.has(key)
+    }
+
     fn has_power(&mut self) -> bool {
         self.inner.has_power()
     }

@@ -34,7 +34,7 @@ use Rattle.command_plans.specs.declared.plan.HandleChange.TheVariants as handle_
 use Rattle.command_plans.specs.declared.plan.StoreWork.TheVariants as work
 use Rattle.command_plans.specs.laws.Fact.{some_same}
 
--- the store goes on to stand for the state
+-- the store goes on to represent the state
 pub holds_on : {S : Type 0} (m : Meaning S) (law : IsLawful m) (z : Sizes) (s : State) (a b : S) → m.reads a b → Holds m z s a → Holds m z s b
 holds_on m law z s a b reads h = record { has = has_on m law z s.objects a b reads h.has; sound = h.sound }
 
@@ -134,7 +134,7 @@ pub no_handle : (s : State) (r : Option Handle) (act : Handle → Outcome) → N
 unfolding at_handle
 no_handle s r act is = ap (λ r. at_handle s r act) is
 
--- what the descriptor stands for
+-- what the descriptor refers to
 pub this_handle : (s : State) (r : Option Handle) (act : Handle → Outcome) (h : Handle) → Some h ≡ r → act h ≡ at_handle s r act
 unfolding at_handle
 this_handle s r act h is = ap (λ r. at_handle s r act) is

@@ -3,7 +3,7 @@ use Rattle.std.specs.Prelude.{◌≡◌, ◌⊎◌, ◌<◌, ℕ, zero, suc, Lis
 use Rattle.std.proofs.Common.{refl, sym, ◌∙◌, ap, inl, inr, arith}
 use Rattle.std.proofs.lemmas.Bool.{cond-true, cond-false}
 use Rattle.flash_tree.specs.declared.place.FreshPage.{FreshPage}
-use Rattle.pages.specs.Maps.{PageMap, no_pages, takes, without_cuts, changed, IsPageOf, IsFirstOf}
+use Rattle.pages.specs.Maps.{PageMap, no_pages, takes, without_cuts, after_change, IsPageOf, IsFirstOf}
 use Rattle.pages.specs.laws.Maps.{key_cases, cut_cases, page_elsewhere, first_here}
 use Rattle.pages.specs.declared.change.Change.{Change}
 use Rattle.pages.specs.declared.change.Cut.{Cut}
@@ -42,13 +42,13 @@ cuts_leave (cut ∷ cuts) m o c xs is = elim (cut_cases cut o c) [
 ]
 
 -- ---- a key of the second of two changes is one of both
-key_there : (change : Change) (m : PageMap) (o c : ℕ) → HasKey change o c → (xs : List ℕ) × (changed change m o c ≡ Some xs)
+key_there : (change : Change) (m : PageMap) (o c : ℕ) → HasKey change o c → (xs : List ℕ) × (after_change change m o c ≡ Some xs)
 key_there change m o c key = elim (first_or_none change.pages.items o c) [
   | inl x ↦ (x.1.0.page.bytes.items, first_here change.pages.items (without_cuts change.cuts.items m) o c x.0 x.1.0.page x.1.0.there x.1.0.object x.1.0.chunk x.1.1)
   | inr none ↦ absurd (none key.0 key.1)
 ]
 
-key_is : (change : Change) (o c : ℕ) (xs : List ℕ) → changed change no_pages o c ≡ Some xs → HasKey change o c
+key_is : (change : Change) (o c : ℕ) (xs : List ℕ) → after_change change no_pages o c ≡ Some xs → HasKey change o c
 key_is change o c xs there = elim (first_or_none change.pages.items o c) [
   | inl x ↦ (x.0, x.1.0)
   | inr none ↦
@@ -56,7 +56,7 @@ key_is change o c xs there = elim (first_or_none change.pages.items o c) [
       absurd cc
 ]
 
-pub key_both : (first second both : Change) → ((m : PageMap) (o c : ℕ) → changed both m o c ≡ changed second (changed first m) o c) → (o c : ℕ) → HasKey second o c → HasKey both o c
+pub key_both : (first second both : Change) → ((m : PageMap) (o c : ℕ) → after_change both m o c ≡ after_change second (after_change first m) o c) → (o c : ℕ) → HasKey second o c → HasKey both o c
 key_both first second both same o c key =
-    let x = key_there second (changed first no_pages) o c key in
+    let x = key_there second (after_change first no_pages) o c key in
     key_is both o c x.0 (same no_pages o c ∙ x.1)

@@ -9,7 +9,7 @@ use Rattle.block_state.specs.Table.{Table}
 use Rattle.chunk_index.specs.declared.form.CommittedPage.{CommittedPage}
 use Rattle.flash_log.specs.Copying.{KeepsCommittedAt, KeepsDataAt}
 use Rattle.flash_log.specs.Passing.{KeepsCommitted}
-use Rattle.flash_log.specs.Standing.{IsCommittedAt, HasVersion}
+use Rattle.flash_log.specs.Consistency.{IsCommittedAt, HasVersion}
 
 -- the place of a committed page, with its tag
 abbrev pub spot_of : CommittedPage → Tag → Spot

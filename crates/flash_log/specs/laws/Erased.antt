@@ -400,7 +400,7 @@ erased_failed b d m e t u erase result goes noted closed does marks notes = eras
 
 -- ---- a group is written in the open block
 
-module _ (d e : Device) (t : Table) (o count : ℕ) (name : ℕ → PageName) (bytes : ℕ → List ℕ) (ready : IsReady d t) (opened : t.open_block ≡ Some o) (lasts : Lasts d e)
+module _ (d e : Device) (t : Table) (o count : ℕ) (name : ℕ → PageName) (bytes : ℕ → List ℕ) (can_write : IsReady d t) (opened : t.open_block ≡ Some o) (lasts : Lasts d e)
     (writes : d.honest ≡ true → WritesOpen t d.flash e.flash) where
   none : d.honest ≡ true → ErasesNone d.flash e.flash
   none honest = none_written o t.next_group (t.entry o).seq d.flash e.flash ((writes honest).within o opened)
@@ -423,7 +423,7 @@ module _ (d e : Device) (t : Table) (o count : ℕ) (name : ℕ → PageName) (b
   knows_ok u honest adds true is = knows_closed u is
   knows_ok u honest adds false takes =
       let at = begun honest adds in
-      knows_taken e.flash t u o count opened (ready.open_block o opened).seq.0 at.0 at.1 takes
+      knows_taken e.flash t u o count opened (can_write.open_block o opened).seq.0 at.0 at.1 takes
 
   knows_ends : (u : Table) (result : Result Placed GroupFault) → d.honest ≡ true → GroupsAfter (next_group t count o) name bytes d.flash e.flash result → TableEnds count t u result
       → KnowsErased e.flash t → KnowsErased e.flash u

@@ -34,7 +34,7 @@ use Rattle.transactions.specs.declared.source.PageName.{PageName}
 use Rattle.transactions.specs.laws.Newest.{copies_come_last}
 use Rattle.flash_log.specs.Copying.{KeepsCommittedAt}
 use Rattle.flash_log.specs.Passing.{KeepsCommitted, KeepsFound}
-use Rattle.flash_log.specs.Standing.{AreHeld, IsCommittedKey, KeepsFindable, Stands}
+use Rattle.flash_log.specs.Consistency.{AreHeld, IsCommittedKey, KeepsFindable, IsConsistentLog}
 use Rattle.flash_log.specs.Steps.{MovesCommitted}
 use Rattle.flash_log.specs.laws.CommittedPages.{spot_of}
 
@@ -95,7 +95,7 @@ found_marked b d e t result none marks honest = found_faded b d e t none marks.l
 
 -- ---- a group is written in the open block
 
-module _ (t : Table) (d e : Device) (block count : ℕ) (name : ℕ → PageName) (bytes : ℕ → List ℕ) (ready : IsReady d t) (opened : t.open_block ≡ Some block) (honest : d.honest ≡ true)
+module _ (t : Table) (d e : Device) (block count : ℕ) (name : ℕ → PageName) (bytes : ℕ → List ℕ) (can_write : IsReady d t) (opened : t.open_block ≡ Some block) (honest : d.honest ≡ true)
     (geometry : e.geometry ≡ d.geometry) (writes : WritesOpen t d.flash e.flash) (summaries : KeepsSummaries d e) where
   abbrev g : Group
   g = next_group t count block
@@ -120,7 +120,7 @@ module _ (t : Table) (d e : Device) (block count : ℕ) (name : ℕ → PageName
       adds = adds.group;
       all = adds.pages;
       no_summary = λ begins. other ((adds.group g).1 (inr refl)).some begins.0 begins.1;
-      in_order = ((ready.open_block block opened).in_order honest).written;
+      in_order = ((can_write.open_block block opened).in_order honest).written;
     }
 
     other_key : (o c : ℕ) → NamesNot g (tag_in g name) o c → AreSummariesRight d.geometry d.flash → IsFindable d.geometry d.flash o c → IsFindable d.geometry e.flash o c
@@ -168,11 +168,11 @@ pub findable_here : (d : Device) (x : Index) → KeepsFindable d d x x
 findable_here d x honest right found = found
 
 -- a step that leaves the index
-pub findable_still : (spare : ℕ) (d e : Device) (t : Table) (x : Index) → AreHeld t x → Lasts d e → Stands spare d t x → (d.honest ≡ true → KeepsFound t d e) → KeepsFindable d e x x
-findable_still spare d e t x held lasts stands keeps honest right found o c (p, is) = elim (cases_Bool d.gone) [
+pub findable_still : (spare : ℕ) (d e : Device) (t : Table) (x : Index) → AreHeld t x → Lasts d e → IsConsistentLog spare d t x → (d.honest ≡ true → KeepsFound t d e) → KeepsFindable d e x x
+findable_still spare d e t x held lasts consistent keeps honest right found o c (p, is) = elim (cases_Bool d.gone) [
   | inl gone ↦ subst (λ (f : Device). IsFindable f.geometry f.flash o c) (sym (lasts.gone gone)) (found o c (p, is))
   | inr power ↦
-      let at = stands.newest honest power o c p is in
+      let at = consistent.newest honest power o c p is in
       (keeps honest).keys right o c (spot_of p at.tag) at.newest (held o c p is) (found o c (p, is))
 ]
 

@@ -20,7 +20,7 @@ use Rattle.transactions.specs.Ready.{IsReady}
 use Rattle.chunk_index.specs.declared.form.CommittedKey.{CommittedKey}
 use Rattle.flash_log.specs.Copying.{KeepsCounts, KeepsCommittedAt, IsCopyOf, LieApart, StayOrLieApart, copy_in}
 use Rattle.flash_log.specs.Lists.{ListsCommitted, IsListed}
-use Rattle.flash_log.specs.Standing.{IsCommittedKey, IsCommittedAt, AreCommitted, AreHeld, TablesAgree, Stands, KeepsFree}
+use Rattle.flash_log.specs.Consistency.{IsCommittedKey, IsCommittedAt, AreCommitted, AreHeld, TablesAgree, IsConsistentLog, KeepsFree}
 use Rattle.flash_log.specs.laws.CommittedPages.{spot_of}
 
 -- ---- any keys
@@ -51,24 +51,24 @@ newest_where_committed flash o c p s at newest = ap (λ (x : Spot). x.block) (on
 
 -- as many are bad on the device
 pub same_bad_blocks : (d : Device) (t : Table) → IsReady d t → bad_blocks d.geometry d.flash ≡ bad_count t
-same_bad_blocks d t ready =
-    ap (λ (g : Geometry). how_many d.flash.bad g.blocks) (sym ready.geometry)
-    ∙ counts_same d.flash.bad (is_bad t) t.geometry.blocks (λ b lt. sym (ready.marks b))
+same_bad_blocks d t can_write =
+    ap (λ (g : Geometry). how_many d.flash.bad g.blocks) (sym can_write.geometry)
+    ∙ counts_same d.flash.bad (is_bad t) t.geometry.blocks (λ b lt. sym (can_write.marks b))
 
-module _ (spare : ℕ) (d : Device) (t : Table) (x : Index) (ready : IsReady d t) (tables : TablesAgree spare t x) (held : AreHeld t x) where
+module _ (spare : ℕ) (d : Device) (t : Table) (x : Index) (can_write : IsReady d t) (tables : TablesAgree spare t x) (held : AreHeld t x) where
   -- where each committed page is the newest of its key, the good blocks without a committed page are free
   pub leaves_uncommitted : AreCommitted d.flash (committed_pages x) → LeavesFree d.geometry d.flash spare (IsCommittedKey (committed_pages x))
   leaves_uncommitted committed = record {
     free = is_uncommitted t;
     sufficient =
-        let bads = same_bad_blocks d t ready in
-        let size : how_many (is_uncommitted t) d.geometry.blocks ≡ uncommitted_count t = ap (λ (g : Geometry). how_many (is_uncommitted t) g.blocks) (sym ready.geometry) in
+        let bads = same_bad_blocks d t can_write in
+        let size : how_many (is_uncommitted t) d.geometry.blocks ≡ uncommitted_count t = ap (λ (g : Geometry). how_many (is_uncommitted t) g.blocks) (sym can_write.geometry) in
         let uncommitted = tables.uncommitted in
         omega (arith, bads, size, uncommitted);
     each = λ b lt is.
         let u = uncommitted_is t b is in
         record {
-          good = sym (ready.marks b) ∙ u.0;
+          good = sym (can_write.marks b) ∙ u.0;
           apart = λ o c s (p, at) newest here.
               let there : s.block ≡ p.block = newest_where_committed d.flash o c p s (committed o c p at) newest in
               let some = held o c p at in
@@ -100,7 +100,7 @@ module _ (spare : ℕ) (d : Device) (t : Table) (x : Index) (ready : IsReady d t
     pick_else b nv nw = pick_apart b nw ∙ ap (λ z. cond {A = Bool} z true (is_uncommitted t b)) (ne_eqb b v nv)
 
     good_there : (t.entry lie.at.block).bad ≡ false
-    good_there = ready.marks lie.at.block ∙ lie.good
+    good_there = can_write.marks lie.at.block ∙ lie.good
 
     as_many : how_many (is_uncommitted t) t.geometry.blocks ≡ how_many pick t.geometry.blocks
     as_many = counts_swap (is_uncommitted t) pick v lie.at.block t.geometry.blocks within lie.within (uncommitted_if t lie.at.block good_there lie.uncommitted) (none_there lie.at.block refl) (committed_if t v some) pick_v pick_else
@@ -125,15 +125,15 @@ module _ (spare : ℕ) (d : Device) (t : Table) (x : Index) (ready : IsReady d t
     leaves_apart = record {
       free = pick;
       sufficient =
-          let bads = same_bad_blocks d t ready in
-          let size : how_many pick d.geometry.blocks ≡ how_many pick t.geometry.blocks = ap (λ (g : Geometry). how_many pick g.blocks) (sym ready.geometry) in
+          let bads = same_bad_blocks d t can_write in
+          let size : how_many pick d.geometry.blocks ≡ how_many pick t.geometry.blocks = ap (λ (g : Geometry). how_many pick g.blocks) (sym can_write.geometry) in
           let many = as_many in
           let uncommitted = tables.uncommitted in
           omega (arith, bads, size, many, uncommitted);
       each = λ b lt is. record {
         good = elim (cases_eq b v) [
-          | inl e ↦ ap d.flash.bad e ∙ sym (ready.marks v) ∙ good
-          | inr nv ↦ sym (ready.marks b) ∙ (uncommitted_is t b (sym (pick_else b nv (not_w b is)) ∙ is)).0
+          | inl e ↦ ap d.flash.bad e ∙ sym (can_write.marks v) ∙ good
+          | inr nv ↦ sym (can_write.marks b) ∙ (uncommitted_is t b (sym (pick_else b nv (not_w b is)) ∙ is)).0
         ];
         apart = λ o c s (p, at) newest here. elim (lies o c p s at newest) [
           | inl there ↦ not_w b is (sym here ∙ there)
@@ -152,9 +152,9 @@ module _ (spare : ℕ) (d : Device) (t : Table) (x : Index) (ready : IsReady d t
 -- ---- steps
 
 -- an honest device that has power leaves blocks free
-pub free_where_stands : (spare : ℕ) (d : Device) (t : Table) (x : Index) → IsReady d t → AreHeld t x → Stands spare d t x → d.honest ≡ true → d.gone ≡ false
+pub free_where_consistent : (spare : ℕ) (d : Device) (t : Table) (x : Index) → IsReady d t → AreHeld t x → IsConsistentLog spare d t x → d.honest ≡ true → d.gone ≡ false
     → LeavesFree d.geometry d.flash spare (IsCommittedKey (committed_pages x))
-free_where_stands spare d t x ready held stands honest power = leaves_uncommitted spare d t x ready stands.tables held (stands.newest honest power)
+free_where_consistent spare d t x can_write held consistent honest power = leaves_uncommitted spare d t x can_write consistent.tables held (consistent.newest honest power)
 
 -- nothing is done
 pub free_here : (spare : ℕ) (d : Device) (x : Index) → KeepsFree spare d d x x
@@ -165,7 +165,7 @@ pub free_on : (spare : ℕ) (a b c : Device) (x y z : Index) → b.honest ≡ a.
 free_on spare a b c x y z same first then honest free = then (same ∙ honest) (first honest free)
 
 -- a step that leaves the index
-module _ (spare : ℕ) (d0 d1 : Device) (t0 t1 : Table) (x : Index) (held : AreHeld t0 x) (keeps : KeepsCounts d0 d1 t0 t1) (stands : Stands spare d0 t0 x) (tables : TablesAgree spare t1 x) where
+module _ (spare : ℕ) (d0 d1 : Device) (t0 t1 : Table) (x : Index) (held : AreHeld t0 x) (keeps : KeepsCounts d0 d1 t0 t1) (consistent : IsConsistentLog spare d0 t0 x) (tables : TablesAgree spare t1 x) where
   held_later : AreHeld t1 x
   held_later o c p is = let some = held o c p is in let same = keeps.committed p.block in omega (arith, some, same)
 
@@ -177,7 +177,7 @@ module _ (spare : ℕ) (d0 d1 : Device) (t0 t1 : Table) (x : Index) (held : AreH
   ]
 
   free_stays : KeepsCommittedAt t0 d0.flash d1.flash → d0.honest ≡ true → d0.gone ≡ false → LeavesFree d1.geometry d1.flash spare (IsCommittedKey (committed_pages x))
-  free_stays stays honest power = leaves_uncommitted spare d1 t1 x keeps.ready tables held_later (λ o c p is. stays o c p (held o c p is) (stands.newest honest power o c p is))
+  free_stays stays honest power = leaves_uncommitted spare d1 t1 x keeps.can_write tables held_later (λ o c p is. stays o c p (held o c p is) (consistent.newest honest power o c p is))
 
   -- and keeps newest pages in their places
   pub free_still : (d0.honest ≡ true → KeepsCommittedAt t0 d0.flash d1.flash) → KeepsFree spare d0 d1 x x
@@ -187,9 +187,9 @@ module _ (spare : ℕ) (d0 d1 : Device) (t0 t1 : Table) (x : Index) (held : AreH
   pub free_copied : (v : ℕ) (copies : List CommittedKey) → IsListed v t0 x copies → (d0.honest ≡ true → StayOrLieApart copies t0 d0.flash d1) → KeepsFree spare d0 d1 x x
   free_copied v copies listed either = free_where_power (λ honest power. elim (either honest) [
     | inl stays ↦ free_stays stays honest power
-    | inr lie ↦ leaves_apart spare d1 t1 x keeps.ready tables held_later v copies d0.flash listed.lists
+    | inr lie ↦ leaves_apart spare d1 t1 x keeps.can_write tables held_later v copies d0.flash listed.lists
         (subst (λ (g : Geometry). v < g.blocks) (sym keeps.geometry) listed.within) still_good (let same = keeps.committed v in omega (arith, same, listed.some))
-        (lie_later lie) (stands.newest honest power)
+        (lie_later lie) (consistent.newest honest power)
   ]) where
     still_good : (t1.entry v).bad ≡ false
     still_good = elim (cases_Bool (t1.entry v).bad) [

@@ -22,7 +22,7 @@ use Rattle.transactions.specs.declared.group.GroupFault.TheVariants as groups
 use Rattle.flash_log.specs.Copying.{KeepsCounts}
 use Rattle.flash_log.specs.Erased.{KeepsErased}
 use Rattle.flash_log.specs.Passing.{Passes}
-use Rattle.flash_log.specs.Standing.{IsWithinLimits}
+use Rattle.flash_log.specs.Consistency.{IsWithinLimits}
 use Rattle.flash_log.specs.laws.Erased.{erased_as, erased_here, erased_on, leaves_closed}
 
 -- ---- tables
@@ -113,12 +113,12 @@ bad_rises t u geometry marks = subst (λ (g : Geometry). bad_count t ≤ how_man
 
 pub keeps_passes : (old new : Device) (t u v : Table) → SameCounts t u → Lasts old new → IsReady new v → HandsOut old new t v → (IsWithinLimits t → IsWithinLimits u) → KeepsErased old old t u → Passes old new u v
     → KeepsCounts old new t v
-keeps_passes old new t u v same lasts ready numbers limits erased passes =
+keeps_passes old new t u v same lasts can_write numbers limits erased passes =
     let bad : bad_count u ≡ bad_count t = same_bad_count t u same in
     let uncommitted : uncommitted_count u ≡ uncommitted_count t = same_uncommitted_count t u same in
     record {
       lasts = lasts;
-      ready = ready;
+      can_write = can_write;
       numbers = numbers;
       geometry = passes.geometry ∙ same.geometry;
       committed = λ b. passes.committed b ∙ same.committed b;
@@ -131,12 +131,12 @@ keeps_passes old new t u v same lasts ready numbers limits erased passes =
     }
 
 pub keeps_same : (old new : Device) (t u : Table) → SameCounts t u → Lasts old new → IsReady new u → HandsOut old new t u → (IsWithinLimits t → IsWithinLimits u) → KeepsErased old new t u → KeepsCounts old new t u
-keeps_same old new t u same lasts ready numbers limits erased =
+keeps_same old new t u same lasts can_write numbers limits erased =
     let bad : bad_count u ≡ bad_count t = same_bad_count t u same in
     let uncommitted : uncommitted_count u ≡ uncommitted_count t = same_uncommitted_count t u same in
     record {
       lasts = lasts;
-      ready = ready;
+      can_write = can_write;
       numbers = numbers;
       geometry = same.geometry;
       committed = same.committed;
@@ -151,7 +151,7 @@ keeps_same old new t u same lasts ready numbers limits erased =
 pub keeps_on : (a b c : Device) (t u v : Table) → KeepsCounts a b t u → KeepsCounts b c u v → KeepsCounts a c t v
 keeps_on a b c t u v first then = record {
   lasts = lasts_on a b c first.lasts then.lasts;
-  ready = then.ready;
+  can_write = then.can_write;
   numbers = hands_on a b c t u v first.lasts then.lasts first.numbers then.numbers;
   geometry = then.geometry ∙ first.geometry;
   committed = λ k. then.committed k ∙ first.committed k;
@@ -165,14 +165,14 @@ keeps_on a b c t u v first then = record {
 
 -- where no call is made
 pub keeps_nothing : (d : Device) (t : Table) → IsReady d t → KeepsCounts d d t t
-keeps_nothing d t ready = keeps_same d d t t (same_here t) (lasts_here d) ready (hands_nothing d t) (λ is. is) (erased_here d t)
+keeps_nothing d t can_write = keeps_same d d t t (same_here t) (lasts_here d) can_write (hands_nothing d t) (λ is. is) (erased_here d t)
 
 -- no block is open any longer
 pub keeps_closed : (d : Device) (t u : Table) → u ≡ record t { open_block = None } → IsReady d t → KeepsCounts d d t u
-keeps_closed d t u is ready = keeps_same d d t u
+keeps_closed d t u is can_write = keeps_same d d t u
     (record { bad = λ b. ap (λ (x : Table). (x.entry b).bad) is; committed = λ b. ap (λ (x : Table). (x.entry b).committed) is; geometry = ap (λ (x : Table). x.geometry) is })
     (lasts_here d)
-    (subst (IsReady d) (sym is) (ready_closed d t ready))
+    (subst (IsReady d) (sym is) (ready_closed d t can_write))
     (hands_closed d t u is)
     (λ (groups, seqs). (
       let same = ap (λ (x : Table). x.next_group) is in omega (arith, same, groups),

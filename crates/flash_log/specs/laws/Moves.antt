@@ -1,4 +1,4 @@
--- What stands where no page was moved.
+-- What is where no page was moved.
 use Rattle.std.proofs.Common.{◌≡◌, ◌<◌, ◌≤◌, ℕ, true, false, Option, Some, None, refl, sym, ap, subst, ◌∙◌, arith, inl, inr}
 use Rattle.std.proofs.lemmas.Bool.{cases_Bool, cases_eq}
 use Rattle.nand_model.specs.Calls.{Device}
@@ -19,7 +19,7 @@ use Rattle.chunk_index.specs.Shelves.{look}
 use Rattle.flash_log.specs.Copying.{KeepsCounts, KeepsCommittedAt, KeepsDataAt}
 use Rattle.flash_log.specs.Moving.{MovesOut}
 use Rattle.flash_log.specs.Taking.{LiesApart}
-use Rattle.flash_log.specs.Standing.{SameData, HasVersion, MayLie, AreHeld, Stands}
+use Rattle.flash_log.specs.Consistency.{SameData, HasVersion, MayLie, AreHeld, IsConsistentLog}
 use Rattle.flash_tree.specs.laws.Place.{had_power}
 
 -- ---- the index
@@ -41,7 +41,7 @@ moves_out_none v x = record {
   committed = λ o c none. refl;
   present = λ o c none. refl;
   prepared = λ o c is. is;
-  ready = λ o c is. is;
+  can_write = λ o c is. is;
 }
 
 -- ---- counts
@@ -70,36 +70,36 @@ may_lie_later t u o c p geometry rises may = record {
   name = record { object = may.name.object; chunk = may.name.chunk; version = (may.name.version.0, omega (arith, may.name.version.1, rises)) };
 }
 
-module _ (spare : ℕ) (d0 d1 : Device) (t0 t1 : Table) (x : Index) (held : AreHeld t0 x) (keeps : KeepsCounts d0 d1 t0 t1) (stands : Stands spare d0 t0 x) where
+module _ (spare : ℕ) (d0 d1 : Device) (t0 t1 : Table) (x : Index) (held : AreHeld t0 x) (keeps : KeepsCounts d0 d1 t0 t1) (consistent : IsConsistentLog spare d0 t0 x) where
   -- the data of what is committed
   pub same_data : (d0.honest ≡ true → KeepsDataAt t0 d0.flash d1.flash) → d0.honest ≡ true → SameData (committed_pages x) d0.flash d1.flash
   same_data stays honest o c p bytes is has = elim (cases_Bool d0.gone) [
     | inl gone ↦ subst (λ (d : Device). HasVersion d.flash o c p.version bytes) (sym (keeps.lasts.gone gone)) has
-    | inr power ↦ stays honest o c p bytes (held o c p is) (stands.newest honest power o c p is) has
+    | inr power ↦ stays honest o c p bytes (held o c p is) (consistent.newest honest power o c p is) has
   ]
 
-  -- what stands where no page was moved
-  pub stands_still : ((o : ℕ) → t1.open_block ≡ Some o → (t1.entry o).committed ≤ (t1.entry o).next) → (d0.honest ≡ true → d1.gone ≡ false → KeepsCommittedAt t0 d0.flash d1.flash) → Stands spare d1 t1 x
-  stands_still written stays = record {
+  -- what is where no page was moved
+  pub consistent_still : ((o : ℕ) → t1.open_block ≡ Some o → (t1.entry o).committed ≤ (t1.entry o).next) → (d0.honest ≡ true → d1.gone ≡ false → KeepsCommittedAt t0 d0.flash d1.flash) → IsConsistentLog spare d1 t1 x
+  consistent_still written stays = record {
     tables = record {
       counts = record {
-        counts = λ b. keeps.committed b ∙ stands.tables.counts.counts b;
-        within = λ b le. stands.tables.counts.within b (subst (λ (g : Geometry). g.blocks ≤ b) keeps.geometry le);
+        counts = λ b. keeps.committed b ∙ consistent.tables.counts.counts b;
+        within = λ b le. consistent.tables.counts.within b (subst (λ (g : Geometry). g.blocks ≤ b) keeps.geometry le);
       };
-      within = λ o c p is. may_lie_later t0 t1 o c p keeps.geometry keeps.numbers.numbers.groups_rise (stands.tables.within o c p is);
-      fits = λ b. let same = keeps.committed b in let was = stands.tables.fits b in
+      within = λ o c p is. may_lie_later t0 t1 o c p keeps.geometry keeps.numbers.numbers.groups_rise (consistent.tables.within o c p is);
+      fits = λ b. let same = keeps.committed b in let was = consistent.tables.fits b in
           subst (λ (g : Geometry). (t1.entry b).committed ≤ g.pages) (sym keeps.geometry) (omega (arith, same, was));
       written = written;
-      uncommitted = omega (arith, keeps.uncommitted, stands.tables.uncommitted);
-      apart = lies_apart t0 t1 keeps.numbers.truth.noted keeps.committed stands.tables.apart;
+      uncommitted = omega (arith, keeps.uncommitted, consistent.tables.uncommitted);
+      apart = lies_apart t0 t1 keeps.numbers.truth.noted keeps.committed consistent.tables.apart;
     };
     newest = λ honest power o c p is.
         let was : d0.honest ≡ true = sym keeps.lasts.honest ∙ honest in
-        stays was power o c p (held o c p is) (stands.newest was (had_power d0 d1 keeps.lasts power) o c p is);
-    ordinary = λ honest. stands.ordinary (sym keeps.lasts.honest ∙ honest);
-    limits = keeps.limits stands.limits;
+        stays was power o c p (held o c p is) (consistent.newest was (had_power d0 d1 keeps.lasts power) o c p is);
+    ordinary = λ honest. consistent.ordinary (sym keeps.lasts.honest ∙ honest);
+    limits = keeps.limits consistent.limits;
   }
 
   -- and no block is open
-  pub stands_committed : t1.open_block ≡ None → (d0.honest ≡ true → d1.gone ≡ false → KeepsCommittedAt t0 d0.flash d1.flash) → Stands spare d1 t1 x
-  stands_committed closed = stands_still (λ o is. let two : None ≡ Some o = sym closed ∙ is in absurd cc)
+  pub consistent_committed : t1.open_block ≡ None → (d0.honest ≡ true → d1.gone ≡ false → KeepsCommittedAt t0 d0.flash d1.flash) → IsConsistentLog spare d1 t1 x
+  consistent_committed closed = consistent_still (λ o is. let two : None ≡ Some o = sym closed ∙ is in absurd cc)

@@ -12,7 +12,7 @@ use Rattle.flash_tree.specs.laws.Newest.{one_tag}
 use Rattle.chunk_index.specs.declared.form.CommittedPage.{CommittedPage}
 use Rattle.chunk_index.specs.declared.index.Index.{Index}
 use Rattle.chunk_index.specs.Maps.{CommittedMap, committed_pages}
-use Rattle.flash_log.specs.Standing.{IsCommittedAt, AreCommitted, KeepsOrdinary, IsWithinLimits, TablesAgree, Stands}
+use Rattle.flash_log.specs.Consistency.{IsCommittedAt, AreCommitted, KeepsOrdinary, IsWithinLimits, TablesAgree, IsConsistentLog}
 use Rattle.nand_model.specs.Calls.{Device}
 use Rattle.block_state.specs.Table.{Table}
 
@@ -105,8 +105,8 @@ committed_prop f o c p x y =
 pub are_committed_prop : (f : Flash) (m : CommittedMap) → IsProp (AreCommitted f m)
 are_committed_prop f m x y = λ k o c p is. committed_prop f o c p (x o c p is) (y o c p is) k
 
-pub stands_prop : (spare : ℕ) (d : Device) (t : Table) (x : Index) → IsProp (Stands spare d t x)
-stands_prop spare d t x a b = λ k. record {
+pub consistent_prop : (spare : ℕ) (d : Device) (t : Table) (x : Index) → IsProp (IsConsistentLog spare d t x)
+consistent_prop spare d t x a b = λ k. record {
   tables = let p : IsProp (TablesAgree spare t x) = Prim.hlevel props in p a.tables b.tables k;
   newest = λ honest power. are_committed_prop d.flash (committed_pages x) (a.newest honest power) (b.newest honest power) k;
   ordinary = λ honest. let p : IsProp (KeepsOrdinary x) = Prim.hlevel props in p (a.ordinary honest) (b.ordinary honest) k;

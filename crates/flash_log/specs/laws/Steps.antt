@@ -16,13 +16,13 @@ use Rattle.transactions.specs.laws.Ready.{ready_closed}
 use Rattle.flash_log.specs.Copying.{KeepsCounts, KeepsDataAt}
 use Rattle.flash_log.specs.Moving.{IsCommittedPageIn, MovesOut}
 use Rattle.flash_log.specs.Passing.{KeepsFound}
-use Rattle.flash_log.specs.Standing.{AreHeld, HasVersion, KeepsFree, SameData, Stands}
+use Rattle.flash_log.specs.Consistency.{AreHeld, HasVersion, KeepsFree, SameData, IsConsistentLog}
 use Rattle.flash_log.specs.Steps.{MovesCommitted, Step}
 use Rattle.flash_log.specs.laws.Erased.{erased_as, erased_here, erased_on, leaves_closed}
 use Rattle.flash_log.specs.laws.Found.{findable_here, findable_on, findable_still}
 use Rattle.flash_log.specs.laws.FreeBlocks.{free_here, free_on}
 use Rattle.flash_log.specs.laws.Moves.{follows_here, moves_out_none, same_data, same_committed_sum}
-use Rattle.flash_log.specs.laws.Turns.{moved_twice, stands_closed}
+use Rattle.flash_log.specs.laws.Turns.{moved_twice, consistent_closed}
 
 -- ---- committed pages
 
@@ -38,7 +38,7 @@ moves_committed_out v x y moves = record {
   committed = λ o c none. moves.committed o c (apart o c none) ∙ none;
   present = λ o c none. moves.present o c (apart o c none);
   prepared = moves.prepared;
-  ready = moves.ready;
+  can_write = moves.can_write;
 } where
   apart : (o c : ℕ) → committed_pages x o c ≡ None → IsCommittedPageIn v x o c → ⊥
   apart o c none k = let two : None ≡ Some k.0 = sym none ∙ k.1 in cc
@@ -55,7 +55,7 @@ moves_committed_on x y z first then = record {
   committed = λ o c none. then.committed o c (first.committed o c none);
   present = λ o c none. then.present o c (first.committed o c none) ∙ first.present o c none;
   prepared = λ o c is. then.prepared o c (first.prepared o c is);
-  ready = λ o c is. then.ready o c (first.ready o c is);
+  can_write = λ o c is. then.can_write o c (first.can_write o c is);
 }
 
 pub same_data_on : (x y : Index) (f g h : Flash) → MovesCommitted x y → SameData (committed_pages x) f g → SameData (committed_pages y) g h → SameData (committed_pages x) f h
@@ -66,11 +66,11 @@ same_data_on x y f g h moves first then o c p xs is v =
 -- ---- calls
 
 -- nothing is done
-pub step_none : (spare : ℕ) (d : Device) (t : Table) (x : Index) → IsReady d t → Stands spare d t x → Step spare (log_of d t) (log_of d t) x x
-step_none spare d t x ready stands = record {
+pub step_none : (spare : ℕ) (d : Device) (t : Table) (x : Index) → IsReady d t → IsConsistentLog spare d t x → Step spare (log_of d t) (log_of d t) x x
+step_none spare d t x can_write consistent = record {
   lasts = lasts_here d;
-  ready = ready;
-  stands = stands;
+  can_write = can_write;
+  consistent = consistent;
   numbers = hands_nothing d t;
   geometry = refl;
   marks = λ b is. is;
@@ -83,11 +83,11 @@ step_none spare d t x ready stands = record {
 }
 
 -- the open block is closed
-pub step_closed : (spare : ℕ) (d : Device) (t u : Table) (x : Index) → u ≡ record t { open_block = None } → IsReady d t → Stands spare d t x → Step spare (log_of d t) (log_of d u) x x
-step_closed spare d t u x is ready stands = subst (λ (s : Table). Step spare (log_of d t) (log_of d s) x x) (sym is) (record {
+pub step_closed : (spare : ℕ) (d : Device) (t u : Table) (x : Index) → u ≡ record t { open_block = None } → IsReady d t → IsConsistentLog spare d t x → Step spare (log_of d t) (log_of d u) x x
+step_closed spare d t u x is can_write consistent = subst (λ (s : Table). Step spare (log_of d t) (log_of d s) x x) (sym is) (record {
   lasts = lasts_here d;
-  ready = ready_closed d t ready;
-  stands = stands_closed spare d t (record t { open_block = None }) x refl stands;
+  can_write = ready_closed d t can_write;
+  consistent = consistent_closed spare d t (record t { open_block = None }) x refl consistent;
   numbers = hands_closed d t (record t { open_block = None }) refl;
   geometry = refl;
   marks = λ b is. is;
@@ -100,20 +100,20 @@ step_closed spare d t u x is ready stands = subst (λ (s : Table). Step spare (l
 })
 
 -- the index stays
-pub step_committed : (spare : ℕ) (d0 d1 : Device) (t0 t1 : Table) (x : Index) → AreHeld t0 x → KeepsCounts d0 d1 t0 t1 → Stands spare d0 t0 x → Stands spare d1 t1 x
+pub step_committed : (spare : ℕ) (d0 d1 : Device) (t0 t1 : Table) (x : Index) → AreHeld t0 x → KeepsCounts d0 d1 t0 t1 → IsConsistentLog spare d0 t0 x → IsConsistentLog spare d1 t1 x
     → (d0.honest ≡ true → KeepsDataAt t0 d0.flash d1.flash) → (d0.honest ≡ true → KeepsFound t0 d0 d1) → KeepsFree spare d0 d1 x x → Step spare (log_of d0 t0) (log_of d1 t1) x x
-step_committed spare d0 d1 t0 t1 x held keeps stands stand stays found free = record {
+step_committed spare d0 d1 t0 t1 x held keeps consistent stays_consistent stays found free = record {
   lasts = keeps.lasts;
-  ready = keeps.ready;
-  stands = stand;
+  can_write = keeps.can_write;
+  consistent = stays_consistent;
   numbers = keeps.numbers;
   geometry = keeps.geometry;
   marks = keeps.marks;
   committed_count = same_committed_sum t0 t1 keeps.geometry keeps.committed;
   index = moves_committed_none x;
-  same_data = same_data spare d0 d1 t0 t1 x held keeps stands stays;
+  same_data = same_data spare d0 d1 t0 t1 x held keeps consistent stays;
   free = free;
-  findable = findable_still spare d0 d1 t0 x held keeps.lasts stands found;
+  findable = findable_still spare d0 d1 t0 x held keeps.lasts consistent found;
   erased = keeps.erased;
 }
 
@@ -121,8 +121,8 @@ step_committed spare d0 d1 t0 t1 x held keeps stands stand stays found free = re
 pub step_on : (spare : ℕ) (a b c : LogState) (x y z : Index) → Step spare a b x y → Step spare b c y z → Step spare a c x z
 step_on spare a b c x y z first then = record {
   lasts = lasts_on a.device b.device c.device first.lasts then.lasts;
-  ready = then.ready;
-  stands = then.stands;
+  can_write = then.can_write;
+  consistent = then.consistent;
   numbers = hands_on a.device b.device c.device a.table b.table c.table first.lasts then.lasts first.numbers then.numbers;
   geometry = then.geometry ∙ first.geometry;
   marks = λ k is. then.marks k (first.marks k is);

@@ -10,7 +10,7 @@ use Rattle.chunk_index.specs.declared.index.Index.{Index}
 use Rattle.chunk_index.specs.Committed.{HoldsNone}
 use Rattle.chunk_index.specs.Maps.{committed_pages, present, moved_to}
 use Rattle.flash_log.specs.Moving.{MovesOut, IsCommittedPageIn}
-use Rattle.flash_log.specs.Standing.{Stands}
+use Rattle.flash_log.specs.Consistency.{IsConsistentLog}
 
 pub moved_twice : (q r : CommittedPage) (p : Present) → moved_to r (moved_to q p) ≡ moved_to r p
 moved_twice q r presents.Absent = refl
@@ -36,21 +36,21 @@ moves_out_on v w x y z none first second = record {
   committed = λ o c out. second.committed o c (λ (q, at, inside). none o c q (sym (first.committed o c out) ∙ at) inside) ∙ first.committed o c out;
   present = λ o c out. second.present o c (λ (q, at, inside). none o c q (sym (first.committed o c out) ∙ at) inside) ∙ first.present o c out;
   prepared = λ o c is. second.prepared o c (first.prepared o c is);
-  ready = λ o c is. second.ready o c (first.ready o c is);
+  can_write = λ o c is. second.can_write o c (first.can_write o c is);
 }
 
 -- a table that is closed besides
-pub stands_closed : (spare : ℕ) (d : Device) (t u : Table) (x : Index) → u ≡ record t { open_block = None } → Stands spare d t x → Stands spare d u x
-stands_closed spare d t u x is stands = subst (λ (s : Table). Stands spare d s x) (sym is) (record {
+pub consistent_closed : (spare : ℕ) (d : Device) (t u : Table) (x : Index) → u ≡ record t { open_block = None } → IsConsistentLog spare d t x → IsConsistentLog spare d u x
+consistent_closed spare d t u x is consistent = subst (λ (s : Table). IsConsistentLog spare d s x) (sym is) (record {
   tables = record {
-    counts = record { counts = stands.tables.counts.counts; within = stands.tables.counts.within };
-    within = λ o c p at. let may = stands.tables.within o c p at in record { block = may.block; page = may.page; name = may.name };
-    fits = stands.tables.fits;
+    counts = record { counts = consistent.tables.counts.counts; within = consistent.tables.counts.within };
+    within = λ o c p at. let may = consistent.tables.within o c p at in record { block = may.block; page = may.page; name = may.name };
+    fits = consistent.tables.fits;
     written = λ o at. let two : None ≡ Some o = at in absurd cc;
-    uncommitted = stands.tables.uncommitted;
-    apart = stands.tables.apart;
+    uncommitted = consistent.tables.uncommitted;
+    apart = consistent.tables.apart;
   };
-  newest = stands.newest;
-  ordinary = stands.ordinary;
-  limits = stands.limits;
+  newest = consistent.newest;
+  ordinary = consistent.ordinary;
+  limits = consistent.limits;
 })

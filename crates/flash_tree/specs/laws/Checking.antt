@@ -289,7 +289,7 @@ module _ (g : Geometry) where
     none_same same checked = none_checked new (λ c whole. none_where old checked c (whole_as c whole ((same (check_group c)).0 (group_whole new c whole)))) None
 
     -- The group of a checkpoint is written: it lists the tree, of which no page lies in its block and no object has its number, and its
-    -- numbers are above all that stood there. So it is right, and the only one.
+    -- numbers are above all that was there. So it is right, and the only one.
     module _ (c : Checkpoint) (adds : AddsGroup (check_group c) old new) (whole : IsWhole g new c) (checked : IsChecked g old None)
         (tree : ListsTree g old c.entries) (apart : (e : CheckEntry) → Contains c.entries e → e.block ≢ c.block)
         (other : (e : CheckEntry) → Contains c.entries e → e.object ≢ check_object) (below : AreBelow old c.number c.seq) (after : AreBelow new (1 + c.number) (1 + c.seq))

@@ -61,7 +61,7 @@ tag_stays old new b p t same has = record { bytes = has.bytes; page = same ∙ h
 pub tag_grows : (old new : Flash) → Grows old new → (b p : ℕ) (t : Tag) → HasTag old b p t → new.page b p ≡ old.page b p
 tag_grows old new grows b p t has = grows b p (λ is. let two : Erased ≡ Written has.bytes (tag_bytes t) = sym is ∙ has.page in absurd cc)
 
--- what counts goes on to count where its group is whole and its tag stands there
+-- what counts goes on to count where its group is whole and its tag is there
 pub holds_with : (old new : Flash) (o c : ℕ) (t : Spot) (h : Holds old o c t) → IsGroup new h.group → HasTag new t.block t.page t.tag → Holds new o c t
 holds_with old new o c t h whole has = record {
   group = h.group;

@@ -97,7 +97,7 @@ module _ (flash : Flash) where
       let index : s.tag.index ≡ h.index = ap (λ (t : Tag). t.index) tag ∙ part.index in
       omega (arith, h.page, index)
 
-  -- what stands at a place and counts for the key
+  -- what is at a place and counts for the key
   pub record HoldsAt (o c b p : ℕ) : Type 0 where
     pub spot : Spot
     pub block : spot.block ≡ b

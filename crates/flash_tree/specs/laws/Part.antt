@@ -40,7 +40,7 @@ module _ (m n : NewestMap) (to : (o c : ℕ) (xs : List ℕ) → m o c xs → n 
     whole : IsWholeList z m root_number list
     whole = whole_list z m root_number list on
 
-    -- the header of an object of the list stands in the part
+    -- the header of an object of the list is in the part
     header_back : (place o : ℕ) (f : Fields) → slice_get list place ≡ Some o → HasHeader z n o f → HasHeader z m o f
     header_back place o f at has =
         let there = whole.there place o at in

@@ -27,7 +27,7 @@ had_power a b lasts is = elim (cases_Bool a.gone) [
 pub no_tag : (f : Flash) (b p : ℕ) (t : Tag) → f.page b p ≡ Erased → HasTag f b p t → ⊥
 no_tag f b p t erased has = let two : Erased ≡ Written has.bytes (tag_bytes t) = sym erased ∙ has.page in absurd cc
 
--- a page with a tag stands on the device
+-- a page with a tag is on the device
 pub tag_placed : (pages blocks : ℕ) (f : Flash) (b p : ℕ) (t : Tag) → IsWithin pages blocks f → HasTag f b p t → (b < blocks) × (p < pages)
 tag_placed pages blocks f b p t within has = (elim (cases_lt b blocks) [ inl lt ↦ lt | inr ge ↦ absurd (no_tag f b p t (within.block b p ge) has) ], elim (cases_lt p pages) [ inl lt ↦ lt | inr ge ↦ absurd (no_tag f b p t (within.page b p ge) has) ])
 

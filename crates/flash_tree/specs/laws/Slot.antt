@@ -17,7 +17,7 @@ slot_of_pair [] i name object is = absurd cc
 slot_of_pair (entry ∷ slots) zero name object is = let parts = some_pair_parts entry.name name entry.object object is in (entry, refl, parts.0, parts.1)
 slot_of_pair (entry ∷ slots) (suc i) name object is = slot_of_pair slots i name object is
 
--- an entry of a directory that is read stands in a slot
+-- an entry of a directory that is read is in a slot
 pub entry_slot : (z : Sizes) (m : NewestMap) (o moment : ℕ) (entries : Entries) (r : ReadsDir z m o moment entries) (name : Name) (object : ℕ) → map.get entries name ≡ Some object
     → (i : ℕ) × (entry : Entry) × (slice_get r.slots i ≡ Some entry) × (entry.name ≡ name) × (entry.object ≡ object)
 entry_slot z m o moment entries r name object is =

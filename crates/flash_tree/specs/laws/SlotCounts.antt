@@ -10,11 +10,11 @@ use Rattle.flash_tree.specs.Tree.{slot_pairs}
 use Rattle.flash_tree.specs.laws.Slot.{slot_of_pair}
 use Rattle.flash_tree.specs.laws.Pairs.{at_find}
 
--- no name stands twice
+-- no name is there twice
 abbrev pub AreOnce : List Entry → Type 0
 AreOnce slots = (i j : ℕ) (a b : Entry) → slice_get slots i ≡ Some a → slice_get slots j ≡ Some b → a.name ≡ b.name → i ≡ j
 
--- the name of the first slot stands in none of the others
+-- the name of the first slot is in none of the others
 first_absent : (s : Entry) (slots : List Entry) → AreOnce (s ∷ slots) → map.contains_key (map.from_entries {R = slice_cmp nat_cmp} (slot_pairs slots)) s.name ≡ false
 first_absent s slots once = go (map.get (map.from_entries {R = slice_cmp nat_cmp} (slot_pairs slots)) s.name) refl where
   go : (found : Option ℕ) → map.get (map.from_entries {R = slice_cmp nat_cmp} (slot_pairs slots)) s.name ≡ found → map.contains_key (map.from_entries {R = slice_cmp nat_cmp} (slot_pairs slots)) s.name ≡ false

@@ -50,7 +50,7 @@ pub pigeonhole : (n : ℕ) (f : ℕ → ℕ) → ((i : ℕ) → i < suc n → f 
 pigeonhole zero f below apart = let lt = below zero (omega arith) in omega arith
 pigeonhole (suc n) f below apart = pigeonhole n (shifted f n) (shifted_below n f below apart) (shifted_apart n f below apart)
 
--- ---- lists in which nothing stands twice
+-- ---- lists in which nothing is there twice
 
 abbrev pub IsOnce : List ℕ → Type 0
 IsOnce list = (i j o : ℕ) → slice_get list i ≡ Some o → slice_get list j ≡ Some o → i ≡ j
@@ -82,7 +82,7 @@ once_more list o once not i j x at at' = elim (get_push list o i x at) [
   ]
 ]
 
--- what is added to a list once stands there once
+-- what is added to a list once is there once
 pub once_with_new : (list named : List ℕ) → IsOnce list → IsOnce (with_new list named)
 once_with_new list [] once = once
 once_with_new list (o ∷ named) once = elim (cases_Bool (list_any (nat_eq o) list)) [
@@ -90,7 +90,7 @@ once_with_new list (o ∷ named) once = elim (cases_Bool (list_any (nat_eq o) li
   | inr is ↦ subst IsOnce (sym (cond-false (list_any (nat_eq o) list) (with_new list named) (with_new (list ++ o ∷ []) named) is)) (once_with_new (list ++ o ∷ []) named (once_more list o once is))
 ]
 
--- what stands on a list stays where it is
+-- what is on a list stays where it is
 pub stays_with_new : (list named : List ℕ) (i o : ℕ) → slice_get list i ≡ Some o → slice_get (with_new list named) i ≡ Some o
 stays_with_new list [] i o is = is
 stays_with_new list (x ∷ named) i o is = elim (cases_Bool (list_any (nat_eq x) list)) [

@@ -11,11 +11,11 @@ use Rattle.flash_tree.specs.Mount.{Leads, Finds, with_new, ListEnd, Wrongly, Who
 use Rattle.flash_tree.specs.laws.Shown.{Each, each_with_new}
 use Rattle.flash_tree.specs.laws.WalkExists.{IsOnce, once_with_new, stays_with_new}
 
--- the number stands on the list
+-- the number is on the list
 abbrev pub IsOn : List ℕ → ℕ → Type 0
 IsOn list o = (i : ℕ) × (slice_get list i ≡ Some o)
 
--- what is added to a list stands on it
+-- what is added to a list is on it
 pub named_on : (list named : List ℕ) → Each (IsOn (with_new list named)) named
 named_on list [] k c is = absurd cc
 named_on list (o ∷ named) k c is = elim (cases_Bool (list_any (nat_eq o) list)) [

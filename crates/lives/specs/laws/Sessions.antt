@@ -11,7 +11,7 @@ use Rattle.posix_profile.specs.State.{Objects, State}
 use Rattle.posix_profile.specs.Names.{settle}
 use Rattle.posix_profile.specs.Steps.{step}
 use Rattle.posix_profile.specs.Runs.{is_no_memory, is_stop, after_one, after, RunHolds}
-use Rattle.posix_profile.specs.Losses.{Covers, settled_after, LossLeaves}
+use Rattle.posix_profile.specs.Losses.{Covers, settled_after, PowerLossLeaves}
 use Rattle.posix_profile.specs.laws.Own.{command_own}
 use Rattle.posix_profile.specs.laws.Prune.{prune_same}
 use Rattle.posix_profile.specs.laws.Run.{replied_step}
@@ -232,7 +232,7 @@ session_sound z before session left sizes stamped is sound = elim is.ends [
 ]
 
 -- What a loss leaves of a run is the tree of some of its commands: from the tree of a mount, none of them is such a tree too.
-pub loss_keeps : (tree : Objects → Type 0) (z : Sizes) (before : Objects) (cs : List Stamped) (rs : List Reply) → IsSound z (at_mount before) → LossLeaves tree before z false (at_mount before) cs rs
+pub loss_keeps : (tree : Objects → Type 0) (z : Sizes) (before : Objects) (cs : List Stamped) (rs : List Reply) → IsSound z (at_mount before) → PowerLossLeaves tree before z false (at_mount before) cs rs
     → (k : ℕ) × Covers cs rs k × (k ≤ length rs) × tree (settled_after z false (at_mount before) cs rs k)
 loss_keeps tree z before cs rs sound (inl some) = some
 loss_keeps tree z before cs rs sound (inr none) =

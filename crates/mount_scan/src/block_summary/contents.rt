@@ -26,7 +26,7 @@ fn take_pages(geometry: &Geometry, n: u32, count: u32) -> bool
 /// The head that the bytes of so many pages begin with, if a summary may have it.
 fn head_of(geometry: &Geometry, count: u32, bytes: &[u8]) -> Option<SummaryHead>
     requires size { length bytes.now ≡ count * geometry.now.bytes }
-    requires some { 1 ≤ count }
+    requires not_empty { 1 ≤ count }
     ensures found { IfSome result (BeginsWith geometry.now count bytes.now) }
     ensures room { IfSome result (λ head. 32 * (1 + head.entries) ≤ length bytes.now) }
     ensures none { IfNone result ((head : SummaryHead) → BeginsWith geometry.now count bytes.now head → ⊥) }
@@ -62,7 +62,7 @@ pub(crate) fn contents_of(
     bytes: &[u8],
 ) -> Result<Option<Contents>, AllocError>
     requires size { length bytes.now ≡ count * geometry.now.bytes }
-    requires some { 1 ≤ count }
+    requires not_empty { 1 ≤ count }
     ensures found { IfOk result (λ found. IfSome found (λ x. Says geometry.now count bytes.now x.head x.entries.items)) }
     ensures none { IfOk result (λ found. IfNone found (SaysNone geometry.now count bytes.now)) }
 {

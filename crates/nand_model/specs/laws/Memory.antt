@@ -1,4 +1,4 @@
--- What the sizes of blocks in memory say of the flash that they stand for.
+-- What the sizes of blocks in memory say of the flash that they represent.
 use Rattle.std.specs.Prelude.{◌≡◌, ◌≤◌, ℕ, zero, suc, List, [], ◌∷◌, length, slice_get}
 use Rattle.std.specs.Option.{option_map_or}
 use Rattle.std.proofs.Common.{refl, ap, inl, inr, arith}

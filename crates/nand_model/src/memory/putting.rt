@@ -1,4 +1,4 @@
-// A device in memory that stands for one whose pages lie elsewhere.
+// A device in memory that represents one whose pages lie elsewhere.
 ghost use Rattle.std.specs.Prelude.{◌≡◌, ◌≢◌, ◌+◌, ◌<◌, ℕ, true, false, length, vec_len, None};
 ghost use Rattle.nand_model.specs.Memory.{page_of, pages_at, bad_at, next_at};
 ghost use Rattle.nand_model.specs.Planned.{after_change};
@@ -43,7 +43,7 @@ fn clear_next(blocks: &mut Vec<MemBlock>, b: usize)
 impl MemNand {
     ghost use Rattle.nand_model.specs.MemoryState.{device, plan};
 
-    /// The page is this one from now on, without a program of it. Data and tag stand for nothing where it isn't
+    /// The page is this one from now on, without a program of it. Data and tag represent nothing where it isn't
     /// written. Its block has no next page.
     pub fn put_page(&mut self, block: u32, page: u32, kind: PageKind, bytes: &[u8], tag: &[u8; 48])
         requires block { block < (device self.old).geometry.blocks }
@@ -72,7 +72,7 @@ impl MemNand {
         mark_block(&mut self.blocks, block as usize, End::Whole, &[]);
     }
 
-    /// The power goes in a program or an erase of the block, which leaves the old pages.
+    /// The power is lost in a program or an erase of the block, which leaves the old pages.
     pub fn cut_change(&mut self, block: u32)
         requires block { block < (device self.old).geometry.blocks }
         requires power { (device self.old).gone ≡ false }
@@ -83,7 +83,7 @@ impl MemNand {
         clear_next(&mut self.blocks, block as usize);
     }
 
-    /// The power goes in a mark, which isn't set.
+    /// The power is lost in a mark, which isn't set.
     pub fn cut_mark(&mut self)
         requires { (device self.old).gone ≡ false }
         ensures cuts { CutsMark (device self.old) (device self.new) }

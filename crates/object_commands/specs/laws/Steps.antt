@@ -73,12 +73,12 @@ error_unsynced (commands.Fsync fd) e is = let two : false ≡ true = is in absur
 error_unsynced commands.Sync e is = let two : false ≡ true = is in absurd cc
 error_unsynced command e is = let two : false ≡ true = is in absurd cc
 
--- One command, from the state that the volume stands for: its reply, what it leaves of the tree that a mount shows, and the
+-- One command, from the state that the volume represents: its reply, what it leaves of the tree that a mount shows, and the
 -- state. One that reports, one that is meant to be answered by an error, and one that is answered by want of memory only read, and
 -- the last leaves a device with power.
 pub record One {S : Type 0} (m : Meaning S) (z : Sizes) (read_only : Bool) (s : State) (c : Stamped) (r : Reply) (a b : Volume S) : Type 0 where
   pub replies : Replies z read_only s c r
-  pub loss : KeepsOrSettles m s.objects a.store b.store
+  pub power_loss : KeepsOrSettles m s.objects a.store b.store
   pub sync : is_synced c.command r ≡ true → m.shows b.store (settled s.objects)
   pub stops : b.stopped ≡ is_stop r
   pub fails : is_stop r ≡ true → m.fails s.objects (step z read_only s c).state.objects a.store b.store
@@ -98,7 +98,7 @@ one_ends m law z read_only s c r a b shown (inl done) =
     let left_reads : (class ≡ Reporting) ⊎ (is_error o.reply ≡ true) → m.reads a.store b.store = leaves_reads m class o.reply s.objects o.state.objects a.store b.store done.left in
     record {
       replies = inl done.reply;
-      loss = leaves_shows m law class o.reply s.objects o.state.objects a.store b.store done.left;
+      power_loss = leaves_shows m law class o.reply s.objects o.state.objects a.store b.store done.left;
       sync = λ synced.
           let reported = synced_is read_only s c.command r synced in
           sync_leaves m law read_only o.reply s.objects o.state.objects a.store b.store (sym done.reply ∙ reported.1) shown (subst (λ k. Leaves m k o.reply s.objects o.state.objects a.store b.store) reported.0 done.left);
@@ -116,7 +116,7 @@ one_ends m law z read_only s c r a b shown (inr (inl passed)) =
     let memory : is_no_memory r ≡ true = ap is_no_memory passed.1.reply in
     record {
       replies = inr (inl (memory, passed.0));
-      loss = λ t shown. inl (law.reads_shows a.store b.store t passed.1.left shown);
+      power_loss = λ t shown. inl (law.reads_shows a.store b.store t passed.1.left shown);
       sync = λ synced. absurd (error_unsynced c.command errors.ENOMEM (ap (is_synced c.command) (sym passed.1.reply) ∙ synced));
       stops = passed.1.goes_on ∙ sym (ap is_stop passed.1.reply);
       fails = λ stop. absurd (true≢false (sym stop ∙ ap is_stop passed.1.reply));
@@ -126,7 +126,7 @@ one_ends m law z read_only s c r a b shown (inr (inl passed)) =
     }
 one_ends m law z read_only s c r a b shown (inr (inr stopped)) = record {
   replies = inr (inr (ap is_stop stopped.reply));
-  loss = law.fails_shows a.store b.store s.objects (step z read_only s c).state.objects stopped.left;
+  power_loss = law.fails_shows a.store b.store s.objects (step z read_only s c).state.objects stopped.left;
   sync = λ synced. absurd (error_unsynced c.command errors.EIO (ap (is_synced c.command) (sym stopped.reply) ∙ synced));
   stops = stopped.stops ∙ sym (ap is_stop stopped.reply);
   fails = λ stop. stopped.left;

@@ -15,7 +15,7 @@ pub has_on : {S : Type 0} (m : Meaning S) (law : IsLawful m) (z : Sizes) (object
 has_on m law z objects a b reads has = record {
   numbers = has.numbers;
   sizes = law.lasts_sizes a b (law.reads_lasts a b reads) ∙ has.sizes;
-  stands = law.reads_stands a b objects reads has.stands;
+  represents = law.reads_represent a b objects reads has.represents;
   forest = has.forest;
   fit = has.fit;
 }

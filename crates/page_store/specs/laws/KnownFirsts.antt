@@ -56,17 +56,17 @@ opened_noted d t t' x n only opened = record {
     low = was.low;
     newest = was.newest;
     numbers = was.numbers;
-    ready = λ left.
-        let ready = was.ready left in
+    can_write = λ left.
+        let can_write = was.can_write left in
         let group = only.next_group in
         let seq = only.next_seq in
         record {
-          geometry = only.geometry ∙ ready.geometry;
-          marks = λ b. only.bad b ∙ ready.marks b;
+          geometry = only.geometry ∙ can_write.geometry;
+          marks = λ b. only.bad b ∙ can_write.marks b;
           open_block = λ o at. absurd (let two : None ≡ Some o = sym closed ∙ at in cc);
           waits = λ c at. absurd (let two : None ≡ Some c = sym noted ∙ at in cc);
-          numbers = (omega (arith, group, ready.numbers), omega (arith, seq, ready.numbers));
-          below = λ honest. subst (λ k. AreBelow d.flash k t'.next_seq) (sym group) (subst (λ k. AreBelow d.flash t.next_group k) (sym seq) (ready.below honest));
+          numbers = (omega (arith, group, can_write.numbers), omega (arith, seq, can_write.numbers));
+          below = λ honest. subst (λ k. AreBelow d.flash k t'.next_seq) (sym group) (subst (λ k. AreBelow d.flash t.next_group k) (sym seq) (can_write.below honest));
         };
     group = λ left. only.next_group ∙ was.group left;
     seq = λ left. only.next_seq ∙ was.seq left;

@@ -8,7 +8,7 @@ use Rattle.page_tags.specs.Tags.{tag_bytes}
 use Rattle.flash_tree.specs.Newest.{Spot, IsNewest, HasNewest}
 use Rattle.flash_tree.specs.laws.Newest.{one_spot}
 use Rattle.chunk_index.specs.Maps.{CommittedMap}
-use Rattle.flash_log.specs.Standing.{AreCommitted}
+use Rattle.flash_log.specs.Consistency.{AreCommitted}
 use Rattle.flash_log.specs.laws.OneProof.{are_committed_prop, newest_prop}
 use Rattle.pages.specs.Maps.{PageMap}
 use Rattle.pages.specs.Stores.{Carries}

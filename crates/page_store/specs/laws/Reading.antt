@@ -19,7 +19,7 @@ use Rattle.pages.specs.declared.store.Presence.{Presence}
 use Rattle.pages.specs.declared.store.Presence.TheVariants as presences
 use Rattle.volume_terms.specs.declared.fault.StoreFault.{StoreFault}
 use Rattle.volume_terms.specs.declared.fault.StoreFault.TheVariants as faults
-use Rattle.page_store.specs.Newest.{seen}
+use Rattle.page_store.specs.Newest.{seen_pages}
 
 -- committed pages still have data
 pub written_same : (a b : Device) (m : CommittedMap) → OnlyReads a b → (a.honest ≡ true → (o c : ℕ) (k : CommittedPage) → m o c ≡ Some k → IsSome (data_at a.flash k))
@@ -29,13 +29,13 @@ written_same a b m reads written honest o c k is =
     subst (λ (f : Flash). IsSome (data_at f k)) (sym (same_flash a b reads before)) (written before o c k is)
 
 -- a call that only reads the device only finds
-pub finds_seen : (a b : Device) (x y : Index) (page page' : List ℕ) → OnlyReads a b → y ≡ x → OnlyFinds (seen a x page) (seen b y page')
+pub finds_seen : (a b : Device) (x y : Index) (page page' : List ℕ) → OnlyReads a b → y ≡ x → OnlyFinds (seen_pages a x page) (seen_pages b y page')
 finds_seen a b x y page page' reads index = record {
   page_bytes = ap (λ (g : Geometry). g.bytes) reads.lasts.geometry;
   most = refl;
   present = ap (λ i. known_pages b.honest (committed_data i b.flash)) index ∙ known_same a b (committed_data x) reads;
   committed = ap (λ i. known_pages b.honest (committed_data i b.flash)) index ∙ known_same a b (committed_data x) reads;
-  buffered = refl;
+  in_buffer = refl;
   sound = reads.lasts.honest;
   failed = failed;
   refused = omega arith;
@@ -88,10 +88,10 @@ not_absent a x o c at is written honest none =
 pub fault_seen : (old : PagesState) (a b : Device) (x y : Index) (page : List ℕ) (o c : ℕ) (at : CommittedPage) (result : Result Presence StoreFault) → OnlyReads a b → committed_pages x o c ≡ Some at
     → (a.honest ≡ true → (o c : ℕ) (k : CommittedPage) → committed_pages x o c ≡ Some k → IsSome (data_at a.flash k))
     → IfErr result (λ fault. (fault ≡ faults.Device) × ((b.gone ≡ true) ⊎ (a.honest ≡ true → data_at a.flash at ≡ None)))
-    → IfErr result (FailsBy old (seen b y page))
+    → IfErr result (FailsBy old (seen_pages b y page))
 fault_seen old a b x y page o c at (Ok reported) reads is written why = tt
 fault_seen old a b x y page o c at (Err fault) reads is written why =
-    subst (FailsBy old (seen b y page)) (sym why.0) (elim why.1 [
+    subst (FailsBy old (seen_pages b y page)) (sym why.0) (elim why.1 [
       | inl gone ↦ or_left b.gone (not b.honest) gone
       | inr none ↦ elim (cases_Bool a.honest) [
         | inl honest ↦ absurd (some_or_none (data_at a.flash at) (written honest o c at is) (none honest))

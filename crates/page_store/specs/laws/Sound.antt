@@ -23,4 +23,4 @@ sound_whole false w is = let two : false ≡ true = is in absurd cc
 
 -- no more of its blocks are bad than there are to spare
 pub few_bad : (d : Device) (t : Table) (spare : ℕ) (broken : Bool) → IsReady d t → (broken ≡ false → bad_count t ≤ spare) → (d.honest && not broken) ≡ true → bad_on d ≤ spare
-few_bad d t spare broken ready within_limit sound = let same = same_bad_blocks d t ready in omega (arith, same, within_limit (sound_whole d.honest broken sound))
+few_bad d t spare broken can_write within_limit sound = let same = same_bad_blocks d t can_write in omega (arith, same, within_limit (sound_whole d.honest broken sound))

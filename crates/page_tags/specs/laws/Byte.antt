@@ -1,4 +1,4 @@
--- Bytes, the numbers that stand in them, and lists of them.
+-- Bytes, the numbers that are in them, and lists of them.
 use Rattle.std.proofs.Common.{◌≡◌, ◌<◌, ◌≤◌, ℕ, zero, suc, ◌+◌, ◌*◌, ◌/◌, ◌%◌, ◌^◌, List, [], ◌∷◌, length, take, drop, get_or, replicate, refl, sym, ap, ap₂, ◌∙◌, inl, inr, ◌⊎◌, subst, length-drop, take-add, ◌++◌, EachIndex, ext_get_or, arith}
 use Rattle.std.specs.Int.{byte_at, bytes_low_first}
 use Rattle.std.proofs.Math.Nat.{div-div-eq-div-mul, pow-succ'}
@@ -40,7 +40,7 @@ IsBytes-take (suc n) [] each i = omega arith
 IsBytes-take (suc n) (b ∷ bytes) each zero = each 0
 IsBytes-take (suc n) (b ∷ bytes) each (suc i) = IsBytes-take n bytes (λ k. each (suc k)) i
 
--- the n bytes from place i, as those of the number that stands there
+-- the n bytes from place i, as those of the number that is there
 pub little_bytes_at : (n i : ℕ) (bytes : List ℕ) → i + n ≤ length bytes → IsBytes bytes → little_bytes n (little_number n (drop i bytes)) ≡ take n (drop i bytes)
 little_bytes_at n i bytes fits each = little_bytes-little_number n (drop i bytes) (omega (arith, length-drop i bytes)) (IsBytes-drop i bytes each)
 

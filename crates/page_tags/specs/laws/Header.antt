@@ -16,7 +16,7 @@ use Rattle.volume_terms.specs.laws.List.{same_or_not}
 use Rattle.page_tags.specs.HeaderParts.{HasFormat, HasNonePast, HasPast, IsSoundHeader, fields_in, last_chunk}
 use Rattle.page_tags.specs.laws.Bit.{past_or_none}
 
--- ---- what stands in the bytes of a header
+-- ---- what is in the bytes of a header
 
 pub magic_at : (f : Fields) → take 4 (header_bytes f) ≡ magic
 unfolding header_bytes

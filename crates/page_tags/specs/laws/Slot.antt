@@ -12,7 +12,7 @@ use Rattle.page_tags.specs.laws.Byte.{joined, little_bytes_at, little_bytes-litt
 use Rattle.volume_terms.specs.laws.List.{same_or_not}
 use Rattle.volume_terms.specs.laws.Name.{are_bytes, each_byte, name_or_not}
 
--- the length of the name that stands in the bytes
+-- the length of the name that is in the bytes
 abbrev pub name_length_in : List ℕ → ℕ
 name_length_in bytes = little_number 2 (drop 8 bytes)
 
@@ -49,7 +49,7 @@ module _ (s : Entry) (h : IsSlot s) where
 pub same_slot : (s t : Entry) → IsSlot s → IsSlot t → slot_bytes s ≡ slot_bytes t → s ≡ t
 same_slot s t h k e = sym (slot_in-slot_bytes s h) ∙ ap slot_in e ∙ slot_in-slot_bytes t k
 
--- the zeros after a name of n bytes are what stands there
+-- the zeros after a name of n bytes are what is there
 zeros_behind : (bytes name : List ℕ) (n : ℕ) → length name ≡ n → drop n (drop 10 bytes) ≡ replicate (262 - n) 0 → replicate (262 - length name) 0 ≡ drop (10 + n) bytes
 zeros_behind bytes name n len zeros = ap (λ k. replicate (262 - k) 0) len ∙ sym zeros ∙ drop-drop n 10 bytes
 

@@ -1,4 +1,4 @@
--- The numbers that stand in the bytes of a tag.
+-- The numbers that are in the bytes of a tag.
 use Rattle.std.proofs.Common.{◌≡◌, ◌≢◌, ◌<◌, ◌≤◌, ◌⊎◌, inl, inr, ℕ, ◌+◌, ◌^◌, List, [], ◌++◌, length, drop, sym, ap, ◌∙◌, subst, take_all, arith}
 use Rattle.std.proofs.lemmas.Bool.{cases_lt}
 use Rattle.byteorder.specs.Endian.{little_bytes, little_number}

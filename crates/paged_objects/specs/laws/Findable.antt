@@ -16,7 +16,7 @@ use Rattle.flash_tree.specs.laws.OneTree.{one_header, one_tree}
 use Rattle.pages.specs.State.{PagesState}
 use Rattle.pages.specs.Stores.{FindsAll, BeganMountably, HasPage}
 use Rattle.paged_objects.specs.Holding.{HoldsObjects}
-use Rattle.paged_objects.specs.Standing.{volume_of, Shown}
+use Rattle.paged_objects.specs.Representing.{volume_of, Shown}
 use Rattle.paged_objects.specs.laws.OnFlash.{footprint_pages, shown_there}
 
 -- the spare blocks of a volume are one number

@@ -15,7 +15,7 @@ use Rattle.flash_tree.specs.Numbering.{AreBelow}
 use Rattle.pages.specs.State.{PagesState, NextNumbers, OnlyFinds}
 use Rattle.pages.specs.Stores.{GoesOn, StaysSame, HandsOutNumbers, HasNumbersLeft, bad_on}
 use Rattle.pages.specs.laws.Mountable.{mountable_read, mountable_then}
-use Rattle.paged_objects.specs.Standing.{volume_of}
+use Rattle.paged_objects.specs.Representing.{volume_of}
 use Rattle.paged_objects.specs.Ending.{HasEnded, HasEndedAt, StaysAs}
 
 -- look-ups leave the pages as they are
@@ -98,7 +98,7 @@ same_bad a b reads =
     ap (λ (g : Geometry). bad_blocks g b.flash) reads.lasts.geometry
     ∙ ap (λ bad. bad_blocks a.geometry (record { bad = bad; next = b.flash.next; page = b.flash.page })) reads.bad
 
--- numbers above all that stand on a flash are so where they are greater
+-- numbers above all that are on a flash are so where they are greater
 above : (flash : Flash) (group seq more_group more_seq : ℕ) → group ≤ more_group → seq ≤ more_seq → AreBelow flash group seq → AreBelow flash more_group more_seq
 above flash group seq more_group more_seq groups seqs below b p t good tag = let h = below b p t good tag in (omega (arith, h.0, groups), omega (arith, h.1, groups), omega (arith, h.2, seqs))
 
@@ -153,7 +153,7 @@ stays_goes p q x =
 pub goes_here : (p : PagesState) → GoesOn p p
 goes_here p = stays_goes p p (stays_here p)
 
--- what stands on the device after both calls is below the first numbers and one more for each change: a device that is gone
+-- what is on the device after both calls is below the first numbers and one more for each change: a device that is gone
 -- changes no more
 written_on : (a b c : Device) (x y z : NextNumbers) → Lasts a b → Lasts b c → HandsOutNumbers a b x y → HandsOutNumbers b c y z → a.honest ≡ true → AreBelow a.flash x.group x.seq
     → (more : ℕ) → c.changes ≡ a.changes + more → AreBelow c.flash (x.group + more) (x.seq + more)

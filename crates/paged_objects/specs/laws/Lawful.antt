@@ -17,12 +17,12 @@ use Rattle.page_tags.specs.Slots.{Entry}
 use Rattle.pages.specs.Maps.{PageMap, has}
 use Rattle.pages.specs.Stores.{SamePages}
 use Rattle.paged_objects.specs.Naming.{HasNames}
-use Rattle.paged_objects.specs.Standing.{StandsFor, Shown}
+use Rattle.paged_objects.specs.Representing.{PagesRepresent, Shown}
 use Rattle.paged_objects.specs.Ending.{Changes, Fails, Commits}
-use Rattle.paged_objects.specs.Known.{ObjectsState, sizes_in, StandsIn, StaysIn}
+use Rattle.paged_objects.specs.Known.{ObjectsState, sizes_in, Represents, StaysIn}
 use Rattle.paged_objects.specs.Meaning.{paged_meaning}
 use Rattle.paged_objects.specs.laws.Going.{stays_here, stays_on, stays_goes, goes_on}
-use Rattle.paged_objects.specs.laws.Showing.{stays_shown, stays_stands, changes_after, fails_after, commits_after, read_fails}
+use Rattle.paged_objects.specs.laws.Showing.{stays_shown, stays_representing, changes_after, fails_after, commits_after, read_fails}
 
 -- a table that reports the same
 pub same_here : (t : ObjectTable) → ReportsTheSame t t
@@ -58,7 +58,7 @@ same_slot z m k o i e same at = (at.0, sym (same o _) ∙ at.1, at.2, at.3)
 pub more_names : (z : Sizes) (a b : NameIndex) (m k : PageMap) (objects : Objects) → HoldsMore a b → SamePages k m → HasNames a z m objects → HasNames b z k objects
 more_names z a b m k objects more same has d dir s e less at = more d _ s (has d dir s e less (same_slot z m k d s e same at))
 
--- what does not change a store leaves what it stands for
+-- what does not change a store leaves what it represents
 pub stays_here_in : (s : ObjectsState) → StaysIn s s
 stays_here_in s = record { pages = stays_here s.pages; table = same_here s.table; names = λ d h t is. is }
 
@@ -69,12 +69,12 @@ stays_on_in a b c x y = record {
   names = λ d h t is. y.names d h t (x.names d h t is);
 }
 
-pub stands_in : (a b : ObjectsState) (objects : Objects) → StaysIn a b → StandsIn a objects → StandsIn b objects
-stands_in a b objects x stands = record {
-  stands = subst (λ (z : Sizes). StandsFor z b.pages objects) (sym x.table.sizes) (stays_stands (sizes_in a) a.pages b.pages objects x.pages stands.stands);
-  reports = reports_on a.table b.table objects x.table stands.reports;
+pub represents_in : (a b : ObjectsState) (objects : Objects) → StaysIn a b → Represents a objects → Represents b objects
+represents_in a b objects x represents = record {
+  represents = subst (λ (z : Sizes). PagesRepresent z b.pages objects) (sym x.table.sizes) (stays_representing (sizes_in a) a.pages b.pages objects x.pages represents.represents);
+  reports = reports_on a.table b.table objects x.table represents.reports;
   named = subst (λ (z : Sizes). HasNames b.names z b.pages.present objects) (sym x.table.sizes)
-      (more_names (sizes_in a) a.names b.names a.pages.present b.pages.present objects x.names x.pages.present stands.named);
+      (more_names (sizes_in a) a.names b.names a.pages.present b.pages.present objects x.names x.pages.present represents.named);
 }
 
 pub paged_lawful : {S : Type 0} (state : S → ObjectsState) → IsLawful (paged_meaning state)
@@ -85,7 +85,7 @@ paged_lawful {S} state = record {
   reads_lasts = λ a b x. (stays_goes (at a) (at b) x.pages, x.table.sizes);
   lasts_on = λ a b c x y. (goes_on (at a) (at b) (at c) x.0 y.0, y.1 ∙ x.1);
   lasts_sizes = λ a b x. x.1;
-  reads_stands = λ a b objects x stands. stands_in (state a) (state b) objects x stands;
+  reads_represent = λ a b objects x represents. represents_in (state a) (state b) objects x represents;
   reads_shows = λ a b tree x shown. shown_at (z a) (z b) (at b) tree x.table.sizes (stays_shown (z a) (at a) (at b) tree x.pages shown);
   changes_on = λ a b c old new x y. (
     changes_after (z a) (at a) (at b) (at c) old x.pages (subst (λ (k : Sizes). Changes k old (at b) (at c)) x.table.sizes y.0),

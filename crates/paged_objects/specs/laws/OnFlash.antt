@@ -34,7 +34,7 @@ use Rattle.paged_objects.specs.Holding.{HoldsObject, HoldsObjects}
 use Rattle.object_store.specs.Stores.{CanHave}
 use Rattle.paged_objects.specs.laws.Holding.{held}
 use Rattle.paged_objects.specs.laws.Settled.{shows_settled, holds_volume}
-use Rattle.paged_objects.specs.Standing.{volume_of, Shown}
+use Rattle.paged_objects.specs.Representing.{volume_of, Shown}
 
 page_bounds : (z : Sizes) → IsSizes z → (0 < z.page_bytes) × (z.page_bytes ≤ 4096)
 page_bounds z numbers = elim numbers.page_bytes [

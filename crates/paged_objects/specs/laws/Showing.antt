@@ -17,7 +17,7 @@ use Rattle.pages.specs.laws.Mountable.{finds_read}
 use Rattle.paged_objects.specs.Holding.{HoldsObjects, HoldsIn}
 use Rattle.object_store.specs.Stores.{CanHave}
 use Rattle.paged_objects.specs.laws.Holding.{same_objects}
-use Rattle.paged_objects.specs.Standing.{volume_of, StandsFor, Shown}
+use Rattle.paged_objects.specs.Representing.{volume_of, PagesRepresent, Shown}
 use Rattle.paged_objects.specs.Ending.{StaysAs, Turns, Changes, Fails, Commits}
 use Rattle.paged_objects.specs.laws.Going.{ended_after, stays_goes, goes_on, volume_on}
 
@@ -48,19 +48,19 @@ stays_shown z p q tree stays shown = record {
 }
 
 -- and hold the same objects
-pub stays_stands : (z : Sizes) (p q : PagesState) (objects : Objects) → StaysAs p q → StandsFor z p objects → StandsFor z q objects
-stays_stands z p q objects stays stands = record {
-  sound = stays.sound ∙ stands.sound;
-  sizes = volume_on p q (stays_goes p q stays) ∙ stands.sizes;
-  page_bytes = stays.page_bytes ∙ stands.page_bytes;
-  most = stays.most ∙ stands.most;
-  holds = same_objects z p.present q.present objects stands.holds stays.present;
-  shown = (stands.shown.0, stays_shown z p q stands.shown.0 stays stands.shown.1);
+pub stays_representing : (z : Sizes) (p q : PagesState) (objects : Objects) → StaysAs p q → PagesRepresent z p objects → PagesRepresent z q objects
+stays_representing z p q objects stays represents = record {
+  sound = stays.sound ∙ represents.sound;
+  sizes = volume_on p q (stays_goes p q stays) ∙ represents.sizes;
+  page_bytes = stays.page_bytes ∙ represents.page_bytes;
+  most = stays.most ∙ represents.most;
+  holds = same_objects z p.present q.present objects represents.holds stays.present;
+  shown = (represents.shown.0, stays_shown z p q represents.shown.0 stays represents.shown.1);
 }
 
--- what objects stand in is what their changes are planned from
-pub holds_in : (z : Sizes) (p : PagesState) (objects : Objects) → StandsFor z p objects → HoldsIn p z objects
-holds_in z p objects stands = record { sound = stands.sound; size = sym stands.page_bytes; holds = stands.holds }
+-- what objects are in is what their changes are planned from
+pub holds_in : (z : Sizes) (p : PagesState) (objects : Objects) → PagesRepresent z p objects → HoldsIn p z objects
+holds_in z p objects represents = record { sound = represents.sound; size = sym represents.page_bytes; holds = represents.holds }
 
 -- the tree that a mount shows after a call
 tree_after : (z : Sizes) (q : PagesState) (tree other : Objects) → Shown z q tree ⊎ Shown z q other → (shown : Objects) × Shown z q shown
@@ -68,15 +68,15 @@ tree_after z q tree other (inl first) = (tree, first)
 tree_after z q tree other (inr second) = (other, second)
 
 -- after a change that was made the store has the new objects
-pub changed_stands : (z : Sizes) (p q : PagesState) (old new : Objects) (m : PageMap) → GoesOn p q → StandsFor z p old → q.sound ≡ true → HoldsObjects z m new → SamePages q.present m
-    → Turns z old p q → StandsFor z q new
-changed_stands z p q old new m goes stands sound holds same turns = record {
+pub changed_represents : (z : Sizes) (p q : PagesState) (old new : Objects) (m : PageMap) → GoesOn p q → PagesRepresent z p old → q.sound ≡ true → HoldsObjects z m new → SamePages q.present m
+    → Turns z old p q → PagesRepresent z q new
+changed_represents z p q old new m goes represents sound holds same turns = record {
   sound = sound;
-  sizes = volume_on p q goes ∙ stands.sizes;
-  page_bytes = goes.page_bytes ∙ stands.page_bytes;
-  most = goes.most ∙ stands.most;
+  sizes = volume_on p q goes ∙ represents.sizes;
+  page_bytes = goes.page_bytes ∙ represents.page_bytes;
+  most = goes.most ∙ represents.most;
   holds = same_objects z m q.present new holds same;
-  shown = tree_after z q stands.shown.0 (settled old) (turns stands.shown.0 stands.shown.1);
+  shown = tree_after z q represents.shown.0 (settled old) (turns represents.shown.0 represents.shown.1);
 }
 
 -- pages that are committed show what they hold, settled
@@ -108,9 +108,9 @@ still_shown z p q tree goes sound committed shown = record {
 }
 
 -- committed as they were, or as they are present: the tree that was shown, or the settled objects
-pub either_turns : (z : Sizes) (p q : PagesState) (objects : Objects) → GoesOn p q → StandsFor z p objects → CanHave z objects → KeepsEither p q → Turns z objects p q
-either_turns z p q objects goes stands can (inl committed) tree shown = inl (still_shown z p q tree goes stands.sound committed shown)
-either_turns z p q objects goes stands can (inr present) tree shown = inr (committed_shown z q p.present objects (volume_on p q goes ∙ stands.sizes) present stands.holds can)
+pub either_turns : (z : Sizes) (p q : PagesState) (objects : Objects) → GoesOn p q → PagesRepresent z p objects → CanHave z objects → KeepsEither p q → Turns z objects p q
+either_turns z p q objects goes represents can (inl committed) tree shown = inl (still_shown z p q tree goes represents.sound committed shown)
+either_turns z p q objects goes represents can (inr present) tree shown = inr (committed_shown z q p.present objects (volume_on p q goes ∙ represents.sizes) present represents.holds can)
 
 -- reads before a call do not matter
 pub turns_after : (z : Sizes) (p q r : PagesState) (objects : Objects) → StaysAs p q → Turns z objects q r → Turns z objects p r

@@ -2,7 +2,7 @@
 use Rattle.std.specs.Prelude.{◌≡◌, ◌≢◌, ℕ, List, [], ◌∷◌, ◌++◌, Some, None, cond}
 use Rattle.std.proofs.Common.{refl, sym, ◌∙◌, ap, inl, inr}
 use Rattle.std.proofs.lemmas.Bool.{cases_eq, cond-true, cond-false}
-use Rattle.pages.specs.Maps.{PageMap, is_of, with_pages, takes, without_cuts, changed}
+use Rattle.pages.specs.Maps.{PageMap, is_of, with_pages, takes, without_cuts, after_change}
 use Rattle.pages.specs.laws.Maps.{cut_cases, elsewhere}
 use Rattle.pages.specs.Changes.{IsNothing, IsOnlyOf}
 use Rattle.flash_tree.specs.declared.place.FreshPage.{FreshPage}
@@ -28,7 +28,7 @@ pub cuts_same : (xs : List Cut) (m n : PageMap) (o c : ℕ) → m o c ≡ n o c 
 cuts_same [] m n o c is = is
 cuts_same (x ∷ xs) m n o c is = ap (cond (takes x o c) None) (cuts_same xs m n o c is)
 
-pub changed_same : (change : Change) (m n : PageMap) (o c : ℕ) → m o c ≡ n o c → changed change m o c ≡ changed change n o c
+pub changed_same : (change : Change) (m n : PageMap) (o c : ℕ) → m o c ≡ n o c → after_change change m o c ≡ after_change change n o c
 changed_same change m n o c is = pages_same change.pages.items _ _ o c (cuts_same change.cuts.items m n o c is)
 
 -- where nothing is, nothing is cut
@@ -40,19 +40,19 @@ cuts_nothing (x ∷ xs) m o c is = elim (cut_cases x o c) [
 ]
 
 -- of any other object nothing changes
-pub others_keep : (change : Change) (object : ℕ) → IsOnlyOf change object → (m : PageMap) (o c : ℕ) → o ≢ object → changed change m o c ≡ m o c
+pub others_keep : (change : Change) (object : ℕ) → IsOnlyOf change object → (m : PageMap) (o c : ℕ) → o ≢ object → after_change change m o c ≡ m o c
 others_keep change object within m o c other = elsewhere change m o c (λ k of. other (within.pages o c k of)) (λ k is. other (within.cuts o c k is))
 
 -- what changes nothing changes nothing
-pub nothing_changes : (change : Change) → IsNothing change → (m : PageMap) (o c : ℕ) → changed change m o c ≡ m o c
+pub nothing_changes : (change : Change) → IsNothing change → (m : PageMap) (o c : ℕ) → after_change change m o c ≡ m o c
 nothing_changes change is m o c =
     ap (λ (ps : List FreshPage). with_pages ps (without_cuts change.cuts.items m) o c) is.pages ∙ ap (λ (xs : List Cut). without_cuts xs m o c) is.cuts
 
 -- two changes of different objects commute
-pub changes_commute : (a b : Change) (x y : ℕ) → x ≢ y → IsOnlyOf a x → IsOnlyOf b y → (m : PageMap) (o c : ℕ) → changed a (changed b m) o c ≡ changed b (changed a m) o c
+pub changes_commute : (a b : Change) (x y : ℕ) → x ≢ y → IsOnlyOf a x → IsOnlyOf b y → (m : PageMap) (o c : ℕ) → after_change a (after_change b m) o c ≡ after_change b (after_change a m) o c
 changes_commute a b x y apart in_a in_b m o c = elim (cases_eq o x) [
   | inl here ↦
       let other : o ≢ y = λ same. apart (sym here ∙ same) in
-      changed_same a (changed b m) m o c (others_keep b y in_b m o c other) ∙ sym (others_keep b y in_b (changed a m) o c other)
-  | inr other ↦ others_keep a x in_a (changed b m) o c other ∙ changed_same b m (changed a m) o c (sym (others_keep a x in_a m o c other))
+      changed_same a (after_change b m) m o c (others_keep b y in_b m o c other) ∙ sym (others_keep b y in_b (after_change a m) o c other)
+  | inr other ↦ others_keep a x in_a (after_change b m) o c other ∙ changed_same b m (after_change a m) o c (sym (others_keep a x in_a m o c other))
 ]

@@ -2,7 +2,7 @@
 use Rattle.std.specs.Prelude.{◌≡◌, ◌≢◌, ◌⊎◌, ◌<◌, ◌≤◌, ℕ, zero, suc, true, false, List, [], ◌∷◌, Some, None, slice_get}
 use Rattle.std.proofs.Common.{refl, sym, ◌∙◌, ap, subst, inl, inr, arith}
 use Rattle.std.proofs.lemmas.Bool.{cases_eq, cases_lt, eq-eqb, ne_eqb, le-leb, lt-leb, and_from, and_left, and_right, cond-true, cond-false}
-use Rattle.pages.specs.Maps.{PageMap, is_of, with_pages, takes, without_cuts, changed, IsPageOf, IsCut}
+use Rattle.pages.specs.Maps.{PageMap, is_of, with_pages, takes, without_cuts, after_change, IsPageOf, IsCut}
 use Rattle.pages.specs.Changes.{AreApart}
 use Rattle.flash_tree.specs.declared.place.FreshPage.{FreshPage}
 use Rattle.pages.specs.declared.change.Cut.{Cut}
@@ -90,13 +90,13 @@ cut_elsewhere (x ∷ xs) m o c none = elim (cut_cases x o c) [
 
 module _ (change : Change) (m : PageMap) where
   -- a page of the change is there afterwards
-  pub here : AreApart change.pages.items → (i : ℕ) (p : FreshPage) → slice_get change.pages.items i ≡ Some p → changed change m p.key.object p.key.chunk ≡ Some p.bytes.items
+  pub here : AreApart change.pages.items → (i : ℕ) (p : FreshPage) → slice_get change.pages.items i ≡ Some p → after_change change m p.key.object p.key.chunk ≡ Some p.bytes.items
   here = page_here change.pages.items (without_cuts change.cuts.items m)
 
   -- what is cut and not written is gone
-  pub gone : (o c i : ℕ) → ((k : ℕ) → IsPageOf change.pages.items o c k → ⊥) → IsCut change.cuts.items o c i → changed change m o c ≡ None
+  pub gone : (o c i : ℕ) → ((k : ℕ) → IsPageOf change.pages.items o c k → ⊥) → IsCut change.cuts.items o c i → after_change change m o c ≡ None
   gone o c i none is = page_elsewhere change.pages.items (without_cuts change.cuts.items m) o c none ∙ cut_here change.cuts.items m o c i is
 
   -- a key that is neither written nor cut keeps its page, or has none as before
-  pub elsewhere : (o c : ℕ) → ((k : ℕ) → IsPageOf change.pages.items o c k → ⊥) → ((k : ℕ) → IsCut change.cuts.items o c k → ⊥) → changed change m o c ≡ m o c
+  pub elsewhere : (o c : ℕ) → ((k : ℕ) → IsPageOf change.pages.items o c k → ⊥) → ((k : ℕ) → IsCut change.cuts.items o c k → ⊥) → after_change change m o c ≡ m o c
   elsewhere o c none uncut = page_elsewhere change.pages.items (without_cuts change.cuts.items m) o c none ∙ cut_elsewhere change.cuts.items m o c uncut

@@ -228,7 +228,7 @@ fn change(
 }
 
 /// A copy of the objects, changed.
-pub(crate) fn changed(
+pub(crate) fn after_change(
     alloc: Global,
     old: &ObjectMap,
     issued: &ObjectChange<'_>,

@@ -9,7 +9,7 @@ ghost use Rattle.object_store.specs.Facts.{bytes_from, bytes_of};
 ghost use Rattle.object_store.specs.Stores.{settled};
 ghost use Rattle.plain_volume.specs.PlainState.{object_of, objects_in};
 
-use crate::objects::changes::{changed, forget};
+use crate::objects::changes::{after_change, forget};
 use crate::objects::names::names_at;
 use crate::state::change::new_number;
 use crate::state::charge::{charge, fits};
@@ -212,7 +212,7 @@ impl ObjectStore for PlainObjects {
             forget(&mut self.objects, *number);
             return Ok(());
         }
-        match changed(self.alloc, &self.objects, change) {
+        match after_change(self.alloc, &self.objects, change) {
             Ok(objects) => {
                 if !fits(self.sizes, &objects) {
                     return Err(StoreFault::NoMemory);

@@ -9,7 +9,7 @@ use Rattle.page_tags.specs.Tags.{tag_bytes}
 use Rattle.page_tags.specs.laws.Byte.{IsBytes-drop, joined, little_bytes_at}
 use Rattle.port_nand.specs.Packed.{object_of, unpacked, low_bytes}
 
--- the lowest bytes of an object are those of the number that stands for it
+-- the lowest bytes of an object are those of the number that represents it
 object_low : (n : ℕ) → n < 2 ^ 32 → little_bytes 4 (object_of n) ≡ little_bytes 4 n
 unfolding object_of
 object_low n small = elim (cases_eq n (2 ^ 32 - 1)) [

@@ -24,7 +24,7 @@ handles_with objects handles fd handle are new k other is = elim (insert_cases n
   | inr there ↦ are k other there.1
 ]
 
--- what was open still is where the descriptor was free, or stands for the same object
+-- what was open still is where the descriptor was free, or represents the same object
 pub open_with : (handles : Handles) (fd : ℕ) (handle : Handle) → ((was : Handle) → map.get handles fd ≡ Some was → was.object ≡ handle.object)
     → (o : ℕ) → IsOpen handles o → IsOpen (map.insert handles fd handle) o
 open_with handles fd handle same o is = elim (cases_eq is.0 fd) [
@@ -37,7 +37,7 @@ open_with handles fd handle same o is = elim (cases_eq is.0 fd) [
   | inr there ↦ (is.0, is.1, get_there nat_cmp_total map.nat_cmp-IsAntisymmetric handles fd handle is.0 there ∙ is.2, is.3)
 ]
 
--- descriptors go on to stand for objects where no object is lost and files stay files
+-- descriptors go on to represent objects where no object is lost and files stay files
 pub handles_over : (old new : Objects) (handles : Handles)
     → ((o : ℕ) (object : Object) → map.get old o ≡ Some object → (now : Object) × (map.get new o ≡ Some now))
     → ((o : ℕ) → IsFile old o → IsFile new o) → AreHandles old handles → AreHandles new handles

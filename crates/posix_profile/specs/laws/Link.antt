@@ -17,7 +17,7 @@ use Rattle.posix_profile.specs.laws.Map.{Member, map_member, member_map, true_of
 use Rattle.posix_profile.specs.laws.Name.{name_same}
 use Rattle.posix_profile.specs.laws.Path.{filter_member}
 
--- no element stands twice
+-- no element is there twice
 abbrev pub AreDistinct : {X : Type 0} → List X → Type 0
 AreDistinct [] = Unit {0}
 AreDistinct (x ∷ xs) = (Member xs x → ⊥) × AreDistinct xs

@@ -9,7 +9,7 @@ use Rattle.volume_terms.specs.Sizes.{Sizes}
 use Rattle.posix_profile.specs.State.{Objects, State}
 use Rattle.posix_profile.specs.Names.{settle}
 use Rattle.posix_profile.specs.Runs.{after}
-use Rattle.posix_profile.specs.Losses.{is_synced, IsSyncDone, Covers, settled_after, LossLeaves}
+use Rattle.posix_profile.specs.Losses.{is_synced, IsSyncDone, Covers, settled_after, PowerLossLeaves}
 use Rattle.posix_profile.specs.laws.Run.{after_more, synced_keeps}
 use Rattle.posix_profile.specs.declared.command.Stamped.{Stamped}
 use Rattle.posix_profile.specs.declared.reply.Reply.{Reply}
@@ -40,15 +40,15 @@ covers_more cs rs c r at not k covers i done = elim (sync_cases cs rs c r at i d
 -- Whatever tree there was stays or is that of the state before the command, which is there after a done sync: then the loss leaves a tree of the longer run.
 module _ (old new : Objects → Type 0) (first : Objects) (z : Sizes) (read_only : Bool) (s : State) (cs : List Stamped) (rs : List Reply) (c : Stamped) (r : Reply)
     (at : slice_get cs (length rs) ≡ Some c)
-    (loss : (t : Objects) → old t → new t ⊎ new (settle (after z read_only s cs rs)).objects)
+    (power_loss : (t : Objects) → old t → new t ⊎ new (settle (after z read_only s cs rs)).objects)
     (sync : is_synced c.command r ≡ true → new (settle (after z read_only s cs rs)).objects) where
   -- the state before the command is that after all replies so far
-  here : Covers cs (rs ++ r ∷ []) (length rs) → new (settle (after z read_only s cs rs)).objects → LossLeaves new first z read_only s cs (rs ++ r ∷ [])
+  here : Covers cs (rs ++ r ∷ []) (length rs) → new (settle (after z read_only s cs rs)).objects → PowerLossLeaves new first z read_only s cs (rs ++ r ∷ [])
   here le is =
       let front : take (length rs) (rs ++ r ∷ []) ≡ rs = take-append-le (length rs) rs (r ∷ []) (omega arith) ∙ take_all (length rs) rs (omega arith) in
       inl (length rs, le, omega (arith, length_push rs r), subst new (ap (λ (x : List Reply). (settle (after z read_only s cs x)).objects) (sym front)) is)
 
-  pub loss_more : LossLeaves old first z read_only s cs rs → LossLeaves new first z read_only s cs (rs ++ r ∷ [])
+  pub loss_more : PowerLossLeaves old first z read_only s cs rs → PowerLossLeaves new first z read_only s cs (rs ++ r ∷ [])
   loss_more so_far = elim (cases_Bool (is_synced c.command r)) [
     | inl done ↦
         let all : take (length rs + 1) (rs ++ r ∷ []) ≡ rs ++ r ∷ [] = take_all (length rs + 1) (rs ++ r ∷ []) (omega (arith, length_push rs r)) in
@@ -60,7 +60,7 @@ module _ (old new : Objects → Type 0) (first : Objects) (z : Sizes) (read_only
           subst new (ap (λ (x : State). (settle x).objects) (sym state) ∙ ap (λ (x : List Reply). (settle (after z read_only s cs x)).objects) (sym all)) (sync done),
         )
     | inr not ↦ elim so_far [
-      | inl some ↦ elim (loss (settled_after z read_only s cs rs some.0) some.3) [
+      | inl some ↦ elim (power_loss (settled_after z read_only s cs rs some.0) some.3) [
         | inl same ↦
             let front : take some.0 (rs ++ r ∷ []) ≡ take some.0 rs = take-append-le some.0 rs (r ∷ []) some.2 in
             inl (
@@ -71,7 +71,7 @@ module _ (old new : Objects → Type 0) (first : Objects) (z : Sizes) (read_only
             )
         | inr is ↦ here (λ i synced. omega (arith, covers_more cs rs c r at not some.0 some.1 i synced, some.2)) is
       ]
-      | inr none ↦ elim (loss first none.1) [
+      | inr none ↦ elim (power_loss first none.1) [
         | inl same ↦ inr (covers_more cs rs c r at not 0 none.0, same)
         | inr is ↦ here (λ i synced. absurd (omega (arith, covers_more cs rs c r at not 0 none.0 i synced))) is
       ]

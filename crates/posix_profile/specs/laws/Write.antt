@@ -61,7 +61,7 @@ charge_with_bytes z objects moment o m bytes new is =
 abbrev pub units_for : Sizes → Objects → List ℕ → ℕ
 units_for z objects bytes = capacity z - charge z objects + ceiling (length bytes) z.page_bytes
 
--- the handle stands for a file of these bytes, in a state that fits, of a volume whose pages hold bytes
+-- the handle represents a file of these bytes, in a state that fits, of a volume whose pages hold bytes
 pub record IsWritable (z : Sizes) (s : State) (handle : Handle) (bytes : List ℕ) : Type 0 where
   pub page : 0 < z.page_bytes
   pub fit : fits z s.objects ≡ true

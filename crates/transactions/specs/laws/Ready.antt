@@ -45,10 +45,10 @@ below_marked b old new group seq result honest does = below_lost b old.flash new
 
 -- while a block is open no block may have a checkpoint
 pub none_waits : (d : Device) (t : Table) (b : ℕ) → IsReady d t → t.open_block ≡ Some b → t.checkpoint ≡ None
-none_waits d t b ready opened = go t.checkpoint refl where
+none_waits d t b can_write opened = go t.checkpoint refl where
   go : (x : Option ℕ) → t.checkpoint ≡ x → t.checkpoint ≡ None
   go None is = is
-  go (Some c) is = let two : None ≡ Some b = sym (ready.waits c is).closed ∙ opened in absurd cc
+  go (Some c) is = let two : None ≡ Some b = sym (can_write.waits c is).closed ∙ opened in absurd cc
 
 -- what waits goes on to wait, where its block has the mark that it had and none was opened
 waits_on : (old new : Device) (t u : Table) (c : ℕ) → ((k : ℕ) → t.checkpoint ≡ Some k → IsWaiting old t k) → t.checkpoint ≡ Some c → u.checkpoint ≡ Some c
@@ -73,11 +73,11 @@ in_order_erased f o seq erased = record {
 
 -- an erase of a block that is not open, however it ends
 pub ready_erased : (b : ℕ) (old new : Device) (t : Table) (result : Result (Unit {0}) EraseFault) → IsReady old t → t.open_block ≢ Some b → Erases b old new result → IsReady new t
-ready_erased b old new t result ready closed does = record {
-  geometry = ready.geometry ∙ sym does.lasts.geometry;
-  marks = λ k. ready.marks k ∙ ap (λ f. f k) (sym does.bad);
+ready_erased b old new t result can_write closed does = record {
+  geometry = can_write.geometry ∙ sym does.lasts.geometry;
+  marks = λ k. can_write.marks k ∙ ap (λ f. f k) (sym does.bad);
   open_block = λ o is.
-      let was : IsOpenOn old t o = ready.open_block o is in
+      let was : IsOpenOn old t o = can_write.open_block o is in
       record {
         within = subst (λ (g : Geometry). o < g.blocks) (sym does.lasts.geometry) was.within;
         good = ap (λ f. f o) does.bad ∙ was.good;
@@ -88,21 +88,21 @@ ready_erased b old new t result ready closed does = record {
             let h : old.honest ≡ true = sym does.lasts.honest ∙ honest in
             in_order_same old.flash new.flash o _ _ (λ l. does.other_blocks h o l (λ same. closed (is ∙ ap Some same))) (was.in_order h);
       };
-  waits = λ c is. waits_on old new t t c ready.waits is is does.lasts.geometry (ap (λ f. f c) does.bad) (λ none. none);
-  numbers = ready.numbers;
+  waits = λ c is. waits_on old new t t c can_write.waits is is does.lasts.geometry (ap (λ f. f c) does.bad) (λ none. none);
+  numbers = can_write.numbers;
   below = λ honest.
       let h : old.honest ≡ true = sym does.lasts.honest ∙ honest in
-      below_erased b old.flash new.flash t.next_group t.next_seq (shrinks-erase b old new result h does) (ready.below h);
+      below_erased b old.flash new.flash t.next_group t.next_seq (shrinks-erase b old new result h does) (can_write.below h);
 }
 
 -- the block that was erased is opened
 pub ready_opened : (b : ℕ) (d : Device) (t t' : Table) → IsReady d t → b < d.geometry.blocks → d.flash.bad b ≡ false → d.flash.next b ≡ Some 0
     → (d.honest ≡ true → (l : ℕ) → d.flash.page b l ≡ Erased) → Opens b t t' → IsReady d t'
-ready_opened b d t t' ready lt good next erased opens = record {
-  geometry = opens.sets.geometry ∙ ready.geometry;
+ready_opened b d t t' can_write lt good next erased opens = record {
+  geometry = opens.sets.geometry ∙ can_write.geometry;
   marks = λ k. elim (cases_eq k b) [
-    | inl e ↦ ap (λ n. (t'.entry n).bad) e ∙ ap (λ (x : BlockEntry). x.bad) opens.sets.here ∙ ap (λ n. (t.entry n).bad) (sym e) ∙ ready.marks k
-    | inr ne ↦ ap (λ (x : BlockEntry). x.bad) (opens.sets.others k ne) ∙ ready.marks k
+    | inl e ↦ ap (λ n. (t'.entry n).bad) e ∙ ap (λ (x : BlockEntry). x.bad) opens.sets.here ∙ ap (λ n. (t.entry n).bad) (sym e) ∙ can_write.marks k
+    | inr ne ↦ ap (λ (x : BlockEntry). x.bad) (opens.sets.others k ne) ∙ can_write.marks k
   ];
   open_block = λ o is.
       let both : Some b ≡ Some o = sym opens.open_block ∙ is in
@@ -112,23 +112,23 @@ ready_opened b d t t' ready lt good next erased opens = record {
         good = good;
         next = next ∙ ap (λ (x : BlockEntry). Some x.next) (sym opens.sets.here);
         pages = subst (λ (x : BlockEntry). x.next ≤ d.geometry.pages) (sym opens.sets.here) (omega arith);
-        seq = subst (λ (x : BlockEntry). (1 ≤ x.seq) × (t'.next_seq ≡ x.seq + 1)) (sym opens.sets.here) (ready.numbers.1, opens.next_seq);
+        seq = subst (λ (x : BlockEntry). (1 ≤ x.seq) × (t'.next_seq ≡ x.seq + 1)) (sym opens.sets.here) (can_write.numbers.1, opens.next_seq);
         in_order = λ honest. subst (λ (x : BlockEntry). IsWrittenInOrder d.flash b x.next x.seq) (sym opens.sets.here) (in_order_erased d.flash b t.next_seq (erased honest));
       });
   waits = λ c is. let two : None ≡ Some c = sym opens.checkpoint ∙ is in absurd cc;
-  numbers = (subst (λ n. 1 ≤ n) (sym opens.sets.next_group) ready.numbers.0, omega (arith, opens.next_seq));
+  numbers = (subst (λ n. 1 ≤ n) (sym opens.sets.next_group) can_write.numbers.0, omega (arith, opens.next_seq));
   below = λ honest k l u good has.
-      let was = ready.below honest k l u good has in
+      let was = can_write.below honest k l u good has in
       (omega (arith, was, opens.sets.next_group), omega (arith, was, opens.sets.next_group), omega (arith, was, opens.next_seq));
 }
 
 -- any number of reads
 pub ready_read : (old new : Device) (t : Table) → IsReady old t → OnlyReads old new → IsReady new t
-ready_read old new t ready reads = record {
-  geometry = ready.geometry ∙ sym reads.lasts.geometry;
-  marks = λ k. ready.marks k ∙ ap (λ f. f k) (sym reads.bad);
+ready_read old new t can_write reads = record {
+  geometry = can_write.geometry ∙ sym reads.lasts.geometry;
+  marks = λ k. can_write.marks k ∙ ap (λ f. f k) (sym reads.bad);
   open_block = λ o is.
-      let was : IsOpenOn old t o = ready.open_block o is in
+      let was : IsOpenOn old t o = can_write.open_block o is in
       record {
         within = subst (λ (g : Geometry). o < g.blocks) (sym reads.lasts.geometry) was.within;
         good = ap (λ f. f o) reads.bad ∙ was.good;
@@ -139,13 +139,13 @@ ready_read old new t ready reads = record {
             let h : old.honest ≡ true = sym reads.lasts.honest ∙ honest in
             in_order_same old.flash new.flash o _ _ (λ l. ap (λ f. f o l) (reads.page h)) (was.in_order h);
       };
-  waits = λ c is. waits_on old new t t c ready.waits is is reads.lasts.geometry (ap (λ f. f c) reads.bad) (λ none. none);
-  numbers = ready.numbers;
+  waits = λ c is. waits_on old new t t c can_write.waits is is reads.lasts.geometry (ap (λ f. f c) reads.bad) (λ none. none);
+  numbers = can_write.numbers;
   below = λ honest.
       let h : old.honest ≡ true = sym reads.lasts.honest ∙ honest in
       let page = reads.page h in
       let same : new.flash ≡ old.flash = λ i. record { bad = reads.bad i; next = reads.next i; page = page i } in
-      subst (λ (f : Flash). AreBelow f t.next_group t.next_seq) (sym same) (ready.below h);
+      subst (λ (f : Flash). AreBelow f t.next_group t.next_seq) (sym same) (can_write.below h);
 }
 
 -- all tags are below the numbers after the greatest
@@ -158,16 +158,16 @@ above_below f n above b p t good has =
 -- a mark of a block that is not open, done or cut
 pub ready_marked : (b : ℕ) (old new : Device) (t t' : Table) (result : Result (Unit {0}) Gone) → IsReady old t → t.open_block ≢ Some b → Marks b old new result
     → NotesMark b new.flash t t' → IsReady new t'
-ready_marked b old new t t' result ready closed does notes = record {
-  geometry = notes.sets.geometry ∙ ready.geometry ∙ sym does.lasts.geometry;
+ready_marked b old new t t' result can_write closed does notes = record {
+  geometry = notes.sets.geometry ∙ can_write.geometry ∙ sym does.lasts.geometry;
   marks = λ k. elim (cases_eq k b) [
     | inl e ↦ ap (λ n. (t'.entry n).bad) e ∙ ap (λ (x : BlockEntry). x.bad) notes.sets.here ∙ ap new.flash.bad (sym e)
-    | inr ne ↦ ap (λ (x : BlockEntry). x.bad) (notes.sets.others k ne) ∙ ready.marks k ∙ sym (does.other_bads k ne)
+    | inr ne ↦ ap (λ (x : BlockEntry). x.bad) (notes.sets.others k ne) ∙ can_write.marks k ∙ sym (does.other_bads k ne)
   ];
   open_block = λ o is.
       let earlier : t.open_block ≡ Some o = sym notes.open_block ∙ is in
       let ne : o ≢ b = λ e. closed (earlier ∙ ap Some e) in
-      let was : IsOpenOn old t o = ready.open_block o earlier in
+      let was : IsOpenOn old t o = can_write.open_block o earlier in
       let same : t'.entry o ≡ t.entry o = notes.sets.others o ne in
       record {
         within = subst (λ (g : Geometry). o < g.blocks) (sym does.lasts.geometry) was.within;
@@ -182,18 +182,18 @@ ready_marked b old new t t' result ready closed does notes = record {
       };
   waits = λ c is.
       let still : t.checkpoint ≡ Some c = noted c is in
-      waits_on old new t t' c ready.waits still is does.lasts.geometry (elim (cases_eq c b) [
+      waits_on old new t t' c can_write.waits still is does.lasts.geometry (elim (cases_eq c b) [
         | inr ne ↦ does.other_bads c ne
         | inl at ↦ ap new.flash.bad at ∙ elim (cases_Bool (new.flash.bad b)) [
           | inl bad ↦ absurd ((other_is_other b c t.checkpoint (sym (ap (λ x. if x then other_than b t.checkpoint else t.checkpoint) bad) ∙ sym notes.checkpoint ∙ is)).1 at)
-          | inr good ↦ good ∙ sym (ready.waits c still).good ∙ ap old.flash.bad at ∙ ap old.flash.bad (sym at)
+          | inr good ↦ good ∙ sym (can_write.waits c still).good ∙ ap old.flash.bad at ∙ ap old.flash.bad (sym at)
         ]
       ]) (λ none. notes.open_block ∙ none);
-  numbers = (subst (λ n. 1 ≤ n) (sym notes.sets.next_group) ready.numbers.0, subst (λ n. 1 ≤ n) (sym notes.next_seq) ready.numbers.1);
+  numbers = (subst (λ n. 1 ≤ n) (sym notes.sets.next_group) can_write.numbers.0, subst (λ n. 1 ≤ n) (sym notes.next_seq) can_write.numbers.1);
   below = λ honest.
       let h : old.honest ≡ true = sym does.lasts.honest ∙ honest in
       subst (λ n. AreBelow new.flash n t'.next_seq) (sym notes.sets.next_group) (subst (λ n. AreBelow new.flash t.next_group n) (sym notes.next_seq)
-      (below_marked b old new t.next_group t.next_seq result h does (ready.below h)));
+      (below_marked b old new t.next_group t.next_seq result h does (can_write.below h)));
 } where
   -- the block that is noted afterwards was noted
   noted : (c : ℕ) → t'.checkpoint ≡ Some c → t.checkpoint ≡ Some c
@@ -238,30 +238,30 @@ made_ready d n t is above = record {
 
 -- power comes back while no block is open
 pub ready_powered : (old new : Device) (t : Table) → IsReady old t → t.open_block ≡ None → PowersUp old new → IsReady new t
-ready_powered old new t ready closed up = record {
-  geometry = ready.geometry ∙ sym up.geometry;
-  marks = λ b. ready.marks b ∙ ap (λ f. f b) (sym up.bad);
+ready_powered old new t can_write closed up = record {
+  geometry = can_write.geometry ∙ sym up.geometry;
+  marks = λ b. can_write.marks b ∙ ap (λ f. f b) (sym up.bad);
   open_block = λ o is. let two : None ≡ Some o = sym closed ∙ is in absurd cc;
-  waits = λ c is. waits_on old new t t c ready.waits is is up.geometry (ap (λ f. f c) up.bad) (λ none. none);
-  numbers = ready.numbers;
+  waits = λ c is. waits_on old new t t c can_write.waits is is up.geometry (ap (λ f. f c) up.bad) (λ none. none);
+  numbers = can_write.numbers;
   below = λ honest b p u good has.
       let page : new.flash.page b p ≡ old.flash.page b p = ap (λ f. f b p) up.page in
-      ready.below (sym up.honest ∙ honest) b p u (ap (λ f. f b) (sym up.bad) ∙ good) (record { bytes = has.bytes; page = sym page ∙ has.page; valid = has.valid });
+      can_write.below (sym up.honest ∙ honest) b p u (ap (λ f. f b) (sym up.bad) ∙ good) (record { bytes = has.bytes; page = sym page ∙ has.page; valid = has.valid });
 }
 
 -- no more pages are written to the open block
 pub ready_closed : (d : Device) (t : Table) → IsReady d t → IsReady d (record t { open_block = None })
-ready_closed d t ready = record {
-  geometry = ready.geometry;
-  marks = ready.marks;
+ready_closed d t can_write = record {
+  geometry = can_write.geometry;
+  marks = can_write.marks;
   open_block = λ o is. let two : None ≡ Some o = is in absurd cc;
-  waits = λ c is. let waited = ready.waits c is in record { within = waited.within; good = waited.good; closed = refl };
-  numbers = ready.numbers;
-  below = ready.below;
+  waits = λ c is. let waited = can_write.waits c is in record { within = waited.within; good = waited.good; closed = refl };
+  numbers = can_write.numbers;
+  below = can_write.below;
 }
 
 -- table and flash have as many bad blocks
 pub same_bad : (d : Device) (t : Table) → IsReady d t → bad_count t ≡ bad_blocks d.geometry d.flash
-same_bad d t ready =
-    let marks : is_bad t ≡ d.flash.bad = λ i b. ready.marks b i in
-    ap (λ f. how_many f t.geometry.blocks) marks ∙ ap (λ (g : Geometry). how_many d.flash.bad g.blocks) ready.geometry
+same_bad d t can_write =
+    let marks : is_bad t ≡ d.flash.bad = λ i b. can_write.marks b i in
+    ap (λ f. how_many f t.geometry.blocks) marks ∙ ap (λ (g : Geometry). how_many d.flash.bad g.blocks) can_write.geometry

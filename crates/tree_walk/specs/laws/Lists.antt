@@ -7,7 +7,7 @@ use Rattle.volume_terms.specs.laws.List.{get_push, push_before, push_last, place
 use Rattle.flash_tree.specs.Mount.{with_new}
 use Rattle.tree_walk.specs.Walks.{IsOn, IsOnce, IsAgain}
 
--- ---- whether a number stands on a list
+-- ---- whether a number is on a list
 
 pub on_of : (list : List ℕ) (o : ℕ) → list_any (nat_eq o) list ≡ true → IsOn list o
 on_of list o is = place_of list o is
@@ -83,7 +83,7 @@ with_new_first list x named = go (list_any (nat_eq x) list) where
 
 -- ---- those that are named again
 
--- after the first one what stands on the list is what stood there, and that one
+-- after the first one what is on the list is what was there, and that one
 pub on_with_first : (list : List ℕ) (y o : ℕ) → IsOn (with_new list (y ∷ [])) o ↔ (IsOn list o ⊎ (o ≡ y))
 on_with_first list y o = (to, from) where
   a : IsAdded list (y ∷ []) (with_new list (y ∷ []))

@@ -24,7 +24,7 @@ get_push (y ∷ ys) x (suc i) e is = elim (get_push ys x i e is) [
   | inr last ↦ inr (omega (arith, last.0), last.1)
 ]
 
--- what stood in a list stands in a longer one
+-- what was in a list is in a longer one
 pub push_before : {A : Type 0} (xs : List A) (x : A) (i : ℕ) (e : A) → slice_get xs i ≡ Some e → slice_get (xs ++ x ∷ []) i ≡ Some e
 push_before [] x i e is = absurd cc
 push_before (y ∷ ys) x zero e is = is

@@ -10,7 +10,7 @@ use Rattle.page_tags.specs.SlotEntry.{entry_of}
 use Rattle.page_tags.specs.Slots.{Entry}
 use Rattle.volume_terms.specs.Sizes.{page_slots}
 use Rattle.pages.specs.laws.Faults.{says_more}
-use Rattle.pages.specs.Maps.{PageMap, changed}
+use Rattle.pages.specs.Maps.{PageMap, after_change}
 use Rattle.directories.specs.Directories.{HasBeside, HasOnly, SlotOf}
 use Rattle.directories.specs.SlotLists.{IsPushed}
 use Rattle.directories.specs.Writes.{EndsInZeros, HasHead, HasKey, KeepsSlots}
@@ -61,18 +61,18 @@ returns-clause-adds g c = λ z moment entries d absent.
     let size_on' = size_on p q lookups z c.args.directory moment entries here sized c.in_ok-head.head s in
     on_both _ _ _ c.write.result
     (λ change w keeps.
-    let header = subst (λ (k : PageMap). HasHead z (changed change k) c.args.directory head) c.head_after.ensures.lookups.present w.0 in
-    let slot = subst (λ k. SlotOf z (changed change m) c.args.directory k (entry_of c.args.slot.now)) len (subst (λ (k : PageMap). SlotOf z (changed change k) c.args.directory c.in_ok-head.head.length (entry_of c.args.slot.now)) c.head_after.ensures.lookups.present w.1) in
+    let header = subst (λ (k : PageMap). HasHead z (after_change change k) c.args.directory head) c.head_after.ensures.lookups.present w.0 in
+    let slot = subst (λ k. SlotOf z (after_change change m) c.args.directory k (entry_of c.args.slot.now)) len (subst (λ (k : PageMap). SlotOf z (after_change change k) c.args.directory c.in_ok-head.head.length (entry_of c.args.slot.now)) c.head_after.ensures.lookups.present w.1) in
     let least : min c.in_ok-head.head.length c.in-Some.length ≡ n = grind (arith, totaled, len) in
-    let committed = subst (λ k. KeepsSlots z m (changed change m) c.args.directory n k) len
-    (subst (λ k. KeepsSlots z m (changed change m) c.args.directory k c.in_ok-head.head.length) least
-    (subst (λ (k : PageMap). KeepsSlots z k (changed change k) c.args.directory (min c.in_ok-head.head.length c.in-Some.length) c.in_ok-head.head.length) c.head_after.ensures.lookups.present w.2)) in
-    let becomes = reads_added z m (changed change m) c.args.directory moment c.args.moment entries d.reads head header says.spare refl (omega (arith, totaled, len)) (entry_of c.args.slot.now) absent slot committed in
-    let length_then = count_after z size (changed change m) c.args.directory c.args.moment (map.insert entries c.args.slot.now.name.now c.args.slot.now.object) becomes.0 head header in
+    let committed = subst (λ k. KeepsSlots z m (after_change change m) c.args.directory n k) len
+    (subst (λ k. KeepsSlots z m (after_change change m) c.args.directory k c.in_ok-head.head.length) least
+    (subst (λ (k : PageMap). KeepsSlots z k (after_change change k) c.args.directory (min c.in_ok-head.head.length c.in-Some.length) c.in_ok-head.head.length) c.head_after.ensures.lookups.present w.2)) in
+    let becomes = reads_added z m (after_change change m) c.args.directory moment c.args.moment entries d.reads head header says.spare refl (omega (arith, totaled, len)) (entry_of c.args.slot.now) absent slot committed in
+    let length_then = count_after z size (after_change change m) c.args.directory c.args.moment (map.insert entries c.args.slot.now.name.now c.args.slot.now.object) becomes.0 head header in
     record {
       becomes = becomes;
-      ends = λ only. subst (HasOnly z (changed change m) c.args.directory) (sym length_then)
-          (only_written z m (changed change m) c.args.directory c.in_ok-head.head.length c.in-Some.length some (omega (arith, totaled)) keeps (map.len entries) (omega (arith, totaled, count)) only);
+      ends = λ only. subst (HasOnly z (after_change change m) c.args.directory) (sym length_then)
+          (only_written z m (after_change change m) c.args.directory c.in_ok-head.head.length c.in-Some.length some (omega (arith, totaled)) keeps (map.len entries) (omega (arith, totaled, count)) only);
     })
     (c.write.ensures.writes sound_on' z size_on')
     (c.write.ensures.pages sound_on' z size_on' m)
@@ -138,13 +138,13 @@ returns-clause-slots g c = rewrites_ok (g.P.Pages.state c.args.pages.now) c.args
     let entry : Entry = entry_of c.args.slot.now in
     on_both _ _ _ c.write.result
     (λ change is w.
-    let slot = subst (λ k. SlotOf z (changed change m) c.args.directory k entry) len (subst (λ (k : PageMap). SlotOf z (changed change k) c.args.directory c.in_ok-head.head.length entry) c.head_after.ensures.lookups.present w.1) in
+    let slot = subst (λ k. SlotOf z (after_change change m) c.args.directory k entry) len (subst (λ (k : PageMap). SlotOf z (after_change change k) c.args.directory c.in_ok-head.head.length entry) c.head_after.ensures.lookups.present w.1) in
     let count : min c.in_ok-head.head.length c.in-Some.length ≡ n = grind (arith, totaled, len) in
-    let committed = subst (λ k. KeepsSlots z m (changed change m) c.args.directory n k) len
-    (subst (λ k. KeepsSlots z m (changed change m) c.args.directory k c.in_ok-head.head.length) count
-    (subst (λ (k : PageMap). KeepsSlots z k (changed change k) c.args.directory (min c.in_ok-head.head.length c.in-Some.length) c.in_ok-head.head.length) c.head_after.ensures.lookups.present w.2)) in
+    let committed = subst (λ k. KeepsSlots z m (after_change change m) c.args.directory n k) len
+    (subst (λ k. KeepsSlots z m (after_change change m) c.args.directory k c.in_ok-head.head.length) count
+    (subst (λ (k : PageMap). KeepsSlots z k (after_change change k) c.args.directory (min c.in_ok-head.head.length c.in-Some.length) c.in_ok-head.head.length) c.head_after.ensures.lookups.present w.2)) in
     let size : c.in-Some.length ≡ length (slots ++ entry ∷ []) = totaled ∙ ap (λ k. k + 1) len ∙ sym (length-append slots (entry ∷ [])) in
     let zeros = subst (EndsInZeros z change c.args.directory) size w.3 in
-    (slots ++ entry ∷ [], refl, writes_slots z m change c.args.directory mid.page_bytes 2 is size_on' (slots ++ entry ∷ []) zeros (added_each z m (changed change m) c.args.directory moment entries d.reads entry slot committed)))
+    (slots ++ entry ∷ [], refl, writes_slots z m change c.args.directory mid.page_bytes 2 is size_on' (slots ++ entry ∷ []) zeros (added_each z m (after_change change m) c.args.directory moment entries d.reads entry slot committed)))
     c.write.ensures.change
     (c.write.ensures.writes sound_on' z size_on'))

@@ -4,7 +4,7 @@ use Rattle.page_tags.specs.SlotEntry.{entry_of}
 use Rattle.page_tags.specs.Slots.{Entry}
 use Rattle.pages.specs.Afterwards.{changed_by}
 use Rattle.pages.specs.laws.Faults.{lacks_memory}
-use Rattle.pages.specs.Maps.{PageMap, changed}
+use Rattle.pages.specs.Maps.{PageMap, after_change}
 use Rattle.pages.specs.State.{PagesState}
 use Rattle.directories.specs.Directories.{SlotOf}
 use Rattle.directories.specs.Slots.{AreSlots}
@@ -43,10 +43,10 @@ returns-clause-fills g c = λ sound z size.
     let count : min (len + 1) len ≡ len = grind arith in
     on_ok _ _ c.write.result
     (λ change w. record {
-      header = subst (λ (k : PageMap). HasHead z (changed change (by k)) c.args.directory c.args.shorter) lookups.present w.0;
-      filled = λ less. (e, last, subst (λ (k : PageMap). SlotOf z (changed change (by k)) c.args.directory c.args.place e) lookups.present w.1);
-      others = subst (λ k. KeepsSlots z m (changed change m) c.args.directory k c.args.place) count
-          (subst (λ (k : PageMap). KeepsSlots z (by k) (changed change (by k)) c.args.directory (min (len + 1) len) c.args.place) lookups.present w.2);
+      header = subst (λ (k : PageMap). HasHead z (after_change change (by k)) c.args.directory c.args.shorter) lookups.present w.0;
+      filled = λ less. (e, last, subst (λ (k : PageMap). SlotOf z (after_change change (by k)) c.args.directory c.args.place e) lookups.present w.1);
+      others = subst (λ k. KeepsSlots z m (after_change change m) c.args.directory k c.args.place) count
+          (subst (λ (k : PageMap). KeepsSlots z (by k) (after_change change (by k)) c.args.directory (min (len + 1) len) c.args.place) lookups.present w.2);
       zeros = w.3;
     })
     (c.write.ensures.writes (lookups.sound ∙ sound) z (size ∙ sym lookups.page_bytes))
@@ -63,5 +63,5 @@ returns-clause-pages g c = λ sound z size m.
     let lookups = c.slot_bytes.ensures.lookups in
     let low = (g.met.P.Pages.sized c.args.pages.now).0 in
     let some : 1 ≤ page_slots z = omega (arith, low, size) in
-    on_ok _ _ c.write.result (λ change keeps. committed_behind z m (changed change m) c.args.directory c.args.place c.args.shorter.length some c.requires.within keeps)
+    on_ok _ _ c.write.result (λ change keeps. committed_behind z m (after_change change m) c.args.directory c.args.place c.args.shorter.length some c.requires.within keeps)
     (c.write.ensures.pages (lookups.sound ∙ sound) z (size ∙ sym lookups.page_bytes) m)

@@ -1,6 +1,6 @@
 use Rattle.std.proofs.Common.{◌≡◌, ◌≤◌, ◌∙◌, option_copied, sym, subst, arith}
 use Rattle.pages.specs.Afterwards.{changed_by}
-use Rattle.pages.specs.Maps.{PageMap, changed}
+use Rattle.pages.specs.Maps.{PageMap, after_change}
 use Rattle.pages.specs.State.{PagesState}
 use Rattle.directories.specs.Writes.{KeepsSlots}
 use Rattle.directories.proofs.removal.shorten.Goals as goal
@@ -15,7 +15,7 @@ returns-in_ok-head_change-clause-shortens g c = λ sound z size.
     record {
       header = w.0;
       filled = λ less. absurd (omega (arith, less, over));
-      others = subst (λ k. KeepsSlots z m (changed c.in_ok-head_change.field-0 m) c.args.directory c.args.shorter.length k) last (w.1 c.args.shorter.length);
+      others = subst (λ k. KeepsSlots z m (after_change c.in_ok-head_change.field-0 m) c.args.directory c.args.shorter.length k) last (w.1 c.args.shorter.length);
       zeros = w.2 c.args.shorter.length;
     }
 

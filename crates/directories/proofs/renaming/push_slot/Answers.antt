@@ -1,7 +1,7 @@
 use Rattle.std.proofs.Common.{◌≡◌, ◌+◌, ℕ, min, option_copied, subst, arith, rules}
 use Rattle.pages.specs.Afterwards.{changed_by}
 use Rattle.pages.specs.laws.Faults.{says_more}
-use Rattle.pages.specs.Maps.{PageMap, changed}
+use Rattle.pages.specs.Maps.{PageMap, after_change}
 use Rattle.pages.specs.State.{PagesState}
 use Rattle.directories.specs.Writes.{HasHead, KeepsSlots, EndsInZeros}
 use Rattle.directories.specs.declared.head.DirectoryHead.{DirectoryHead}
@@ -17,9 +17,9 @@ returns-clause-pushes g c = λ sound z size.
     let by : ℕ → DirectoryHead = λ k. record { spare = c.args.head.spare; length = k; moment = c.args.moment } in
     on_ok _ _ c.write.result
     (λ change w. (
-      subst (λ k. HasHead z (changed change m) c.args.directory (by k)) totaled w.0,
+      subst (λ k. HasHead z (after_change change m) c.args.directory (by k)) totaled w.0,
       w.1,
-      subst (λ k. KeepsSlots z m (changed change m) c.args.directory k c.args.head.length) count w.2,
+      subst (λ k. KeepsSlots z m (after_change change m) c.args.directory k c.args.head.length) count w.2,
       subst (λ k. EndsInZeros z change c.args.directory k) totaled w.3,
     ))
     (c.write.ensures.writes sound z size)

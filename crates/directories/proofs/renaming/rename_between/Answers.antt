@@ -5,7 +5,7 @@ use Rattle.volume_terms.specs.Sizes.{page_slots}
 use Rattle.pages.specs.Afterwards.{after}
 use Rattle.page_tags.specs.Slots.{Entry}
 use Rattle.pages.specs.Changes.{IsChange, IsOnlyOf, AreSized}
-use Rattle.pages.specs.Maps.{PageMap, changed}
+use Rattle.pages.specs.Maps.{PageMap, after_change}
 use Rattle.pages.specs.State.{PagesState}
 use Rattle.pages.specs.laws.Changes.{others_keep}
 use Rattle.pages.specs.laws.Faults.{lacks_memory}
@@ -83,9 +83,9 @@ returns-in_err-second-clause-fault g c = λ z s t left entries source d.
     let only : IsOnlyOf first c.args.route.source = rw c.in-Some.is at c.in_ok-taken.ensures.only in
     let at = dir_committed old (after (Some first) next) z o t entries (two.sound ∙ one.sound ∙ d.sound) (d.size ∙ sym one.page_bytes ∙ sym two.page_bytes)
     (λ k. others_keep first c.args.route.source only next.present o k (λ same. c.requires.apart (sym same)) ∙ ap (λ (m : PageMap). m o k) (two.present ∙ one.present)) d.reads in
-    let stands = c.place-place.ensures d.reads.slots entries c.args.to.now.name.now (c.in_ok-sought.ensures.sought z t entries d).found in
+    let at_slot = c.place-place.ensures d.reads.slots entries c.args.to.now.name.now (c.in_ok-sought.ensures.sought z t entries d).found in
     let r = err_from_is_err_and c.from_residual-in_err-second.result c.from_residual-in_err-second.ensures.1 in
-    rw (r.1, r.2) (c.in_err-second.ensures.fault z t entries at stands)
+    rw (r.1, r.2) (c.in_err-second.ensures.fault z t entries at at_slot)
 
 pub returns-clause-change : goal.returns-clause-change
 returns-clause-change g c =
@@ -105,7 +105,7 @@ returns-clause-change g c =
         within_limit = omega (arith, within_limit, a.within_limit, b.within_limit);
       };
       others = λ o k not_source not_target. c.in_ok-change.ensures.pages old.present o k
-          ∙ others_keep c.in_ok-second.second c.args.route.target c.in_ok-second.ensures.only (changed c.in-Some.taken.change old.present) o k not_target
+          ∙ others_keep c.in_ok-second.second c.args.route.target c.in_ok-second.ensures.only (after_change c.in-Some.taken.change old.present) o k not_target
           ∙ others_keep c.in-Some.taken.change c.args.route.source only old.present o k not_source;
     }
 
@@ -128,10 +128,10 @@ returns-clause-takes g c = λ z moment entries d.
     let taken : Taken = c.in-Some.taken in
     let left : Entries = map.remove entries c.args.from.now in
     let later_d = named_later c.args.names.now old mid z o moment entries c.seek.ensures.lookups d in
-    let less = subst (λ (k : PageMap). ReadsDirectory z (changed first k) o c.args.moment left d.reads.fields.spare) c.seek.ensures.lookups.present (rw c.in-Some.is at (c.in_ok-taken.ensures.removes z moment entries later_d)) in
-    let both : changed second (changed first old.present) ≡ changed c.in_ok-change.change old.present = λ i x k. sym (c.in_ok-change.ensures.pages old.present x k) i in
-    let committed = reads_committed z (changed first old.present) (changed second (changed first old.present)) o c.args.moment left less.0
-    (λ k. others_keep second c.args.route.target c.in_ok-second.ensures.only (changed first old.present) o k c.requires.apart) in
+    let less = subst (λ (k : PageMap). ReadsDirectory z (after_change first k) o c.args.moment left d.reads.fields.spare) c.seek.ensures.lookups.present (rw c.in-Some.is at (c.in_ok-taken.ensures.removes z moment entries later_d)) in
+    let both : after_change second (after_change first old.present) ≡ after_change c.in_ok-change.change old.present = λ i x k. sym (c.in_ok-change.ensures.pages old.present x k) i in
+    let committed = reads_committed z (after_change first old.present) (after_change second (after_change first old.present)) o c.args.moment left less.0
+    (λ k. others_keep second c.args.route.target c.in_ok-second.ensures.only (after_change first old.present) o k c.requires.apart) in
     let within_limit : z.page_bytes ≤ 4096 = few_bytes names old z o moment entries d (g.met.P.Pages.sized c.args.pages.now) in
     let t = rw c.in-Some.is at (c.in_ok-taken.ensures.takes z moment entries later_d) in
     let a : IsChange first mid.page_bytes 2 = rw c.in-Some.is at c.in_ok-taken.ensures.change in
@@ -143,8 +143,8 @@ returns-clause-takes g c = λ z moment entries d.
             let only_mid : HasOnly z mid.present o (map.len entries) = subst (λ (m : PageMap). HasOnly z m o (map.len entries)) (sym c.seek.ensures.lookups.present) only in
             let fewer = rw c.in-Some.is at (c.in_ok-taken.ensures.besides z moment entries later_d only_mid) in
             c.in_ok-change.ensures.pages old.present o k
-            ∙ others_keep second c.args.route.target c.in_ok-second.ensures.only (changed first old.present) o k c.requires.apart
-            ∙ ap (λ (m : PageMap). changed first m o k) (sym c.seek.ensures.lookups.present)
+            ∙ others_keep second c.args.route.target c.in_ok-second.ensures.only (after_change first old.present) o k c.requires.apart
+            ∙ ap (λ (m : PageMap). after_change first m o k) (sym c.seek.ensures.lookups.present)
             ∙ fewer k behind;
       };
       slots = (
@@ -167,22 +167,22 @@ returns-clause-gives g c = λ z t entries d.
     let only : IsOnlyOf first c.args.route.source = rw c.in-Some.is at c.in_ok-taken.ensures.only in
     let at = dir_committed old (after (Some first) next) z o t entries (two.sound ∙ one.sound ∙ d.sound) (d.size ∙ sym one.page_bytes ∙ sym two.page_bytes)
     (λ k. others_keep first c.args.route.source only next.present o k (λ same. c.requires.apart (sym same)) ∙ ap (λ (m : PageMap). m o k) (two.present ∙ one.present)) d.reads in
-    let stands = c.place-place.ensures d.reads.slots entries c.args.to.now.name.now (c.in_ok-sought.ensures.sought z t entries d).found in
+    let at_slot = c.place-place.ensures d.reads.slots entries c.args.to.now.name.now (c.in_ok-sought.ensures.sought z t entries d).found in
     let now : Entries = map.insert entries c.args.to.now.name.now c.args.to.now.object in
-    let puts = c.in_ok-second.ensures.puts z t entries at stands in
-    let both : changed second (changed first old.present) ≡ changed c.in_ok-change.change old.present = λ i x k. sym (c.in_ok-change.ensures.pages old.present x k) i in
-    let more = c.in_ok-second.ensures.slot z t entries at stands in
+    let puts = c.in_ok-second.ensures.puts z t entries at at_slot in
+    let both : after_change second (after_change first old.present) ≡ after_change c.in_ok-change.change old.present = λ i x k. sym (c.in_ok-change.ensures.pages old.present x k) i in
+    let more = c.in_ok-second.ensures.slot z t entries at at_slot in
     let a : IsChange first (g.P.Pages.state c.seek.new.pages).page_bytes 2 = rw c.in-Some.is at c.in_ok-taken.ensures.change in
-    let slots = c.in_ok-second.ensures.slots z t entries at stands in
+    let slots = c.in_ok-second.ensures.slots z t entries at at_slot in
     record {
       makes = record {
         becomes = subst (λ (m : PageMap). ReadsDirectory z m o c.args.moment now d.reads.fields.spare) both
-            (subst (λ (k : PageMap). ReadsDirectory z (changed second (changed first k)) o c.args.moment now d.reads.fields.spare) (two.present ∙ one.present) puts);
+            (subst (λ (k : PageMap). ReadsDirectory z (after_change second (after_change first k)) o c.args.moment now d.reads.fields.spare) (two.present ∙ one.present) puts);
         ends = λ alone.
-            let within_limit : HasOnly z (changed first next.present) o (map.len entries) = λ k behind.
+            let within_limit : HasOnly z (after_change first next.present) o (map.len entries) = λ k behind.
             others_keep first c.args.route.source only next.present o k (λ same. c.requires.apart (sym same)) ∙ ap (λ (m : PageMap). m o k) (two.present ∙ one.present) ∙ alone k behind in
             subst (λ (m : PageMap). HasOnly z m o (map.len now)) both
-            (subst (λ (k : PageMap). HasOnly z (changed second (changed first k)) o (map.len now)) (two.present ∙ one.present) (c.in_ok-second.ensures.besides z t entries at stands within_limit));
+            (subst (λ (k : PageMap). HasOnly z (after_change second (after_change first k)) o (map.len now)) (two.present ∙ one.present) (c.in_ok-second.ensures.besides z t entries at at_slot within_limit));
       };
       more = λ k low high. key_both first second c.in_ok-change.change c.in_ok-change.ensures.pages o (1 + k / page_slots z) (more k low high);
       slots = (

@@ -6,7 +6,7 @@ use Rattle.page_tags.specs.SlotEntry.{entry_of}
 use Rattle.page_tags.specs.Slots.{Entry}
 use Rattle.pages.specs.Changes.{IsChange, AreSized}
 use Rattle.volume_terms.specs.Sizes.{page_slots}
-use Rattle.pages.specs.Maps.{PageMap, changed}
+use Rattle.pages.specs.Maps.{PageMap, after_change}
 use Rattle.pages.specs.State.{PagesState}
 use Rattle.pages.specs.laws.Changes.{others_keep}
 use Rattle.pages.specs.laws.Faults.{lacks_memory}
@@ -19,7 +19,7 @@ use Rattle.directories.specs.laws.Keys.{key_both}
 use Rattle.directories.proofs.Hashed.{len_less}
 use Rattle.directories.proofs.Held.{asks_both, asks_first}
 use Rattle.directories.proofs.Results.{memory_room}
-use Rattle.directories.proofs.Renamed.{totaled, named_later, same, then_in, spare_then, stands_in}
+use Rattle.directories.proofs.Renamed.{totaled, named_later, same, then_in, spare_then, at_slot_in}
 use Rattle.directories.proofs.SlotLists.{left_are, left_slots, left_without, left_writes, writes_both}
 use Rattle.directories.proofs.Sought.{dir, was_named}
 use Rattle.directories.proofs.renaming.rename_within.Goals as goal
@@ -89,10 +89,10 @@ returns-in_err-second-clause-fault g c = λ z moment entries d.
     let t = rw c.in-Some.is at (c.in_ok-taken.ensures.takes z moment entries later_d) in
     let reads = rw c.in-Some.is at (c.in_ok-taken.ensures.removes z moment entries later_d) in
     let at = then_in names old mid next c.seek.ensures.lookups c.take_name.ensures.lookups z size o moment entries d c.args.from.now taken c.args.moment t reads in
-    let stands = stands_in names old mid next c.seek.ensures.lookups c.take_name.ensures.lookups z size o moment entries d c.args.from.now taken c.args.moment t reads
+    let at_slot = at_slot_in names old mid next c.seek.ensures.lookups c.take_name.ensures.lookups z size o moment entries d c.args.from.now taken c.args.moment t reads
     c.args.to.now.name.now c.in_ok-sought.sought.found c.moved-place.result (c.in_ok-sought.ensures.sought z moment entries d).found c.moved-place.ensures in
     let r = err_from_is_err_and c.from_residual-in_err-second.result c.from_residual-in_err-second.ensures.1 in
-    rw (r.1, r.2) (c.in_err-second.ensures.fault z c.args.moment (map.remove entries c.args.from.now) at stands)
+    rw (r.1, r.2) (c.in_err-second.ensures.fault z c.args.moment (map.remove entries c.args.from.now) at at_slot)
 
 pub returns-clause-change : goal.returns-clause-change
 returns-clause-change g c =
@@ -117,7 +117,7 @@ returns-clause-others g c = λ o k other.
     let old : PagesState = g.P.Pages.state c.args.pages.now in
     let only = rw c.in-Some.is at c.in_ok-taken.ensures.only in
     c.in_ok-change.ensures.pages old.present o k
-    ∙ others_keep c.in_ok-second.second c.args.directory c.in_ok-second.ensures.only (changed c.in-Some.taken.change old.present) o k other
+    ∙ others_keep c.in_ok-second.second c.args.directory c.in_ok-second.ensures.only (after_change c.in-Some.taken.change old.present) o k other
     ∙ others_keep c.in-Some.taken.change c.args.directory only old.present o k other
 
 pub returns-clause-named : goal.returns-clause-named
@@ -141,39 +141,39 @@ returns-clause-moves g c = λ z moment entries d.
     let t = rw c.in-Some.is at (c.in_ok-taken.ensures.takes z moment entries later_d) in
     let reads = rw c.in-Some.is at (c.in_ok-taken.ensures.removes z moment entries later_d) in
     let at = then_in names old mid next c.seek.ensures.lookups c.take_name.ensures.lookups z size o moment entries d c.args.from.now taken c.args.moment t reads in
-    let stands = stands_in names old mid next c.seek.ensures.lookups c.take_name.ensures.lookups z size o moment entries d c.args.from.now taken c.args.moment t reads
+    let at_slot = at_slot_in names old mid next c.seek.ensures.lookups c.take_name.ensures.lookups z size o moment entries d c.args.from.now taken c.args.moment t reads
     c.args.to.now.name.now c.in_ok-sought.sought.found c.moved-place.result (c.in_ok-sought.ensures.sought z moment entries d).found c.moved-place.ensures in
     let first : Change = taken.change in
     let second : Change = c.in_ok-second.second in
     let left : Entries = map.remove entries c.args.from.now in
     let now : Entries = map.insert left c.args.to.now.name.now c.args.to.now.object in
     let change : Change = c.in_ok-change.change in
-    let puts = c.in_ok-second.ensures.puts z c.args.moment left at stands in
+    let puts = c.in_ok-second.ensures.puts z c.args.moment left at at_slot in
     let spare = spare_then names old mid next c.seek.ensures.lookups c.take_name.ensures.lookups z size o moment entries d c.args.from.now taken c.args.moment t reads in
     let present : next.present ≡ old.present = c.take_name.ensures.lookups.present ∙ c.seek.ensures.lookups.present in
-    let both : changed second (changed first old.present) ≡ changed change old.present = λ i x k. sym (c.in_ok-change.ensures.pages old.present x k) i in
-    let slots = c.in_ok-second.ensures.slot z c.args.moment left at stands in
+    let both : after_change second (after_change first old.present) ≡ after_change change old.present = λ i x k. sym (c.in_ok-change.ensures.pages old.present x k) i in
+    let slots = c.in_ok-second.ensures.slot z c.args.moment left at at_slot in
     let fewer : map.len left ≤ map.len entries = len_less entries c.args.from.now in
-    let lists = c.in_ok-second.ensures.slots z c.args.moment left at stands in
+    let lists = c.in_ok-second.ensures.slots z c.args.moment left at at_slot in
     let a : IsChange first mid.page_bytes 2 = rw c.in-Some.is at c.in_ok-taken.ensures.change in
     let list : List Entry = left_slots z size.most mid.present o moment entries later_d.reads c.args.from.now taken t in
     let without = left_without z size.most mid.present o moment entries later_d.reads c.args.from.now taken t in
     let writes = left_writes z size.most mid.present o moment entries later_d.reads c.args.from.now taken t mid.page_bytes 2 a later_d.size in
-    let one : list ≡ at.reads.slots = left_are z size.most mid.present o moment entries later_d.reads c.args.from.now taken t (changed first next.present)
+    let one : list ≡ at.reads.slots = left_are z size.most mid.present o moment entries later_d.reads c.args.from.now taken t (after_change first next.present)
     (same names old mid next c.seek.ensures.lookups c.take_name.ensures.lookups z size o moment entries d c.args.from.now taken c.args.moment t reads) at.reads.slots
     (totaled names old mid next c.seek.ensures.lookups c.take_name.ensures.lookups z size o moment entries d c.args.from.now taken c.args.moment t reads) at.reads.each in
     record {
       makes = record {
         becomes = subst (λ (m : PageMap). ReadsDirectory z m o c.args.moment now d.reads.fields.spare) both
-            (subst (λ (k : PageMap). ReadsDirectory z (changed second (changed first k)) o c.args.moment now d.reads.fields.spare) present
-            (subst (λ n. ReadsDirectory z (changed second (changed first next.present)) o c.args.moment now n) spare puts));
+            (subst (λ (k : PageMap). ReadsDirectory z (after_change second (after_change first k)) o c.args.moment now d.reads.fields.spare) present
+            (subst (λ n. ReadsDirectory z (after_change second (after_change first next.present)) o c.args.moment now n) spare puts));
         ends = λ only.
             let only_mid : HasOnly z mid.present o (map.len entries) = subst (λ (k : PageMap). HasOnly z k o (map.len entries)) (sym c.seek.ensures.lookups.present) only in
             let within_limit = rw c.in-Some.is at (c.in_ok-taken.ensures.besides z moment entries later_d only_mid) in
-            let few_then : HasOnly z (changed first next.present) o (map.len left) = subst (λ (k : PageMap). HasOnly z (changed first k) o (map.len left)) (sym c.take_name.ensures.lookups.present) within_limit in
+            let few_then : HasOnly z (after_change first next.present) o (map.len left) = subst (λ (k : PageMap). HasOnly z (after_change first k) o (map.len left)) (sym c.take_name.ensures.lookups.present) within_limit in
             subst (λ (m : PageMap). HasOnly z m o (map.len now)) both
-            (subst (λ (k : PageMap). HasOnly z (changed second (changed first k)) o (map.len now)) present
-            (c.in_ok-second.ensures.besides z c.args.moment left at stands few_then));
+            (subst (λ (k : PageMap). HasOnly z (after_change second (after_change first k)) o (map.len now)) present
+            (c.in_ok-second.ensures.besides z c.args.moment left at at_slot few_then));
       };
       more = λ k low high. key_both first second change c.in_ok-change.ensures.pages o (1 + k / page_slots z) (slots k (omega (arith, low, fewer)) high);
       slots = (

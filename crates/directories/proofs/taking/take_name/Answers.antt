@@ -1,7 +1,7 @@
 use Rattle.std.proofs.Common.{◌≡◌, ◌<◌, ◌+◌, ◌-◌, ◌∙◌, ℕ, sym, subst, arith}
 use Rattle.std.proofs.lemmas.Result.{err_from_is_err_and}
 use Rattle.std.specs.FinMap as map
-use Rattle.pages.specs.Maps.{PageMap, changed}
+use Rattle.pages.specs.Maps.{PageMap, after_change}
 use Rattle.pages.specs.State.{PagesState}
 use Rattle.pages.specs.laws.Faults.{lacks_memory}
 use Rattle.pages.specs.declared.change.Change.{Change}
@@ -85,12 +85,12 @@ returns-clause-besides g c = λ z moment entries d only.
     let head : DirectoryHead = record { spare = c.in_ok-sought.sought.head.spare; length = n - 1; moment = c.args.moment } in
     let loses = subst (λ (k : PageMap). LosesSlot z k change c.args.directory head c.in-Some.found.place) lookups.present
     (c.in_ok-change.ensures.removes (lookups.sound ∙ d.sound) z (d.size ∙ sym lookups.page_bytes)) in
-    let turns = subst (λ (k : PageMap). HasOnly z k c.args.directory (n - 1 + 1) → HasOnly z (changed change k) c.args.directory (n - 1)) lookups.present
+    let turns = subst (λ (k : PageMap). HasOnly z k c.args.directory (n - 1 + 1) → HasOnly z (after_change change k) c.args.directory (n - 1)) lookups.present
     (c.in_ok-change.ensures.besides (lookups.sound ∙ d.sound) z (d.size ∙ sym lookups.page_bytes)) in
     let before : HasOnly z m c.args.directory (n - 1 + 1) = subst (HasOnly z m c.args.directory) (sym (count_is old mid lookups z c.args.directory moment entries here sized c.in_ok-sought.sought.head s) ∙ back) only in
     let r = returns-clause-removes g c z moment entries d in
-    let count = count_after z (page_size old mid lookups z c.args.directory moment entries here sized c.in_ok-sought.sought.head s) (changed change m) c.args.directory c.args.moment (map.remove entries c.args.name.now) r.0 head loses.header in
-    subst (HasOnly z (changed change m) c.args.directory) (sym count) (turns before)
+    let count = count_after z (page_size old mid lookups z c.args.directory moment entries here sized c.in_ok-sought.sought.head s) (after_change change m) c.args.directory c.args.moment (map.remove entries c.args.name.now) r.0 head loses.header in
+    subst (HasOnly z (after_change change m) c.args.directory) (sym count) (turns before)
 
 pub returns-clause-reported : goal.returns-clause-reported
 returns-clause-reported g c = λ sound z size.

@@ -14,7 +14,7 @@ invariant-loop-before g l = record {
   failures : l.session.failures.items ≡ [];
   unmounts : l.session.unmount ≡ true;
   words : answers l.generator ≡ words_after l.fn.seed (device l.fn.nand).geometry.pages l.before;
-  on : IsTreeOn (device l.standing.device) l.standing.tree;
-  reported : SoFar (record { first = device l.fn.nand; seed = l.fn.seed; commands = l.fn.script.items; sessions = l.fn.sessions }) l.before (device l.standing.device) l.standing.tree
+  on : IsTreeOn (device l.known_device.device) l.known_device.tree;
+  reported : SoFar (record { first = device l.fn.nand; seed = l.fn.seed; commands = l.fn.script.items; sessions = l.fn.sessions }) l.before (device l.known_device.device) l.known_device.tree
       (g.W.Write.contents l.initial.writer) (g.W.Write.contents l.writer);
 }

@@ -22,7 +22,7 @@ returns-in-Present-clause-part g c = λ z moment all f only within.
     let there : old.present c.args.object (1 + k) ≡ Some page =
     subst (FindsPage old.present c.args.object (1 + k) (g.P.Pages.state c.find.new.self).lent) c.in-Present.is (c.in_ok-find.ensures.page f.sound) ∙ ap Some (sym c.page-page.ensures.bytes) in
     let len : length page ≡ d = c.page-page.ensures.size ∙ c.find.ensures.lookups.page_bytes ∙ sym size_old in
-    let part = part_found old z c.args.object moment all f d (size_old ∙ sym f.size) k from to (omega (arith, c.requires.some, begins, ends)) (omega arith) (omega (arith, within, begins)) only page there len in
+    let part = part_found old z c.args.object moment all f d (size_old ∙ sym f.size) k from to (omega (arith, c.requires.not_empty, begins, ends)) (omega arith) (omega (arith, within, begins)) only page there len in
     subst (λ n. c.overwrite.new.buffer ≡ overwritten c.args.buffer.now (part_from n k c.args.offset - c.args.offset) (part_of n k c.args.offset c.args.end all)) (size_old ∙ sym f.size)
     (put_part d k c.args.offset c.args.end from to at all c.args.buffer.now _ _ (omega (arith, begins, ends)) (omega arith) (omega arith) c.overwrite.ensures.bytes part)
 
@@ -39,7 +39,7 @@ returns-in-Absent-clause-part g c = λ z moment all f only within.
     let at : ℕ = c.saturating_sub-at.result in
     let none : old.present c.args.object (1 + k) ≡ None =
     subst (FindsPage old.present c.args.object (1 + k) (g.P.Pages.state c.find.new.self).lent) c.in-Absent.is (c.in_ok-find.ensures.page f.sound) in
-    let part = part_missing old z c.args.object moment all f d (size_old ∙ sym f.size) k from to (omega (arith, c.requires.some, begins, ends)) (omega arith) (omega (arith, within, begins)) none in
+    let part = part_missing old z c.args.object moment all f d (size_old ∙ sym f.size) k from to (omega (arith, c.requires.not_empty, begins, ends)) (omega arith) (omega (arith, within, begins)) none in
     subst (λ n. c.clear.new.buffer ≡ overwritten c.args.buffer.now (part_from n k c.args.offset - c.args.offset) (part_of n k c.args.offset c.args.end all)) (size_old ∙ sym f.size)
     (put_part d k c.args.offset c.args.end from to at all c.args.buffer.now _ _ (omega (arith, begins, ends)) (omega arith) (omega arith) c.clear.ensures.zeros part)
 
@@ -57,7 +57,7 @@ returns-in-Present-clause-rest g c =
     let len : length page ≡ d = c.page-page.ensures.size ∙ c.find.ensures.lookups.page_bytes ∙ sym size_old in
     let count : length (take (to - from) (drop from page)) ≡ to - from = length-take-le (to - from) (drop from page) (omega (arith, len, length-drop from page)) in
     ap (drop (c.args.end - c.args.offset)) c.overwrite.ensures.bytes
-    ∙ over_past at (c.args.end - c.args.offset) c.args.buffer.now (take (to - from) (drop from page)) (omega (arith, count, begins, ends, c.requires.some)) (omega (arith, begins, c.requires.room))
+    ∙ over_past at (c.args.end - c.args.offset) c.args.buffer.now (take (to - from) (drop from page)) (omega (arith, count, begins, ends, c.requires.not_empty)) (omega (arith, begins, c.requires.room))
 
 pub returns-in-Absent-clause-rest : goal.returns-in-Absent-clause-rest
 returns-in-Absent-clause-rest g c =
@@ -70,4 +70,4 @@ returns-in-Absent-clause-rest g c =
     let to : ℕ = c.min-to.result in
     let at : ℕ = c.saturating_sub-at.result in
     ap (drop (c.args.end - c.args.offset)) c.clear.ensures.zeros
-    ∙ over_past at (c.args.end - c.args.offset) c.args.buffer.now _ (omega (arith, length-replicate {A = ℕ} (to - from) 0, begins, ends, c.requires.some)) (omega (arith, begins, c.requires.room))
+    ∙ over_past at (c.args.end - c.args.offset) c.args.buffer.now _ (omega (arith, length-replicate {A = ℕ} (to - from) 0, begins, ends, c.requires.not_empty)) (omega (arith, begins, c.requires.room))

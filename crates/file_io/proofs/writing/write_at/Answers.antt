@@ -7,7 +7,7 @@ use Rattle.page_tags.specs.HeaderFields.{file_fields}
 use Rattle.page_tags.specs.Headers.{IsHeader, is_present}
 use Rattle.posix_profile.specs.Changes.{written}
 use Rattle.pages.specs.Changes.{AreSized}
-use Rattle.pages.specs.Maps.{changed}
+use Rattle.pages.specs.Maps.{after_change}
 use Rattle.pages.specs.State.{PagesState}
 use Rattle.pages.specs.declared.change.Change.{Change}
 use Rattle.flash_tree.specs.declared.place.FreshPage.{FreshPage}
@@ -71,7 +71,7 @@ returns-then-has_all-clause-writes g c = λ z before all f any.
     let hold : HoldChunks d (written all off c.args.bytes.now) pages =
     subst (λ x. HoldChunks x (written all off c.args.bytes.now) pages) (sym size_now) (c.in_ok-change.ensures.hold z before all (later old now z c.args.object before all c.read_head.ensures.looks.lookups f) head) in
     let change : Change = record { pages = c.in_ok-change.field-0; cuts = c.none-change.result.cuts } in
-    subst (λ x. Becomes z old.present (changed change old.present) c.args.object f.reads.fields (off / x) ((off + n - 1) / x + 1) c.args.moment (written all off c.args.bytes.now)) size
+    subst (λ x. Becomes z old.present (after_change change old.present) c.args.object f.reads.fields (off / x) ((off + n - 1) / x + 1) c.args.moment (written all off c.args.bytes.now)) size
     (write_same old z c.args.object before all f d size some len (head.length_is ∙ f.reads.size) bits head.bits off c.args.bytes.now any c.args.moment pages of hold change refl c.none-change.ensures.cuts
     (sym head.moment ∙ c.if-head-moment.true) c.if-to-head.true (λ k low high. ap (λ (xs : List ℕ). is_present xs (1 + k)) (sym c.bits.ensures) ∙ c.has_all.ensures.all c.if-has_all.true k low high))
 
@@ -167,7 +167,7 @@ returns-clause-writes g c = λ z before all f any.
     let long : length page ≡ d = ap length page_is ∙ same ∙ ap length was ∙ c.in_ok-head.ensures.size ∙ sym (size_now ∙ c.read_head.ensures.looks.lookups.page_bytes) in
     let now_bits : List ℕ = drop 32 page in
     let valid : IsHeader d (file_fields c.max-length.result c.args.moment now_bits) = subst (λ x. IsHeader x (file_fields c.max-length.result c.args.moment now_bits)) long c.head_page.ensures.valid in
-    subst (λ x. Becomes z old.present (changed change old.present) c.args.object f.reads.fields (off / x) ((off + n - 1) / x + 1) c.args.moment (written all off c.args.bytes.now)) size
+    subst (λ x. Becomes z old.present (after_change change old.present) c.args.object f.reads.fields (off / x) ((off + n - 1) / x + 1) c.args.moment (written all off c.args.bytes.now)) size
     (write_new old z c.args.object before all f d size some len (head.length_is ∙ f.reads.size) bits head.bits off c.args.bytes.now any c.args.moment pages of hold change q c.max-length.result now_bits items c.none-change.ensures.cuts
     c.head_page.ensures.object c.head_page.ensures.chunk c.head_page.ensures.header valid c.max-length.ensures
     (λ k low high. ap (λ (xs : List ℕ). is_present (drop 32 xs) (1 + k)) page_is ∙ c.mark_in.ensures.here k low high)

@@ -1,25 +1,26 @@
-use Rattle.std.proofs.Common.{◌≤ℤ◌, pos, refl, sym, w64, arith, rules}
+use Rattle.std.proofs.Common.{refl, sym, w64, rules}
 use Rattle.std.proofs.lemmas.Int.{to_z-of_z}
 use mir.Val.{SFits}
 use Rattle.flash_c.specs.Placed.{not_there, done}
-use Rattle.flash_c.proofs.Places.{back_as}
+use Rattle.flash_c.specs.Serving.{serves}
+use Rattle.flash_c.proofs.Places.{at_least_zero, back_as}
 use Rattle.flash_c.proofs.placed.read_at.Goals as goal
 
 pub returns-in-Ok : goal.returns-in-Ok
-returns-in-Ok g c =
+returns-in-Ok c =
     let none = to_z-of_z w64 c.read-none.result (search (c.read-none.type_inv)) in
-    let some : pos 0 ≤ℤ c.read-none.result = search (arith, rw none at c.if-none-lt0.false) in
+    let some = at_least_zero c.read-none.result (rw none at c.if-none-lt0.false) in
     let number = to_z-of_z w64 c.read-number.result (search (c.read-number.type_inv)) in
     let result = to_z-of_z w64 c.go_back.result (search (c.go_back.type_inv)) in
     let fits : SFits w64 c.in-Ok.was = search (rules, c.go_to.type_inv, c.in-Ok.is) in
     let was = to_z-of_z w64 c.in-Ok.was fits in
     done (c.read-none.new.buffer, c.read-none.ensures) some (rw (to_z-of_z w64 c.args.offset c.ranges.offset) at c.in-Ok.ensures) c.read-number.ensures
-    (back_as g.S.Serve.serves _ _ _ _ _ (sym result) (rw (was, number) at c.go_back.ensures))
+    (back_as serves _ _ _ _ _ (sym result) (rw (was, number) at c.go_back.ensures))
 
 pub returns-in-Err : goal.returns-in-Err
-returns-in-Err g c =
+returns-in-Err c =
     let none = to_z-of_z w64 c.read-none.result (search (c.read-none.type_inv)) in
-    let some : pos 0 ≤ℤ c.read-none.result = search (arith, rw none at c.if-none-lt0.false) in
+    let some = at_least_zero c.read-none.result (rw none at c.if-none-lt0.false) in
     let fits : SFits w64 c.in-Err.number = search (rules, c.go_to.type_inv, c.in-Err.is) in
     let is = to_z-of_z w64 c.in-Err.number fits in
     rw (is) (not_there (c.read-none.new.buffer, c.read-none.ensures) some (rw (to_z-of_z w64 c.args.offset c.ranges.offset) at c.in-Err.ensures) refl)

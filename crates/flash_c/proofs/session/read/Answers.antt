@@ -5,7 +5,7 @@ use Rattle.flash_c.proofs.DataBytes.{number_read, data_read}
 use Rattle.flash_c.proofs.session.read.Goals as goal
 
 pub returns-in-Ok : goal.returns-in-Ok
-returns-in-Ok g c =
+returns-in-Ok c =
     let e = rw c.in-Ok.is at c.read_into.ensures in (
       read_reply c.read_into.new.buffer (Rattle.std.specs.Prelude.Ok c.in-Ok.count),
       e.served,
@@ -14,7 +14,7 @@ returns-in-Ok g c =
     )
 
 pub returns-in-Err : goal.returns-in-Err
-returns-in-Err g c =
+returns-in-Err c =
     let e = rw c.in-Err.is at c.read_into.ensures in (
       read_reply c.read_into.new.buffer (Rattle.std.specs.Prelude.Err c.in-Err.error),
       e.served,

@@ -13,7 +13,7 @@ returns-then-bad_count-spare-clause-leaves g c =
     let u : Table = table c.mark_block.new.blocks in
     let m = c.mark_block.ensures in
     let b = c.requires.block in
-    leaves_marked c.args.block d e t u c.mark_block.result b.within b.good b.uncommitted m.marks m.notes m.ready m.numbers m.newest b.open_block b.first
+    leaves_marked c.args.block d e t u c.mark_block.result b.within b.good b.uncommitted m.marks m.notes m.can_write m.numbers m.newest b.open_block b.first
 
 pub returns-then-bad_count-spare-clause-marks : goal.returns-then-bad_count-spare-clause-marks
 returns-then-bad_count-spare-clause-marks g c =
@@ -33,7 +33,7 @@ returns-else-bad_count-spare-clause-leaves g c =
     let u : Table = table c.mark_block.new.blocks in
     let m = c.mark_block.ensures in
     let b = c.requires.block in
-    leaves_marked c.args.block d e t u c.mark_block.result b.within b.good b.uncommitted m.marks m.notes m.ready m.numbers m.newest b.open_block b.first
+    leaves_marked c.args.block d e t u c.mark_block.result b.within b.good b.uncommitted m.marks m.notes m.can_write m.numbers m.newest b.open_block b.first
 
 pub returns-else-bad_count-spare-clause-marks : goal.returns-else-bad_count-spare-clause-marks
 returns-else-bad_count-spare-clause-marks g c =
@@ -63,7 +63,7 @@ returns-in-Err-clause-leaves g c =
     let u : Table = table c.mark_block.new.blocks in
     let m = c.mark_block.ensures in
     let b = c.requires.block in
-    leaves_marked c.args.block d e t u c.mark_block.result b.within b.good b.uncommitted m.marks m.notes m.ready m.numbers m.newest b.open_block b.first
+    leaves_marked c.args.block d e t u c.mark_block.result b.within b.good b.uncommitted m.marks m.notes m.can_write m.numbers m.newest b.open_block b.first
 
 pub returns-in-Err-clause-marks : goal.returns-in-Err-clause-marks
 returns-in-Err-clause-marks g c =

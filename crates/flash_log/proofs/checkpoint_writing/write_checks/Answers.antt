@@ -38,7 +38,7 @@ note-requires-clause-block g c =
     let t : Table = table c.args.blocks.now in
     let u : Table = table c.write_checkpoint.new.blocks in
     let w = c.write_checkpoint.ensures in
-    block_after ghosts c.args.checks.now d e t u c.write_checkpoint.result c.args.block c.requires.take.open_block c.requires.ready w.lasts w.group (written c.args.checks.now c.args.block d t c.requires.list c.requires.take) w.ready
+    block_after ghosts c.args.checks.now d e t u c.write_checkpoint.result c.args.block c.requires.take.open_block c.requires.can_write w.lasts w.group (written c.args.checks.now c.args.block d t c.requires.list c.requires.take) w.can_write
 
 pub note-requires-clause-good : goal.note-requires-clause-good
 note-requires-clause-good g c =
@@ -47,7 +47,7 @@ note-requires-clause-good g c =
     let t : Table = table c.args.blocks.now in
     let u : Table = table c.write_checkpoint.new.blocks in
     let w = c.write_checkpoint.ensures in
-    good_now ghosts c.args.checks.now d e t u c.write_checkpoint.result c.args.block c.requires.take.open_block c.requires.ready w.lasts w.group (written c.args.checks.now c.args.block d t c.requires.list c.requires.take) w.ready
+    good_now ghosts c.args.checks.now d e t u c.write_checkpoint.result c.args.block c.requires.take.open_block c.requires.can_write w.lasts w.group (written c.args.checks.now c.args.block d t c.requires.list c.requires.take) w.can_write
 
 pub note-requires-clause-uncommitted : goal.note-requires-clause-uncommitted
 note-requires-clause-uncommitted g c =
@@ -56,7 +56,7 @@ note-requires-clause-uncommitted g c =
     let t : Table = table c.args.blocks.now in
     let u : Table = table c.write_checkpoint.new.blocks in
     let w = c.write_checkpoint.ensures in
-    committed_now ghosts c.args.checks.now d e t u c.write_checkpoint.result c.args.block c.requires.take.open_block c.requires.ready w.lasts w.group (written c.args.checks.now c.args.block d t c.requires.list c.requires.take) c.requires.take.uncommitted
+    committed_now ghosts c.args.checks.now d e t u c.write_checkpoint.result c.args.block c.requires.take.open_block c.requires.can_write w.lasts w.group (written c.args.checks.now c.args.block d t c.requires.list c.requires.take) c.requires.take.uncommitted
 
 pub note-requires-in-Err-Gone-clause-block : goal.note-requires-in-Err-Gone-clause-block
 note-requires-in-Err-Gone-clause-block g c =
@@ -65,7 +65,7 @@ note-requires-in-Err-Gone-clause-block g c =
     let t : Table = table c.args.blocks.now in
     let u : Table = table c.write_checkpoint.new.blocks in
     let w = c.write_checkpoint.ensures in
-    block_after ghosts c.args.checks.now d e t u c.write_checkpoint.result c.args.block c.requires.take.open_block c.requires.ready w.lasts w.group (written c.args.checks.now c.args.block d t c.requires.list c.requires.take) w.ready
+    block_after ghosts c.args.checks.now d e t u c.write_checkpoint.result c.args.block c.requires.take.open_block c.requires.can_write w.lasts w.group (written c.args.checks.now c.args.block d t c.requires.list c.requires.take) w.can_write
 
 pub note-requires-in-Err-Gone-clause-good : goal.note-requires-in-Err-Gone-clause-good
 note-requires-in-Err-Gone-clause-good g c =
@@ -74,7 +74,7 @@ note-requires-in-Err-Gone-clause-good g c =
     let t : Table = table c.args.blocks.now in
     let u : Table = table c.write_checkpoint.new.blocks in
     let w = c.write_checkpoint.ensures in
-    good_now ghosts c.args.checks.now d e t u c.write_checkpoint.result c.args.block c.requires.take.open_block c.requires.ready w.lasts w.group (written c.args.checks.now c.args.block d t c.requires.list c.requires.take) w.ready
+    good_now ghosts c.args.checks.now d e t u c.write_checkpoint.result c.args.block c.requires.take.open_block c.requires.can_write w.lasts w.group (written c.args.checks.now c.args.block d t c.requires.list c.requires.take) w.can_write
 
 pub note-requires-in-Err-Gone-clause-uncommitted : goal.note-requires-in-Err-Gone-clause-uncommitted
 note-requires-in-Err-Gone-clause-uncommitted g c =
@@ -83,7 +83,7 @@ note-requires-in-Err-Gone-clause-uncommitted g c =
     let t : Table = table c.args.blocks.now in
     let u : Table = table c.write_checkpoint.new.blocks in
     let w = c.write_checkpoint.ensures in
-    committed_now ghosts c.args.checks.now d e t u c.write_checkpoint.result c.args.block c.requires.take.open_block c.requires.ready w.lasts w.group (written c.args.checks.now c.args.block d t c.requires.list c.requires.take) c.requires.take.uncommitted
+    committed_now ghosts c.args.checks.now d e t u c.write_checkpoint.result c.args.block c.requires.take.open_block c.requires.can_write w.lasts w.group (written c.args.checks.now c.args.block d t c.requires.list c.requires.take) c.requires.take.uncommitted
 
 pub returns-then-placed-clause-leaves : goal.returns-then-placed-clause-leaves
 returns-then-placed-clause-leaves g c =
@@ -93,7 +93,7 @@ returns-then-placed-clause-leaves g c =
     let u : Table = table c.write_checkpoint.new.blocks in
     let w = c.write_checkpoint.ensures in
     let after = c.in-Ok.ensures.checked in
-    leaves_noted ghosts c.args.checks.now d e t u c.write_checkpoint.result c.args.block c.requires.take.open_block c.requires.ready w.lasts w.group (written c.args.checks.now c.args.block d t c.requires.list c.requires.take) (table c.note.new.blocks) c.note.ensures w.ready c.requires.number (w.group.quiet tt)
+    leaves_noted ghosts c.args.checks.now d e t u c.write_checkpoint.result c.args.block c.requires.take.open_block c.requires.can_write w.lasts w.group (written c.args.checks.now c.args.block d t c.requires.list c.requires.take) (table c.note.new.blocks) c.note.ensures w.can_write c.requires.number (w.group.quiet tt)
     (λ lists honest was. after (record { honest = honest; writes = written c.args.checks.now c.args.block d t c.requires.list c.requires.take honest; tree = lists honest }) was c.args.block c.requires.take.open_block)
 
 pub returns-then-placed-clause-block : goal.returns-then-placed-clause-block
@@ -103,7 +103,7 @@ returns-then-placed-clause-block g c =
     let t : Table = table c.args.blocks.now in
     let u : Table = table c.write_checkpoint.new.blocks in
     let w = c.write_checkpoint.ensures in
-    marks_noted ghosts c.args.checks.now d e t u c.write_checkpoint.result c.args.block c.requires.take.open_block c.requires.ready w.lasts w.group (written c.args.checks.now c.args.block d t c.requires.list c.requires.take) (table c.note.new.blocks) c.note.ensures w.ready c.requires.take.uncommitted
+    marks_noted ghosts c.args.checks.now d e t u c.write_checkpoint.result c.args.block c.requires.take.open_block c.requires.can_write w.lasts w.group (written c.args.checks.now c.args.block d t c.requires.list c.requires.take) (table c.note.new.blocks) c.note.ensures w.can_write c.requires.take.uncommitted
 
 pub returns-then-placed-clause-counts : goal.returns-then-placed-clause-counts
 returns-then-placed-clause-counts g c =
@@ -112,7 +112,7 @@ returns-then-placed-clause-counts g c =
     let t : Table = table c.args.blocks.now in
     let u : Table = table c.write_checkpoint.new.blocks in
     let w = c.write_checkpoint.ensures in
-    (bad_noted ghosts c.args.checks.now d e t u c.write_checkpoint.result c.args.block c.requires.take.open_block c.requires.ready w.lasts w.group (written c.args.checks.now c.args.block d t c.requires.list c.requires.take) (table c.note.new.blocks) c.note.ensures, (omega (arith, c.in-Ok.ensures.group.ends.2)))
+    (bad_noted ghosts c.args.checks.now d e t u c.write_checkpoint.result c.args.block c.requires.take.open_block c.requires.can_write w.lasts w.group (written c.args.checks.now c.args.block d t c.requires.list c.requires.take) (table c.note.new.blocks) c.note.ensures, (omega (arith, c.in-Ok.ensures.group.ends.2)))
 
 pub returns-else-placed-clause-leaves : goal.returns-else-placed-clause-leaves
 returns-else-placed-clause-leaves g c =
@@ -122,7 +122,7 @@ returns-else-placed-clause-leaves g c =
     let u : Table = table c.write_checkpoint.new.blocks in
     let w = c.write_checkpoint.ensures in
     let after = c.in-Ok.ensures.checked in
-    leaves_noted ghosts c.args.checks.now d e t u c.write_checkpoint.result c.args.block c.requires.take.open_block c.requires.ready w.lasts w.group (written c.args.checks.now c.args.block d t c.requires.list c.requires.take) (table c.note.new.blocks) c.note.ensures w.ready c.requires.number (w.group.quiet tt)
+    leaves_noted ghosts c.args.checks.now d e t u c.write_checkpoint.result c.args.block c.requires.take.open_block c.requires.can_write w.lasts w.group (written c.args.checks.now c.args.block d t c.requires.list c.requires.take) (table c.note.new.blocks) c.note.ensures w.can_write c.requires.number (w.group.quiet tt)
     (λ lists honest was. after (record { honest = honest; writes = written c.args.checks.now c.args.block d t c.requires.list c.requires.take honest; tree = lists honest }) was c.args.block c.requires.take.open_block)
 
 pub returns-else-placed-clause-block : goal.returns-else-placed-clause-block
@@ -132,7 +132,7 @@ returns-else-placed-clause-block g c =
     let t : Table = table c.args.blocks.now in
     let u : Table = table c.write_checkpoint.new.blocks in
     let w = c.write_checkpoint.ensures in
-    marks_noted ghosts c.args.checks.now d e t u c.write_checkpoint.result c.args.block c.requires.take.open_block c.requires.ready w.lasts w.group (written c.args.checks.now c.args.block d t c.requires.list c.requires.take) (table c.note.new.blocks) c.note.ensures w.ready c.requires.take.uncommitted
+    marks_noted ghosts c.args.checks.now d e t u c.write_checkpoint.result c.args.block c.requires.take.open_block c.requires.can_write w.lasts w.group (written c.args.checks.now c.args.block d t c.requires.list c.requires.take) (table c.note.new.blocks) c.note.ensures w.can_write c.requires.take.uncommitted
 
 pub returns-else-placed-clause-counts : goal.returns-else-placed-clause-counts
 returns-else-placed-clause-counts g c =
@@ -141,7 +141,7 @@ returns-else-placed-clause-counts g c =
     let t : Table = table c.args.blocks.now in
     let u : Table = table c.write_checkpoint.new.blocks in
     let w = c.write_checkpoint.ensures in
-    (bad_noted ghosts c.args.checks.now d e t u c.write_checkpoint.result c.args.block c.requires.take.open_block c.requires.ready w.lasts w.group (written c.args.checks.now c.args.block d t c.requires.list c.requires.take) (table c.note.new.blocks) c.note.ensures, (omega (arith, c.in-Ok.ensures.group.ends.2)))
+    (bad_noted ghosts c.args.checks.now d e t u c.write_checkpoint.result c.args.block c.requires.take.open_block c.requires.can_write w.lasts w.group (written c.args.checks.now c.args.block d t c.requires.list c.requires.take) (table c.note.new.blocks) c.note.ensures, (omega (arith, c.in-Ok.ensures.group.ends.2)))
 
 pub returns-in-Err-Gone-clause-leaves : goal.returns-in-Err-Gone-clause-leaves
 returns-in-Err-Gone-clause-leaves g c =
@@ -151,7 +151,7 @@ returns-in-Err-Gone-clause-leaves g c =
     let u : Table = table c.write_checkpoint.new.blocks in
     let w = c.write_checkpoint.ensures in
     let after = (rw c.in-Err-Gone.field-0-is at c.in-Err-Gone.ensures.checked) in
-    leaves_noted ghosts c.args.checks.now d e t u c.write_checkpoint.result c.args.block c.requires.take.open_block c.requires.ready w.lasts w.group (written c.args.checks.now c.args.block d t c.requires.list c.requires.take) (table c.note-in-Err-Gone.new.blocks) c.note-in-Err-Gone.ensures w.ready c.requires.number (w.group.quiet tt)
+    leaves_noted ghosts c.args.checks.now d e t u c.write_checkpoint.result c.args.block c.requires.take.open_block c.requires.can_write w.lasts w.group (written c.args.checks.now c.args.block d t c.requires.list c.requires.take) (table c.note-in-Err-Gone.new.blocks) c.note-in-Err-Gone.ensures w.can_write c.requires.number (w.group.quiet tt)
     (λ lists honest was. after (record { honest = honest; writes = written c.args.checks.now c.args.block d t c.requires.list c.requires.take honest; tree = lists honest }) was c.args.block c.requires.take.open_block)
 
 pub returns-in-Err-Gone-clause-block : goal.returns-in-Err-Gone-clause-block
@@ -161,7 +161,7 @@ returns-in-Err-Gone-clause-block g c =
     let t : Table = table c.args.blocks.now in
     let u : Table = table c.write_checkpoint.new.blocks in
     let w = c.write_checkpoint.ensures in
-    marks_noted ghosts c.args.checks.now d e t u c.write_checkpoint.result c.args.block c.requires.take.open_block c.requires.ready w.lasts w.group (written c.args.checks.now c.args.block d t c.requires.list c.requires.take) (table c.note-in-Err-Gone.new.blocks) c.note-in-Err-Gone.ensures w.ready c.requires.take.uncommitted
+    marks_noted ghosts c.args.checks.now d e t u c.write_checkpoint.result c.args.block c.requires.take.open_block c.requires.can_write w.lasts w.group (written c.args.checks.now c.args.block d t c.requires.list c.requires.take) (table c.note-in-Err-Gone.new.blocks) c.note-in-Err-Gone.ensures w.can_write c.requires.take.uncommitted
 
 pub returns-in-Err-Gone-clause-counts : goal.returns-in-Err-Gone-clause-counts
 returns-in-Err-Gone-clause-counts g c =
@@ -171,7 +171,7 @@ returns-in-Err-Gone-clause-counts g c =
     let u : Table = table c.write_checkpoint.new.blocks in
     let w = c.write_checkpoint.ensures in
     let ends = rw c.in-Err-Gone.field-0-is at c.in-Err-Gone.ensures.group.ends in
-    (bad_noted ghosts c.args.checks.now d e t u c.write_checkpoint.result c.args.block c.requires.take.open_block c.requires.ready w.lasts w.group (written c.args.checks.now c.args.block d t c.requires.list c.requires.take) (table c.note-in-Err-Gone.new.blocks) c.note-in-Err-Gone.ensures, ends.1)
+    (bad_noted ghosts c.args.checks.now d e t u c.write_checkpoint.result c.args.block c.requires.take.open_block c.requires.can_write w.lasts w.group (written c.args.checks.now c.args.block d t c.requires.list c.requires.take) (table c.note-in-Err-Gone.new.blocks) c.note-in-Err-Gone.ensures, ends.1)
 
 pub returns-in-Err-Failed-clause-leaves : goal.returns-in-Err-Failed-clause-leaves
 returns-in-Err-Failed-clause-leaves g c =
@@ -182,7 +182,7 @@ returns-in-Err-Failed-clause-leaves g c =
     let w = c.write_checkpoint.ensures in
     let after = rw c.in-Err-Failed.field-0-is at c.in-Err-Failed.ensures.checked in
     let ends = rw c.in-Err-Failed.field-0-is at c.in-Err-Failed.ensures.group.table in
-    leaves_group ghosts c.args.checks.now d e t u c.write_checkpoint.result c.args.block c.requires.take.open_block c.requires.ready w.lasts w.group (written c.args.checks.now c.args.block d t c.requires.list c.requires.take) w.ready c.requires.number (w.group.quiet tt) (ap (λ (x : Table). x.open_block) ends) (ap (λ (x : Table). x.checkpoint) ends)
+    leaves_group ghosts c.args.checks.now d e t u c.write_checkpoint.result c.args.block c.requires.take.open_block c.requires.can_write w.lasts w.group (written c.args.checks.now c.args.block d t c.requires.list c.requires.take) w.can_write c.requires.number (w.group.quiet tt) (ap (λ (x : Table). x.open_block) ends) (ap (λ (x : Table). x.checkpoint) ends)
     (λ lists honest was. after (record { honest = honest; writes = written c.args.checks.now c.args.block d t c.requires.list c.requires.take honest; tree = lists honest }) was c.args.block c.requires.take.open_block)
 
 pub returns-in-Err-Failed-clause-block : goal.returns-in-Err-Failed-clause-block
@@ -193,7 +193,7 @@ returns-in-Err-Failed-clause-block g c =
     let u : Table = table c.write_checkpoint.new.blocks in
     let w = c.write_checkpoint.ensures in
     let ends = rw c.in-Err-Failed.field-0-is at c.in-Err-Failed.ensures.group.table in
-    marks_group ghosts c.args.checks.now d e t u c.write_checkpoint.result c.args.block c.requires.take.open_block c.requires.ready w.lasts w.group (written c.args.checks.now c.args.block d t c.requires.list c.requires.take) w.ready c.requires.take.uncommitted (ap (λ (x : Table). x.open_block) ends) (ap (λ (x : Table). x.checkpoint) ends)
+    marks_group ghosts c.args.checks.now d e t u c.write_checkpoint.result c.args.block c.requires.take.open_block c.requires.can_write w.lasts w.group (written c.args.checks.now c.args.block d t c.requires.list c.requires.take) w.can_write c.requires.take.uncommitted (ap (λ (x : Table). x.open_block) ends) (ap (λ (x : Table). x.checkpoint) ends)
 
 pub returns-in-Err-Failed-clause-counts : goal.returns-in-Err-Failed-clause-counts
 returns-in-Err-Failed-clause-counts g c =
@@ -203,7 +203,7 @@ returns-in-Err-Failed-clause-counts g c =
     let u : Table = table c.write_checkpoint.new.blocks in
     let w = c.write_checkpoint.ensures in
     let ends = rw c.in-Err-Failed.field-0-is at c.in-Err-Failed.ensures.group.ends in
-    (bad_same ghosts c.args.checks.now d e t u c.write_checkpoint.result c.args.block c.requires.take.open_block c.requires.ready w.lasts w.group (written c.args.checks.now c.args.block d t c.requires.list c.requires.take), ends.3)
+    (bad_same ghosts c.args.checks.now d e t u c.write_checkpoint.result c.args.block c.requires.take.open_block c.requires.can_write w.lasts w.group (written c.args.checks.now c.args.block d t c.requires.list c.requires.take), ends.3)
 
 pub returns-in-Err-Lost-clause-leaves : goal.returns-in-Err-Lost-clause-leaves
 returns-in-Err-Lost-clause-leaves g c =
@@ -214,7 +214,7 @@ returns-in-Err-Lost-clause-leaves g c =
     let w = c.write_checkpoint.ensures in
     let after = rw c.in-Err-Lost.field-0-is at c.in-Err-Lost.ensures.checked in
     let ends = rw c.in-Err-Lost.field-0-is at c.in-Err-Lost.ensures.group.table in
-    leaves_group ghosts c.args.checks.now d e t u c.write_checkpoint.result c.args.block c.requires.take.open_block c.requires.ready w.lasts w.group (written c.args.checks.now c.args.block d t c.requires.list c.requires.take) w.ready c.requires.number (w.group.quiet tt) (ap (λ (x : Table). x.open_block) ends) (ap (λ (x : Table). x.checkpoint) ends)
+    leaves_group ghosts c.args.checks.now d e t u c.write_checkpoint.result c.args.block c.requires.take.open_block c.requires.can_write w.lasts w.group (written c.args.checks.now c.args.block d t c.requires.list c.requires.take) w.can_write c.requires.number (w.group.quiet tt) (ap (λ (x : Table). x.open_block) ends) (ap (λ (x : Table). x.checkpoint) ends)
     (λ lists honest was. after (record { honest = honest; writes = written c.args.checks.now c.args.block d t c.requires.list c.requires.take honest; tree = lists honest }) was c.args.block c.requires.take.open_block)
 
 pub returns-in-Err-Lost-clause-block : goal.returns-in-Err-Lost-clause-block
@@ -225,7 +225,7 @@ returns-in-Err-Lost-clause-block g c =
     let u : Table = table c.write_checkpoint.new.blocks in
     let w = c.write_checkpoint.ensures in
     let ends = rw c.in-Err-Lost.field-0-is at c.in-Err-Lost.ensures.group.table in
-    marks_group ghosts c.args.checks.now d e t u c.write_checkpoint.result c.args.block c.requires.take.open_block c.requires.ready w.lasts w.group (written c.args.checks.now c.args.block d t c.requires.list c.requires.take) w.ready c.requires.take.uncommitted (ap (λ (x : Table). x.open_block) ends) (ap (λ (x : Table). x.checkpoint) ends)
+    marks_group ghosts c.args.checks.now d e t u c.write_checkpoint.result c.args.block c.requires.take.open_block c.requires.can_write w.lasts w.group (written c.args.checks.now c.args.block d t c.requires.list c.requires.take) w.can_write c.requires.take.uncommitted (ap (λ (x : Table). x.open_block) ends) (ap (λ (x : Table). x.checkpoint) ends)
 
 pub returns-in-Err-Lost-clause-counts : goal.returns-in-Err-Lost-clause-counts
 returns-in-Err-Lost-clause-counts g c =
@@ -235,7 +235,7 @@ returns-in-Err-Lost-clause-counts g c =
     let u : Table = table c.write_checkpoint.new.blocks in
     let w = c.write_checkpoint.ensures in
     let ends = rw c.in-Err-Lost.field-0-is at c.in-Err-Lost.ensures.group.ends in
-    (bad_same ghosts c.args.checks.now d e t u c.write_checkpoint.result c.args.block c.requires.take.open_block c.requires.ready w.lasts w.group (written c.args.checks.now c.args.block d t c.requires.list c.requires.take), ends.1)
+    (bad_same ghosts c.args.checks.now d e t u c.write_checkpoint.result c.args.block c.requires.take.open_block c.requires.can_write w.lasts w.group (written c.args.checks.now c.args.block d t c.requires.list c.requires.take), ends.1)
 
 pub returns-else-placed-clause-ends : goal.returns-else-placed-clause-ends
 returns-else-placed-clause-ends g c =
@@ -252,7 +252,7 @@ returns-else-placed-clause-ends g c =
         noted = ap (λ (x : Table). x.checkpoint) c.note.ensures;
         whole = λ honest.
             let was : d.honest ≡ true = sym w.lasts.honest ∙ honest in
-            whole ghosts c.args.checks.now d e t u c.write_checkpoint.result c.args.block c.requires.take.open_block c.requires.ready w.lasts w.group (written c.args.checks.now c.args.block d t c.requires.list c.requires.take) (written c.args.checks.now c.args.block d t c.requires.list c.requires.take was) refl (c.in-Ok.ensures.group.groups was c.args.block c.requires.take.open_block);
+            whole ghosts c.args.checks.now d e t u c.write_checkpoint.result c.args.block c.requires.take.open_block c.requires.can_write w.lasts w.group (written c.args.checks.now c.args.block d t c.requires.list c.requires.take) (written c.args.checks.now c.args.block d t c.requires.list c.requires.take was) refl (c.in-Ok.ensures.group.groups was c.args.block c.requires.take.open_block);
       },
       c.in-Ok.ensures.group.ends.1,
     )

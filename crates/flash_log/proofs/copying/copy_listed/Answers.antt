@@ -31,7 +31,7 @@ loop-target-init g c =
     let d : Device = g.N.Nand.state c.args.device.now in
     let t : Table = table c.args.blocks.now in
     let u : Table = table c.close.new.self in
-    let keeps = keeps_closed d t u c.close.ensures c.requires.ready in
+    let keeps = keeps_closed d t u c.close.ensures c.requires.can_write in
     let bad : bad_count u ≡ bad_count t = ap bad_count c.close.ensures in
     let group = ap (λ (x : Table). x.next_group) c.close.ensures in
     record {
@@ -41,8 +41,8 @@ loop-target-init g c =
       newest = λ honest. committed_here t d.flash;
       found = λ honest. found_here t d;
       closed = ap (λ (x : Table). x.open_block) c.close.ensures;
-      within_limit = omega (arith, bad, c.requires.some.bad);
-      apart = λ k is. keeps.committed k ∙ c.requires.some.apart k (keeps.numbers.truth.noted k is);
+      within_limit = omega (arith, bad, c.requires.uncommitted.bad);
+      apart = λ k is. keeps.committed k ∙ c.requires.uncommitted.apart k (keeps.numbers.truth.noted k is);
       size = c.requires.size;
       copies = may_later d d t u c.args.copies.now (lasts_here d) (omega (arith, group)) keeps.committed (λ honest power. committed_here t d.flash) c.requires.copies;
     }

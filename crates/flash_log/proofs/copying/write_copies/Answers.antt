@@ -25,7 +25,7 @@ write_group-requires-clause-ordinary g c = c.requires.copies.ordinary
 
 pub mark_block-requires-clause-first : goal.mark_block-requires-clause-first
 mark_block-requires-clause-first g c =
-    let none = none_waits (g.N.Nand.state c.args.device.now) (table c.args.blocks.now) c.args.block c.requires.ready c.requires.clear.open_block in
+    let none = none_waits (g.N.Nand.state c.args.device.now) (table c.args.blocks.now) c.args.block c.requires.can_write c.requires.clear.open_block in
     inl (none_after _ _ _ _ c.write_group.ensures.numbers.truth none)
 
 pub returns-in-Ok-clause-ends : goal.returns-in-Ok-clause-ends
@@ -46,7 +46,7 @@ returns-in-Ok-clause-ends g c = λ spare. (
         let wrote = c.in-Ok.ensures in
         let reported = wrote.group.placed c.args.block c.requires.clear.open_block in
         open_after (length c.args.copies.now) c.args.block c.in-Ok.placed (table c.args.blocks.now) (table c.write_group.new.blocks) c.requires.clear.open_block reported wrote.group.table;
-    checkpoint = none_after _ _ (table c.args.blocks.now).checkpoint _ c.write_group.ensures.numbers.truth (none_waits _ (table c.args.blocks.now) c.args.block c.requires.ready c.requires.clear.open_block);
+    checkpoint = none_after _ _ (table c.args.blocks.now).checkpoint _ c.write_group.ensures.numbers.truth (none_waits _ (table c.args.blocks.now) c.args.block c.requires.can_write c.requires.clear.open_block);
   },
   search rules,
 )
@@ -75,7 +75,7 @@ returns-in-Ok-clause-pages g c =
     let wrote = c.in-Ok.ensures in
     let reported = wrote.group.placed c.args.block c.requires.clear.open_block in
     pages_written c.args.copies.now c.args.block d0 d1 t (table c.write_group.new.blocks) c.requires.clear c.requires.copies c.requires.group wrote.lasts wrote.numbers (Ok c.in-Ok.placed) _
-    c.requires.ready wrote.ready wrote.group.table wrote.group.stays.bad wrote.group.writes (λ honest. wrote.group.groups honest c.args.block c.requires.clear.open_block)
+    c.requires.can_write wrote.can_write wrote.group.table wrote.group.stays.bad wrote.group.writes (λ honest. wrote.group.groups honest c.args.block c.requires.clear.open_block)
     (λ honest power. rw (reported.block, reported.first) (copies_written c.args.copies.now c.args.block d0 d1 t c.requires.clear c.requires.copies honest (wrote.group.writes honest).grows c.in-Ok.placed (wrote.group.groups honest c.args.block c.requires.clear.open_block)))
 
 pub returns-in-Ok-clause-pays : goal.returns-in-Ok-clause-pays
@@ -90,7 +90,7 @@ returns-in-Err-Lost-clause-pages g c =
     let wrote = rw c.in-Err-Lost.field-0-is at c.in-Err-Lost.ensures in
     pages_written c.args.copies.now c.args.block (g.N.Nand.state c.args.device.now) (g.N.Nand.state c.write_group.new.device) (table c.args.blocks.now) (table c.write_group.new.blocks)
     c.requires.clear c.requires.copies c.requires.group wrote.lasts wrote.numbers (Err groups.Lost) _
-    c.requires.ready wrote.ready wrote.group.table wrote.group.stays.bad wrote.group.writes (λ honest. wrote.group.groups honest c.args.block c.requires.clear.open_block)
+    c.requires.can_write wrote.can_write wrote.group.table wrote.group.stays.bad wrote.group.writes (λ honest. wrote.group.groups honest c.args.block c.requires.clear.open_block)
     (λ honest power. absurd (false≢true (sym wrote.group.ends.0 ∙ honest)))
 
 pub returns-in-Err-Lost-clause-pays : goal.returns-in-Err-Lost-clause-pays
@@ -104,7 +104,7 @@ returns-in-Err-Gone-clause-pages g c =
     let wrote = rw c.in-Err-Gone.field-0-is at c.in-Err-Gone.ensures in
     pages_written c.args.copies.now c.args.block (g.N.Nand.state c.args.device.now) (g.N.Nand.state c.write_group.new.device) (table c.args.blocks.now) (table c.write_group.new.blocks)
     c.requires.clear c.requires.copies c.requires.group wrote.lasts wrote.numbers (Err groups.Gone) _
-    c.requires.ready wrote.ready wrote.group.table wrote.group.stays.bad wrote.group.writes (λ honest. wrote.group.groups honest c.args.block c.requires.clear.open_block)
+    c.requires.can_write wrote.can_write wrote.group.table wrote.group.stays.bad wrote.group.writes (λ honest. wrote.group.groups honest c.args.block c.requires.clear.open_block)
     (λ honest power. absurd (false≢true (sym power ∙ wrote.group.ends.0)))
 
 pub returns-in-Err-Gone-clause-pays : goal.returns-in-Err-Gone-clause-pays
@@ -122,9 +122,9 @@ returns-in-Err-clause-pages g c =
     let wrote = rw c.in-Err-Failed.field-0-is at c.in-Err-Failed.ensures in
     let marked = c.mark_block.ensures in
     let passes = passes_failed c.args.copies.now c.args.block d0 d1 d2 t (table c.write_group.new.blocks) (table c.mark_block.new.blocks) _ c.requires.clear c.requires.copies
-    c.requires.ready wrote.numbers wrote.lasts wrote.group.ends.0 wrote.group.writes (λ honest. wrote.group.groups honest c.args.block c.requires.clear.open_block) wrote.group.table marked.marks marked.newest marked.notes in
+    c.requires.can_write wrote.numbers wrote.lasts wrote.group.ends.0 wrote.group.writes (λ honest. wrote.group.groups honest c.args.block c.requires.clear.open_block) wrote.group.table marked.marks marked.newest marked.notes in
     pages_failed c.args.copies.now c.args.block d0 d1 t (table c.write_group.new.blocks) c.requires.clear c.requires.copies c.requires.group wrote.lasts wrote.numbers
-    d2 (table c.mark_block.new.blocks) _ passes marked.marks.lasts marked.numbers marked.ready (λ committed. committed)
+    d2 (table c.mark_block.new.blocks) _ passes marked.marks.lasts marked.numbers marked.can_write (λ committed. committed)
 
 pub returns-in-Err-clause-pays : goal.returns-in-Err-clause-pays
 returns-in-Err-clause-pays g c =
@@ -135,7 +135,7 @@ returns-in-Err-clause-pays g c =
     let wrote = rw c.in-Err-Failed.field-0-is at c.in-Err-Failed.ensures in
     let marked = c.mark_block.ensures in
     let passes = passes_failed c.args.copies.now c.args.block d0 d1 d2 t (table c.write_group.new.blocks) (table c.mark_block.new.blocks) _ c.requires.clear c.requires.copies
-    c.requires.ready wrote.numbers wrote.lasts wrote.group.ends.0 wrote.group.writes (λ honest. wrote.group.groups honest c.args.block c.requires.clear.open_block) wrote.group.table marked.marks marked.newest marked.notes in
+    c.requires.can_write wrote.numbers wrote.lasts wrote.group.ends.0 wrote.group.writes (λ honest. wrote.group.groups honest c.args.block c.requires.clear.open_block) wrote.group.table marked.marks marked.newest marked.notes in
     let same = mark_fails_not c.args.block d1 d2 _ marked.marks in
     pays_cut (length c.args.copies.now) (log_of d0 t) (log_of d2 (table c.mark_block.new.blocks)) c.requires.copies.within_limit (same ∙ wrote.group.ends.0)
     (changes_marked (length c.args.copies.now) d0 d1 d2 (mark_costs c.args.block d1 d2 _ marked.marks) wrote.group.ends.3) _ passes.failures
@@ -150,9 +150,9 @@ returns-in-Ok-mark_block-clause-pages g c =
     let wrote = rw c.in-Err-Failed.field-0-is at c.in-Err-Failed.ensures in
     let marked = c.mark_block.ensures in
     let passes = passes_failed c.args.copies.now c.args.block d0 d1 d2 t (table c.write_group.new.blocks) (table c.mark_block.new.blocks) _ c.requires.clear c.requires.copies
-    c.requires.ready wrote.numbers wrote.lasts wrote.group.ends.0 wrote.group.writes (λ honest. wrote.group.groups honest c.args.block c.requires.clear.open_block) wrote.group.table marked.marks marked.newest marked.notes in
+    c.requires.can_write wrote.numbers wrote.lasts wrote.group.ends.0 wrote.group.writes (λ honest. wrote.group.groups honest c.args.block c.requires.clear.open_block) wrote.group.table marked.marks marked.newest marked.notes in
     pages_failed c.args.copies.now c.args.block d0 d1 t (table c.write_group.new.blocks) c.requires.clear c.requires.copies c.requires.group wrote.lasts wrote.numbers
-    d2 (table c.mark_block.new.blocks) _ passes marked.marks.lasts marked.numbers marked.ready (λ committed. committed)
+    d2 (table c.mark_block.new.blocks) _ passes marked.marks.lasts marked.numbers marked.can_write (λ committed. committed)
 
 pub returns-in-Ok-mark_block-clause-pays : goal.returns-in-Ok-mark_block-clause-pays
 returns-in-Ok-mark_block-clause-pays g c =

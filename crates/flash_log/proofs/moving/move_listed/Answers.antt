@@ -5,13 +5,13 @@ use Rattle.nand_model.specs.declared.geometry.Geometry.{Geometry}
 use Rattle.block_state.specs.Table.{Table}
 use Rattle.block_state.specs.TableOf.{table}
 use Rattle.flash_log.specs.laws.FreeBlocks.{free_copied}
-use Rattle.flash_log.specs.laws.Moves.{are_held, moves_out_none, stands_committed}
+use Rattle.flash_log.specs.laws.Moves.{are_held, moves_out_none, consistent_committed}
 use Rattle.flash_log.specs.laws.Steps.{step_committed}
 use Rattle.flash_log.proofs.Moves.{none_noted, fills_anew, may_be_copied, same_bads, step_moved, moves_out, pays_moved, is_left, lies_in, lies_open, is_closed}
 use Rattle.flash_log.proofs.moving.move_listed.Goals as goal
 
 pub copy_listed-requires-clause-copies : goal.copy_listed-requires-clause-copies
-copy_listed-requires-clause-copies g c = may_be_copied c.args.spare c.requires.listed.0 _ (table c.args.blocks.now) c.args.index.now c.args.copies.now c.requires.can.ready c.requires.can.stands c.requires.listed.1
+copy_listed-requires-clause-copies g c = may_be_copied c.args.spare c.requires.listed.0 _ (table c.args.blocks.now) c.args.index.now c.args.copies.now c.requires.can.can_write c.requires.can.consistent c.requires.listed.1
 
 pub report_copies-requires-clause-within : goal.report_copies-requires-clause-within
 report_copies-requires-clause-within g c =
@@ -21,7 +21,7 @@ report_copies-requires-clause-within g c =
 pub report_copies-requires-clause-agree : goal.report_copies-requires-clause-agree
 report_copies-requires-clause-agree g c =
     let copied = c.in_ok-target.ensures in
-    let agree = c.requires.can.stands.tables.counts in
+    let agree = c.requires.can.consistent.tables.counts in
     record { counts = λ b. copied.pages.keeps.committed b ∙ agree.counts b; within = λ b le. agree.within b (subst (λ (geometry : Geometry). geometry.blocks ≤ b) copied.pages.keeps.geometry le) }
 
 pub report_copies-requires-clause-within_limit : goal.report_copies-requires-clause-within_limit
@@ -45,11 +45,11 @@ returns-in_err-target-clause-step g c =
     let t0 : Table = table c.args.blocks.now in
     let t1 : Table = table c.copy_listed.new.blocks in
     let x = c.args.index.now in
-    let held = are_held t0 x (c.the_counts_are_of_the_keys.ensures.none x) c.requires.can.stands.tables.counts in
+    let held = are_held t0 x (c.the_counts_are_of_the_keys.ensures.none x) c.requires.can.consistent.tables.counts in
     let copied = c.in_err-target.ensures in
-    let stand = stands_committed c.args.spare d0 d1 t0 t1 x held copied.pages.keeps c.requires.can.stands copied.ends.0 copied.pages.newest in
-    let free = free_copied c.args.spare d0 d1 t0 t1 x held copied.pages.keeps c.requires.can.stands stand.tables c.requires.listed.0 c.args.copies.now c.requires.listed.1 copied.pages.apart in
-    step_committed c.args.spare d0 d1 t0 t1 x held copied.pages.keeps c.requires.can.stands stand copied.pages.stored copied.pages.found free
+    let stays_consistent = consistent_committed c.args.spare d0 d1 t0 t1 x held copied.pages.keeps c.requires.can.consistent copied.ends.0 copied.pages.newest in
+    let free = free_copied c.args.spare d0 d1 t0 t1 x held copied.pages.keeps c.requires.can.consistent stays_consistent.tables c.requires.listed.0 c.args.copies.now c.requires.listed.1 copied.pages.apart in
+    step_committed c.args.spare d0 d1 t0 t1 x held copied.pages.keeps c.requires.can.consistent stays_consistent copied.pages.stored copied.pages.found free
 
 pub returns-in_err-target-clause-out : goal.returns-in_err-target-clause-out
 returns-in_err-target-clause-out g c = λ v listed. moves_out_none v c.args.index.now
@@ -74,7 +74,7 @@ returns-then-suspect g c =
     let t2 : Table = table c.report_copies.new.blocks in
     let x = c.args.index.now in
     let y = c.report_copies.new.index in
-    let held = are_held t0 x (c.the_counts_are_of_the_keys.ensures.none x) c.requires.can.stands.tables.counts in
+    let held = are_held t0 x (c.the_counts_are_of_the_keys.ensures.none x) c.requires.can.consistent.tables.counts in
     let copied = c.in_ok-target.ensures in
     let target = c.in_ok-target.target in
     let v : ℕ = c.requires.listed.0 in
@@ -82,19 +82,19 @@ returns-then-suspect g c =
     let reported = c.report_copies.ensures.reports v listed.lists (unlike v target.block t0 listed.some copied.ends.0.uncommitted) in
     let agree = c.report_copies.ensures.agree in
     record {
-      step = step_moved c.args.spare v target d0 d1 t0 t1 t2 x y c.args.copies.now listed held copied.pages.keeps c.requires.can.stands copied.ends.0 reported agree copied.pages.newest (are_held t2 y (c.the_counts_are_of_the_keys.ensures.none y) agree) copied.ends.1 copied.pages.stored copied.pages.found;
+      step = step_moved c.args.spare v target d0 d1 t0 t1 t2 x y c.args.copies.now listed held copied.pages.keeps c.requires.can.consistent copied.ends.0 reported agree copied.pages.newest (are_held t2 y (c.the_counts_are_of_the_keys.ensures.none y) agree) copied.ends.1 copied.pages.stored copied.pages.found;
       out = λ v listed.
           let reported = c.report_copies.ensures.reports v listed.lists (unlike v target.block t0 listed.some copied.ends.0.uncommitted) in
-          moves_out c.args.spare v target d0 d1 t0 t1 t2 x y c.args.copies.now listed held copied.pages.keeps c.requires.can.stands copied.ends.0 reported agree copied.pages.newest;
-      pays = pays_moved c.args.spare v target d0 d1 t0 t1 t2 x y c.args.copies.now listed held copied.pages.keeps c.requires.can.stands copied.ends.0 reported agree copied.pages.newest 1 _ (ap (λ (s : Bool). if s then 1 else 0) c.if-suspect.true) copied.pays;
-      within_limit = let same = same_bads c.args.spare v target d0 d1 t0 t1 t2 x y c.args.copies.now listed held copied.pages.keeps c.requires.can.stands copied.ends.0 reported agree copied.pages.newest in omega (arith, same, copied.within_limit);
-      anew = fills_anew c.args.spare v target d0 d1 t0 t1 t2 x y c.args.copies.now listed held copied.pages.keeps c.requires.can.stands copied.ends.0 reported agree copied.pages.newest;
+          moves_out c.args.spare v target d0 d1 t0 t1 t2 x y c.args.copies.now listed held copied.pages.keeps c.requires.can.consistent copied.ends.0 reported agree copied.pages.newest;
+      pays = pays_moved c.args.spare v target d0 d1 t0 t1 t2 x y c.args.copies.now listed held copied.pages.keeps c.requires.can.consistent copied.ends.0 reported agree copied.pages.newest 1 _ (ap (λ (s : Bool). if s then 1 else 0) c.if-suspect.true) copied.pays;
+      within_limit = let same = same_bads c.args.spare v target d0 d1 t0 t1 t2 x y c.args.copies.now listed held copied.pages.keeps c.requires.can.consistent copied.ends.0 reported agree copied.pages.newest in omega (arith, same, copied.within_limit);
+      anew = fills_anew c.args.spare v target d0 d1 t0 t1 t2 x y c.args.copies.now listed held copied.pages.keeps c.requires.can.consistent copied.ends.0 reported agree copied.pages.newest;
       ends = λ v listed.
           let reported = c.report_copies.ensures.reports v listed.lists (unlike v target.block t0 listed.some copied.ends.0.uncommitted) in (
-            is_left c.args.spare v target d0 d1 t0 t1 t2 x y c.args.copies.now listed held copied.pages.keeps c.requires.can.stands copied.ends.0 reported agree copied.pages.newest,
-            (lies_in c.args.spare v target d0 d1 t0 t1 t2 x y c.args.copies.now listed held copied.pages.keeps c.requires.can.stands copied.ends.0 reported agree copied.pages.newest, is_closed c.args.spare v target d0 d1 t0 t1 t2 x y c.args.copies.now listed held copied.pages.keeps c.requires.can.stands copied.ends.0 reported agree copied.pages.newest c.if-suspect.true),
+            is_left c.args.spare v target d0 d1 t0 t1 t2 x y c.args.copies.now listed held copied.pages.keeps c.requires.can.consistent copied.ends.0 reported agree copied.pages.newest,
+            (lies_in c.args.spare v target d0 d1 t0 t1 t2 x y c.args.copies.now listed held copied.pages.keeps c.requires.can.consistent copied.ends.0 reported agree copied.pages.newest, is_closed c.args.spare v target d0 d1 t0 t1 t2 x y c.args.copies.now listed held copied.pages.keeps c.requires.can.consistent copied.ends.0 reported agree copied.pages.newest c.if-suspect.true),
             copied.ends.1,
-            none_noted c.args.spare v target d0 d1 t0 t1 t2 x y c.args.copies.now listed held copied.pages.keeps c.requires.can.stands copied.ends.0 reported agree copied.pages.newest,
+            none_noted c.args.spare v target d0 d1 t0 t1 t2 x y c.args.copies.now listed held copied.pages.keeps c.requires.can.consistent copied.ends.0 reported agree copied.pages.newest,
           );
     }
 
@@ -107,7 +107,7 @@ returns g c =
     let t2 : Table = table c.report_copies.new.blocks in
     let x = c.args.index.now in
     let y = c.report_copies.new.index in
-    let held = are_held t0 x (c.the_counts_are_of_the_keys.ensures.none x) c.requires.can.stands.tables.counts in
+    let held = are_held t0 x (c.the_counts_are_of_the_keys.ensures.none x) c.requires.can.consistent.tables.counts in
     let copied = c.in_ok-target.ensures in
     let target = c.in_ok-target.target in
     let v : ℕ = c.requires.listed.0 in
@@ -115,18 +115,18 @@ returns g c =
     let reported = c.report_copies.ensures.reports v listed.lists (unlike v target.block t0 listed.some copied.ends.0.uncommitted) in
     let agree = c.report_copies.ensures.agree in
     record {
-      step = step_moved c.args.spare v target d0 d1 t0 t1 t2 x y c.args.copies.now listed held copied.pages.keeps c.requires.can.stands copied.ends.0 reported agree copied.pages.newest (are_held t2 y (c.the_counts_are_of_the_keys.ensures.none y) agree) copied.ends.1 copied.pages.stored copied.pages.found;
+      step = step_moved c.args.spare v target d0 d1 t0 t1 t2 x y c.args.copies.now listed held copied.pages.keeps c.requires.can.consistent copied.ends.0 reported agree copied.pages.newest (are_held t2 y (c.the_counts_are_of_the_keys.ensures.none y) agree) copied.ends.1 copied.pages.stored copied.pages.found;
       out = λ v listed.
           let reported = c.report_copies.ensures.reports v listed.lists (unlike v target.block t0 listed.some copied.ends.0.uncommitted) in
-          moves_out c.args.spare v target d0 d1 t0 t1 t2 x y c.args.copies.now listed held copied.pages.keeps c.requires.can.stands copied.ends.0 reported agree copied.pages.newest;
-      pays = pays_moved c.args.spare v target d0 d1 t0 t1 t2 x y c.args.copies.now listed held copied.pages.keeps c.requires.can.stands copied.ends.0 reported agree copied.pages.newest 0 _ (ap (λ (s : Bool). if s then 1 else 0) c.if-suspect.false) copied.pays;
-      within_limit = let same = same_bads c.args.spare v target d0 d1 t0 t1 t2 x y c.args.copies.now listed held copied.pages.keeps c.requires.can.stands copied.ends.0 reported agree copied.pages.newest in omega (arith, same, copied.within_limit);
-      anew = fills_anew c.args.spare v target d0 d1 t0 t1 t2 x y c.args.copies.now listed held copied.pages.keeps c.requires.can.stands copied.ends.0 reported agree copied.pages.newest;
+          moves_out c.args.spare v target d0 d1 t0 t1 t2 x y c.args.copies.now listed held copied.pages.keeps c.requires.can.consistent copied.ends.0 reported agree copied.pages.newest;
+      pays = pays_moved c.args.spare v target d0 d1 t0 t1 t2 x y c.args.copies.now listed held copied.pages.keeps c.requires.can.consistent copied.ends.0 reported agree copied.pages.newest 0 _ (ap (λ (s : Bool). if s then 1 else 0) c.if-suspect.false) copied.pays;
+      within_limit = let same = same_bads c.args.spare v target d0 d1 t0 t1 t2 x y c.args.copies.now listed held copied.pages.keeps c.requires.can.consistent copied.ends.0 reported agree copied.pages.newest in omega (arith, same, copied.within_limit);
+      anew = fills_anew c.args.spare v target d0 d1 t0 t1 t2 x y c.args.copies.now listed held copied.pages.keeps c.requires.can.consistent copied.ends.0 reported agree copied.pages.newest;
       ends = λ v listed.
           let reported = c.report_copies.ensures.reports v listed.lists (unlike v target.block t0 listed.some copied.ends.0.uncommitted) in (
-            is_left c.args.spare v target d0 d1 t0 t1 t2 x y c.args.copies.now listed held copied.pages.keeps c.requires.can.stands copied.ends.0 reported agree copied.pages.newest,
-            (target.block, lies_open c.args.spare v target d0 d1 t0 t1 t2 x y c.args.copies.now listed held copied.pages.keeps c.requires.can.stands copied.ends.0 reported agree copied.pages.newest copied.first c.if-suspect.false),
+            is_left c.args.spare v target d0 d1 t0 t1 t2 x y c.args.copies.now listed held copied.pages.keeps c.requires.can.consistent copied.ends.0 reported agree copied.pages.newest,
+            (target.block, lies_open c.args.spare v target d0 d1 t0 t1 t2 x y c.args.copies.now listed held copied.pages.keeps c.requires.can.consistent copied.ends.0 reported agree copied.pages.newest copied.first c.if-suspect.false),
             copied.ends.1,
-            none_noted c.args.spare v target d0 d1 t0 t1 t2 x y c.args.copies.now listed held copied.pages.keeps c.requires.can.stands copied.ends.0 reported agree copied.pages.newest,
+            none_noted c.args.spare v target d0 d1 t0 t1 t2 x y c.args.copies.now listed held copied.pages.keeps c.requires.can.consistent copied.ends.0 reported agree copied.pages.newest,
           );
     }

@@ -10,7 +10,7 @@ use Rattle.flash_log.proofs.summary_writing.mark_written.Goals as goal
 pub returns-in-Ok-clause-keeps : goal.returns-in-Ok-clause-keeps
 returns-in-Ok-clause-keeps g c =
     let m = c.mark_block.ensures in
-    mark_counts c.args.block _ _ (table c.args.blocks.now) _ _ c.requires.empty m.marks m.ready m.notes m.numbers
+    mark_counts c.args.block _ _ (table c.args.blocks.now) _ _ c.requires.empty m.marks m.can_write m.notes m.numbers
 
 pub returns-in-Ok-clause-found : goal.returns-in-Ok-clause-found
 returns-in-Ok-clause-found g c = found_marked c.args.block _ _ (table c.args.blocks.now) _ c.requires.empty.uncommitted c.mark_block.ensures.marks
@@ -24,7 +24,7 @@ returns-in-Ok-clause-ends g c =
 pub returns-in-Err-clause-keeps : goal.returns-in-Err-clause-keeps
 returns-in-Err-clause-keeps g c =
     let m = c.mark_block.ensures in
-    mark_counts c.args.block _ _ (table c.args.blocks.now) _ _ c.requires.empty m.marks m.ready m.notes m.numbers
+    mark_counts c.args.block _ _ (table c.args.blocks.now) _ _ c.requires.empty m.marks m.can_write m.notes m.numbers
 
 pub returns-in-Err-clause-found : goal.returns-in-Err-clause-found
 returns-in-Err-clause-found g c = found_marked c.args.block _ _ (table c.args.blocks.now) _ c.requires.empty.uncommitted c.mark_block.ensures.marks

@@ -43,7 +43,7 @@ mark_written-requires-in-Err-Failed-clause-none g c =
     let u : Table = table c.write_summary.new.blocks in
     let s = c.args.source.now in
     let w = c.write_summary.ensures in
-    none_after d e t.checkpoint _ w.numbers.truth (none_waits d t c.args.block c.requires.ready c.requires.fresh.open_block)
+    none_after d e t.checkpoint _ w.numbers.truth (none_waits d t c.args.block c.requires.can_write c.requires.fresh.open_block)
 
 pub returns-then-placed-clause-does : goal.returns-then-placed-clause-does
 returns-then-placed-clause-does g c =
@@ -57,7 +57,7 @@ returns-then-placed-clause-does g c =
     let v : Table = table c.mark_written.new.blocks in
     let m = c.mark_written.ensures in
     mark_summarizes (summary_of s t c.args.block) c.args.block d e f t u v c.requires.fresh.uncommitted
-    (listed_summarizes s c.args.block d e t u c.write_summary.result c.requires.ready c.requires.fresh (omega (arith, c.requires.number)) c.requires.source c.requires.lists w.lasts w.ready w.group w.numbers w.adds)
+    (listed_summarizes s c.args.block d e t u c.write_summary.result c.requires.can_write c.requires.fresh (omega (arith, c.requires.number)) c.requires.source c.requires.lists w.lasts w.can_write w.group w.numbers w.adds)
     m.keeps m.newest m.found m.closed
 
 pub returns-then-placed-clause-pays : goal.returns-then-placed-clause-pays
@@ -74,7 +74,7 @@ returns-then-placed-clause-pays g c =
     let same : bad_count u ≡ bad_count t = same_bad_count t u (same_ends s.pages t u c.write_summary.result w.group.table) in
     let failed = c.in-Ok.ensures.group.ends.0 ∙ ap (λ b. d.failures + (if b then 1 else 0)) c.if-placed.true in
     let changes = c.in-Ok.ensures.group.ends.2 in
-    λ count fits. pays_mark s.pages count (log_of d t) (log_of e u) c.requires.most (let same_pages = ap (λ (x : Geometry). x.pages) c.requires.ready.geometry in omega (arith, fits, same_pages)) w.lasts same (w.group.quiet tt) (log_of f v) failed (omega (arith, changes)) m.costs m.keeps.lasts c.mark_written.result m.ends
+    λ count fits. pays_mark s.pages count (log_of d t) (log_of e u) c.requires.most (let same_pages = ap (λ (x : Geometry). x.pages) c.requires.can_write.geometry in omega (arith, fits, same_pages)) w.lasts same (w.group.quiet tt) (log_of f v) failed (omega (arith, changes)) m.costs m.keeps.lasts c.mark_written.result m.ends
 
 pub returns-then-placed-clause-ends : goal.returns-then-placed-clause-ends
 returns-then-placed-clause-ends g c =
@@ -102,7 +102,7 @@ returns-in-Err-Failed-clause-does g c =
     let v : Table = table c.mark_written-in-Err-Failed.new.blocks in
     let m = c.mark_written-in-Err-Failed.ensures in
     mark_summarizes (summary_of s t c.args.block) c.args.block d e f t u v c.requires.fresh.uncommitted
-    (listed_summarizes s c.args.block d e t u c.write_summary.result c.requires.ready c.requires.fresh (omega (arith, c.requires.number)) c.requires.source c.requires.lists w.lasts w.ready w.group w.numbers w.adds)
+    (listed_summarizes s c.args.block d e t u c.write_summary.result c.requires.can_write c.requires.fresh (omega (arith, c.requires.number)) c.requires.source c.requires.lists w.lasts w.can_write w.group w.numbers w.adds)
     m.keeps m.newest m.found m.closed
 
 pub returns-in-Err-Failed-clause-pays : goal.returns-in-Err-Failed-clause-pays
@@ -120,7 +120,7 @@ returns-in-Err-Failed-clause-pays g c =
     let ended = (rw c.in-Err-Failed.field-0-is at c.in-Err-Failed.ensures).group.ends in
     let failed = ended.0 in
     let changes = ended.3 in
-    λ count fits. pays_mark s.pages count (log_of d t) (log_of e u) c.requires.most (let same_pages = ap (λ (x : Geometry). x.pages) c.requires.ready.geometry in omega (arith, fits, same_pages)) w.lasts same (w.group.quiet tt) (log_of f v) failed (omega (arith, changes)) m.costs m.keeps.lasts c.mark_written-in-Err-Failed.result m.ends
+    λ count fits. pays_mark s.pages count (log_of d t) (log_of e u) c.requires.most (let same_pages = ap (λ (x : Geometry). x.pages) c.requires.can_write.geometry in omega (arith, fits, same_pages)) w.lasts same (w.group.quiet tt) (log_of f v) failed (omega (arith, changes)) m.costs m.keeps.lasts c.mark_written-in-Err-Failed.result m.ends
 
 pub returns-in-Err-Failed-clause-ends : goal.returns-in-Err-Failed-clause-ends
 returns-in-Err-Failed-clause-ends g c =
@@ -144,7 +144,7 @@ returns-else-placed-clause-does g c =
     let u : Table = table c.write_summary.new.blocks in
     let s = c.args.source.now in
     let w = c.write_summary.ensures in
-    listed_summarizes s c.args.block d e t u c.write_summary.result c.requires.ready c.requires.fresh (omega (arith, c.requires.number)) c.requires.source c.requires.lists w.lasts w.ready w.group w.numbers w.adds
+    listed_summarizes s c.args.block d e t u c.write_summary.result c.requires.can_write c.requires.fresh (omega (arith, c.requires.number)) c.requires.source c.requires.lists w.lasts w.can_write w.group w.numbers w.adds
 
 pub returns-in-Err-Lost-clause-does : goal.returns-in-Err-Lost-clause-does
 returns-in-Err-Lost-clause-does g c =
@@ -154,7 +154,7 @@ returns-in-Err-Lost-clause-does g c =
     let u : Table = table c.write_summary.new.blocks in
     let s = c.args.source.now in
     let w = c.write_summary.ensures in
-    listed_summarizes s c.args.block d e t u c.write_summary.result c.requires.ready c.requires.fresh (omega (arith, c.requires.number)) c.requires.source c.requires.lists w.lasts w.ready w.group w.numbers w.adds
+    listed_summarizes s c.args.block d e t u c.write_summary.result c.requires.can_write c.requires.fresh (omega (arith, c.requires.number)) c.requires.source c.requires.lists w.lasts w.can_write w.group w.numbers w.adds
 
 pub returns-in-Err-Gone-clause-does : goal.returns-in-Err-Gone-clause-does
 returns-in-Err-Gone-clause-does g c =
@@ -164,7 +164,7 @@ returns-in-Err-Gone-clause-does g c =
     let u : Table = table c.write_summary.new.blocks in
     let s = c.args.source.now in
     let w = c.write_summary.ensures in
-    listed_summarizes s c.args.block d e t u c.write_summary.result c.requires.ready c.requires.fresh (omega (arith, c.requires.number)) c.requires.source c.requires.lists w.lasts w.ready w.group w.numbers w.adds
+    listed_summarizes s c.args.block d e t u c.write_summary.result c.requires.can_write c.requires.fresh (omega (arith, c.requires.number)) c.requires.source c.requires.lists w.lasts w.can_write w.group w.numbers w.adds
 
 pub returns-else-placed-clause-pays : goal.returns-else-placed-clause-pays
 returns-else-placed-clause-pays g c =
@@ -176,7 +176,7 @@ returns-else-placed-clause-pays g c =
     let w = c.write_summary.ensures in
     let same : bad_count u ≡ bad_count t = same_bad_count t u (same_ends s.pages t u c.write_summary.result w.group.table) in
     let ended = c.in-Ok.ensures.group.ends in
-    λ count fits. pays_pages s.pages count (log_of d t) (log_of e u) c.requires.most (let same_pages = ap (λ (x : Geometry). x.pages) c.requires.ready.geometry in omega (arith, fits, same_pages)) w.lasts same (w.group.quiet tt) (ended.0 ∙ ap (λ b. d.failures + (if b then 1 else 0)) c.if-placed.false ∙ omega arith) ended.2
+    λ count fits. pays_pages s.pages count (log_of d t) (log_of e u) c.requires.most (let same_pages = ap (λ (x : Geometry). x.pages) c.requires.can_write.geometry in omega (arith, fits, same_pages)) w.lasts same (w.group.quiet tt) (ended.0 ∙ ap (λ b. d.failures + (if b then 1 else 0)) c.if-placed.false ∙ omega arith) ended.2
 
 pub returns-in-Err-Lost-clause-pays : goal.returns-in-Err-Lost-clause-pays
 returns-in-Err-Lost-clause-pays g c =
@@ -188,7 +188,7 @@ returns-in-Err-Lost-clause-pays g c =
     let w = c.write_summary.ensures in
     let same : bad_count u ≡ bad_count t = same_bad_count t u (same_ends s.pages t u c.write_summary.result w.group.table) in
     let ended = (rw c.in-Err-Lost.field-0-is at c.in-Err-Lost.ensures).group.ends in
-    λ count fits. pays_fault s.pages count (log_of d t) (log_of e u) c.requires.most (let same_pages = ap (λ (x : Geometry). x.pages) c.requires.ready.geometry in omega (arith, fits, same_pages)) w.lasts same (w.group.quiet tt) _ ended.1
+    λ count fits. pays_fault s.pages count (log_of d t) (log_of e u) c.requires.most (let same_pages = ap (λ (x : Geometry). x.pages) c.requires.can_write.geometry in omega (arith, fits, same_pages)) w.lasts same (w.group.quiet tt) _ ended.1
 
 pub returns-in-Err-Gone-clause-pays : goal.returns-in-Err-Gone-clause-pays
 returns-in-Err-Gone-clause-pays g c =
@@ -200,7 +200,7 @@ returns-in-Err-Gone-clause-pays g c =
     let w = c.write_summary.ensures in
     let same : bad_count u ≡ bad_count t = same_bad_count t u (same_ends s.pages t u c.write_summary.result w.group.table) in
     let ended = (rw c.in-Err-Gone.field-0-is at c.in-Err-Gone.ensures).group.ends in
-    λ count fits. pays_fault s.pages count (log_of d t) (log_of e u) c.requires.most (let same_pages = ap (λ (x : Geometry). x.pages) c.requires.ready.geometry in omega (arith, fits, same_pages)) w.lasts same (w.group.quiet tt) _ ended.1
+    λ count fits. pays_fault s.pages count (log_of d t) (log_of e u) c.requires.most (let same_pages = ap (λ (x : Geometry). x.pages) c.requires.can_write.geometry in omega (arith, fits, same_pages)) w.lasts same (w.group.quiet tt) _ ended.1
 
 pub returns-else-placed-clause-ends : goal.returns-else-placed-clause-ends
 returns-else-placed-clause-ends g c =

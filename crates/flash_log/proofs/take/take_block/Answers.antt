@@ -10,8 +10,8 @@ use Rattle.flash_log.proofs.Passing.{passes_on, passes_closed, takes_from}
 use Rattle.flash_log.proofs.Turning.{turn_from, same_turns_on, same_turns_closed}
 use Rattle.flash_log.proofs.take.take_block.Goals as goal
 
-pub returns-then-next_seq-ge-NUMBER_END-clause-ready : goal.returns-then-next_seq-ge-NUMBER_END-clause-ready
-returns-then-next_seq-ge-NUMBER_END-clause-ready g c = subst (IsReady (g.N.Nand.state c.args.device.now)) (sym c.close.ensures) (ready_closed _ (table c.args.blocks.now) c.requires.ready)
+pub returns-then-next_seq-ge-NUMBER_END-clause-can_write : goal.returns-then-next_seq-ge-NUMBER_END-clause-can_write
+returns-then-next_seq-ge-NUMBER_END-clause-can_write g c = subst (IsReady (g.N.Nand.state c.args.device.now)) (sym c.close.ensures) (ready_closed _ (table c.args.blocks.now) c.requires.can_write)
 
 pub returns-then-next_seq-ge-NUMBER_END-clause-passes : goal.returns-then-next_seq-ge-NUMBER_END-clause-passes
 returns-then-next_seq-ge-NUMBER_END-clause-passes g c = passes_closed (g.N.Nand.state c.args.device.now) (table c.args.blocks.now) _ c.close.ensures
@@ -19,16 +19,16 @@ returns-then-next_seq-ge-NUMBER_END-clause-passes g c = passes_closed (g.N.Nand.
 pub loop-block-init : goal.loop-block-init
 loop-block-init g c = record {
   lasts = search rules;
-  ready = subst (IsReady (g.N.Nand.state c.args.device.now)) (sym c.close.ensures) (ready_closed _ (table c.args.blocks.now) c.requires.ready);
+  can_write = subst (IsReady (g.N.Nand.state c.args.device.now)) (sym c.close.ensures) (ready_closed _ (table c.args.blocks.now) c.requires.can_write);
   numbers = hands_closed _ (table c.args.blocks.now) _ c.close.ensures;
   passes = passes_closed (g.N.Nand.state c.args.device.now) (table c.args.blocks.now) _ c.close.ensures;
   none = search rules;
   answers = let same : bad_count (table c.close.new.self) ≡ bad_count (table c.args.blocks.now) = ap bad_count c.close.ensures in omega (arith, same);
   costs = omega arith;
   reads = refl;
-  within_limit = subst (λ (x : Table). bad_count x ≤ c.args.spare) (sym c.close.ensures) c.requires.some.bad;
+  within_limit = subst (λ (x : Table). bad_count x ≤ c.args.spare) (sym c.close.ensures) c.requires.uncommitted.bad;
   turns = same_turns_closed (table c.args.blocks.now) _ c.close.ensures;
-  apart = λ k is. ap (λ (x : Table). (x.entry k).committed) c.close.ensures ∙ c.requires.some.apart k (sym (ap (λ (x : Table). x.checkpoint) c.close.ensures) ∙ is);
+  apart = λ k is. ap (λ (x : Table). (x.entry k).committed) c.close.ensures ∙ c.requires.uncommitted.apart k (sym (ap (λ (x : Table). x.checkpoint) c.close.ensures) ∙ is);
 }
 
 pub loop-block-preserved : goal.loop-block-preserved
@@ -37,7 +37,7 @@ loop-block-preserved g c =
     let tried = rw c.in-Ok-Marked.field-0-is at c.in-Ok-Marked.ensures in
     record {
       lasts = lasts_on _ _ _ so_far.lasts tried.lasts;
-      ready = tried.ready;
+      can_write = tried.can_write;
       numbers = hands_on _ _ _ (table c.args.blocks.now) _ _ so_far.lasts tried.lasts so_far.numbers tried.numbers;
       passes = passes_on _ _ _ (table c.args.blocks.now) _ _ so_far.lasts so_far.passes tried.passes;
       none = record { open_block = tried.ends.0.open_block; next_seq = tried.ends.0.next_seq ∙ so_far.none.next_seq };
@@ -107,7 +107,7 @@ returns-in-Ok-Taken-clause-answers g c =
     let took = rw c.in-Ok-Taken.field-0-is at c.in-Ok-Taken.ensures in
     omega (arith, c.loop-block.invariant.answers, took.answers)
 
-pub try_block-requires-clause-some : goal.try_block-requires-clause-some
-try_block-requires-clause-some g c =
+pub try_block-requires-clause-uncommitted : goal.try_block-requires-clause-uncommitted
+try_block-requires-clause-uncommitted g c =
     let so_far = c.loop-block.invariant in
-    (c.args.spare, record { bad = so_far.within_limit; uncommitted = omega (arith, so_far.passes.uncommitted, c.requires.some.uncommitted); apart = so_far.apart })
+    (c.args.spare, record { bad = so_far.within_limit; uncommitted = omega (arith, so_far.passes.uncommitted, c.requires.uncommitted.uncommitted); apart = so_far.apart })

@@ -12,7 +12,7 @@ use Rattle.flash_log.proofs.take.take_block.Given as goal
 abbrev pub invariant-loop-block : goal.invariant-loop-block
 invariant-loop-block g l = record {
   lasts : Lasts (g.N.Nand.state l.fn.device) (g.N.Nand.state l.device);
-  ready : IsReady (g.N.Nand.state l.device) (table l.blocks);
+  can_write : IsReady (g.N.Nand.state l.device) (table l.blocks);
   numbers : HandsOut (g.N.Nand.state l.fn.device) (g.N.Nand.state l.device) (table l.fn.blocks) (table l.blocks);
   passes : Passes (g.N.Nand.state l.fn.device) (g.N.Nand.state l.device) (table l.fn.blocks) (table l.blocks);
   none : TakesNone (table l.fn.blocks) (table l.blocks);

@@ -18,7 +18,7 @@ unreachable-requires g c =
     let t : Table = table c.args.blocks.now in
     let free = free_where_closed t c.requires.closed in
     let none = none_free t (rw c.in_default.is at c.next_taken.ensures).none in
-    let some = c.requires.some.1 in
+    let some = c.requires.uncommitted.1 in
     omega (arith, free, none, some.bad, some.uncommitted)
 
 pub returns-in-Ok-clause-passes : goal.returns-in-Ok-clause-passes
@@ -28,7 +28,7 @@ returns-in-Ok-clause-passes g c =
     let does = c.erase_and_open.ensures in
     let opens = c.in-Ok.ensures.opens in
     passes_opened c.in-Some.block _ _ t _ _ c.requires.seq free.1 does.erases does.newest opens
-    (erased_opened c.in-Some.block _ _ t _ _ (λ honest. goes_next _ t c.in-Some.block c.requires.ready c.requires.some.1.apart c.requires.closed c.in-Some.ensures.found) free.1 c.in-Ok.ensures.erases opens)
+    (erased_opened c.in-Some.block _ _ t _ _ (λ honest. goes_next _ t c.in-Some.block c.requires.can_write c.requires.uncommitted.1.apart c.requires.closed c.in-Some.ensures.found) free.1 c.in-Ok.ensures.erases opens)
 
 pub returns-in-Ok-clause-ends : goal.returns-in-Ok-clause-ends
 returns-in-Ok-clause-ends g c =
@@ -60,8 +60,8 @@ returns-in_ok-mark_block-in-Err-Failed-clause-passes g c =
     let marked = c.mark_block.ensures in
     let notes = subst (λ (x : Table). NotesMark block (g.N.Nand.state c.mark_block.new.device).flash x (table c.mark_block.new.blocks)) erased.unchanged marked.notes in
     passes_marked block _ _ _ t _ _ c.in-Some.ensures.found.within free.0 free.1 erased.erases.lasts (erase_fails block _ _ erased.erases) erased.newest (gains_erased block _ _ t _ free.1 erased.erases) (found_erased block _ _ t _ free.1 erased.erases) marked.marks marked.newest notes
-    (erased_failed block _ _ _ t _ _ _ (λ honest. goes_next _ t block c.requires.ready c.requires.some.1.apart c.requires.closed c.in-Some.ensures.found)
-    (noted_next _ t block c.requires.ready c.requires.some.1.apart c.in-Some.ensures.found) c.requires.closed erased.erases marked.marks notes)
+    (erased_failed block _ _ _ t _ _ _ (λ honest. goes_next _ t block c.requires.can_write c.requires.uncommitted.1.apart c.requires.closed c.in-Some.ensures.found)
+    (noted_next _ t block c.requires.can_write c.requires.uncommitted.1.apart c.in-Some.ensures.found) c.requires.closed erased.erases marked.marks notes)
 
 pub returns-in_err-mark_block-in-Err-Failed-clause-passes : goal.returns-in_err-mark_block-in-Err-Failed-clause-passes
 returns-in_err-mark_block-in-Err-Failed-clause-passes g c =
@@ -72,8 +72,8 @@ returns-in_err-mark_block-in-Err-Failed-clause-passes g c =
     let marked = c.mark_block.ensures in
     let notes = subst (λ (x : Table). NotesMark block (g.N.Nand.state c.mark_block.new.device).flash x (table c.mark_block.new.blocks)) erased.unchanged marked.notes in
     passes_marked block _ _ _ t _ _ c.in-Some.ensures.found.within free.0 free.1 erased.erases.lasts (erase_fails block _ _ erased.erases) erased.newest (gains_erased block _ _ t _ free.1 erased.erases) (found_erased block _ _ t _ free.1 erased.erases) marked.marks marked.newest notes
-    (erased_failed block _ _ _ t _ _ _ (λ honest. goes_next _ t block c.requires.ready c.requires.some.1.apart c.requires.closed c.in-Some.ensures.found)
-    (noted_next _ t block c.requires.ready c.requires.some.1.apart c.in-Some.ensures.found) c.requires.closed erased.erases marked.marks notes)
+    (erased_failed block _ _ _ t _ _ _ (λ honest. goes_next _ t block c.requires.can_write c.requires.uncommitted.1.apart c.requires.closed c.in-Some.ensures.found)
+    (noted_next _ t block c.requires.can_write c.requires.uncommitted.1.apart c.in-Some.ensures.found) c.requires.closed erased.erases marked.marks notes)
 
 pub returns-in_ok-mark_block-in-Err-Failed-clause-ends : goal.returns-in_ok-mark_block-in-Err-Failed-clause-ends
 returns-in_ok-mark_block-in-Err-Failed-clause-ends g c =
@@ -95,8 +95,8 @@ returns-in-Err-Gone-clause-passes g c =
     let free = was_uncommitted t c.in-Some.block c.in-Some.ensures.found.free in
     let erased = rw c.in-Err-Gone.field-0-is at c.in-Err-Gone.ensures in
     passes_erased c.in-Some.block _ _ t _ _ erased.unchanged free.1 erased.erases erased.newest
-    (erased_cut c.in-Some.block _ _ t _ _ (λ honest. goes_next _ t c.in-Some.block c.requires.ready c.requires.some.1.apart c.requires.closed c.in-Some.ensures.found)
-    (noted_next _ t c.in-Some.block c.requires.ready c.requires.some.1.apart c.in-Some.ensures.found) c.requires.closed erased.unchanged erased.erases erased.erases.ends.is)
+    (erased_cut c.in-Some.block _ _ t _ _ (λ honest. goes_next _ t c.in-Some.block c.requires.can_write c.requires.uncommitted.1.apart c.requires.closed c.in-Some.ensures.found)
+    (noted_next _ t c.in-Some.block c.requires.can_write c.requires.uncommitted.1.apart c.in-Some.ensures.found) c.requires.closed erased.unchanged erased.erases erased.erases.ends.is)
 
 pub returns-in-Ok-clause-costs : goal.returns-in-Ok-clause-costs
 returns-in-Ok-clause-costs g c = let erase = erase_costs _ _ _ _ c.erase_and_open.ensures.erases in omega (arith, erase, c.erase_and_open.ensures.erases.lasts.failures)
@@ -128,7 +128,7 @@ returns-in_ok-mark_block-in-Err-Failed-clause-numbers g c =
     hands_on _ _ _ (table c.args.blocks.now) (table c.erase_and_open.new.blocks) _ erased.erases.lasts marked.marks.lasts erased.numbers marked.numbers
 
 pub returns-in-Ok-clause-turn : goal.returns-in-Ok-clause-turn
-returns-in-Ok-clause-turn g c = opened_in_turn c.in-Some.block _ (table c.args.blocks.now) _ c.requires.ready c.requires.some.1.apart c.requires.closed c.in-Some.ensures.found c.in-Ok.ensures.opens
+returns-in-Ok-clause-turn g c = opened_in_turn c.in-Some.block _ (table c.args.blocks.now) _ c.requires.can_write c.requires.uncommitted.1.apart c.requires.closed c.in-Some.ensures.found c.in-Ok.ensures.opens
 
 pub returns-in_ok-mark_block-in-Err-Failed-clause-turn : goal.returns-in_ok-mark_block-in-Err-Failed-clause-turn
 returns-in_ok-mark_block-in-Err-Failed-clause-turn g c =
@@ -160,11 +160,11 @@ erase_and_open-requires-clause-block g c =
       within = search rules;
       good = search rules;
       closed = search rules;
-      first = first_taken _ (table c.args.blocks.now) _ c.in-Some.block c.requires.ready c.requires.some.1.apart c.in-Some.ensures.found;
+      first = first_taken _ (table c.args.blocks.now) _ c.in-Some.block c.requires.can_write c.requires.uncommitted.1.apart c.in-Some.ensures.found;
       seq = search rules;
     }
 
 pub mark_block-requires-clause-first : goal.mark_block-requires-clause-first
 mark_block-requires-clause-first g c =
     let erased = rw c.in-Err-Failed.field-0-is at c.in-Err-Failed.ensures in
-    subst (MayLose c.in-Some.block) (sym erased.unchanged) (first_taken _ (table c.args.blocks.now) _ c.in-Some.block c.requires.ready c.requires.some.1.apart c.in-Some.ensures.found)
+    subst (MayLose c.in-Some.block) (sym erased.unchanged) (first_taken _ (table c.args.blocks.now) _ c.in-Some.block c.requires.can_write c.requires.uncommitted.1.apart c.in-Some.ensures.found)

@@ -11,7 +11,7 @@ returns g c =
     let lies = c.abandon.ensures in
     let same = sym lies.1 ∙ c.ask_space-reply.ensures.leaves refl ∙ mounted.since.seen_is in
     inr (record {
-      first = record { volume = c.in-Ok.volume };
+      first = c.in-Ok.volume;
       last = c.ask_space-reply.new.volume;
       reply = c.ask_space-reply.result;
       mounted = mounted;

@@ -5,7 +5,7 @@ use Rattle.flash_program.proofs.space.show_device.Goals as goal
 
 pub returns : goal.returns
 returns g c = inr (record {
-  first = record { volume = c.in-Ok.volume };
+  first = c.in-Ok.volume;
   last = c.ask_space-reply.new.volume;
   reply = c.ask_space-reply.result;
   spoken = c.report_space-reported.result;

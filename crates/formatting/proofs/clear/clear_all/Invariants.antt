@@ -6,5 +6,5 @@ abbrev pub invariant-loop-block : goal.invariant-loop-block
 invariant-loop-block g l = record {
   keeps : Keeps (g.N.Nand.state l.fn.device) (g.N.Nand.state l.device);
   each_failure_marks : EachFailureMarks (g.N.Nand.state l.fn.device) (g.N.Nand.state l.device);
-  ready : (b : ℕ) → b < l.block → IsClear (g.N.Nand.state l.device).flash b;
+  can_write : (b : ℕ) → b < l.block → IsClear (g.N.Nand.state l.device).flash b;
 }

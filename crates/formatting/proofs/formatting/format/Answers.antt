@@ -19,10 +19,10 @@ returns-in-Ok-lay_out-clause-formatted g c = λ honest.
     let room : c.args.spare + 4 ≤ old.geometry.blocks = omega (arith, ap (λ (x : Geometry). x.blocks) same, c.blocks-2.ensures, c.geometry-geometry.result.least_blocks) in
     let size : c.bytes.result ≡ old.geometry.bytes = c.bytes.ensures ∙ ap (λ (x : Geometry). x.bytes) same in
     let head = subst (λ d. IsHeadPage c.in-Ok.page d root_number (empty_root c.args.spare)) size c.in-Ok.ensures in
-    let only = root_alone old new c.args.spare c.in-Ok.page honest c.lay_out.ensures.keeps head c.in-Ok-lay_out.ensures.stands in
+    let only = root_alone old new c.args.spare c.in-Ok.page honest c.lay_out.ensures.keeps head c.in-Ok-lay_out.ensures.written in
     let there = subst (λ (x : Geometry). IsHeader x.bytes (fields_in x.bytes (empty_root c.args.spare))) (sym c.lay_out.ensures.keeps.lasts.geometry) head.head_is.valid in
     record {
-      sound = volume_of old new c.args.spare c.in-Ok.page honest room c.lay_out.ensures.keeps c.in-Ok-lay_out.ensures.few_bad head c.in-Ok-lay_out.ensures.stands;
+      sound = volume_of old new c.args.spare c.in-Ok.page honest room c.lay_out.ensures.keeps c.in-Ok-lay_out.ensures.few_bad head c.in-Ok-lay_out.ensures.written;
       alone = only;
       starts = record { checkpoints = root_true c.args.spare new only; mountable = root_mountable c.args.spare new only there };
     }

@@ -9,5 +9,5 @@ invariant-loop-block g l = record {
   failed : (g.N.Nand.state l.device).failures ≡ (g.N.Nand.state l.fn.device).failures + l.failed;
   within_limit : l.failed ≤ l.block;
   bad : (b : ℕ) → b < l.block → (g.N.Nand.state l.device).flash.bad b ≡ true;
-  ready : AreClear (g.N.Nand.state l.device) l.block;
+  can_write : AreClear (g.N.Nand.state l.device) l.block;
 }

@@ -12,9 +12,9 @@ returns-clause-tables g c =
     let blocks = table c.in_ok-store.store.log.blocks in
     let reported = c.in_ok-store.ensures.tables in
     let opened = c.requires.read.tables.tables in
-    let ready = opened.ready (c.requires.can c.if-worn.false).can.0 in
+    let can_write = opened.can_write (c.requires.can c.if-worn.false).can.0 in
     record {
       index = reported.0;
-      marks = λ t is. of_table (HasMarks flash) t blocks (table on.blocks) reported.1 is (λ b lt. ready.marks b);
+      marks = λ t is. of_table (HasMarks flash) t blocks (table on.blocks) reported.1 is (λ b lt. can_write.marks b);
       counts = λ t is. of_table (λ (u : Table). CountsAgree u on.index) t blocks (table on.blocks) reported.1 is opened.counts;
     }

@@ -2,7 +2,7 @@ use Rattle.std.proofs.Common.{◌≡◌, ◌/◌, false, sym, ap, subst, rules}
 use Rattle.flash_tree.specs.Places.{numbers_of}
 use Rattle.block_state.specs.TableOf.{table}
 use Rattle.page_store.specs.ReadOnly.{only_read}
-use Rattle.page_store.specs.Newest.{seen}
+use Rattle.page_store.specs.Newest.{seen_pages}
 use Rattle.pages.specs.State.{PagesState}
 use Rattle.tree_walk.specs.Trees.{keeps_key}
 use Rattle.mounting.specs.Made.{ArePagesOn}
@@ -24,7 +24,7 @@ returns-clause-made g c =
     let spare : on.spare ≡ c.from.result = search rules in
     let most : d.geometry.pages / 4 ≡ c.pages-most.result / 4 = search rules in
     let at = c.checkpoint-checkpoint.result in
-    let page = record (seen (g.N.Nand.state p.device) p.index p.page.items) { checkpoint = at } in
+    let page = record (seen_pages (g.N.Nand.state p.device) p.index p.page.items) { checkpoint = at } in
     subst (λ (k : PagesState). ArePagesOn d on.index n on.spare k) (sym c.new-2.ensures.state)
     (subst (λ s. ArePagesOn d on.index n on.spare (only_read page n s (c.pages-most.result / 4) false)) spare
     (subst (λ m. ArePagesOn d on.index n on.spare (only_read page n on.spare m false)) most

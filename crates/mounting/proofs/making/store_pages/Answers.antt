@@ -3,14 +3,14 @@ use Rattle.nand_model.specs.Calls.{Device}
 use Rattle.flash_tree.specs.Places.{numbers_of}
 use Rattle.block_state.specs.Committed.{bad_count}
 use Rattle.block_state.specs.TableOf.{table}
-use Rattle.flash_log.specs.Standing.{Stands, HasFreeBlocks}
-use Rattle.page_store.specs.BufferOf.{buffered}
+use Rattle.flash_log.specs.Consistency.{IsConsistentLog, HasFreeBlocks}
+use Rattle.page_store.specs.BufferOf.{contents}
 use Rattle.page_store.specs.Shown.{present_data}
 use Rattle.page_store.specs.StoreOf.{committed_data_map}
 use Rattle.page_store.specs.StateOf.{lent_by, state_of}
 use Rattle.tree_walk.specs.Trees.{keeps_key}
 use Rattle.mounting.proofs.Mountable.{mountable_since, store_finds, store_remembers}
-use Rattle.mounting.proofs.PagesMade.{ready, stands, within_limit, free, store_pages}
+use Rattle.mounting.proofs.PagesMade.{can_write, consistent, within_limit, free, store_pages}
 use Rattle.mounting.proofs.making.store_pages.Goals as goal
 
 pub new-requires : goal.new-requires
@@ -22,9 +22,9 @@ new-requires g c = λ κs within.
     let can = c.requires.can.can in (
       within,
       (
-        ready (keeps_key on.tree) d (table on.blocks) on.index (numbers_of on.numbers) on.spare read c.requires.fitting c.requires.room can,
+        can_write (keeps_key on.tree) d (table on.blocks) on.index (numbers_of on.numbers) on.spare read c.requires.fitting c.requires.room can,
         (
-          subst (λ s. Stands s d (table on.blocks) on.index) same (stands (keeps_key on.tree) d (table on.blocks) on.index (numbers_of on.numbers) on.spare read c.requires.fitting c.requires.room can c.requires.ordinary),
+          subst (λ s. IsConsistentLog s d (table on.blocks) on.index) same (consistent (keeps_key on.tree) d (table on.blocks) on.index (numbers_of on.numbers) on.spare read c.requires.fitting c.requires.room can c.requires.ordinary),
           mountable_since d (table on.blocks) on.index (g.met.N.Nand.within on.device) c.requires.can.mountable,
         ),
       ),
@@ -66,5 +66,5 @@ returns-in-Ok-new-clause-made g c =
     (state_of s) (lent_by s) device_is (table_is, ap (λ l. l.spare) stored.log ∙ logged.spare ∙ same) stored.whole
     (stored.most ∙ ap (λ (e : Device). e.geometry.pages / 4) device)
     (λ o k. ap (λ l. committed_data_map (g.N.Nand.state l.device) l.index o k) stored.log ∙ ap (λ (e : Device). committed_data_map e log.index o k) device ∙ ap (λ x. committed_data_map d x o k) logged.tables.1)
-    (λ o k. ap (λ l. present_data l.index (buffered s.buffer) d.flash o k) stored.log ∙ ap (λ x. present_data x (buffered s.buffer) d.flash o k) logged.tables.1 ∙ (rw (device, logged.tables.1) at stored.pages o k))
+    (λ o k. ap (λ l. present_data l.index (contents s.buffer) d.flash o k) stored.log ∙ ap (λ x. present_data x (contents s.buffer) d.flash o k) logged.tables.1 ∙ (rw (device, logged.tables.1) at stored.pages o k))
     (store_finds d (table on.blocks) on.index within mountable (state_of s) (lent_by s) device_is table_is first) (store_remembers d (table on.blocks) on.index within mountable (state_of s) (lent_by s) device_is table_is first)

@@ -5,7 +5,7 @@ use Rattle.volume_terms.specs.VolumeSizes as volume
 use Rattle.flash_tree.specs.Mount.{sizes_of}
 use Rattle.block_state.specs.TableOf.{table}
 use Rattle.mounting.proofs.Mountable.{is_mountable}
-use Rattle.mounting.proofs.Standing.{ordinary_shown}
+use Rattle.mounting.proofs.Consistency.{ordinary_shown}
 use Rattle.mounting.proofs.Giving.{ShownLaws, only_read_where, are_next, most_is, mounted_with, page_bytes_is, volume_is}
 use Rattle.mounting.proofs.Placed.{are_placed}
 use Rattle.mounting.proofs.mounted.make_mounted.Goals as goal
@@ -66,6 +66,6 @@ make_pages-requires-clause-can g c = λ written.
       can = can;
       mountable = λ began honest.
           let shown = c.requires.tree honest in
-          is_mountable d (table on.blocks) on.index on.spare shown.0 honest began shown.1 shown.2.places (opened.newest honest) _ (numbers_of on.numbers) opened (opened.ready can.0)
+          is_mountable d (table on.blocks) on.index on.spare shown.0 honest began shown.1 shown.2.places (opened.newest honest) _ (numbers_of on.numbers) opened (opened.can_write can.0)
           (g.met.N.Nand.within on.device) (c.requires.blocks.firsts honest can.0) c.requires.blocks.whole (c.the_counts_are_of_the_keys.ensures.zero on.index) c.a_table_of_first_pages_knows_erased_blocks.ensures;
     }

@@ -44,4 +44,4 @@ returns-clause-plans g c z s holds same =
     c.new.ensures ∙ c.truncate.ensures.items ∙ ap (take c.in_ok-read.read) items ∙ reported ∙ bytes_in_room s.objects d.object d.offset c.args.count (length c.deref_mut.result.now) room in
     let within_limit : c.in_ok-read.read ≡ length (take c.in_ok-read.read c.read_into.new.buffer) = sym (length-take-le c.in_ok-read.read c.read_into.new.buffer (omega (arith, c.in_ok-read.ensures.count, c.in_ok-read.ensures.size))) in
     let count : c.in_ok-read.read ≡ length (bytes_from s.objects d.object d.offset c.args.count) = within_limit ∙ ap length (reported ∙ bytes_in_room s.objects d.object d.offset c.args.count (length c.deref_mut.result.now) room) in
-    read_plan z s c.args.fd c.args.count d c.in_ok-read.read c.new.result c.moved.result (holds.sound.well_formed.handles c.args.fd (handle_of d) is.stands) is c.ranges.count.fits count bytes c.moved.ensures
+    read_plan z s c.args.fd c.args.count d c.in_ok-read.read c.new.result c.moved.result (holds.sound.well_formed.handles c.args.fd (handle_of d) is.represents) is c.ranges.count.fits count bytes c.moved.ensures

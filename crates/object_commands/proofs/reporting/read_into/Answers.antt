@@ -32,4 +32,4 @@ returns-clause-plans g c z s holds same =
     let bytes : take c.in_ok-count.count (c.read_into.new.buffer ++ drop most whole) ≡ bytes_from s.objects d.object d.offset (asked_of whole) =
     take-append-le c.in_ok-count.count c.read_into.new.buffer (drop most whole) within_limit ∙ reported in
     let count : c.in_ok-count.count ≡ length (bytes_from s.objects d.object d.offset (asked_of whole)) = sym (length-take-le c.in_ok-count.count c.read_into.new.buffer within_limit) ∙ ap length reported in
-    read_plan z s c.args.fd (asked_of whole) d c.in_ok-count.count _ c.moved.result (holds.sound.well_formed.handles c.args.fd (handle_of d) is.stands) is (omega arith) count bytes c.moved.ensures
+    read_plan z s c.args.fd (asked_of whole) d c.in_ok-count.count _ c.moved.result (holds.sound.well_formed.handles c.args.fd (handle_of d) is.represents) is (omega arith) count bytes c.moved.ensures

@@ -26,7 +26,7 @@ returns-else-not-is_file g c z s holds same =
     let there = (holds.sound.well_formed.handles c.args.fd h (sym stood)).there in
     let file = file_of s.objects c.in-Some.description.object there.0 there.1 (sym (c.is_file.ensures z s.objects holds.has) ∙ c.if-not-is_file.false) in
     record {
-      stands = sym stood;
+      represents = sym stood;
       file = file;
       means = λ count. this_file s errors.EISDIR (read_of s c.args.fd h count) c.in-Some.description.object file _ file.2
           ∙ passed_all s _ ∙ passed s _ _ _ _ (ap not (sym c.may_read.ensures ∙ c.if-not-may_read.false)) ∙ this_handle s _ _ h stood;

@@ -1,7 +1,7 @@
 use Rattle.std.proofs.Common.{◌≡◌, ◌<◌, ◌≤◌, ℕ, Some, IsSome, length, slice_get}
 use Rattle.flash_tree.specs.declared.place.FreshPage.{FreshPage}
 use Rattle.pages.specs.Maps.{PageMap}
-use Rattle.page_store.specs.BufferOf.{buffered, last_written, most_pages, bytes_of_page}
+use Rattle.page_store.specs.BufferOf.{contents, last_written, most_pages, bytes_of_page}
 use Rattle.page_store.specs.Cached.{held, cached}
 use Rattle.page_store.specs.Changes.{KeepsSizes}
 use Rattle.page_store.specs.Caching.{Shows, AreIn}
@@ -9,7 +9,7 @@ use Rattle.page_store.proofs.caching.keep_written.Given as goal
 
 abbrev pub invariant-loop-page : goal.invariant-loop-page
 invariant-loop-page l = record {
-  pages : buffered l.buffer ≡ buffered l.fn.buffer;
+  pages : contents l.buffer ≡ contents l.fn.buffer;
   buffer_sizes : (most_pages l.buffer ≡ most_pages l.fn.buffer) × (bytes_of_page l.buffer ≡ bytes_of_page l.fn.buffer);
   sizes : KeepsSizes l.fn.cache l.cache;
   shows : (m : PageMap) → Shows l.fn.cache m → AreIn (last_written l.fn.buffer) m → Shows l.cache m × AreIn (last_written l.buffer) m;

@@ -14,8 +14,8 @@ use Rattle.page_store.proofs.TrueTables.{all_may, keeps_tree}
 use Rattle.page_store.proofs.KnowingFirsts.{committed_firsts}
 use Rattle.page_store.proofs.checkpoint_opening.open_committed.Goals as goal
 
-pub returns-then-not-may_all_be_committed-clause-some : goal.returns-then-not-may_all_be_committed-clause-some
-returns-then-not-may_all_be_committed-clause-some g c = λ (honest, true_flash).
+pub returns-then-not-may_all_be_committed-clause-made : goal.returns-then-not-may_all_be_committed-clause-made
+returns-then-not-may_all_be_committed-clause-made g c = λ (honest, true_flash).
     absurd (not_true c.may_all_be_committed.result c.if-not-may_all_be_committed.true
     (c.may_all_be_committed.ensures.1 (all_may (g.N.Nand.state c.args.device.now) (checkpoint_of c.args.found.now) honest (c.requires.whole honest) true_flash.truth (g.met.N.Nand.within c.args.device.now))))
 

@@ -34,7 +34,7 @@ returns-clause-leaves g c =
     let a : BufferedLog = held c.args.log.now c.args.buffer.now in
     let b : BufferedLog = held c.make_room.new.self c.args.buffer.now in
     let d : BufferedLog = held c.write_in_room.new.log c.write_in_room.new.buffer in
-    leaves_on c.args.log.now.spare a b d c.args.log.now.stands c.make_room.ensures.step refl (rw c.make_room.ensures.terms.spare at c.write_in_room.ensures).leaves
+    leaves_on c.args.log.now.spare a b d c.args.log.now.consistent c.make_room.ensures.step refl (rw c.make_room.ensures.terms.spare at c.write_in_room.ensures).leaves
 
 pub returns-clause-well : goal.returns-clause-well
 returns-clause-well g c =
@@ -52,4 +52,4 @@ returns-clause-ends g c =
     let a : BufferedLog = held c.args.log.now c.args.buffer.now in
     let b : BufferedLog = held c.make_room.new.self c.args.buffer.now in
     let d : BufferedLog = held c.write_in_room.new.log c.write_in_room.new.buffer in
-    turn_after c.args.log.now.spare a b d c.write_in_room.result c.args.log.now.stands c.make_room.ensures.step refl c.in_ok-make_room.ensures.ends.within_limit (rw c.make_room.ensures.terms.spare at c.write_in_room.ensures).ends
+    turn_after c.args.log.now.spare a b d c.write_in_room.result c.args.log.now.consistent c.make_room.ensures.step refl c.in_ok-make_room.ensures.ends.within_limit (rw c.make_room.ensures.terms.spare at c.write_in_room.ensures).ends

@@ -17,13 +17,13 @@ use Rattle.page_store.proofs.turn.write_in_room.Goals as goal
 pub invariant_of-log : goal.invariant_of-log
 invariant_of-log g c =
     let log = c.args.log.now in
-    let committed = (c.write_buffered.ensures.attempts log.spare log.stands c.requires.free).0.log in
+    let committed = (c.write_buffered.ensures.attempts log.spare log.consistent c.requires.free).0.log in
     let geometry = committed.lasts.geometry in
     let pages = ap (λ (x : Geometry). x.pages) geometry in
     let bytes = ap (λ (x : Geometry). x.bytes) geometry in
     record {
-      ready = committed.ready;
-      stands = committed.stands;
+      can_write = committed.can_write;
+      consistent = committed.consistent;
       room_size = record {
         copies = omega (arith, log.room_size.copies, pages);
         entries = omega (arith, log.room_size.entries, pages);
@@ -34,13 +34,13 @@ invariant_of-log g c =
     }
 
 pub returns-in_err-write_buffered-clause-leaves : goal.returns-in_err-write_buffered-clause-leaves
-returns-in_err-write_buffered-clause-leaves g c = (c.write_buffered.ensures.attempts c.args.log.now.spare c.args.log.now.stands c.requires.free).0
+returns-in_err-write_buffered-clause-leaves g c = (c.write_buffered.ensures.attempts c.args.log.now.spare c.args.log.now.consistent c.requires.free).0
 
 pub returns-in_err-write_buffered-clause-well : goal.returns-in_err-write_buffered-clause-well
 returns-in_err-write_buffered-clause-well g c =
     let a : BufferedLog = held c.args.log.now c.args.buffer.now in
     let b : BufferedLog = in_parts g.N.Nand.state c.write_buffered.new.device c.write_buffered.new.blocks c.write_buffered.new.index c.write_buffered.new.buffer in
-    let ends = (c.in_err-write_buffered.ensures.attempts c.args.log.now.spare c.args.log.now.stands c.requires.free).1 in
+    let ends = (c.in_err-write_buffered.ensures.attempts c.args.log.now.spare c.args.log.now.consistent c.requires.free).1 in
     let p = err_from_is_err_and c.from_residual.result c.from_residual.ensures.1 in
     rw p.1 (record { stays_open = tt; unhindered = λ h. absurd (attempt_hindered (length a.pages) c.args.log.now.spare a b c.in_err-write_buffered.field-0.0 ends c.write_buffered.ensures.lasts.honest h) })
 
@@ -48,21 +48,21 @@ pub returns-in_err-write_buffered-clause-ends : goal.returns-in_err-write_buffer
 returns-in_err-write_buffered-clause-ends g c =
     let a : BufferedLog = held c.args.log.now c.args.buffer.now in
     let b : BufferedLog = in_parts g.N.Nand.state c.write_buffered.new.device c.write_buffered.new.blocks c.write_buffered.new.index c.write_buffered.new.buffer in
-    let ends = (c.in_err-write_buffered.ensures.attempts c.args.log.now.spare c.args.log.now.stands c.requires.free).1 in
+    let ends = (c.in_err-write_buffered.ensures.attempts c.args.log.now.spare c.args.log.now.consistent c.requires.free).1 in
     let p = err_from_is_err_and c.from_residual.result c.from_residual.ensures.1 in
     rw (p.1, p.2) (attempt_err (length a.pages) c.args.log.now.spare a b c.in_err-write_buffered.field-0.0 ends)
 
 pub returns-in-Trusted-clause-leaves : goal.returns-in-Trusted-clause-leaves
-returns-in-Trusted-clause-leaves g c = (c.write_buffered.ensures.attempts c.args.log.now.spare c.args.log.now.stands c.requires.free).0
+returns-in-Trusted-clause-leaves g c = (c.write_buffered.ensures.attempts c.args.log.now.spare c.args.log.now.consistent c.requires.free).0
 
 pub returns-in-Trusted-clause-ends : goal.returns-in-Trusted-clause-ends
 returns-in-Trusted-clause-ends g c =
     let a : BufferedLog = held c.args.log.now c.args.buffer.now in
     let b : BufferedLog = in_parts g.N.Nand.state c.write_buffered.new.device c.write_buffered.new.blocks c.write_buffered.new.index c.write_buffered.new.buffer in
-    let done = (rw c.in-Trusted.is at c.in_ok-write_buffered.ensures).attempts c.args.log.now.spare c.args.log.now.stands c.requires.free in
+    let done = (rw c.in-Trusted.is at c.in_ok-write_buffered.ensures).attempts c.args.log.now.spare c.args.log.now.consistent c.requires.free in
     let same = c.write_buffered.ensures.bad in
     let within_limit = c.requires.within_limit in
-    (done.1.0, omega (arith, same, within_limit), answered_here c.args.log.now.spare a b c.args.log.now.ready c.args.log.now.stands (inl done.1.1))
+    (done.1.0, omega (arith, same, within_limit), answered_here c.args.log.now.spare a b c.args.log.now.can_write c.args.log.now.consistent (inl done.1.1))
 
 pub retire-requires-clause-within_limit : goal.retire-requires-clause-within_limit
 retire-requires-clause-within_limit g c =
@@ -74,12 +74,12 @@ pub retire-requires-clause-none : goal.retire-requires-clause-none
 retire-requires-clause-none g c =
     let a : BufferedLog = held c.args.log.now c.args.buffer.now in
     let b : BufferedLog = in_parts g.N.Nand.state c.write_buffered.new.device c.write_buffered.new.blocks c.write_buffered.new.index c.write_buffered.new.buffer in
-    let done = (rw c.in-Suspect.is at c.in_ok-write_buffered.ensures).attempts c.args.log.now.spare c.args.log.now.stands c.requires.free in
-    none_after a.log.device b.log.device a.log.table.checkpoint b.log.table.checkpoint done.0.log.numbers.truth (none_with_room (length a.pages) a.log.device a.log.table c.args.log.now.ready c.requires.some c.requires.fits)
+    let done = (rw c.in-Suspect.is at c.in_ok-write_buffered.ensures).attempts c.args.log.now.spare c.args.log.now.consistent c.requires.free in
+    none_after a.log.device b.log.device a.log.table.checkpoint b.log.table.checkpoint done.0.log.numbers.truth (none_with_room (length a.pages) a.log.device a.log.table c.args.log.now.can_write c.requires.not_empty c.requires.fits)
 
 pub retire-requires-clause-block : goal.retire-requires-clause-block
 retire-requires-clause-block g c =
-    let done = (rw c.in-Suspect.is at c.in_ok-write_buffered.ensures).attempts c.args.log.now.spare c.args.log.now.stands c.requires.free in
+    let done = (rw c.in-Suspect.is at c.in_ok-write_buffered.ensures).attempts c.args.log.now.spare c.args.log.now.consistent c.requires.free in
     record { within = done.1.1.within; good = done.1.1.good }
 
 pub returns-in_err-retire-in-Suspect-clause-leaves : goal.returns-in_err-retire-in-Suspect-clause-leaves
@@ -87,7 +87,7 @@ returns-in_err-retire-in-Suspect-clause-leaves g c =
     let a : BufferedLog = held c.args.log.now c.args.buffer.now in
     let b : BufferedLog = in_parts g.N.Nand.state c.write_buffered.new.device c.write_buffered.new.blocks c.write_buffered.new.index c.write_buffered.new.buffer in
     let d : BufferedLog = held c.retire.new.self c.write_buffered.new.buffer in
-    let done = (rw c.in-Suspect.is at c.in_ok-write_buffered.ensures).attempts c.args.log.now.spare c.args.log.now.stands c.requires.free in
+    let done = (rw c.in-Suspect.is at c.in_ok-write_buffered.ensures).attempts c.args.log.now.spare c.args.log.now.consistent c.requires.free in
     leaves_committed c.args.log.now.spare a d (commits_then c.args.log.now.spare a b d done.1.0.commits c.retire.ensures.step) done.1.0.empty
 
 pub returns-in_ok-retire-in-Suspect-clause-leaves : goal.returns-in_ok-retire-in-Suspect-clause-leaves
@@ -95,7 +95,7 @@ returns-in_ok-retire-in-Suspect-clause-leaves g c =
     let a : BufferedLog = held c.args.log.now c.args.buffer.now in
     let b : BufferedLog = in_parts g.N.Nand.state c.write_buffered.new.device c.write_buffered.new.blocks c.write_buffered.new.index c.write_buffered.new.buffer in
     let d : BufferedLog = held c.retire.new.self c.write_buffered.new.buffer in
-    let done = (rw c.in-Suspect.is at c.in_ok-write_buffered.ensures).attempts c.args.log.now.spare c.args.log.now.stands c.requires.free in
+    let done = (rw c.in-Suspect.is at c.in_ok-write_buffered.ensures).attempts c.args.log.now.spare c.args.log.now.consistent c.requires.free in
     leaves_committed c.args.log.now.spare a d (commits_then c.args.log.now.spare a b d done.1.0.commits c.retire.ensures.step) done.1.0.empty
 
 pub returns-in_ok-retire-in-Suspect-clause-ends : goal.returns-in_ok-retire-in-Suspect-clause-ends
@@ -103,11 +103,11 @@ returns-in_ok-retire-in-Suspect-clause-ends g c =
     let a : BufferedLog = held c.args.log.now c.args.buffer.now in
     let b : BufferedLog = in_parts g.N.Nand.state c.write_buffered.new.device c.write_buffered.new.blocks c.write_buffered.new.index c.write_buffered.new.buffer in
     let d : BufferedLog = held c.retire.new.self c.write_buffered.new.buffer in
-    let done = (rw c.in-Suspect.is at c.in_ok-write_buffered.ensures).attempts c.args.log.now.spare c.args.log.now.stands c.requires.free in
+    let done = (rw c.in-Suspect.is at c.in_ok-write_buffered.ensures).attempts c.args.log.now.spare c.args.log.now.consistent c.requires.free in
     let retired = c.in_ok-retire-in-Suspect.ensures.ends in (
       whole_then c.args.log.now.spare a b d done.1.0 c.retire.ensures.step refl refl retired.0.free retired.1,
       retired.0.within_limit,
-      answered_here c.args.log.now.spare a d c.args.log.now.ready c.args.log.now.stands (inr (c.in-Suspect.block, done.1.1.was, retired.0.bad)),
+      answered_here c.args.log.now.spare a d c.args.log.now.can_write c.args.log.now.consistent (inr (c.in-Suspect.block, done.1.1.was, retired.0.bad)),
     )
 
 pub retire-requires-in-Failed-clause-within_limit : goal.retire-requires-in-Failed-clause-within_limit
@@ -120,12 +120,12 @@ pub retire-requires-in-Failed-clause-none : goal.retire-requires-in-Failed-claus
 retire-requires-in-Failed-clause-none g c =
     let a : BufferedLog = held c.args.log.now c.args.buffer.now in
     let b : BufferedLog = in_parts g.N.Nand.state c.write_buffered.new.device c.write_buffered.new.blocks c.write_buffered.new.index c.write_buffered.new.buffer in
-    let done = (rw c.in-Failed.is at c.in_ok-write_buffered.ensures).attempts c.args.log.now.spare c.args.log.now.stands c.requires.free in
-    none_after a.log.device b.log.device a.log.table.checkpoint b.log.table.checkpoint done.0.log.numbers.truth (none_with_room (length a.pages) a.log.device a.log.table c.args.log.now.ready c.requires.some c.requires.fits)
+    let done = (rw c.in-Failed.is at c.in_ok-write_buffered.ensures).attempts c.args.log.now.spare c.args.log.now.consistent c.requires.free in
+    none_after a.log.device b.log.device a.log.table.checkpoint b.log.table.checkpoint done.0.log.numbers.truth (none_with_room (length a.pages) a.log.device a.log.table c.args.log.now.can_write c.requires.not_empty c.requires.fits)
 
 pub retire-requires-in-Failed-clause-block : goal.retire-requires-in-Failed-clause-block
 retire-requires-in-Failed-clause-block g c =
-    let done = (rw c.in-Failed.is at c.in_ok-write_buffered.ensures).attempts c.args.log.now.spare c.args.log.now.stands c.requires.free in
+    let done = (rw c.in-Failed.is at c.in_ok-write_buffered.ensures).attempts c.args.log.now.spare c.args.log.now.consistent c.requires.free in
     record { within = done.1.1.within; good = done.1.1.good }
 
 pub returns-in_err-retire-in-Failed-clause-leaves : goal.returns-in_err-retire-in-Failed-clause-leaves
@@ -133,7 +133,7 @@ returns-in_err-retire-in-Failed-clause-leaves g c =
     let a : BufferedLog = held c.args.log.now c.args.buffer.now in
     let b : BufferedLog = in_parts g.N.Nand.state c.write_buffered.new.device c.write_buffered.new.blocks c.write_buffered.new.index c.write_buffered.new.buffer in
     let d : BufferedLog = held c.retire-in-Failed.new.self c.write_buffered.new.buffer in
-    let done = (rw c.in-Failed.is at c.in_ok-write_buffered.ensures).attempts c.args.log.now.spare c.args.log.now.stands c.requires.free in
+    let done = (rw c.in-Failed.is at c.in_ok-write_buffered.ensures).attempts c.args.log.now.spare c.args.log.now.consistent c.requires.free in
     let waits : IsWaiting c.args.log.now.spare a b = done.1.0 in
     leaves_moved c.args.log.now.spare a d (step_on c.args.log.now.spare a.log b.log d.log a.index b.index d.index waits.step c.retire-in-Failed.ensures.step) waits.pages c.requires.buffers
 
@@ -142,7 +142,7 @@ returns-in_ok-retire-in-Failed-clause-leaves g c =
     let a : BufferedLog = held c.args.log.now c.args.buffer.now in
     let b : BufferedLog = in_parts g.N.Nand.state c.write_buffered.new.device c.write_buffered.new.blocks c.write_buffered.new.index c.write_buffered.new.buffer in
     let d : BufferedLog = held c.retire-in-Failed.new.self c.write_buffered.new.buffer in
-    let done = (rw c.in-Failed.is at c.in_ok-write_buffered.ensures).attempts c.args.log.now.spare c.args.log.now.stands c.requires.free in
+    let done = (rw c.in-Failed.is at c.in_ok-write_buffered.ensures).attempts c.args.log.now.spare c.args.log.now.consistent c.requires.free in
     let waits : IsWaiting c.args.log.now.spare a b = done.1.0 in
     leaves_moved c.args.log.now.spare a d (step_on c.args.log.now.spare a.log b.log d.log a.index b.index d.index waits.step c.retire-in-Failed.ensures.step) waits.pages c.requires.buffers
 
@@ -151,7 +151,7 @@ returns-in_ok-retire-in-Failed-clause-ends g c =
     let a : BufferedLog = held c.args.log.now c.args.buffer.now in
     let b : BufferedLog = in_parts g.N.Nand.state c.write_buffered.new.device c.write_buffered.new.blocks c.write_buffered.new.index c.write_buffered.new.buffer in
     let d : BufferedLog = held c.retire-in-Failed.new.self c.write_buffered.new.buffer in
-    let done = (rw c.in-Failed.is at c.in_ok-write_buffered.ensures).attempts c.args.log.now.spare c.args.log.now.stands c.requires.free in
+    let done = (rw c.in-Failed.is at c.in_ok-write_buffered.ensures).attempts c.args.log.now.spare c.args.log.now.consistent c.requires.free in
     let retired = c.in_ok-retire-in-Failed.ensures.ends in
     let same = c.write_buffered.ensures.bad in
     let more = retired.0.more in (
@@ -159,5 +159,5 @@ returns-in_ok-retire-in-Failed-clause-ends g c =
       retired.0.free,
       omega (arith, same, more),
       retired.0.within_limit,
-      fits_block (length a.pages) a.log d.log c.args.log.now.ready (c.retire-in-Failed.ensures.step.lasts.geometry ∙ c.write_buffered.ensures.lasts.geometry) c.requires.fits,
+      fits_block (length a.pages) a.log d.log c.args.log.now.can_write (c.retire-in-Failed.ensures.step.lasts.geometry ∙ c.write_buffered.ensures.lasts.geometry) c.requires.fits,
     )

@@ -15,7 +15,7 @@ use Rattle.page_store.proofs.turn.write_whole.Goals as goal
 pub loop-init : goal.loop-init
 loop-init g c = record {
   terms = record { spare = refl; first = refl };
-  step = step_none c.args.log.now.spare (g.N.Nand.state c.args.log.now.device) (table c.args.log.now.blocks) c.args.log.now.index c.args.log.now.ready c.args.log.now.stands;
+  step = step_none c.args.log.now.spare (g.N.Nand.state c.args.log.now.device) (table c.args.log.now.blocks) c.args.log.now.index c.args.log.now.can_write c.args.log.now.consistent;
   buffers = c.requires.buffers;
   same = refl;
   marks = omega arith;
@@ -69,7 +69,7 @@ returns-in_err-take_turn-clause-leaves g c =
     let b : BufferedLog = held c.loop.log c.loop.buffer in
     let d : BufferedLog = held c.take_turn.new.log c.take_turn.new.buffer in
     let so_far = c.loop.invariant in
-    leaves_on c.args.log.now.spare a b d c.args.log.now.stands so_far.step so_far.same (rw c.loop.invariant.terms.spare at c.take_turn.ensures).leaves
+    leaves_on c.args.log.now.spare a b d c.args.log.now.consistent so_far.step so_far.same (rw c.loop.invariant.terms.spare at c.take_turn.ensures).leaves
 
 pub returns-in-Written-clause-leaves : goal.returns-in-Written-clause-leaves
 returns-in-Written-clause-leaves g c =
@@ -77,7 +77,7 @@ returns-in-Written-clause-leaves g c =
     let b : BufferedLog = held c.loop.log c.loop.buffer in
     let d : BufferedLog = held c.take_turn.new.log c.take_turn.new.buffer in
     let so_far = c.loop.invariant in
-    leaves_on c.args.log.now.spare a b d c.args.log.now.stands so_far.step so_far.same (rw c.loop.invariant.terms.spare at c.take_turn.ensures).leaves
+    leaves_on c.args.log.now.spare a b d c.args.log.now.consistent so_far.step so_far.same (rw c.loop.invariant.terms.spare at c.take_turn.ensures).leaves
 
 pub returns-in-Written-clause-pays : goal.returns-in-Written-clause-pays
 returns-in-Written-clause-pays g c =
@@ -154,7 +154,7 @@ returns-in-Written-clause-ends g c =
     let d : BufferedLog = held c.take_turn.new.log c.take_turn.new.buffer in
     let so_far = c.loop.invariant in
     let done = (rw c.loop.invariant.terms.spare at (rw c.in-Written.is at c.in_ok-take_turn.ensures)).ends in
-    (whole_after c.args.log.now.spare a b d c.args.log.now.stands so_far.step so_far.same done.0, done.1, answered_after c.args.log.now.spare a b d so_far.step done.2)
+    (whole_after c.args.log.now.spare a b d c.args.log.now.consistent so_far.step so_far.same done.0, done.1, answered_after c.args.log.now.spare a b d so_far.step done.2)
 
 pub returns-in_err-take_turn-clause-ends : goal.returns-in_err-take_turn-clause-ends
 returns-in_err-take_turn-clause-ends g c =

@@ -12,7 +12,7 @@ returns-then-present-clause-here c =
 
 pub returns-then-present-clause-others : goal.returns-then-present-clause-others
 returns-then-present-clause-others c =
-    is_present-set_other c.args.bits.now c.args.chunk _ c.requires.some (omega arith) (λ i _ ne. bit_at_set_other w8 _ _ (omega arith) i ne)
+    is_present-set_other c.args.bits.now c.args.chunk _ c.requires.not_first (omega arith) (λ i _ ne. bit_at_set_other w8 _ _ (omega arith) i ne)
 
 pub returns-else-present-clause-here : goal.returns-else-present-clause-here
 returns-else-present-clause-here c =
@@ -22,4 +22,4 @@ returns-else-present-clause-here c =
 
 pub returns-else-present-clause-others : goal.returns-else-present-clause-others
 returns-else-present-clause-others c =
-    is_present-set_other c.args.bits.now c.args.chunk _ c.requires.some (omega arith) (bit_at_clear_other w8 _ _ (omega arith))
+    is_present-set_other c.args.bits.now c.args.chunk _ c.requires.not_first (omega arith) (bit_at_clear_other w8 _ _ (omega arith))

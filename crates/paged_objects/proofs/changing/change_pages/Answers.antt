@@ -4,7 +4,7 @@ use Rattle.volume_terms.specs.Sizes.{buffer_pages}
 use Rattle.object_store.specs.Changes.{made}
 use Rattle.paged_objects.specs.Holding.{HoldsObjects}
 use Rattle.paged_objects.specs.Plans.{most_pages}
-use Rattle.pages.specs.Maps.{PageMap, changed}
+use Rattle.pages.specs.Maps.{PageMap, after_change}
 use Rattle.pages.specs.State.{PagesState}
 use Rattle.pages.specs.Stores.{SamePages}
 use Rattle.paged_objects.specs.laws.Going.{finds_stay, stays_goes, goes_on}
@@ -37,15 +37,15 @@ returns-in_err-take-clause-makes g c = λ z objects has make is.
     let q : PagesState = g.P.Pages.state c.plan_named.new.pages in
     let new = made objects c.args.change.now in
     let planned = c.in_ok-planned.planned in
-    let holds : HoldsObjects z (changed planned p.present) new = c.in_ok-planned.ensures.makes z objects has make is in
+    let holds : HoldsObjects z (after_change planned p.present) new = c.in_ok-planned.ensures.makes z objects has make is in
     let within_limit : length planned.pages.items ≤ most_pages p.page_bytes c.args.change.now = c.in_ok-planned.ensures.change.within_limit in
     let most : most_pages z.page_bytes c.args.change.now ≤ buffer_pages z = few_pages z objects c.args.change.now has.pages.can.numbers make.sensible in
-    let same : most_pages p.page_bytes c.args.change.now ≡ most_pages z.page_bytes c.args.change.now = ap (λ d. most_pages d c.args.change.now) has.pages.stands.page_bytes in
-    let sufficient : q.most ≡ buffer_pages z = c.plan_named.ensures.lookups.most ∙ has.pages.stands.most in
+    let same : most_pages p.page_bytes c.args.change.now ≡ most_pages z.page_bytes c.args.change.now = ap (λ d. most_pages d c.args.change.now) has.pages.represents.page_bytes in
+    let sufficient : q.most ≡ buffer_pages z = c.plan_named.ensures.lookups.most ∙ has.pages.represents.most in
     let e = err_from_is_err_and c.from_residual-in_err-take.result c.from_residual-in_err-take.ensures.1 in
     rw (e.1, e.2) (ends_after z p q (g.P.Pages.state c.take.new.pages) objects new (Err c.in_err-take.field-0.0) (finds_stay p q c.plan_named.ensures.lookups)
     (c.in_err-take.ensures.makes z objects new (has_after z p q objects c.plan_named.ensures.lookups has.pages) (omega (arith, within_limit, most, same, sufficient))
-    (subst (λ (m : PageMap). HoldsObjects z (changed planned m) new) (sym c.plan_named.ensures.lookups.present) holds)))
+    (subst (λ (m : PageMap). HoldsObjects z (after_change planned m) new) (sym c.plan_named.ensures.lookups.present) holds)))
 
 pub returns-clause-goes_on : goal.returns-clause-goes_on
 returns-clause-goes_on g c =
@@ -59,14 +59,14 @@ returns-clause-makes g c = λ z objects has make is.
     let q : PagesState = g.P.Pages.state c.plan_named.new.pages in
     let new = made objects c.args.change.now in
     let planned = c.in_ok-planned.planned in
-    let holds : HoldsObjects z (changed planned p.present) new = c.in_ok-planned.ensures.makes z objects has make is in
+    let holds : HoldsObjects z (after_change planned p.present) new = c.in_ok-planned.ensures.makes z objects has make is in
     let within_limit : length planned.pages.items ≤ most_pages p.page_bytes c.args.change.now = c.in_ok-planned.ensures.change.within_limit in
     let most : most_pages z.page_bytes c.args.change.now ≤ buffer_pages z = few_pages z objects c.args.change.now has.pages.can.numbers make.sensible in
-    let same : most_pages p.page_bytes c.args.change.now ≡ most_pages z.page_bytes c.args.change.now = ap (λ d. most_pages d c.args.change.now) has.pages.stands.page_bytes in
-    let sufficient : q.most ≡ buffer_pages z = c.plan_named.ensures.lookups.most ∙ has.pages.stands.most in
+    let same : most_pages p.page_bytes c.args.change.now ≡ most_pages z.page_bytes c.args.change.now = ap (λ d. most_pages d c.args.change.now) has.pages.represents.page_bytes in
+    let sufficient : q.most ≡ buffer_pages z = c.plan_named.ensures.lookups.most ∙ has.pages.represents.most in
     ends_after z p q (g.P.Pages.state c.take.new.pages) objects new (Ok tt) (finds_stay p q c.plan_named.ensures.lookups)
     (c.in_ok-take.ensures.makes z objects new (has_after z p q objects c.plan_named.ensures.lookups has.pages) (omega (arith, within_limit, most, same, sufficient))
-    (subst (λ (m : PageMap). HoldsObjects z (changed planned m) new) (sym c.plan_named.ensures.lookups.present) holds))
+    (subst (λ (m : PageMap). HoldsObjects z (after_change planned m) new) (sym c.plan_named.ensures.lookups.present) holds))
 
 pub returns-clause-names : goal.returns-clause-names
 returns-clause-names g c = λ z objects has make is.
@@ -74,9 +74,9 @@ returns-clause-names g c = λ z objects has make is.
     let q : PagesState = g.P.Pages.state c.plan_named.new.pages in
     let r : PagesState = g.P.Pages.state c.take.new.pages in
     let planned = c.in_ok-planned.planned in
-    let there : SamePages r.present (changed planned q.present) = c.in_ok-take.ensures.present (c.plan_named.ensures.lookups.sound ∙ has.pages.stands.sound) in
-    let same : SamePages r.present (changed planned p.present) = subst (λ (m : PageMap). SamePages r.present (changed planned m)) c.plan_named.ensures.lookups.present there in
-    more_names z c.plan_named.new.names c.plan_named.new.names (changed planned p.present) r.present (made objects c.args.change.now) (λ d h s it. it) same (c.in_ok-planned.ensures.names z objects has make is)
+    let there : SamePages r.present (after_change planned q.present) = c.in_ok-take.ensures.present (c.plan_named.ensures.lookups.sound ∙ has.pages.represents.sound) in
+    let same : SamePages r.present (after_change planned p.present) = subst (λ (m : PageMap). SamePages r.present (after_change planned m)) c.plan_named.ensures.lookups.present there in
+    more_names z c.plan_named.new.names c.plan_named.new.names (after_change planned p.present) r.present (made objects c.args.change.now) (λ d h s it. it) same (c.in_ok-planned.ensures.names z objects has make is)
 
 pub returns-clause-left : goal.returns-clause-left
 returns-clause-left g c = λ z objects has make is.
@@ -84,6 +84,6 @@ returns-clause-left g c = λ z objects has make is.
     let q : PagesState = g.P.Pages.state c.plan_named.new.pages in
     let r : PagesState = g.P.Pages.state c.take.new.pages in
     let planned = c.in_ok-planned.planned in
-    let bytes : z.page_bytes ≡ c.page_bytes.result = sym (c.page_bytes.ensures.bytes ∙ c.plan_named.ensures.lookups.page_bytes ∙ has.pages.stands.page_bytes) in
-    left_by_change z q.present r.present (made objects c.args.change.now) planned c.args.change.now c.left_by-left.result (c.in_ok-take.ensures.present (c.plan_named.ensures.lookups.sound ∙ has.pages.stands.sound))
+    let bytes : z.page_bytes ≡ c.page_bytes.result = sym (c.page_bytes.ensures.bytes ∙ c.plan_named.ensures.lookups.page_bytes ∙ has.pages.represents.page_bytes) in
+    left_by_change z q.present r.present (made objects c.args.change.now) planned c.args.change.now c.left_by-left.result (c.in_ok-take.ensures.present (c.plan_named.ensures.lookups.sound ∙ has.pages.represents.sound))
     (leaves_at z planned c.args.change.now c.left_by-left.result c.page_bytes.result bytes c.left_by-left.ensures)

@@ -10,7 +10,7 @@ returns-clause-makes g c = λ objects has make.
     let p : PagesState = g.P.Pages.state c.args.pages.now in
     let a : ObjectsState = state_with p c.args.table.now c.args.names.now in
     let b : ObjectsState = state_with (g.P.Pages.state c.cut.new.self) c.apply.new.self c.drop_directory.new.self in
-    let sound = has.pages.stands.sound in
+    let sound = has.pages.represents.sound in
     cut_done a b objects c.args.number has.pages c.cut.ensures.goes_on (c.in_ok-cut.ensures.sound sound) (c.in_ok-cut.ensures.present sound) (c.cut.ensures.committed sound)
     (c.apply.ensures.reports objects has.reports has.pages.can make tt) has.named c.drop_directory.ensures
 
@@ -19,6 +19,6 @@ returns-in_err-cut-clause-makes g c = λ objects has make.
     let p : PagesState = g.P.Pages.state c.args.pages.now in
     let a : ObjectsState = state_with p c.args.table.now c.args.names.now in
     let b : ObjectsState = state_with (g.P.Pages.state c.cut.new.self) c.args.table.now c.args.names.now in
-    let sound = has.pages.stands.sound in
+    let sound = has.pages.represents.sound in
     let e = err_from_is_err_and c.from_residual.result c.from_residual.ensures.1 in
     rw (e.1, e.2) (cut_failed a b objects (map.remove objects c.args.number) c.in_err-cut.field-0.0 has.pages c.cut.ensures.goes_on (c.cut.ensures.committed sound) (c.in_err-cut.ensures.fault sound))

@@ -2,7 +2,7 @@ use Rattle.std.proofs.Common.{sym, subst}
 use Rattle.object_store.specs.Changes.{made}
 use Rattle.paged_objects.specs.Holding.{HoldsObjects}
 use Rattle.paged_objects.specs.Naming.{HasNames, HoldsNamed}
-use Rattle.pages.specs.Maps.{PageMap, changed}
+use Rattle.pages.specs.Maps.{PageMap, after_change}
 use Rattle.pages.specs.State.{PagesState}
 use Rattle.paged_objects.specs.laws.Showing.{holds_in}
 use Rattle.paged_objects.proofs.Ends.{named_after}
@@ -15,9 +15,9 @@ returns-in_ok-hash_names-in-Ok-clause-names g c = λ z objects has make is.
     let new = made objects c.args.change.now in
     let lookups = c.plan.ensures.lookups in
     let after = named_after c.args.names.now z p q objects lookups has in
-    let here : HoldsNamed c.args.names.now p z objects = record { holds = holds_in z p objects has.pages.stands; hashes = has.named } in
-    let holds : HoldsObjects z (changed c.in-Ok.planned p.present) new = c.in-Ok.ensures.makes z objects here make is in
+    let here : HoldsNamed c.args.names.now p z objects = record { holds = holds_in z p objects has.pages.represents; hashes = has.named } in
+    let holds : HoldsObjects z (after_change c.in-Ok.planned p.present) new = c.in-Ok.ensures.makes z objects here make is in
     let writes = c.in-Ok.ensures.slots z objects here make in
-    subst (λ (m : PageMap). HasNames c.hash_names.new.names z (changed c.in-Ok.planned m) new) lookups.present
-    (c.in_ok-hash_names-in-Ok.ensures.hashes z objects new (record { holds = holds_in z q objects after.pages.stands; hashes = after.named }) writes
-    (subst (λ (m : PageMap). HoldsObjects z (changed c.in-Ok.planned m) new) (sym lookups.present) holds) has.pages.can.numbers make.fits)
+    subst (λ (m : PageMap). HasNames c.hash_names.new.names z (after_change c.in-Ok.planned m) new) lookups.present
+    (c.in_ok-hash_names-in-Ok.ensures.hashes z objects new (record { holds = holds_in z q objects after.pages.represents; hashes = after.named }) writes
+    (subst (λ (m : PageMap). HoldsObjects z (after_change c.in-Ok.planned m) new) (sym lookups.present) holds) has.pages.can.numbers make.fits)

@@ -1,5 +1,5 @@
 use Rattle.std.proofs.lemmas.Result.{on_ok_weaker}
-use Rattle.pages.specs.Maps.{changed}
+use Rattle.pages.specs.Maps.{after_change}
 use Rattle.pages.specs.State.{PagesState}
 use Rattle.paged_objects.specs.laws.Going.{goes_here}
 use Rattle.paged_objects.proofs.Ends.{took}
@@ -15,5 +15,5 @@ pub returns-clause-makes : goal.returns-clause-makes
 returns-clause-makes g c = λ z old new has within_limit holds.
     let p : PagesState = g.P.Pages.state c.args.pages.now in
     let e = c.apply.ensures in
-    took z p (g.P.Pages.state c.apply.new.self) old new (changed c.args.planned p.present) c.apply.result has holds e.goes_on (on_ok_weaker c.apply.result (λ is _. is.sound) (e.makes has.stands.sound))
-    (on_ok_weaker c.apply.result (λ is. is.present) (e.makes has.stands.sound)) (e.committed has.stands.sound) e.refused (e.fault has.stands.sound)
+    took z p (g.P.Pages.state c.apply.new.self) old new (after_change c.args.planned p.present) c.apply.result has holds e.goes_on (on_ok_weaker c.apply.result (λ is _. is.sound) (e.makes has.represents.sound))
+    (on_ok_weaker c.apply.result (λ is. is.present) (e.makes has.represents.sound)) (e.committed has.represents.sound) e.refused (e.fault has.represents.sound)

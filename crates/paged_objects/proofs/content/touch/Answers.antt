@@ -2,7 +2,7 @@ use Rattle.std.proofs.Common.{◌≡◌, ◌≤◌, ℕ, List, [], IfOk, length,
 use Rattle.std.proofs.lemmas.Result.{err_from_is_err_and}
 use Rattle.volume_terms.specs.Sizes.{most_file_bytes}
 use Rattle.posix_profile.specs.Changes.{with_bytes, resized, written}
-use Rattle.pages.specs.Maps.{PageMap, changed}
+use Rattle.pages.specs.Maps.{PageMap, after_change}
 use Rattle.pages.specs.State.{PagesState}
 use Rattle.pages.specs.laws.Faults.{lacks_memory}
 use Rattle.std.specs.FinMap as map
@@ -26,10 +26,10 @@ returns-clause-touches g c = λ z objects h file.
     let len : c.in_ok-info.info.length ≡ length file.1 = c.in_ok-info.ensures.length z file.0 file.1 (file_in p z objects h o file) in
     let most : c.max.result ≡ max (length file.1) c.args.offset = grind (arith, c.max.ensures, len) in
     let all : resized file.1 c.max.result ≡ written file.1 c.args.offset [] = ap (resized file.1) most ∙ written_none file.1 c.args.offset in
-    subst (λ (xs : List ℕ). IfOk c.resize.result (λ change. HoldsObjects z (changed change p.present) (with_bytes objects c.args.moment o (written xs c.args.offset [])))) bytes
-    (subst (λ (xs : List ℕ). IfOk c.resize.result (λ change. HoldsObjects z (changed change p.present) (with_bytes objects c.args.moment o xs))) all
-    (subst (λ (xs : List ℕ). IfOk c.resize.result (λ change. HoldsObjects z (changed change p.present) (with_bytes objects c.args.moment o (resized xs c.max.result)))) (sym bytes)
-    (subst (λ (m : PageMap). IfOk c.resize.result (λ change. HoldsObjects z (changed change m) (with_bytes objects c.args.moment o (resized (bytes_of (map.get objects o)) c.max.result)))) c.read_info.ensures.looks.lookups.present
+    subst (λ (xs : List ℕ). IfOk c.resize.result (λ change. HoldsObjects z (after_change change p.present) (with_bytes objects c.args.moment o (written xs c.args.offset [])))) bytes
+    (subst (λ (xs : List ℕ). IfOk c.resize.result (λ change. HoldsObjects z (after_change change p.present) (with_bytes objects c.args.moment o xs))) all
+    (subst (λ (xs : List ℕ). IfOk c.resize.result (λ change. HoldsObjects z (after_change change p.present) (with_bytes objects c.args.moment o (resized xs c.max.result)))) (sym bytes)
+    (subst (λ (m : PageMap). IfOk c.resize.result (λ change. HoldsObjects z (after_change change m) (with_bytes objects c.args.moment o (resized (bytes_of (map.get objects o)) c.max.result)))) c.read_info.ensures.looks.lookups.present
     (c.resize.ensures.resizes z objects (holds_on p q z objects c.read_info.ensures.looks.lookups h) file))))
 
 pub returns-clause-fault : goal.returns-clause-fault

@@ -3,7 +3,7 @@ use Rattle.std.proofs.lemmas.Result.{err_from_is_err_and}
 use Rattle.std.specs.FinMap as map
 use Rattle.posix_profile.specs.State.{Name, Objects, IsDirectory, entries_of}
 use Rattle.posix_profile.specs.Changes.{with_name, without_name}
-use Rattle.pages.specs.Maps.{changed}
+use Rattle.pages.specs.Maps.{after_change}
 use Rattle.pages.specs.State.{PagesState}
 use Rattle.pages.specs.declared.change.Change.{Change}
 use Rattle.paged_objects.specs.Holding.{HoldsObjects}
@@ -38,9 +38,9 @@ returns-clause-moves g c = λ z objects n leads target.
     let change : Change = c.in-Some.change in
     let base : Objects = without_name objects c.args.moment c.args.from.directory c.args.from.name.now in
     let moved = rw c.in-Some.is at (c.in_ok-change.ensures.moves z objects n source target) in
-    let named : HoldsObjects z (changed change p.present) (with_name base c.args.moment c.args.to.directory c.args.to.name.now c.args.number) =
-    subst (λ k. HoldsObjects z (changed change p.present) (with_name base c.args.moment c.args.to.directory c.args.to.name.now k)) c.in_ok-slot.ensures.object
-    (subst (λ (k : Name). HoldsObjects z (changed change p.present) (with_name base c.args.moment c.args.to.directory k c.in_ok-slot.slot.object)) c.in_ok-slot.ensures.name moved) in
+    let named : HoldsObjects z (after_change change p.present) (with_name base c.args.moment c.args.to.directory c.args.to.name.now c.args.number) =
+    subst (λ k. HoldsObjects z (after_change change p.present) (with_name base c.args.moment c.args.to.directory c.args.to.name.now k)) c.in_ok-slot.ensures.object
+    (subst (λ (k : Name). HoldsObjects z (after_change change p.present) (with_name base c.args.moment c.args.to.directory k c.in_ok-slot.slot.object)) c.in_ok-slot.ensures.name moved) in
     c.in_ok-and_forget.ensures.forgets z p.present (with_name base c.args.moment c.args.to.directory c.args.to.name.now c.args.number) named
 
 pub returns-clause-slots : goal.returns-clause-slots

@@ -2,7 +2,7 @@ use Rattle.std.proofs.Common.{◌≡◌, ◌≢◌, ◌<◌, ℕ, IfOk, IfSome, 
 use Rattle.std.specs.FinMap as map
 use Rattle.posix_profile.specs.State.{Name, Entries, IsDirectory, entries_of}
 use Rattle.posix_profile.specs.Changes.{with_name, without_name}
-use Rattle.pages.specs.Maps.{changed}
+use Rattle.pages.specs.Maps.{after_change}
 use Rattle.pages.specs.State.{PagesState}
 use Rattle.pages.specs.declared.change.Change.{Change}
 use Rattle.directories.specs.Directories.{IsNamed}
@@ -35,9 +35,9 @@ returns-then-from-directory-clause-moves g c = λ z objects n source dir.
     let o : ℕ = c.args.slot.now.object in
     let here = named_in c.args.names.now p z objects n d dir in
     let entries : Entries = map.insert (map.remove dir.1 from) to o in
-    subst (λ k. IfOk c.rename_within.result (λ made. IfSome made (λ change. HoldsObjects z (changed change p.present) (with_name (without_name objects c.args.moment k from) c.args.moment d to o)))) (sym c.if-from-directory.true)
-    (on_made_two (λ (change : Change). (q k : ℕ) → q ≢ d → changed change p.present q k ≡ p.present q k) _
-    (λ change. HoldsObjects z (changed change p.present) (with_name (without_name objects c.args.moment d from) c.args.moment d to o)) c.rename_within.result
+    subst (λ k. IfOk c.rename_within.result (λ made. IfSome made (λ change. HoldsObjects z (after_change change p.present) (with_name (without_name objects c.args.moment k from) c.args.moment d to o)))) (sym c.if-from-directory.true)
+    (on_made_two (λ (change : Change). (q k : ℕ) → q ≢ d → after_change change p.present q k ≡ p.present q k) _
+    (λ change. HoldsObjects z (after_change change p.present) (with_name (without_name objects c.args.moment d from) c.args.moment d to o)) c.rename_within.result
     (λ change others moves. holds_renamed p z objects n.holds d dir change c.args.moment from to o others moves.makes.becomes
     (moves.makes.ends (held_directory p z objects n.holds d dir).only))
     (each_within c.rename_within.result p.present d c.rename_within.ensures.others)
@@ -72,10 +72,10 @@ returns-clause-moves g c = λ z objects n source target.
     let left : Entries = map.remove source.1 from in
     let got : Entries = map.insert target.1 to o in
     on_made_three _ _ _
-    (λ change. HoldsObjects z (changed change p.present) (with_name (without_name objects c.args.moment d from) c.args.moment t to o)) c.rename_between.result
+    (λ change. HoldsObjects z (after_change change p.present) (with_name (without_name objects c.args.moment d from) c.args.moment t to o)) c.rename_between.result
     (λ change both takes gives. holds_moved p z objects n.holds d source t target c.if-from-directory.false change c.args.moment from to o both.others
-    (now_directory p z objects n.holds d source (changed change p.present) c.args.moment left takes.makes.becomes (takes.makes.ends (held_directory p z objects n.holds d source).only))
-    (now_directory p z objects n.holds t target (changed change p.present) c.args.moment got gives.makes.becomes (gives.makes.ends (held_directory p z objects n.holds t target).only)))
+    (now_directory p z objects n.holds d source (after_change change p.present) c.args.moment left takes.makes.becomes (takes.makes.ends (held_directory p z objects n.holds d source).only))
+    (now_directory p z objects n.holds t target (after_change change p.present) c.args.moment got gives.makes.becomes (gives.makes.ends (held_directory p z objects n.holds t target).only)))
     c.rename_between.ensures.change
     (c.rename_between.ensures.takes z source.0 source.1 one)
     (c.rename_between.ensures.gives z target.0 target.1 two)

@@ -7,7 +7,7 @@ use Rattle.posix_profile.specs.Changes.{new_number, with_object}
 use Rattle.posix_profile.specs.laws.Number.{new_number_is, new_number_few}
 use Rattle.object_store.specs.Changes.{empty_object}
 use Rattle.pages.specs.Changes.{IsChange}
-use Rattle.pages.specs.Maps.{PageMap, changed}
+use Rattle.pages.specs.Maps.{PageMap, after_change}
 use Rattle.pages.specs.State.{PagesState}
 use Rattle.pages.specs.declared.change.Change.{Change}
 use Rattle.paged_objects.specs.Holding.{HoldsObjects}
@@ -54,10 +54,10 @@ returns-clause-creates g c = λ z objects h is absent.
     let other : o ≢ root_number = λ root. omega (arith, is, new.low, root) in
     let made = c.in_ok-object.ensures.holds z m h.size other (held z m objects h.holds o None free) in
     let adds = c.in_ok-named.ensures.adds z dir.0 dir.1 here none in
-    let both : HoldsObjects z (changed second (changed first m)) (with_object objects c.args.moment d name x) =
+    let both : HoldsObjects z (after_change second (after_change first m)) (with_object objects c.args.moment d name x) =
     holds_new p z objects h d dir x o is first second c.args.moment put name got c.in_ok-slot.ensures.name c.in_ok-slot.ensures.object c.in_ok-object.ensures.only c.in_ok-named.ensures.only made
     adds.becomes (adds.ends (held_directory p z objects h d dir).only) in
-    same_objects z (changed second (changed first m)) (changed c.in_ok-change.change m) (with_object objects c.args.moment d name x) both (λ q k. c.in_ok-change.ensures.pages m q k)
+    same_objects z (after_change second (after_change first m)) (after_change c.in_ok-change.change m) (with_object objects c.args.moment d name x) both (λ q k. c.in_ok-change.ensures.pages m q k)
 
 pub returns-clause-change : goal.returns-clause-change
 returns-clause-change g c =

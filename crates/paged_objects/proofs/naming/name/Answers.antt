@@ -3,7 +3,7 @@ use Rattle.std.specs.FinMap as map
 use Rattle.posix_profile.specs.State.{Name, Entries, IsDirectory}
 use Rattle.posix_profile.specs.Changes.{with_name}
 use Rattle.pages.specs.Changes.{IsOnlyOf}
-use Rattle.pages.specs.Maps.{changed}
+use Rattle.pages.specs.Maps.{after_change}
 use Rattle.pages.specs.State.{PagesState}
 use Rattle.paged_objects.specs.Holding.{HoldsObjects}
 use Rattle.paged_objects.specs.laws.Holding.{held_directory, directory_in}
@@ -27,8 +27,8 @@ returns-clause-names g c = λ z objects h absent.
     let name : Name = c.args.at.name.now in
     let none : map.get dir.1 put ≡ None = ap (map.get dir.1) c.in_ok-slot.ensures.name ∙ ap (λ (es : Entries). map.get es name) (entries_are p z objects h d dir) ∙ absent.absent in
     let entries : Entries = map.insert dir.1 put got in
-    on_both (λ change. IsOnlyOf change d) _ (λ change. HoldsObjects z (changed change p.present) (with_name objects c.args.moment d name c.args.number)) c.add.result
-    (λ change only adds. holds_name p z objects h d dir (changed change p.present) c.args.moment put name got c.args.number c.in_ok-slot.ensures.name c.in_ok-slot.ensures.object
+    on_both (λ change. IsOnlyOf change d) _ (λ change. HoldsObjects z (after_change change p.present) (with_name objects c.args.moment d name c.args.number)) c.add.result
+    (λ change only adds. holds_name p z objects h d dir (after_change change p.present) c.args.moment put name got c.args.number c.in_ok-slot.ensures.name c.in_ok-slot.ensures.object
     (holds_directory p z objects h d dir change c.args.moment entries only adds.becomes (adds.ends (held_directory p z objects h d dir).only)))
     c.add.ensures.only (c.add.ensures.adds z dir.0 dir.1 here none)
 

@@ -2,7 +2,7 @@ use Rattle.std.proofs.Common.{◌≡◌, ◌≤◌, ◌+◌, ℕ, List, [], leng
 use Rattle.std.specs.FinMap as map
 use Rattle.flash_tree.specs.declared.place.FreshPage.{FreshPage}
 use Rattle.pages.specs.Changes.{AreApart, AreSized, IsChange}
-use Rattle.pages.specs.Maps.{PageMap, no_pages, changed}
+use Rattle.pages.specs.Maps.{PageMap, no_pages, after_change}
 use Rattle.pages.specs.declared.change.Change.{Change}
 use Rattle.paged_objects.specs.Holding.{HoldsObjects}
 use Rattle.paged_objects.specs.Naming.{WritesNames}
@@ -23,16 +23,16 @@ returns-clause-change c = λ bytes most is.
 pub returns-clause-forgets : goal.returns-clause-forgets
 returns-clause-forgets c = λ z m objects holds.
     let cut : Change = c.in_ok-cut.cut in
-    let n : PageMap = changed cut (changed c.args.change m) in
-    let left = c.in_ok-cut.ensures.forgets z (changed c.args.change m) objects holds in
-    rw c.in-Some.is (on_ok (λ (both : Change). (o k : ℕ) → changed both m o k ≡ n o k) (λ (both : Change). HoldsObjects z (changed both m) (map.remove objects c.in-Some.number)) c.then.result
-    (λ both same. same_objects z n (changed both m) (map.remove objects c.in-Some.number) left same)
-    (on_each (λ o k (both : Change). changed both m o k ≡ n o k) c.then.result (λ o k. c.then.ensures.pages m o k)))
+    let n : PageMap = after_change cut (after_change c.args.change m) in
+    let left = c.in_ok-cut.ensures.forgets z (after_change c.args.change m) objects holds in
+    rw c.in-Some.is (on_ok (λ (both : Change). (o k : ℕ) → after_change both m o k ≡ n o k) (λ (both : Change). HoldsObjects z (after_change both m) (map.remove objects c.in-Some.number)) c.then.result
+    (λ both same. same_objects z n (after_change both m) (map.remove objects c.in-Some.number) left same)
+    (on_each (λ o k (both : Change). after_change both m o k ≡ n o k) c.then.result (λ o k. c.then.ensures.pages m o k)))
 
 pub returns-clause-slots : goal.returns-clause-slots
 returns-clause-slots c = λ z old new writes.
     let cut : Change = c.in_ok-cut.cut in
-    let n : PageMap = changed cut (changed c.args.change no_pages) in
-    rw c.in-Some.is (on_ok (λ (both : Change). (o k : ℕ) → changed both no_pages o k ≡ n o k) (λ (both : Change). WritesNames z both old (map.remove new c.in-Some.number)) c.then.result
+    let n : PageMap = after_change cut (after_change c.args.change no_pages) in
+    rw c.in-Some.is (on_ok (λ (both : Change). (o k : ℕ) → after_change both no_pages o k ≡ n o k) (λ (both : Change). WritesNames z both old (map.remove new c.in-Some.number)) c.then.result
     (λ both same. names_cut z c.args.change cut both c.in-Some.number c.in_ok-cut.ensures.only same old new writes)
-    (on_each (λ o k (both : Change). changed both no_pages o k ≡ n o k) c.then.result (λ o k. c.then.ensures.pages no_pages o k)))
+    (on_each (λ o k (both : Change). after_change both no_pages o k ≡ n o k) c.then.result (λ o k. c.then.ensures.pages no_pages o k)))

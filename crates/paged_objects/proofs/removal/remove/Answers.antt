@@ -3,7 +3,7 @@ use Rattle.std.proofs.lemmas.Result.{err_from_is_err_and}
 use Rattle.std.specs.FinMap as map
 use Rattle.posix_profile.specs.State.{Entries, Dir, IsDirectory}
 use Rattle.posix_profile.specs.Changes.{without_name}
-use Rattle.pages.specs.Maps.{changed}
+use Rattle.pages.specs.Maps.{after_change}
 use Rattle.pages.specs.State.{PagesState}
 use Rattle.pages.specs.declared.change.Change.{Change}
 use Rattle.paged_objects.specs.Holding.{HoldsObjects}
@@ -39,7 +39,7 @@ returns-clause-removes g c = λ z objects o n leads.
     let entries : Entries = map.remove leads.entries c.args.at.name.now in
     let only = rw c.in-Some.is at c.in_ok-made.ensures.only in
     let takes = rw c.in-Some.is at (c.in_ok-made.ensures.removes z dir.0 dir.1 here) in
-    let one : HoldsObjects z (changed change p.present) (map.insert objects d (Dir c.args.moment entries)) = holds_directory p z objects n.holds d dir change c.args.moment entries only takes.makes.becomes (takes.makes.ends (held_directory p z objects n.holds d dir).only) in
-    let reported : HoldsObjects z (changed change p.present) (without_name objects c.args.moment d c.args.at.name.now) =
-    subst (λ (es : Entries). HoldsObjects z (changed change p.present) (map.insert objects d (Dir c.args.moment (map.remove es c.args.at.name.now)))) (entries_are p z objects n.holds d dir) one in
+    let one : HoldsObjects z (after_change change p.present) (map.insert objects d (Dir c.args.moment entries)) = holds_directory p z objects n.holds d dir change c.args.moment entries only takes.makes.becomes (takes.makes.ends (held_directory p z objects n.holds d dir).only) in
+    let reported : HoldsObjects z (after_change change p.present) (without_name objects c.args.moment d c.args.at.name.now) =
+    subst (λ (es : Entries). HoldsObjects z (after_change change p.present) (map.insert objects d (Dir c.args.moment (map.remove es c.args.at.name.now)))) (entries_are p z objects n.holds d dir) one in
     c.in_ok-and_forget.ensures.forgets z p.present (without_name objects c.args.moment d c.args.at.name.now) reported

@@ -11,7 +11,7 @@ use Rattle.pages.proofs.after.load_changed.Goals as goal
 pub returns-in-Some-clause-page : goal.returns-in-Some-clause-page
 returns-in-Some-clause-page g c = λ sound.
     let old : PagesState = g.P.Pages.state c.args.pages.now in
-    let first = rw c.in-Some.is at c.place_of.ensures.some in
+    let first = rw c.in-Some.is at c.place_of.ensures.first in
     let items : List FreshPage = c.args.change.now.pages.items in
     let at : slice_get items c.in-Some.place ≡ Some first.0.page = ap (λ (ps : List FreshPage). slice_get ps c.in-Some.place) (sym c.deref.ensures.value) ∙ first.0.there in
     first_here items _ c.args.key.object c.args.key.chunk c.in-Some.place first.0.page at first.0.object first.0.chunk

@@ -5,8 +5,8 @@ use Rattle.pages.specs.laws.Maps.{key_cases}
 use Rattle.flash_tree.specs.declared.place.FreshPage.{FreshPage}
 use Rattle.pages.proofs.change.place_of.Goals as goal
 
-pub returns-then-eq-clause-some : goal.returns-then-eq-clause-some
-returns-then-eq-clause-some c =
+pub returns-then-eq-clause-first : goal.returns-then-eq-clause-first
+returns-then-eq-clause-first c =
     let less : c.loop-place.place < length c.args.pages.now = omega arith in
     let at : slice_get c.args.pages.now c.loop-place.place ≡ Some c.index-pages-place.result = slice_get_read c.args.pages.now (length c.args.pages.now) c.loop-place.place c.index-pages-place.result refl less c.index-pages-place.is in
     elim (key_cases c.index-pages-place.result c.args.key.object c.args.key.chunk) [

@@ -4,7 +4,7 @@ use Rattle.posix_profile.specs.declared.reply.Reply.{Reply}
 use Rattle.mounting.specs.Faults.{WhyNotMounted}
 use Rattle.powercut.proofs.FailedMount.{failed_lived, of_no_replies}
 use Rattle.powercut.proofs.InPower.{used_lasts, used_lived, used_right}
-use Rattle.powercut.proofs.Standing.{stands_there}
+use Rattle.powercut.proofs.Representing.{represents_there}
 use Rattle.powercut.proofs.serving.serve.Goals as goal
 
 pub returns-in_ok-device-in-Ok-clause-lasts : goal.returns-in_ok-device-in-Ok-clause-lasts
@@ -14,7 +14,7 @@ pub returns-in_ok-device-in-Ok-clause-lived : goal.returns-in_ok-device-in-Ok-cl
 returns-in_ok-device-in-Ok-clause-lived g c = λ power honest.
     let mounted = c.in-Ok.ensures.mounted in
     used_lived _ c.in-Ok.volume _ _ _ c.args.commands.now _ _ mounted.since c.in_ok-device-in-Ok.ensures.used honest c.a_flash_has_one_answer_at_most.ensures mounted.goes_on mounted.read_only mounted.next
-    (λ here. let tree = mounted.tree here in (tree.0, stands_there _ _ c.in-Ok.volume tree.0 tree.1)) mounted.checked (mounted.remembers honest)
+    (λ here. let tree = mounted.tree here in (tree.0, represents_there _ _ c.in-Ok.volume tree.0 tree.1)) mounted.checked (mounted.remembers honest)
 
 pub returns-in-Err-clause-lived : goal.returns-in-Err-clause-lived
 returns-in-Err-clause-lived g c = λ power honest.
@@ -47,7 +47,7 @@ pub returns-in_ok-device-in-Ok-clause-right : goal.returns-in_ok-device-in-Ok-cl
 returns-in_ok-device-in-Ok-clause-right g c = λ truth mounted'.
     let mounted = c.in-Ok.ensures.mounted in
     used_right _ c.in-Ok.volume _ _ _ c.args.commands.now _ _ mounted.since c.in_ok-device-in-Ok.ensures.used truth.0 c.a_flash_has_one_answer_at_most.ensures mounted.goes_on mounted.read_only mounted.next
-    (λ here. let tree = mounted.tree here in (tree.0, stands_there _ _ c.in-Ok.volume tree.0 tree.1)) mounted.checked (mounted.remembers truth.0) truth.1
+    (λ here. let tree = mounted.tree here in (tree.0, represents_there _ _ c.in-Ok.volume tree.0 tree.1)) mounted.checked (mounted.remembers truth.0) truth.1
 
 pub returns-in-Err-clause-right : goal.returns-in-Err-clause-right
 returns-in-Err-clause-right g c = λ truth mounted. let two : Err c.in-Err.fault ≡ Ok tt = mounted in absurd cc

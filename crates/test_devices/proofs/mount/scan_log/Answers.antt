@@ -11,7 +11,7 @@ pub returns-clause-scanned : goal.returns-clause-scanned
 returns-clause-scanned c =
     is_scanned (device c.scan_newest.new.device) _ c.in_ok-index.index (listed c.in_ok-found.found.newest) (record {
       honest = refl;
-      ready = ready_counted _ _ _ _ _ c.in_ok-index.ensures.counts c.in_ok-blocks.ensures.ready;
+      can_write = ready_counted _ _ _ _ _ c.in_ok-index.ensures.counts c.in_ok-blocks.ensures.can_write;
       reports = reports_read (device c.args.nand.now) _ _ c.scan_newest.ensures.reads.only refl c.in_ok-found.ensures.newest;
       indexes = c.in_ok-index.ensures.indexes;
       counts = c.in_ok-index.ensures.agree;

@@ -26,7 +26,7 @@ returns-in_default-clause-group g c = record {
   table = search rules;
   placed = search rules;
   groups = search rules;
-  writes = λ h. nothing_written (g.N.Nand.state c.args.device.now) (table c.args.blocks.now) c.requires.ready (g.met.N.Nand.clean c.args.device.now h) h;
+  writes = λ h. nothing_written (g.N.Nand.state c.args.device.now) (table c.args.blocks.now) c.requires.can_write (g.met.N.Nand.clean c.args.device.now h) h;
   stays = search rules;
   quiet = search rules;
   reads = search rules;
@@ -49,13 +49,13 @@ returns-in_err-last-clause-group g c =
     let t : Table = table c.args.blocks.now in
     let place : GroupPlace = c.in-Some.place in
     let found = c.in-Some.ensures.found in
-    let some : 1 ≤ place.count = omega (arith, found.count_is, c.count-count.ensures.some) in
-    let may = may_write old _ _ place c.requires.ready found in
+    let some : 1 ≤ place.count = omega (arith, found.count_is, c.count-count.ensures.not_empty) in
+    let may = may_write old _ _ place c.requires.can_write found in
     let erased = λ (h : old.honest ≡ true) (l : ℕ) (le : place.first ≤ l). g.met.N.Nand.clean c.args.device.now h place.block (place.first + 0) l may.next (omega (arith, le)) in
     let written = c.write_pages-written.ensures.writes in
     let after = rw c.in-Some.ensures.taken at c.note_end.ensures in
     let begins = λ (other : 1 ≤ g.S.PageSource.count c.args.source.now → BeginsOther (g.S.PageSource.name c.args.source.now t.next_group 0)).
-    subst (λ n. BeginsOther (g.S.PageSource.name c.args.source.now n 0)) (sym found.group) (other (subst (λ n. 1 ≤ n) c.count-count.ensures.value c.count-count.ensures.some)) in
+    subst (λ n. BeginsOther (g.S.PageSource.name c.args.source.now n 0)) (sym found.group) (other (subst (λ n. 1 ≤ n) c.count-count.ensures.value c.count-count.ensures.not_empty)) in
     let all = rw c.in_err-last.was at written in
     let p = err_from_is_err_and c.from_residual.result c.from_residual.ensures.1 in
     record {
@@ -64,39 +64,39 @@ returns-in_err-last-clause-group g c =
       table = search rules;
       placed = search rules;
       groups = λ h o is.
-          let left = groups_err old t _ place c.requires.ready found new _ _ _ all some erased h in
-          let same = group_is old t _ place c.requires.ready found o is in
+          let left = groups_err old t _ place c.requires.can_write found new _ _ _ all some erased h in
+          let same = group_is old t _ place c.requires.can_write found o is in
           rw (← c.count-count.ensures.value, p.1, p.2) (subst (λ (x : Group). GroupsAfter x (g.S.PageSource.name c.args.source.now x.number) (g.S.PageSource.bytes c.args.source.now old.flash) old.flash new.flash (Err c.in_err-last.field-0.0)) same left);
-      writes = λ h. group_writes old _ _ place c.requires.ready found _ _ _ _ written some erased h;
+      writes = λ h. group_writes old _ _ place c.requires.can_write found _ _ _ _ written some erased h;
       stays = search rules;
       quiet = search rules;
       reads = search rules;
-      numbers = group_hands old _ _ place c.requires.ready found _ _ _ _ written some erased _ after;
+      numbers = group_hands old _ _ place c.requires.can_write found _ _ _ _ written some erased _ after;
       summaries = λ h other right.
-          let left = groups_err old t _ place c.requires.ready found _ _ _ _ all some erased h in
-          group_right old t _ place c.requires.ready found _ _ _ _ all some erased h (Err c.in_err-last.field-0.0) left (begins other) right;
+          let left = groups_err old t _ place c.requires.can_write found _ _ _ _ all some erased h in
+          group_right old t _ place c.requires.can_write found _ _ _ _ all some erased h (Err c.in_err-last.field-0.0) left (begins other) right;
     }
 
-pub returns-in_err-last-clause-ready : goal.returns-in_err-last-clause-ready
-returns-in_err-last-clause-ready g c =
+pub returns-in_err-last-clause-can_write : goal.returns-in_err-last-clause-can_write
+returns-in_err-last-clause-can_write g c =
     let old : Device = g.N.Nand.state c.args.device.now in
     let place : GroupPlace = c.in-Some.place in
     let found = c.in-Some.ensures.found in
-    let some : 1 ≤ place.count = omega (arith, found.count_is, c.count-count.ensures.some) in
-    let may = may_write old _ _ place c.requires.ready found in
+    let some : 1 ≤ place.count = omega (arith, found.count_is, c.count-count.ensures.not_empty) in
+    let may = may_write old _ _ place c.requires.can_write found in
     let erased = λ (h : old.honest ≡ true) (l : ℕ) (le : place.first ≤ l). g.met.N.Nand.clean c.args.device.now h place.block (place.first + 0) l may.next (omega (arith, le)) in
     let after = rw c.in-Some.ensures.taken at c.note_end.ensures in
-    ready_after old _ _ place c.requires.ready found _ _ _ _ c.write_pages-written.ensures.writes some erased _ after
+    ready_after old _ _ place c.requires.can_write found _ _ _ _ c.write_pages-written.ensures.writes some erased _ after
 
 pub returns-in_err-last-clause-below : goal.returns-in_err-last-clause-below
 returns-in_err-last-clause-below g c =
     let old : Device = g.N.Nand.state c.args.device.now in
     let place : GroupPlace = c.in-Some.place in
     let found = c.in-Some.ensures.found in
-    let some : 1 ≤ place.count = omega (arith, found.count_is, c.count-count.ensures.some) in
-    let may = may_write old _ _ place c.requires.ready found in
+    let some : 1 ≤ place.count = omega (arith, found.count_is, c.count-count.ensures.not_empty) in
+    let may = may_write old _ _ place c.requires.can_write found in
     let erased = λ (h : old.honest ≡ true) (l : ℕ) (le : place.first ≤ l). g.met.N.Nand.clean c.args.device.now h place.block (place.first + 0) l may.next (omega (arith, le)) in
-    group_below old _ _ place c.requires.ready found _ _ _ _ c.write_pages-written.ensures.writes some erased
+    group_below old _ _ place c.requires.can_write found _ _ _ _ c.write_pages-written.ensures.writes some erased
 
 pub returns-clause-group : goal.returns-clause-group
 returns-clause-group g c =
@@ -105,13 +105,13 @@ returns-clause-group g c =
     let t : Table = table c.args.blocks.now in
     let place : GroupPlace = c.in-Some.place in
     let found = c.in-Some.ensures.found in
-    let some : 1 ≤ place.count = omega (arith, found.count_is, c.count-count.ensures.some) in
-    let may = may_write old _ _ place c.requires.ready found in
+    let some : 1 ≤ place.count = omega (arith, found.count_is, c.count-count.ensures.not_empty) in
+    let may = may_write old _ _ place c.requires.can_write found in
     let erased = λ (h : old.honest ≡ true) (l : ℕ) (le : place.first ≤ l). g.met.N.Nand.clean c.args.device.now h place.block (place.first + 0) l may.next (omega (arith, le)) in
     let written = c.write_pages-written.ensures.writes in
     let after = rw c.in-Some.ensures.taken at c.note_end.ensures in
     let begins = λ (other : 1 ≤ g.S.PageSource.count c.args.source.now → BeginsOther (g.S.PageSource.name c.args.source.now t.next_group 0)).
-    subst (λ n. BeginsOther (g.S.PageSource.name c.args.source.now n 0)) (sym found.group) (other (subst (λ n. 1 ≤ n) c.count-count.ensures.value c.count-count.ensures.some)) in
+    subst (λ n. BeginsOther (g.S.PageSource.name c.args.source.now n 0)) (sym found.group) (other (subst (λ n. 1 ≤ n) c.count-count.ensures.value c.count-count.ensures.not_empty)) in
     let all = rw c.in_ok-last.was at written in
     record {
       no_room = search rules;
@@ -121,36 +121,36 @@ returns-clause-group g c =
           rw (← c.count-count.ensures.value, c.is_suspect.ensures) (ok_table t _ c.count-count.result place c.in_ok-last.last found left);
       placed = search rules;
       groups = λ h o is.
-          let adds = groups_ok old t _ place c.requires.ready found new _ _ c.in_ok-last.last all some erased h in
-          let same = group_is old t _ place c.requires.ready found o is in
+          let adds = groups_ok old t _ place c.requires.can_write found new _ _ c.in_ok-last.last all some erased h in
+          let same = group_is old t _ place c.requires.can_write found o is in
           rw (← c.count-count.ensures.value) (subst (λ (x : Group). AddsPages x (g.S.PageSource.name c.args.source.now x.number) (g.S.PageSource.bytes c.args.source.now old.flash) old.flash new.flash) same adds);
-      writes = λ h. group_writes old _ _ place c.requires.ready found _ _ _ _ written some erased h;
+      writes = λ h. group_writes old _ _ place c.requires.can_write found _ _ _ _ written some erased h;
       stays = search rules;
       quiet = search rules;
       reads = search rules;
-      numbers = group_hands old _ _ place c.requires.ready found _ _ _ _ written some erased _ after;
+      numbers = group_hands old _ _ place c.requires.can_write found _ _ _ _ written some erased _ after;
       summaries = λ h other right.
-          let adds = groups_ok old t _ place c.requires.ready found _ _ _ c.in_ok-last.last all some erased h in
-          group_right old t _ place c.requires.ready found _ _ _ _ all some erased h (Ok (record { block = place.block; first = place.first; count = place.count; group = place.group; suspect = false })) adds (begins other) right;
+          let adds = groups_ok old t _ place c.requires.can_write found _ _ _ c.in_ok-last.last all some erased h in
+          group_right old t _ place c.requires.can_write found _ _ _ _ all some erased h (Ok (record { block = place.block; first = place.first; count = place.count; group = place.group; suspect = false })) adds (begins other) right;
     }
 
-pub returns-clause-ready : goal.returns-clause-ready
-returns-clause-ready g c =
+pub returns-clause-can_write : goal.returns-clause-can_write
+returns-clause-can_write g c =
     let old : Device = g.N.Nand.state c.args.device.now in
     let place : GroupPlace = c.in-Some.place in
     let found = c.in-Some.ensures.found in
-    let some : 1 ≤ place.count = omega (arith, found.count_is, c.count-count.ensures.some) in
-    let may = may_write old _ _ place c.requires.ready found in
+    let some : 1 ≤ place.count = omega (arith, found.count_is, c.count-count.ensures.not_empty) in
+    let may = may_write old _ _ place c.requires.can_write found in
     let erased = λ (h : old.honest ≡ true) (l : ℕ) (le : place.first ≤ l). g.met.N.Nand.clean c.args.device.now h place.block (place.first + 0) l may.next (omega (arith, le)) in
     let after = rw c.in-Some.ensures.taken at c.note_end.ensures in
-    ready_after old _ _ place c.requires.ready found _ _ _ _ c.write_pages-written.ensures.writes some erased _ after
+    ready_after old _ _ place c.requires.can_write found _ _ _ _ c.write_pages-written.ensures.writes some erased _ after
 
 pub returns-clause-below : goal.returns-clause-below
 returns-clause-below g c =
     let old : Device = g.N.Nand.state c.args.device.now in
     let place : GroupPlace = c.in-Some.place in
     let found = c.in-Some.ensures.found in
-    let some : 1 ≤ place.count = omega (arith, found.count_is, c.count-count.ensures.some) in
-    let may = may_write old _ _ place c.requires.ready found in
+    let some : 1 ≤ place.count = omega (arith, found.count_is, c.count-count.ensures.not_empty) in
+    let may = may_write old _ _ place c.requires.can_write found in
     let erased = λ (h : old.honest ≡ true) (l : ℕ) (le : place.first ≤ l). g.met.N.Nand.clean c.args.device.now h place.block (place.first + 0) l may.next (omega (arith, le)) in
-    group_below old _ _ place c.requires.ready found _ _ _ _ c.write_pages-written.ensures.writes some erased
+    group_below old _ _ place c.requires.can_write found _ _ _ _ c.write_pages-written.ensures.writes some erased

@@ -10,6 +10,6 @@ returns-clause-numbers g c =
     let old : Device = g.N.Nand.state c.args.device.now in
     record {
       numbers = made.group.numbers;
-      truth = group_true old _ (table c.args.blocks.now) _ _ (g.S.PageSource.name c.args.source.now (table c.args.blocks.now).next_group) _ _ made.some c.requires.ready made.lasts made.group.ends made.group.table
+      truth = group_true old _ (table c.args.blocks.now) _ _ (g.S.PageSource.name c.args.source.now (table c.args.blocks.now).next_group) _ _ made.not_empty c.requires.can_write made.lasts made.group.ends made.group.table
           (λ short. search rules) made.group.groups (λ honest. (made.group.writes honest).grows) made.group.stays.bad c.requires.ordinary (λ honest other. made.group.summaries honest (λ some. other));
     }

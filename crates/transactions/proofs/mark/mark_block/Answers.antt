@@ -4,14 +4,14 @@ use Rattle.transactions.specs.laws.Handing.{hands_marked}
 use Rattle.transactions.specs.laws.Ready.{ready_marked}
 use Rattle.transactions.proofs.mark.mark_block.Goals as goal
 
-pub returns-then-is_bad-clause-ready : goal.returns-then-is_bad-clause-ready
-returns-then-is_bad-clause-ready g c = ready_marked c.args.block _ _ _ _ _ c.requires.ready c.requires.closed c.mark_bad-marked.ensures.marks (search rules)
+pub returns-then-is_bad-clause-can_write : goal.returns-then-is_bad-clause-can_write
+returns-then-is_bad-clause-can_write g c = ready_marked c.args.block _ _ _ _ _ c.requires.can_write c.requires.closed c.mark_bad-marked.ensures.marks (search rules)
 
 pub returns-then-is_bad-clause-newest : goal.returns-then-is_bad-clause-newest
 returns-then-is_bad-clause-newest g c = λ honest. mark_keeps_elsewhere c.args.block _ _ _ honest c.mark_bad-marked.ensures.marks
 
-pub returns-else-is_bad-clause-ready : goal.returns-else-is_bad-clause-ready
-returns-else-is_bad-clause-ready g c = ready_marked c.args.block _ _ _ _ _ c.requires.ready c.requires.closed c.mark_bad-marked.ensures.marks (search rules)
+pub returns-else-is_bad-clause-can_write : goal.returns-else-is_bad-clause-can_write
+returns-else-is_bad-clause-can_write g c = ready_marked c.args.block _ _ _ _ _ c.requires.can_write c.requires.closed c.mark_bad-marked.ensures.marks (search rules)
 
 pub returns-else-is_bad-clause-newest : goal.returns-else-is_bad-clause-newest
 returns-else-is_bad-clause-newest g c = λ honest. mark_keeps_elsewhere c.args.block _ _ _ honest c.mark_bad-marked.ensures.marks

@@ -9,23 +9,23 @@ use Rattle.transactions.specs.laws.Truth.{true_erased, true_opened}
 use Rattle.transactions.specs.laws.Ready.{ready_erased, ready_opened}
 use Rattle.transactions.proofs.open.erase_and_open.Goals as goal
 
-pub returns-in_err-erase-clause-ready : goal.returns-in_err-erase-clause-ready
-returns-in_err-erase-clause-ready g c = ready_erased c.args.block _ _ _ _ c.requires.ready c.requires.block.closed c.erase.ensures.erases
+pub returns-in_err-erase-clause-can_write : goal.returns-in_err-erase-clause-can_write
+returns-in_err-erase-clause-can_write g c = ready_erased c.args.block _ _ _ _ c.requires.can_write c.requires.block.closed c.erase.ensures.erases
 
-pub returns-clause-ready : goal.returns-clause-ready
-returns-clause-ready g c =
+pub returns-clause-can_write : goal.returns-clause-can_write
+returns-clause-can_write g c =
     let old : Device = g.N.Nand.state c.args.device.now in
     let new : Device = g.N.Nand.state c.erase.new.self in
     let does = c.in_ok-erase.ensures.erases in
-    let ready = ready_erased c.args.block old new (table c.args.blocks.now) _ c.requires.ready c.requires.block.closed c.erase.ensures.erases in
-    ready_opened c.args.block new _ _ ready (search rules) (search rules) does.next (λ honest. does.pages (sym does.lasts.honest ∙ honest))
+    let can_write = ready_erased c.args.block old new (table c.args.blocks.now) _ c.requires.can_write c.requires.block.closed c.erase.ensures.erases in
+    ready_opened c.args.block new _ _ can_write (search rules) (search rules) does.next (λ honest. does.pages (sym does.lasts.honest ∙ honest))
     (record { sets = c.open.ensures.sets; open_block = c.open.ensures.open; checkpoint = c.open.ensures.checkpoint ∙ other_than_it c.args.block _ c.requires.block.first; next_seq = c.open.ensures.seq })
 
 pub returns-clause-below : goal.returns-clause-below
 returns-clause-below g c = λ honest.
     let old : Device = g.N.Nand.state c.args.device.now in
     let new : Device = g.N.Nand.state c.erase.new.self in
-    (ready_erased c.args.block old new (table c.args.blocks.now) _ c.requires.ready c.requires.block.closed c.erase.ensures.erases).below (c.erase.ensures.erases.lasts.honest ∙ honest)
+    (ready_erased c.args.block old new (table c.args.blocks.now) _ c.requires.can_write c.requires.block.closed c.erase.ensures.erases).below (c.erase.ensures.erases.lasts.honest ∙ honest)
 
 pub returns-in_err-erase-clause-newest : goal.returns-in_err-erase-clause-newest
 returns-in_err-erase-clause-newest g c = λ honest. erase_keeps_elsewhere c.args.block _ _ (shrinks-erase c.args.block _ _ _ honest c.erase.ensures.erases)

@@ -14,5 +14,5 @@ all_ready : (d : Device) (n : Numbers) (r : Result Blocks AllocError) → (d.hon
 all_ready d n (Err e) above made = tt
 all_ready d n (Ok blocks) above made = made_ready d n (table blocks) made above
 
-pub returns-clause-ready : goal.returns-clause-ready
-returns-clause-ready g c = all_ready (g.N.Nand.state c.args.device.now) (numbers_of c.args.greatest) c.marked_table.result c.requires.above c.marked_table.ensures
+pub returns-clause-can_write : goal.returns-clause-can_write
+returns-clause-can_write g c = all_ready (g.N.Nand.state c.args.device.now) (numbers_of c.args.greatest) c.marked_table.result c.requires.above c.marked_table.ensures

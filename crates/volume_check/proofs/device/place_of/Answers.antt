@@ -4,7 +4,7 @@ use Rattle.flash_tree.specs.Places.{numbers_of}
 use Rattle.flash_tree.specs.laws.Place.{same_flash}
 use Rattle.chunk_index.specs.Maps.{committed_pages}
 use Rattle.chunk_index.specs.declared.index.Index.{Index}
-use Rattle.flash_log.specs.Standing.{AreCommitted}
+use Rattle.flash_log.specs.Consistency.{AreCommitted}
 use Rattle.page_store.specs.Shown.{committed_data}
 use Rattle.mounting.specs.NewestMaps.{IsNewestMap}
 use Rattle.volume_check.proofs.OnFlash.{lies, lies_nowhere}

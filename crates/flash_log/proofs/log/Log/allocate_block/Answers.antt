@@ -12,10 +12,10 @@ invariant_of-self g c =
     let log = c.args.self.now in
     let law = c.the_counts_are_of_the_keys.ensures.none log.index in
     let took = c.take_block.ensures in
-    let step = step_tried log.spare (g.N.Nand.state log.device) (g.N.Nand.state c.take_block.new.device) (table log.blocks) (table c.take_block.new.blocks) log.index law took.lasts took.ready took.numbers took.passes log.stands c.take_block.result took.ends in
+    let step = step_tried log.spare (g.N.Nand.state log.device) (g.N.Nand.state c.take_block.new.device) (table log.blocks) (table c.take_block.new.blocks) log.index law took.lasts took.can_write took.numbers took.passes log.consistent c.take_block.result took.ends in
     record {
-      ready = took.ready;
-      stands = step.stands;
+      can_write = took.can_write;
+      consistent = step.consistent;
       room_size = subst (λ (x : Geometry). IsRoomFor x log.room) (sym took.lasts.geometry) log.room_size;
       mountable = mountable_after log.origin.first log.spare (log_of (g.N.Nand.state log.device) (table log.blocks)) (log_of (g.N.Nand.state c.take_block.new.device) (table c.take_block.new.blocks)) log.index log.index step log.mountable;
     }
@@ -25,4 +25,4 @@ returns-clause-step g c =
     let log = c.args.self.now in
     let law = c.the_counts_are_of_the_keys.ensures.none log.index in
     let took = c.take_block.ensures in
-    step_tried log.spare (g.N.Nand.state log.device) (g.N.Nand.state c.take_block.new.device) (table log.blocks) (table c.take_block.new.blocks) log.index law took.lasts took.ready took.numbers took.passes log.stands c.take_block.result took.ends
+    step_tried log.spare (g.N.Nand.state log.device) (g.N.Nand.state c.take_block.new.device) (table log.blocks) (table c.take_block.new.blocks) log.index law took.lasts took.can_write took.numbers took.passes log.consistent c.take_block.result took.ends

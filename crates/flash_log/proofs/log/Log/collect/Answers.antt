@@ -25,8 +25,8 @@ returns-in-Trusted-clause-ends g c =
     let moved = rw c.in-Trusted.is at c.in_ok-move_committed.ensures in
     let reserve = moved.within_limit in
     let same = c.move_committed.ensures.terms.spare in (
-      collected_open c.args.block moved.ends.1.0 c.args.self.now.spare (g.N.Nand.state c.move_committed.new.self.device) (table c.args.self.now.blocks) (table c.move_committed.new.self.blocks) c.move_committed.new.self.index c.requires.some
-          moved.ends.1.1 moved.ends.0.uncommitted (omega (arith, reserve, same)) moved.step.stands,
+      collected_open c.args.block moved.ends.1.0 c.args.self.now.spare (g.N.Nand.state c.move_committed.new.self.device) (table c.args.self.now.blocks) (table c.move_committed.new.self.blocks) c.move_committed.new.self.index c.requires.has_committed
+          moved.ends.1.1 moved.ends.0.uncommitted (omega (arith, reserve, same)) moved.step.consistent,
       moved.ends.2,
     )
 
@@ -46,7 +46,7 @@ returns-in-Suspect-clause-out g c =
     let moved = rw c.in-Suspect.is at c.in_ok-move_committed.ensures in
     out_retired c.args.block c.in-Suspect.copies c.args.self.now.spare (g.N.Nand.state c.args.self.now.device) (table c.args.self.now.blocks) (table c.move_committed.new.self.blocks)
     c.args.self.now.index c.move_committed.new.self.index c.retire.new.self.index (c.the_counts_are_of_the_keys.ensures.none c.args.self.now.index)
-    c.args.self.now.stands moved.ends.1.0 moved.out (rw c.move_committed.ensures.terms.spare at c.retire.ensures).out
+    c.args.self.now.consistent moved.ends.1.0 moved.out (rw c.move_committed.ensures.terms.spare at c.retire.ensures).out
 
 pub returns-in-Suspect-clause-pays : goal.returns-in-Suspect-clause-pays
 returns-in-Suspect-clause-pays g c =
@@ -58,7 +58,7 @@ pub returns-in-Suspect-clause-ends : goal.returns-in-Suspect-clause-ends
 returns-in-Suspect-clause-ends g c =
     let moved = rw c.in-Suspect.is at c.in_ok-move_committed.ensures in
     ends_retired c.args.block c.in-Suspect.copies c.args.self.now.spare (g.N.Nand.state c.retire.new.self.device) (table c.args.self.now.blocks) (table c.move_committed.new.self.blocks)
-    (table c.retire.new.self.blocks) c.retire.result c.requires.some moved.ends.1.0 moved.ends.0.uncommitted (rw c.move_committed.ensures.terms.spare at c.retire.ensures).ends
+    (table c.retire.new.self.blocks) c.retire.result c.requires.has_committed moved.ends.1.0 moved.ends.0.uncommitted (rw c.move_committed.ensures.terms.spare at c.retire.ensures).ends
 
 pub returns-in-Trusted-clause-anew : goal.returns-in-Trusted-clause-anew
 returns-in-Trusted-clause-anew g c =
@@ -66,7 +66,7 @@ returns-in-Trusted-clause-anew g c =
     let y = c.move_committed.new.self.index in
     let t : Table = table c.move_committed.new.self.blocks in
     anew_none c.args.block (log_of (g.N.Nand.state c.args.self.now.device) (table c.args.self.now.blocks)) (log_of (g.N.Nand.state c.move_committed.new.self.device) t) y
-    (are_held t y (c.the_counts_are_of_the_keys.ensures.none y) moved.step.stands.tables.counts) moved.ends.0.uncommitted
+    (are_held t y (c.the_counts_are_of_the_keys.ensures.none y) moved.step.consistent.tables.counts) moved.ends.0.uncommitted
 
 pub returns-in-Suspect-clause-anew : goal.returns-in-Suspect-clause-anew
 returns-in-Suspect-clause-anew g c =

@@ -11,7 +11,7 @@ use Rattle.flash_log.proofs.Refreshed.{fills_none}
 use Rattle.flash_log.proofs.log.Log.empty_block.Goals as goal
 
 pub returns-then-entry-eq0-clause-step : goal.returns-then-entry-eq0-clause-step
-returns-then-entry-eq0-clause-step g c = step_none c.args.self.now.spare (g.N.Nand.state c.args.self.now.device) (table c.args.self.now.blocks) c.args.self.now.index c.args.self.now.ready c.args.self.now.stands
+returns-then-entry-eq0-clause-step g c = step_none c.args.self.now.spare (g.N.Nand.state c.args.self.now.device) (table c.args.self.now.blocks) c.args.self.now.index c.args.self.now.can_write c.args.self.now.consistent
 
 pub returns-then-entry-eq0-clause-out : goal.returns-then-entry-eq0-clause-out
 returns-then-entry-eq0-clause-out g c = moves_out_none c.args.block c.args.self.now.index
@@ -21,7 +21,7 @@ returns-then-entry-eq0-clause-anew g c =
     let d : Device = g.N.Nand.state c.args.self.now.device in
     let t : Table = table c.args.self.now.blocks in
     let x = c.args.self.now.index in
-    fills_none (log_of d t) x (are_held t x (c.the_counts_are_of_the_keys.ensures.none x) c.args.self.now.stands.tables.counts)
+    fills_none (log_of d t) x (are_held t x (c.the_counts_are_of_the_keys.ensures.none x) c.args.self.now.consistent.tables.counts)
 
 pub returns-then-entry-eq0-clause-pays : goal.returns-then-entry-eq0-clause-pays
 returns-then-entry-eq0-clause-pays g c = pays_none _ _ (log_of (g.N.Nand.state c.args.self.now.device) (table c.args.self.now.blocks)) _
@@ -33,7 +33,7 @@ returns-in_err-move_committed-clause-pays g c =
     let pays = c.in_err-move_committed.ensures.pays in
     let p = err_from_is_err_and c.from_residual.result c.from_residual.ensures.1 in
     rw p.1 (record {
-      costs = costs_committed c.args.block 0 d (g.N.Nand.state c.move_committed.new.self.device) t c.args.self.now.ready.geometry (c.args.self.now.stands.tables.fits c.args.block) pays.costs;
+      costs = costs_committed c.args.block 0 d (g.N.Nand.state c.move_committed.new.self.device) t c.args.self.now.can_write.geometry (c.args.self.now.consistent.tables.fits c.args.block) pays.costs;
       marks = pays.marks;
       answers = tt;
       reads = pays.reads;
@@ -45,7 +45,7 @@ returns-in-Trusted-clause-pays g c =
     let t : Table = table c.args.self.now.blocks in
     let pays = (rw c.in-Trusted.is at c.in_ok-move_committed.ensures).pays in
     record {
-      costs = costs_committed c.args.block 0 d (g.N.Nand.state c.move_committed.new.self.device) t c.args.self.now.ready.geometry (c.args.self.now.stands.tables.fits c.args.block) pays.costs;
+      costs = costs_committed c.args.block 0 d (g.N.Nand.state c.move_committed.new.self.device) t c.args.self.now.can_write.geometry (c.args.self.now.consistent.tables.fits c.args.block) pays.costs;
       marks = pays.marks;
       answers = pays.answers;
       reads = pays.reads;
@@ -57,7 +57,7 @@ returns-in-Suspect-clause-pays g c =
     let t : Table = table c.args.self.now.blocks in
     let pays = (rw c.in-Suspect.is at c.in_ok-move_committed.ensures).pays in
     record {
-      costs = costs_committed c.args.block 1 d (g.N.Nand.state c.move_committed.new.self.device) t c.args.self.now.ready.geometry (c.args.self.now.stands.tables.fits c.args.block) pays.costs;
+      costs = costs_committed c.args.block 1 d (g.N.Nand.state c.move_committed.new.self.device) t c.args.self.now.can_write.geometry (c.args.self.now.consistent.tables.fits c.args.block) pays.costs;
       marks = pays.marks;
       answers = pays.answers;
       reads = pays.reads;

@@ -18,11 +18,11 @@ use Rattle.flash_log.proofs.log.Log.gather.Goals as goal
 
 pub returns-then-next_group-ge-NUMBER_END-clause-step : goal.returns-then-next_group-ge-NUMBER_END-clause-step
 returns-then-next_group-ge-NUMBER_END-clause-step g c =
-    step_none c.args.self.now.spare (g.N.Nand.state c.args.self.now.device) (table c.args.self.now.blocks) c.args.self.now.index c.args.self.now.ready c.args.self.now.stands
+    step_none c.args.self.now.spare (g.N.Nand.state c.args.self.now.device) (table c.args.self.now.blocks) c.args.self.now.index c.args.self.now.can_write c.args.self.now.consistent
 
 pub move_behind-requires-clause-good : goal.move_behind-requires-clause-good
 move_behind-requires-clause-good g c =
-    c.in_ok-open_next.ensures.holds.good c.args.block c.requires.some c.requires.good
+    c.in_ok-open_next.ensures.holds.good c.args.block c.requires.has_committed c.requires.good
 
 pub returns-in_err-move_behind-clause-step : goal.returns-in_err-move_behind-clause-step
 returns-in_err-move_behind-clause-step g c =
@@ -142,7 +142,7 @@ retire-requires-clause-block g c =
     let is : c.move_behind.result ≡ Ok (Some (places.Suspect c.in-Some-Suspect.copies)) = c.in_ok-move_behind.was ∙ ap Ok (c.in-Some-Suspect.is ∙ ap Some c.in-Some-Suspect.field-0-is) in
     let ends_is = subst (OpenEnds v c.args.count mid.spare b e) is ended in
     record {
-      within = subst (λ (x : Geometry). w < x.blocks) (moved.step.geometry ∙ mid.ready.geometry ∙ sym moved.step.lasts.geometry) (subst (λ (x : Geometry). w < x.blocks) (sym moved.step.geometry) ends_is.1.within);
+      within = subst (λ (x : Geometry). w < x.blocks) (moved.step.geometry ∙ mid.can_write.geometry ∙ sym moved.step.lasts.geometry) (subst (λ (x : Geometry). w < x.blocks) (sym moved.step.geometry) ends_is.1.within);
       good = ends_is.1.good;
     }
 
@@ -168,10 +168,10 @@ collect-requires-clause-good g c =
     let within_limit = c.requires.fits in
     let is : c.move_behind.result ≡ Ok None = c.in_ok-move_behind.was ∙ ap Ok c.in-None.is in
     let ends_is = subst (OpenEnds v c.args.count mid.spare b e) is ended in
-    ends_is.1.good v (omega (arith, same, c.requires.some)) (opened.holds.good v c.requires.some c.requires.good)
+    ends_is.1.good v (omega (arith, same, c.requires.has_committed)) (opened.holds.good v c.requires.has_committed c.requires.good)
 
-pub collect-requires-clause-some : goal.collect-requires-clause-some
-collect-requires-clause-some g c =
+pub collect-requires-clause-has_committed : goal.collect-requires-clause-has_committed
+collect-requires-clause-has_committed g c =
     let log = c.args.self.now in
     let mid = c.open_next.new.self in
     let end = c.move_behind.new.self in
@@ -192,7 +192,7 @@ collect-requires-clause-some g c =
     let within_limit = c.requires.fits in
     let is : c.move_behind.result ≡ Ok None = c.in_ok-move_behind.was ∙ ap Ok c.in-None.is in
     let ends_is = subst (OpenEnds v c.args.count mid.spare b e) is ended in
-    let still = ends_is.1.committed v in omega (arith, still, same, c.requires.some)
+    let still = ends_is.1.committed v in omega (arith, still, same, c.requires.has_committed)
 
 pub returns-in-Some-Trusted-clause-step : goal.returns-in-Some-Trusted-clause-step
 returns-in-Some-Trusted-clause-step g c =
@@ -263,7 +263,7 @@ returns-in-Some-Trusted-clause-ends g c =
     let ends_is = subst (OpenEnds v c.args.count mid.spare b e) is ended in
     let reserve = c.in_ok-move_behind.ensures.within_limit in
     let spare = moved.terms.spare ∙ opened.terms.spare in
-    gathered_behind v c.args.count log.spare b e end.index (omega (arith, same, c.requires.some)) ends_is.1 (omega (arith, reserve, spare)) step.stands ends_is.3
+    gathered_behind v c.args.count log.spare b e end.index (omega (arith, same, c.requires.has_committed)) ends_is.1 (omega (arith, reserve, spare)) step.consistent ends_is.3
 
 pub returns-in-Some-Suspect-clause-step : goal.returns-in-Some-Suspect-clause-step
 returns-in-Some-Suspect-clause-step g c =
@@ -321,7 +321,7 @@ returns-in-Some-Suspect-clause-out g c =
     let then = c.retire.ensures in
     let spare = moved.terms.spare ∙ opened.terms.spare in
     out_retired v w mid.spare b.device b.table e.table log.index end.index last.index (c.the_counts_are_of_the_keys.ensures.none log.index)
-    (rw (sym opened.index) mid.stands) ends_is.1 (subst (λ i. MovesOut v i end.index) opened.index moved.out) then.out
+    (rw (sym opened.index) mid.consistent) ends_is.1 (subst (λ i. MovesOut v i end.index) opened.index moved.out) then.out
 
 pub returns-in-Some-Suspect-clause-pays : goal.returns-in-Some-Suspect-clause-pays
 returns-in-Some-Suspect-clause-pays g c =
@@ -379,7 +379,7 @@ returns-in-Some-Suspect-clause-ends g c =
     let then = c.retire.ensures in
     let spare = moved.terms.spare ∙ opened.terms.spare in
     let pages = ap (λ (x : Geometry). x.pages) (then.step.geometry ∙ moved.step.geometry ∙ opened.step.geometry) in
-    rw (sym spare) (gathered_retired v w (a.table.entry v).committed c.args.count end.spare b e f c.retire.result (sym same) c.requires.some ends_is.1 (omega (arith, pages, within_limit)) then.ends)
+    rw (sym spare) (gathered_retired v w (a.table.entry v).committed c.args.count end.spare b e f c.retire.result (sym same) c.requires.has_committed ends_is.1 (omega (arith, pages, within_limit)) then.ends)
 
 pub returns-in-None-clause-step : goal.returns-in-None-clause-step
 returns-in-None-clause-step g c =

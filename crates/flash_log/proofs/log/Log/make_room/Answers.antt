@@ -7,19 +7,19 @@ use Rattle.flash_log.proofs.RoomTaken.{fits_clear, free_next, pays_next, pays_no
 use Rattle.flash_log.proofs.log.Log.make_room.Goals as goal
 
 pub returns-then-count-open_room-clause-step : goal.returns-then-count-open_room-clause-step
-returns-then-count-open_room-clause-step g c = step_none c.args.self.now.spare (g.N.Nand.state c.args.self.now.device) (table c.args.self.now.blocks) c.args.self.now.index c.args.self.now.ready c.args.self.now.stands
+returns-then-count-open_room-clause-step g c = step_none c.args.self.now.spare (g.N.Nand.state c.args.self.now.device) (table c.args.self.now.blocks) c.args.self.now.index c.args.self.now.can_write c.args.self.now.consistent
 
 pub returns-then-count-open_room-clause-pays : goal.returns-then-count-open_room-clause-pays
 returns-then-count-open_room-clause-pays g c = pays_nothing c.args.self.now.spare (log_of (g.N.Nand.state c.args.self.now.device) (table c.args.self.now.blocks)) _
 
 pub returns-then-count-pages-clause-step : goal.returns-then-count-pages-clause-step
-returns-then-count-pages-clause-step g c = step_none c.args.self.now.spare (g.N.Nand.state c.args.self.now.device) (table c.args.self.now.blocks) c.args.self.now.index c.args.self.now.ready c.args.self.now.stands
+returns-then-count-pages-clause-step g c = step_none c.args.self.now.spare (g.N.Nand.state c.args.self.now.device) (table c.args.self.now.blocks) c.args.self.now.index c.args.self.now.can_write c.args.self.now.consistent
 
 pub returns-then-count-pages-clause-pays : goal.returns-then-count-pages-clause-pays
 returns-then-count-pages-clause-pays g c = pays_nothing c.args.self.now.spare (log_of (g.N.Nand.state c.args.self.now.device) (table c.args.self.now.blocks)) _
 
 pub returns-in_default-clause-step : goal.returns-in_default-clause-step
-returns-in_default-clause-step g c = step_none c.args.self.now.spare (g.N.Nand.state c.args.self.now.device) (table c.args.self.now.blocks) c.args.self.now.index c.args.self.now.ready c.args.self.now.stands
+returns-in_default-clause-step g c = step_none c.args.self.now.spare (g.N.Nand.state c.args.self.now.device) (table c.args.self.now.blocks) c.args.self.now.index c.args.self.now.can_write c.args.self.now.consistent
 
 pub returns-in_default-clause-pays : goal.returns-in_default-clause-pays
 returns-in_default-clause-pays g c = pays_nothing c.args.self.now.spare (log_of (g.N.Nand.state c.args.self.now.device) (table c.args.self.now.blocks)) _

@@ -7,11 +7,11 @@ use Rattle.flash_log.specs.laws.Mountable.{mountable_after}
 use Rattle.flash_log.specs.laws.Room.{same_page}
 use Rattle.flash_log.proofs.log.Log.move_committed.Goals as goal
 
-pub invariant_of-self-clause-ready : goal.invariant_of-self-clause-ready
-invariant_of-self-clause-ready g c = c.move_listed.ensures.step.ready
+pub invariant_of-self-clause-can_write : goal.invariant_of-self-clause-can_write
+invariant_of-self-clause-can_write g c = c.move_listed.ensures.step.can_write
 
-pub invariant_of-self-clause-stands : goal.invariant_of-self-clause-stands
-invariant_of-self-clause-stands g c = c.move_listed.ensures.step.stands
+pub invariant_of-self-clause-consistent : goal.invariant_of-self-clause-consistent
+invariant_of-self-clause-consistent g c = c.move_listed.ensures.step.consistent
 
 pub invariant_of-self-clause-room_size : goal.invariant_of-self-clause-room_size
 invariant_of-self-clause-room_size g c =
@@ -33,15 +33,15 @@ invariant_of-self-clause-mountable g c =
 
 pub list-requires : goal.list-requires
 list-requires g c =
-    let tables = c.args.self.now.stands.tables in
+    let tables = c.args.self.now.consistent.tables in
     let fits = tables.fits c.args.block in
     let count = tables.counts.counts c.args.block in
-    let pages = ap (λ (x : Geometry). x.pages) c.args.self.now.ready.geometry in
+    let pages = ap (λ (x : Geometry). x.pages) c.args.self.now.can_write.geometry in
     omega (arith, fits, count, pages, c.args.self.now.room_size.copies)
 
 pub returns-clause-pays : goal.returns-clause-pays
 returns-clause-pays g c =
-    let listed : length c.list.new.self.copies.items ≡ ((table c.args.self.now.blocks).entry c.args.block).committed = c.list.ensures.count ∙ sym (c.args.self.now.stands.tables.counts.counts c.args.block) in
+    let listed : length c.list.new.self.copies.items ≡ ((table c.args.self.now.blocks).entry c.args.block).committed = c.list.ensures.count ∙ sym (c.args.self.now.consistent.tables.counts.counts c.args.block) in
     let count : length c.deref.result.now ≡ ((table c.args.self.now.blocks).entry c.args.block).committed = omega (arith, listed) in
     subst (λ n. PaysCopies n (log_of (g.N.Nand.state c.args.self.now.device) (table c.args.self.now.blocks)) (log_of (g.N.Nand.state c.move_listed.new.device) (table c.move_listed.new.blocks)) c.move_listed.result)
     count c.move_listed.ensures.pays

@@ -10,8 +10,8 @@ use Rattle.flash_log.proofs.log.Log.new.Goals as goal
 pub invariant_of-result : goal.invariant_of-result
 invariant_of-result g c =
     record {
-      ready = c.requires.1.0;
-      stands = c.requires.1.1.0;
+      can_write = c.requires.1.0;
+      consistent = c.requires.1.1.0;
       room_size = subst (λ (k : Geometry). IsRoomFor k c.in-Ok.room) c.geometry.ensures c.in-Ok.ensures;
       mountable = subst (λ (k : Option Snapshot). IsMountableSince k (log_of (g.N.Nand.state c.args.device) (table c.args.blocks)) c.args.index) (sym c.as_chosen.ensures) c.requires.1.1.1;
     }

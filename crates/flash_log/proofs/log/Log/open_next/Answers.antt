@@ -23,7 +23,7 @@ returns-in_err-block-clause-pays g c =
     let b = log_of (g.N.Nand.state mid.device) (table mid.blocks) in
     let took = c.allocate_block.ensures in
     let p = err_from_is_err_and c.from_residual.result c.from_residual.ensures.1 in
-    rw p.1 (pays_plain c.args.count a b c.allocate_block.result (Err p.0) took.step.lasts took.passes.failures took.pays (let size = ap (λ (x : Geometry). x.pages) log.ready.geometry in omega (arith, size, c.requires.count)) tt)
+    rw p.1 (pays_plain c.args.count a b c.allocate_block.result (Err p.0) took.step.lasts took.passes.failures took.pays (let size = ap (λ (x : Geometry). x.pages) log.can_write.geometry in omega (arith, size, c.requires.count)) tt)
 
 pub returns-in_default-clause-pays : goal.returns-in_default-clause-pays
 returns-in_default-clause-pays g c =
@@ -32,7 +32,7 @@ returns-in_default-clause-pays g c =
     let a = log_of (g.N.Nand.state log.device) (table log.blocks) in
     let b = log_of (g.N.Nand.state mid.device) (table mid.blocks) in
     let took = c.in_ok-block.ensures in
-    pays_plain c.args.count a b (Ok c.in_ok-block.block) _ took.step.lasts took.passes.failures took.pays (let size = ap (λ (x : Geometry). x.pages) log.ready.geometry in omega (arith, size, c.requires.count)) took.pays.answers
+    pays_plain c.args.count a b (Ok c.in_ok-block.block) _ took.step.lasts took.passes.failures took.pays (let size = ap (λ (x : Geometry). x.pages) log.can_write.geometry in omega (arith, size, c.requires.count)) took.pays.answers
 
 pub summarize-requires-clause-fresh : goal.summarize-requires-clause-fresh
 summarize-requires-clause-fresh g c =
@@ -41,7 +41,7 @@ summarize-requires-clause-fresh g c =
     let a = log_of (g.N.Nand.state log.device) (table log.blocks) in
     let b = log_of (g.N.Nand.state mid.device) (table mid.blocks) in
     let took = c.in_ok-block.ensures in
-    fresh_taken c.in_ok-block.block a.device b.device a.table b.table took.passes took.step.ready took.ends.0 took.ends.1
+    fresh_taken c.in_ok-block.block a.device b.device a.table b.table took.passes took.step.can_write took.ends.0 took.ends.1
 
 pub summarize-requires-clause-written : goal.summarize-requires-clause-written
 summarize-requires-clause-written g c =
@@ -50,7 +50,7 @@ summarize-requires-clause-written g c =
     let a = log_of (g.N.Nand.state log.device) (table log.blocks) in
     let b = log_of (g.N.Nand.state mid.device) (table mid.blocks) in
     let took = c.in_ok-block.ensures in
-    was_written c.in-Some.written c.in_ok-block.block a.device b.device a.table b.table log.ready c.in-Some.ensures.some took.step.lasts took.passes took.ends.0
+    was_written c.in-Some.written c.in_ok-block.block a.device b.device a.table b.table log.can_write c.in-Some.ensures.opened took.step.lasts took.passes took.ends.0
 
 pub returns-in_err-summarize-clause-step : goal.returns-in_err-summarize-clause-step
 returns-in_err-summarize-clause-step g c =
@@ -171,7 +171,7 @@ returns-in-Written-clause-begins g c =
     let end = c.summarize.new.self in
     let e = log_of (g.N.Nand.state end.device) (table end.blocks) in
     let did = c.summarize.ensures in
-    begins_written c.in-Some.written c.args.count a b e c.summarize.result c.in-Some.ensures.some took.step.lasts took.passes did.writes (c.in_ok-summarize.was ∙ ap Ok c.in-Written.is)
+    begins_written c.in-Some.written c.args.count a b e c.summarize.result c.in-Some.ensures.opened took.step.lasts took.passes did.writes (c.in_ok-summarize.was ∙ ap Ok c.in-Written.is)
 
 pub returns-in-Marked-clause-begins : goal.returns-in-Marked-clause-begins
 returns-in-Marked-clause-begins g c =
@@ -194,7 +194,7 @@ returns-in_default-clause-ends g c =
     let a = log_of (g.N.Nand.state log.device) (table log.blocks) in
     let b = log_of (g.N.Nand.state mid.device) (table mid.blocks) in
     let took = c.in_ok-block.ensures in
-    let fresh = fresh_taken c.in_ok-block.block a.device b.device a.table b.table took.passes took.step.ready took.ends.0 took.ends.1 in
+    let fresh = fresh_taken c.in_ok-block.block a.device b.device a.table b.table took.passes took.step.can_write took.ends.0 took.ends.1 in
     let group = took.passes.next_group in (
       clear_fresh_block c.in_ok-block.block c.args.count b.device b.table fresh (subst (λ (x : Geometry). c.args.count ≤ x.pages) (sym took.passes.geometry) c.requires.count),
       λ less. omega (arith, group, less),

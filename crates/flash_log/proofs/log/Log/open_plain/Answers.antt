@@ -8,7 +8,7 @@ use Rattle.flash_log.proofs.Writing.{fresh_taken}
 use Rattle.flash_log.proofs.log.Log.open_plain.Goals as goal
 
 pub returns-then-bad_count-self-clause-step : goal.returns-then-bad_count-self-clause-step
-returns-then-bad_count-self-clause-step g c = step_none c.args.self.now.spare (g.N.Nand.state c.args.self.now.device) (table c.args.self.now.blocks) c.args.self.now.index c.args.self.now.ready c.args.self.now.stands
+returns-then-bad_count-self-clause-step g c = step_none c.args.self.now.spare (g.N.Nand.state c.args.self.now.device) (table c.args.self.now.blocks) c.args.self.now.index c.args.self.now.can_write c.args.self.now.consistent
 
 pub returns-then-bad_count-self-clause-ends : goal.returns-then-bad_count-self-clause-ends
 returns-then-bad_count-self-clause-ends g c = λ count fits. inr (inr (let more = c.if-bad_count-self.true in let count = c.bad_count.ensures in omega (arith, more, count), c.requires.power))
@@ -18,7 +18,7 @@ returns-clause-ends g c =
     let log = c.args.self.now in
     let mid = c.allocate_block.new.self in
     let took = c.in_ok-allocate_block.ensures in
-    let fresh = fresh_taken c.in_ok-allocate_block.field-0 (g.N.Nand.state log.device) (g.N.Nand.state mid.device) (table log.blocks) (table mid.blocks) took.passes took.step.ready took.ends.0 took.ends.1 in
+    let fresh = fresh_taken c.in_ok-allocate_block.field-0 (g.N.Nand.state log.device) (g.N.Nand.state mid.device) (table log.blocks) (table mid.blocks) took.passes took.step.can_write took.ends.0 took.ends.1 in
     let group = took.passes.next_group in
     λ count within_limit. (
       clear_fresh_block c.in_ok-allocate_block.field-0 count (g.N.Nand.state mid.device) (table mid.blocks) fresh (subst (λ (x : Geometry). count ≤ x.pages) (sym took.passes.geometry) within_limit),

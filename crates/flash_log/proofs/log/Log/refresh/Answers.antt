@@ -10,7 +10,7 @@ use Rattle.flash_log.proofs.log.Log.refresh.Goals as goal
 use Rattle.flash_log.proofs.log.Log.refresh.Goals.{then-entry-via-then-entry, then-entry-via-else-entry+then-entry-eq0}
 
 pub returns-then-entry-clause-step : goal.returns-then-entry-clause-step
-returns-then-entry-clause-step g c = step_none c.args.self.now.spare (g.N.Nand.state c.args.self.now.device) (table c.args.self.now.blocks) c.args.self.now.index c.args.self.now.ready c.args.self.now.stands
+returns-then-entry-clause-step g c = step_none c.args.self.now.spare (g.N.Nand.state c.args.self.now.device) (table c.args.self.now.blocks) c.args.self.now.index c.args.self.now.can_write c.args.self.now.consistent
 
 pub returns-then-entry-clause-anew : goal.returns-then-entry-clause-anew
 returns-then-entry-clause-anew g c =
@@ -21,4 +21,4 @@ returns-then-entry-clause-anew g c =
       | then-entry-via-then-entry w ↦ inr (search rules)
       | then-entry-via-else-entry+then-entry-eq0 w ↦ inl (search rules)
     ] in
-    anew_idle self.spare c.args.block d t self.index self.ready self.stands (are_held t self.index (c.the_counts_are_of_the_keys.ensures.none self.index) self.stands.tables.counts) idle
+    anew_idle self.spare c.args.block d t self.index self.can_write self.consistent (are_held t self.index (c.the_counts_are_of_the_keys.ensures.none self.index) self.consistent.tables.counts) idle

@@ -7,7 +7,7 @@ use Rattle.block_state.specs.TableOf.{table}
 use Rattle.transactions.specs.Checking.{log_of}
 use Rattle.flash_log.specs.laws.Mountable.{mountable_after}
 use Rattle.flash_log.specs.laws.Steps.{step_closed, step_on}
-use Rattle.flash_log.specs.laws.Turns.{stands_closed}
+use Rattle.flash_log.specs.laws.Turns.{consistent_closed}
 use Rattle.transactions.specs.Ready.{IsReady}
 use Rattle.transactions.specs.laws.Ready.{ready_closed}
 use Rattle.flash_log.proofs.Refreshed.{fills_closed}
@@ -22,10 +22,10 @@ invariant_of-self g c =
     let t : Table = table self.blocks in
     let u : Table = table c.close.new.self in
     record {
-      ready = subst (IsReady d) (sym c.close.ensures) (ready_closed d t self.ready);
-      stands = stands_closed self.spare d t u self.index c.close.ensures self.stands;
+      can_write = subst (IsReady d) (sym c.close.ensures) (ready_closed d t self.can_write);
+      consistent = consistent_closed self.spare d t u self.index c.close.ensures self.consistent;
       room_size = self.room_size;
-      mountable = mountable_after self.origin.first self.spare (log_of d t) (log_of d u) self.index self.index (step_closed self.spare d t u self.index c.close.ensures self.ready self.stands) self.mountable;
+      mountable = mountable_after self.origin.first self.spare (log_of d t) (log_of d u) self.index self.index (step_closed self.spare d t u self.index c.close.ensures self.can_write self.consistent) self.mountable;
     }
 
 pub retire_all-requires-clause-within_limit : goal.retire_all-requires-clause-within_limit
@@ -45,7 +45,7 @@ returns-clause-step g c =
     let u : Table = table c.close.new.self in
     let x = c.args.self.now.index in
     step_on c.args.self.now.spare (log_of d t) (log_of d u) (log_of (g.N.Nand.state c.retire_all.new.self.device) (table c.retire_all.new.self.blocks)) x x c.retire_all.new.self.index
-    (step_closed c.args.self.now.spare d t u x c.close.ensures c.args.self.now.ready c.args.self.now.stands) c.retire_all.ensures.step
+    (step_closed c.args.self.now.spare d t u x c.close.ensures c.args.self.now.can_write c.args.self.now.consistent) c.retire_all.ensures.step
 
 pub returns-clause-pays : goal.returns-clause-pays
 returns-clause-pays g c =

@@ -54,7 +54,7 @@ returns-in_err-suspect-2-clause-out g c =
     let d' : Device = g.N.Nand.state c.retire_one-in-Some.new.self.device in
     let t' : Table = table c.retire_one-in-Some.new.self.blocks in
     let y = c.retire_one-in-Some.new.self.index in
-    let none : HoldsNone (committed_pages x0) w = c.the_counts_are_of_the_keys.ensures.none x0 w (sym (c.args.self.now.stands.tables.counts.counts w) ∙ next_uncommitted c.args.self.now.spare c.args.block w d0 d t0 t x0 x r) in
+    let none : HoldsNone (committed_pages x0) w = c.the_counts_are_of_the_keys.ensures.none x0 w (sym (c.args.self.now.consistent.tables.counts.counts w) ∙ next_uncommitted c.args.self.now.spare c.args.block w d0 d t0 t x0 x r) in
     moved_next c.args.self.now.spare c.args.block w d0 d t0 t x0 x r y none (rw c.loop-suspect.invariant.terms.spare at c.in_err-suspect-2.ensures).out
 
 pub returns-in_err-suspect-2-clause-pays : goal.returns-in_err-suspect-2-clause-pays
@@ -87,12 +87,12 @@ loop-suspect-preserved g c =
     let d' : Device = g.N.Nand.state c.retire_one-in-Some.new.self.device in
     let t' : Table = table c.retire_one-in-Some.new.self.blocks in
     let y = c.retire_one-in-Some.new.self.index in
-    let none : HoldsNone (committed_pages x0) w = c.the_counts_are_of_the_keys.ensures.none x0 w (sym (c.args.self.now.stands.tables.counts.counts w) ∙ next_uncommitted c.args.self.now.spare c.args.block w d0 d t0 t x0 x r) in
+    let none : HoldsNone (committed_pages x0) w = c.the_counts_are_of_the_keys.ensures.none x0 w (sym (c.args.self.now.consistent.tables.counts.counts w) ∙ next_uncommitted c.args.self.now.spare c.args.block w d0 d t0 t x0 x r) in
     let e = rw c.loop-suspect.invariant.terms.spare at c.in_ok-suspect-2.ensures in
     let terms = c.in_ok-suspect-2.ensures.terms in
     record {
       terms = record { spare = terms.spare ∙ c.loop-suspect.invariant.terms.spare; first = terms.first ∙ c.loop-suspect.invariant.terms.first };
-      retiring = retiring_next c.args.self.now.spare c.args.block w d0 d t0 t x0 x r d' t' y c.in_ok-suspect-2.suspect none e.step e.ends.0 e.out e.pays (are_held t' y (c.the_counts_are_of_the_keys.ensures.none y) e.step.stands.tables.counts) e.anew e.ends.1;
+      retiring = retiring_next c.args.self.now.spare c.args.block w d0 d t0 t x0 x r d' t' y c.in_ok-suspect-2.suspect none e.step e.ends.0 e.out e.pays (are_held t' y (c.the_counts_are_of_the_keys.ensures.none y) e.step.consistent.tables.counts) e.anew e.ends.1;
       empty = λ committed. absurd (some_none w (sym c.in-Some.is ∙ (c.loop-suspect.invariant.empty committed).1));
     }
 

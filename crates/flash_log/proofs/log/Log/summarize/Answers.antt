@@ -21,64 +21,64 @@ use Rattle.flash_log.proofs.log.Log.summarize.Goals as goal
 
 pub list_entries-requires-clause-copies : goal.list_entries-requires-clause-copies
 list_entries-requires-clause-copies g c =
-    let tables = c.args.self.now.stands.tables in
+    let tables = c.args.self.now.consistent.tables in
     let fits = tables.fits c.args.written.block in
     let count = tables.counts.counts c.args.written.block in
-    let pages = ap (λ (x : Geometry). x.pages) c.args.self.now.ready.geometry in
+    let pages = ap (λ (x : Geometry). x.pages) c.args.self.now.can_write.geometry in
     omega (arith, fits, count, pages, c.args.self.now.room_size.copies)
 
 pub list_entries-requires-clause-entries : goal.list_entries-requires-clause-entries
 list_entries-requires-clause-entries g c =
-    let tables = c.args.self.now.stands.tables in
+    let tables = c.args.self.now.consistent.tables in
     let fits = tables.fits c.args.written.block in
     let count = tables.counts.counts c.args.written.block in
-    let pages = ap (λ (x : Geometry). x.pages) c.args.self.now.ready.geometry in
+    let pages = ap (λ (x : Geometry). x.pages) c.args.self.now.can_write.geometry in
     omega (arith, fits, count, pages, c.args.self.now.room_size.entries)
 
 pub returns-then-next_group-clause-step : goal.returns-then-next_group-clause-step
-returns-then-next_group-clause-step g c = step_none c.args.self.now.spare (g.N.Nand.state c.args.self.now.device) (table c.args.self.now.blocks) c.args.self.now.index c.args.self.now.ready c.args.self.now.stands
+returns-then-next_group-clause-step g c = step_none c.args.self.now.spare (g.N.Nand.state c.args.self.now.device) (table c.args.self.now.blocks) c.args.self.now.index c.args.self.now.can_write c.args.self.now.consistent
 
 pub returns-in_default-clause-step : goal.returns-in_default-clause-step
-returns-in_default-clause-step g c = step_none c.args.self.now.spare (g.N.Nand.state c.args.self.now.device) (table c.args.self.now.blocks) c.args.self.now.index c.args.self.now.ready c.args.self.now.stands
+returns-in_default-clause-step g c = step_none c.args.self.now.spare (g.N.Nand.state c.args.self.now.device) (table c.args.self.now.blocks) c.args.self.now.index c.args.self.now.can_write c.args.self.now.consistent
 
 pub returns-then-source-pages-clause-step : goal.returns-then-source-pages-clause-step
-returns-then-source-pages-clause-step g c = step_none c.args.self.now.spare (g.N.Nand.state c.args.self.now.device) (table c.args.self.now.blocks) c.args.self.now.index c.args.self.now.ready c.args.self.now.stands
+returns-then-source-pages-clause-step g c = step_none c.args.self.now.spare (g.N.Nand.state c.args.self.now.device) (table c.args.self.now.blocks) c.args.self.now.index c.args.self.now.can_write c.args.self.now.consistent
 
 pub returns-then-source-pages-clause-pays : goal.returns-then-source-pages-clause-pays
 returns-then-source-pages-clause-pays g c = record {
   size = 0;
   most = omega arith;
-  fits = let size = ap (λ (x : Geometry). x.pages) c.args.self.now.ready.geometry in omega (arith, size, c.requires.count);
+  fits = let size = ap (λ (x : Geometry). x.pages) c.args.self.now.can_write.geometry in omega (arith, size, c.requires.count);
   pays = pays_none 0 ((g.N.Nand.state c.args.self.now.device).geometry.pages + 1) (log_of (g.N.Nand.state c.args.self.now.device) (table c.args.self.now.blocks)) _;
 }
 
 pub write_listed-requires-clause-source : goal.write_listed-requires-clause-source
 write_listed-requires-clause-source g c =
-    let ready = c.args.self.now.ready in
-    subst (λ (x : Geometry). CanSummarize c.in-Some.source x (table c.args.self.now.blocks).next_group) (c.geometry-geometry.ensures ∙ ready.geometry)
-    (c.in-Some.ensures.can (table c.args.self.now.blocks).next_group ready.numbers.0)
+    let can_write = c.args.self.now.can_write in
+    subst (λ (x : Geometry). CanSummarize c.in-Some.source x (table c.args.self.now.blocks).next_group) (c.geometry-geometry.ensures ∙ can_write.geometry)
+    (c.in-Some.ensures.can (table c.args.self.now.blocks).next_group can_write.numbers.0)
 
 pub write_listed-requires-clause-most : goal.write_listed-requires-clause-most
 write_listed-requires-clause-most g c =
     let can = write_listed-requires-clause-source g c in
-    let tables = c.args.self.now.stands.tables in
+    let tables = c.args.self.now.consistent.tables in
     let fits = tables.fits c.args.written.block in
     let count = tables.counts.counts c.args.written.block in
     let listed = c.list_entries.ensures.count in
     let entries : length c.in-Some.source.entries.now ≡ length c.list_entries.new.self.entries.items = ap (λ (l : List CheckEntry). length l) (c.in-Some.ensures.entries ∙ c.deref.ensures.value) in
-    let pages = ap (λ (x : Geometry). x.pages) c.args.self.now.ready.geometry in
+    let pages = ap (λ (x : Geometry). x.pages) c.args.self.now.can_write.geometry in
     subst (λ n. n ≤ summary_size (g.N.Nand.state c.args.self.now.device).geometry) (sym can.pages) (ceiling_le _ _ _ (omega (arith, fits, count, listed, entries, pages)))
 
 pub write_listed-requires-clause-lists : goal.write_listed-requires-clause-lists
 write_listed-requires-clause-lists g c =
     let log = c.args.self.now in
     let can = write_listed-requires-clause-source g c in
-    let fits = log.stands.tables.fits c.args.written.block in
-    let count = log.stands.tables.counts.counts c.args.written.block in
+    let fits = log.consistent.tables.fits c.args.written.block in
+    let count = log.consistent.tables.counts.counts c.args.written.block in
     let listed = c.list_entries.ensures.count in
     let entries : c.in-Some.source.entries.now ≡ c.list_entries.new.self.entries.items = c.in-Some.ensures.entries ∙ c.deref.ensures.value in
     let within_limit : length c.in-Some.source.entries.now ≤ (table log.blocks).geometry.pages = let same = ap (λ (l : List CheckEntry). length l) entries in omega (arith, fits, count, listed, same) in
-    λ honest. is_list log.spare log.index (g.N.Nand.state log.device) (table log.blocks) c.args.block c.args.written c.in-Some.source log.ready log.stands c.requires.fresh c.requires.written
+    λ honest. is_list log.spare log.index (g.N.Nand.state log.device) (table log.blocks) c.args.block c.args.written c.in-Some.source log.can_write log.consistent c.requires.fresh c.requires.written
     c.in-Some.ensures.head.0 c.in-Some.ensures.head.1 (subst (λ (l : List CheckEntry). ListsEntries c.args.written.block (committed_pages log.index) l) (sym entries) c.list_entries.ensures.lists) within_limit can honest
 
 pub returns-clause-step : goal.returns-clause-step
@@ -86,37 +86,37 @@ returns-clause-step g c =
     let log = c.args.self.now in
     let d : Device = g.N.Nand.state log.device in
     let t : Table = table log.blocks in
-    let can = subst (λ (x : Geometry). CanSummarize c.in-Some.source x t.next_group) (c.geometry-geometry.ensures ∙ log.ready.geometry) (c.in-Some.ensures.can t.next_group log.ready.numbers.0) in
-    let fits = log.stands.tables.fits c.args.written.block in
-    let count = log.stands.tables.counts.counts c.args.written.block in
+    let can = subst (λ (x : Geometry). CanSummarize c.in-Some.source x t.next_group) (c.geometry-geometry.ensures ∙ log.can_write.geometry) (c.in-Some.ensures.can t.next_group log.can_write.numbers.0) in
+    let fits = log.consistent.tables.fits c.args.written.block in
+    let count = log.consistent.tables.counts.counts c.args.written.block in
     let listed = c.list_entries.ensures.count in
     let entries : c.in-Some.source.entries.now ≡ c.list_entries.new.self.entries.items = c.in-Some.ensures.entries ∙ c.deref.ensures.value in
     let within_limit : length c.in-Some.source.entries.now ≤ t.geometry.pages = let same = ap (λ (l : List CheckEntry). length l) entries in omega (arith, fits, count, listed, same) in
     let lists = subst (λ (l : List CheckEntry). ListsEntries c.args.written.block (committed_pages log.index) l) (sym entries) c.list_entries.ensures.lists in
-    let held = are_held t log.index (c.the_counts_are_of_the_keys.ensures.none log.index) log.stands.tables.counts in
-    let step = step_listed log.spare log.index d (g.N.Nand.state c.write_listed.new.device) t (table c.write_listed.new.blocks) c.args.block c.args.written c.in-Some.source log.ready log.stands held
+    let held = are_held t log.index (c.the_counts_are_of_the_keys.ensures.none log.index) log.consistent.tables.counts in
+    let step = step_listed log.spare log.index d (g.N.Nand.state c.write_listed.new.device) t (table c.write_listed.new.blocks) c.args.block c.args.written c.in-Some.source log.can_write log.consistent held
     c.requires.fresh c.requires.written c.in-Some.ensures.head lists within_limit can c.write_listed.ensures.does in
     step
 
-pub invariant_of-self-2-clause-ready : goal.invariant_of-self-2-clause-ready
-invariant_of-self-2-clause-ready g c = c.write_listed.ensures.does.keeps.ready
+pub invariant_of-self-2-clause-can_write : goal.invariant_of-self-2-clause-can_write
+invariant_of-self-2-clause-can_write g c = c.write_listed.ensures.does.keeps.can_write
 
-pub invariant_of-self-2-clause-stands : goal.invariant_of-self-2-clause-stands
-invariant_of-self-2-clause-stands g c =
+pub invariant_of-self-2-clause-consistent : goal.invariant_of-self-2-clause-consistent
+invariant_of-self-2-clause-consistent g c =
     let log = c.args.self.now in
     let d : Device = g.N.Nand.state log.device in
     let t : Table = table log.blocks in
-    let can = subst (λ (x : Geometry). CanSummarize c.in-Some.source x t.next_group) (c.geometry-geometry.ensures ∙ log.ready.geometry) (c.in-Some.ensures.can t.next_group log.ready.numbers.0) in
-    let fits = log.stands.tables.fits c.args.written.block in
-    let count = log.stands.tables.counts.counts c.args.written.block in
+    let can = subst (λ (x : Geometry). CanSummarize c.in-Some.source x t.next_group) (c.geometry-geometry.ensures ∙ log.can_write.geometry) (c.in-Some.ensures.can t.next_group log.can_write.numbers.0) in
+    let fits = log.consistent.tables.fits c.args.written.block in
+    let count = log.consistent.tables.counts.counts c.args.written.block in
     let listed = c.list_entries.ensures.count in
     let entries : c.in-Some.source.entries.now ≡ c.list_entries.new.self.entries.items = c.in-Some.ensures.entries ∙ c.deref.ensures.value in
     let within_limit : length c.in-Some.source.entries.now ≤ t.geometry.pages = let same = ap (λ (l : List CheckEntry). length l) entries in omega (arith, fits, count, listed, same) in
     let lists = subst (λ (l : List CheckEntry). ListsEntries c.args.written.block (committed_pages log.index) l) (sym entries) c.list_entries.ensures.lists in
-    let held = are_held t log.index (c.the_counts_are_of_the_keys.ensures.none log.index) log.stands.tables.counts in
-    let step = step_listed log.spare log.index d (g.N.Nand.state c.write_listed.new.device) t (table c.write_listed.new.blocks) c.args.block c.args.written c.in-Some.source log.ready log.stands held
+    let held = are_held t log.index (c.the_counts_are_of_the_keys.ensures.none log.index) log.consistent.tables.counts in
+    let step = step_listed log.spare log.index d (g.N.Nand.state c.write_listed.new.device) t (table c.write_listed.new.blocks) c.args.block c.args.written c.in-Some.source log.can_write log.consistent held
     c.requires.fresh c.requires.written c.in-Some.ensures.head lists within_limit can c.write_listed.ensures.does in
-    step.stands
+    step.consistent
 
 pub invariant_of-self-2-clause-room_size : goal.invariant_of-self-2-clause-room_size
 invariant_of-self-2-clause-room_size g c =
@@ -136,15 +136,15 @@ invariant_of-self-2-clause-mountable g c =
     let log = c.args.self.now in
     let d : Device = g.N.Nand.state log.device in
     let t : Table = table log.blocks in
-    let can = subst (λ (x : Geometry). CanSummarize c.in-Some.source x t.next_group) (c.geometry-geometry.ensures ∙ log.ready.geometry) (c.in-Some.ensures.can t.next_group log.ready.numbers.0) in
-    let fits = log.stands.tables.fits c.args.written.block in
-    let count = log.stands.tables.counts.counts c.args.written.block in
+    let can = subst (λ (x : Geometry). CanSummarize c.in-Some.source x t.next_group) (c.geometry-geometry.ensures ∙ log.can_write.geometry) (c.in-Some.ensures.can t.next_group log.can_write.numbers.0) in
+    let fits = log.consistent.tables.fits c.args.written.block in
+    let count = log.consistent.tables.counts.counts c.args.written.block in
     let listed = c.list_entries.ensures.count in
     let entries : c.in-Some.source.entries.now ≡ c.list_entries.new.self.entries.items = c.in-Some.ensures.entries ∙ c.deref.ensures.value in
     let within_limit : length c.in-Some.source.entries.now ≤ t.geometry.pages = let same = ap (λ (l : List CheckEntry). length l) entries in omega (arith, fits, count, listed, same) in
     let lists = subst (λ (l : List CheckEntry). ListsEntries c.args.written.block (committed_pages log.index) l) (sym entries) c.list_entries.ensures.lists in
-    let held = are_held t log.index (c.the_counts_are_of_the_keys.ensures.none log.index) log.stands.tables.counts in
-    let step = step_listed log.spare log.index d (g.N.Nand.state c.write_listed.new.device) t (table c.write_listed.new.blocks) c.args.block c.args.written c.in-Some.source log.ready log.stands held
+    let held = are_held t log.index (c.the_counts_are_of_the_keys.ensures.none log.index) log.consistent.tables.counts in
+    let step = step_listed log.spare log.index d (g.N.Nand.state c.write_listed.new.device) t (table c.write_listed.new.blocks) c.args.block c.args.written c.in-Some.source log.can_write log.consistent held
     c.requires.fresh c.requires.written c.in-Some.ensures.head lists within_limit can c.write_listed.ensures.does in
     mountable_after log.origin.first log.spare (log_of d t) (log_of (g.N.Nand.state c.write_listed.new.device) (table c.write_listed.new.blocks)) log.index log.index step log.mountable
 
@@ -159,7 +159,7 @@ returns-in_default-clause-writes g c = λ honest room is.
     let log = c.args.self.now in
     let short = c.in_default.ensures.none in
     let listed = c.list_entries.ensures.count in
-    let count = log.stands.tables.counts.counts c.args.written.block in
+    let count = log.consistent.tables.counts.counts c.args.written.block in
     let same : length c.deref.result.now ≡ ((table log.blocks).entry c.args.written.block).committed = ap (λ (l : List CheckEntry). length l) c.deref.ensures.value ∙ listed ∙ sym count in
     let geometry = c.geometry-geometry.ensures in
     let most : c.geometry-geometry.result.pages < ceiling (32 * (1 + ((table log.blocks).entry c.args.written.block).committed)) c.geometry-geometry.result.bytes = subst (λ n. c.geometry-geometry.result.pages < ceiling (32 * (1 + n)) c.geometry-geometry.result.bytes) same short in
@@ -171,9 +171,9 @@ returns-then-source-pages-clause-writes g c = λ honest room is.
     let log = c.args.self.now in
     let t : Table = table log.blocks in
     let geometry = c.geometry-geometry.ensures in
-    let can = subst (λ (x : Geometry). CanSummarize c.in-Some.source x t.next_group) geometry (c.in-Some.ensures.can t.next_group log.ready.numbers.0) in
+    let can = subst (λ (x : Geometry). CanSummarize c.in-Some.source x t.next_group) geometry (c.in-Some.ensures.can t.next_group log.can_write.numbers.0) in
     let listed = c.list_entries.ensures.count in
-    let count = log.stands.tables.counts.counts c.args.written.block in
+    let count = log.consistent.tables.counts.counts c.args.written.block in
     let same : length c.in-Some.source.entries.now ≡ (t.entry c.args.written.block).committed = ap (λ (l : List CheckEntry). length l) (c.in-Some.ensures.entries ∙ c.deref.ensures.value) ∙ listed ∙ sym count in
     let pages : c.in-Some.source.pages ≡ ceiling (32 * (1 + (t.entry c.args.written.block).committed)) t.geometry.bytes = can.pages ∙ ap (λ n. ceiling (32 * (1 + n)) t.geometry.bytes) same in
     let size : c.pages.result ≡ t.geometry.pages = c.pages.ensures ∙ ap (λ (x : Geometry). x.pages) geometry in

@@ -4,5 +4,5 @@ use Rattle.flash_log.proofs.log.Log.written_block.Goals as goal
 
 pub entry-entry-requires : goal.entry-entry-requires
 entry-entry-requires g c =
-    let ready = c.args.self.now.ready in
-    subst (λ (x : Geometry). c.in_ok-block.block < x.blocks) (sym ready.geometry) (ready.open_block c.in_ok-block.block (sym c.open_block.ensures ∙ c.in_ok-block.was)).within
+    let can_write = c.args.self.now.can_write in
+    subst (λ (x : Geometry). c.in_ok-block.block < x.blocks) (sym can_write.geometry) (can_write.open_block c.in_ok-block.block (sym c.open_block.ensures ∙ c.in_ok-block.was)).within

@@ -16,7 +16,7 @@ returns-clause-bytes g c honest =
     let s = c.args.self.now in
     let n : ℕ = s.geometry.bytes in
     let row : List ℕ = summary_bytes (s.pages * n) s.head s.entries.now in
-    let long = c.requires.size ∙ ap (λ (x : Geometry). x.bytes) (sym c.requires.ready.geometry) in
+    let long = c.requires.size ∙ ap (λ (x : Geometry). x.bytes) (sym c.requires.can_write.geometry) in
     let begins : 32 * (c.args.i * (c.bytes.result / 32)) ≡ c.args.i * n = ap (λ m. 32 * (c.args.i * (m / 32))) c.bytes.ensures ∙ page_begins n c.args.i (page_parts s.geometry) in
     let within : (c.args.i + 1) * n ≤ s.pages * n = mul-le-mul_right n (omega (arith, c.requires.place)) in
     c.write_parts.ensures.parts (s.pages * n) (omega (arith, begins, within, long)) ∙ ap₂ (λ (k j : ℕ). take k (drop j row)) long begins

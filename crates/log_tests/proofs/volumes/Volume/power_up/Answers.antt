@@ -9,5 +9,5 @@ use Rattle.log_tests.proofs.volumes.Volume.power_up.Goals as goal
 pub invariant_of-self : goal.invariant_of-self
 invariant_of-self c =
     let t : Table = table c.args.self.now.blocks in
-    let closed = ready_closed _ t c.args.self.now.ready in
-    record { ready = subst (λ (x : Table). IsReady (device c.power_up.new.self) x) (sym c.close.ensures) (ready_powered _ _ (record t { open_block = None }) closed refl c.power_up.ensures.power) }
+    let closed = ready_closed _ t c.args.self.now.can_write in
+    record { can_write = subst (λ (x : Table). IsReady (device c.power_up.new.self) x) (sym c.close.ensures) (ready_powered _ _ (record t { open_block = None }) closed refl c.power_up.ensures.power) }

@@ -9,6 +9,6 @@ use Rattle.log_tests.proofs.volumes.Volume.summarize.Goals as goal
 pub write_checkpoint-requires-clause-source : goal.write_checkpoint-requires-clause-source
 write_checkpoint-requires-clause-source g c =
     let n : ℕ = (table c.args.self.now.blocks).next_group in
-    let can = c.new-source.ensures.can n c.args.self.now.ready.numbers.0 in
+    let can = c.new-source.ensures.can n c.args.self.now.can_write.numbers.0 in
     let some = subst (λ (found : Option SummarySource). IfSome found (λ (s : SummarySource). CanSummarize s c.geometry-2.result n)) c.expect-source.ensures can in
     subst (λ (h : Geometry). CanSummarize c.expect-source.result h n) c.geometry-2.ensures some

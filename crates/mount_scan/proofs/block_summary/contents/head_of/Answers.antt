@@ -13,10 +13,10 @@ head_within d count bytes least some len = let le : 1 * d ≤ count * d = mul-le
 
 pub slice_bounds-decode_summary_head-end : goal.slice_bounds-decode_summary_head-end
 slice_bounds-decode_summary_head-end c =
-    omega (arith, length-take 32 c.args.bytes.now, head_within c.args.geometry.now.bytes c.args.count c.args.bytes.now c.args.geometry.now.least_bytes c.requires.some c.requires.size)
+    omega (arith, length-take 32 c.args.bytes.now, head_within c.args.geometry.now.bytes c.args.count c.args.bytes.now c.args.geometry.now.least_bytes c.requires.not_empty c.requires.size)
 
 pub decode_summary_head-requires : goal.decode_summary_head-requires
-decode_summary_head-requires c = omega (arith, length-take 32 c.args.bytes.now, head_within c.args.geometry.now.bytes c.args.count c.args.bytes.now c.args.geometry.now.least_bytes c.requires.some c.requires.size)
+decode_summary_head-requires c = omega (arith, length-take 32 c.args.bytes.now, head_within c.args.geometry.now.bytes c.args.count c.args.bytes.now c.args.geometry.now.least_bytes c.requires.not_empty c.requires.size)
 
 pub returns-then-take_pages-clause-room : goal.returns-then-take_pages-clause-room
 returns-then-take_pages-clause-room c =

@@ -12,6 +12,6 @@ loop-page-preserved c =
     let n = c.loop-page.page-index in
     let at = get_or_default xs n _ _ c.loop-page-test.true in
     elim c.match-of.branch [
-      | in-Some+in_ok-add w ↦ subst (λ s. ThinsFound (take (n + 1) xs) (listed c.args.self.now) (listed s)) (sym w.self-is) (found_next xs _ _ _ n _ c.loop-page-test.true at w.in-Some.copy w.in-Some.ensures.some c.loop-page.invariant w.in_ok-add.ensures)
+      | in-Some+in_ok-add w ↦ subst (λ s. ThinsFound (take (n + 1) xs) (listed c.args.self.now) (listed s)) (sym w.self-is) (found_next xs _ _ _ n _ c.loop-page-test.true at w.in-Some.copy w.in-Some.ensures.copy c.loop-page.invariant w.in_ok-add.ensures)
       | in_default w ↦ subst (λ s. ThinsFound (take (n + 1) xs) (listed c.args.self.now) (listed s)) (sym w.self-is) (found_skip xs _ (listed c.loop-page.self) (listed c.loop-page.self) n _ c.loop-page-test.true at w.in_default.ensures.none c.loop-page.invariant)
     ]

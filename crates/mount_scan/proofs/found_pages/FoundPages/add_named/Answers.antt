@@ -13,6 +13,6 @@ loop-entry-preserved c =
     let n = c.loop-entry.entry-index in
     let at = get_or_default xs n _ _ c.loop-entry-test.true in
     elim c.match-of.branch [
-      | in-Some+in_ok-add w ↦ subst (λ s. ThinsFound (take (n + 1) (pages_named c.args.seq xs)) (listed c.args.self.now) (listed s)) (sym w.self-is) (named_next c.args.seq xs n _ c.loop-entry-test.true at _ _ _ _ w.in-Some.copy c.page_named.ensures w.in-Some.ensures.some c.loop-entry.invariant w.in_ok-add.ensures)
+      | in-Some+in_ok-add w ↦ subst (λ s. ThinsFound (take (n + 1) (pages_named c.args.seq xs)) (listed c.args.self.now) (listed s)) (sym w.self-is) (named_next c.args.seq xs n _ c.loop-entry-test.true at _ _ _ _ w.in-Some.copy c.page_named.ensures w.in-Some.ensures.copy c.loop-entry.invariant w.in_ok-add.ensures)
       | in_default w ↦ subst (λ s. ThinsFound (take (n + 1) (pages_named c.args.seq xs)) (listed c.args.self.now) (listed s)) (sym w.self-is) (named_skip c.args.seq xs n _ c.loop-entry-test.true at _ (listed c.args.self.now) (listed c.loop-entry.self) c.page_named.ensures w.in_default.ensures.none c.loop-entry.invariant)
     ]

@@ -30,7 +30,7 @@ returns-in-Ok-clause-ends g c z s at =
     let plan : Plan = record { reply = replies.Data (take c.in-Ok.filled.count c.read_into.new.buffer); handles = handle_changes.Put c.args.fd c.in-Ok.filled.description; work = work.Nothing } in
     inl (is_done m law z Reporting s meant plan a _ at (subst (λ (o : Outcome). IsPlan z Reporting s o plan) (read_is z a.read_only s c.args.fd (asked_of c.args.buffer.now)) is) sound refl
     (λ only. read_only_stays z s command a.read_only only (at.only_read only).handles (at.only_read only).named)
-    (law.reads_lasts a.store c.read_into.new.store reads) (law.reads_stands a.store c.read_into.new.store s.objects reads at.has.stands) reads (c.handle.ensures is.range) refl)
+    (law.reads_lasts a.store c.read_into.new.store reads) (law.reads_represent a.store c.read_into.new.store s.objects reads at.has.represents) reads (c.handle.ensures is.range) refl)
 
 pub returns-in-Err-Error-clause-ends : goal.returns-in-Err-Error-clause-ends
 returns-in-Err-Error-clause-ends g c z s at =

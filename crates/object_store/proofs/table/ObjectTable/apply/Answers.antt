@@ -38,7 +38,7 @@ pub returns-in-Remove-clause-reports : goal.returns-in-Remove-clause-reports
 returns-in-Remove-clause-reports c = λ objects reports can makes led.
     let make = subst (CanMake (table_sizes c.args.self.now) objects) c.in-Remove.is makes in
     let was = subst (λ change. LedBefore objects change c.args.replaced) c.in-Remove.is led in
-    let mid = c.remove_name.ensures.some objects c.in-Remove.entry.name.now make.sensible.0 (was ∙ named_entry objects c.in-Remove.entry.directory make.sensible.0 c.in-Remove.entry.name.now make.sensible.1) reports
+    let mid = c.remove_name.ensures.unnamed objects c.in-Remove.entry.name.now make.sensible.0 (was ∙ named_entry objects c.in-Remove.entry.directory make.sensible.0 c.in-Remove.entry.name.now make.sensible.1) reports
     (remove_ready (table_sizes c.args.self.now) objects can c.in-Remove.moment c.in-Remove.entry.directory make.sensible.0 c.in-Remove.entry.name.now make.sensible.1) in
     subst (λ change. Counts c.forget.new.self.totaled (made objects change)) (sym c.in-Remove.is)
     (c.forget.ensures.reports (without_name objects c.in-Remove.moment c.in-Remove.entry.directory c.in-Remove.entry.name.now) mid
@@ -52,7 +52,7 @@ pub returns-in-Move-clause-reports : goal.returns-in-Move-clause-reports
 returns-in-Move-clause-reports c = λ objects reports can makes led.
     let make = subst (CanMake (table_sizes c.args.self.now) objects) c.in-Move.is makes in
     let was = subst (λ change. LedBefore objects change c.args.replaced) c.in-Move.is led in
-    let first = c.remove_name-in-Move.ensures.some objects c.in-Move.from.name.now c.in-Move.number refl reports
+    let first = c.remove_name-in-Move.ensures.unnamed objects c.in-Move.from.name.now c.in-Move.number refl reports
     (remove_ready (table_sizes c.args.self.now) objects can c.in-Move.moment c.in-Move.from.directory c.in-Move.number c.in-Move.from.name.now make.sensible.0) in
     let s1 = c.remove_name-in-Move.ensures.size in
     let s2 = c.remove_name-in-Move-2.ensures.size ∙ s1 in
@@ -67,7 +67,7 @@ returns-in-Move-clause-reports c = λ objects reports can makes led.
           c.forget-in-Move.ensures.reports (with_name (without_name objects c.in-Move.moment c.in-Move.from.directory c.in-Move.from.name.now) c.in-Move.moment c.in-Move.to.directory c.in-Move.to.name.now c.in-Move.number) third (λ k is. let two : None ≡ Some k = sym fresh.1 ∙ is in absurd cc)
       | inr other ↦
           let to = namer_directory objects c.in-Move.to.directory other.0 c.in-Move.to.name.now other.1 in
-          let second = c.remove_name-in-Move-2.ensures.some (without_name objects c.in-Move.moment c.in-Move.from.directory c.in-Move.from.name.now) c.in-Move.to.name.now other.0
+          let second = c.remove_name-in-Move-2.ensures.unnamed (without_name objects c.in-Move.moment c.in-Move.from.directory c.in-Move.from.name.now) c.in-Move.to.name.now other.0
           (was ∙ named_entry objects c.in-Move.to.directory other.0 c.in-Move.to.name.now other.1) first
           (subst (λ (s : Sizes). LosesName s (without_name objects c.in-Move.moment c.in-Move.from.directory c.in-Move.from.name.now) c.in-Move.to.directory c.in-Move.to.name.now other.0) (sym s1) (clear_ready (table_sizes c.args.self.now) objects can c.in-Move.moment c.in-Move.from.directory c.in-Move.to.directory c.in-Move.number c.in-Move.from.name.now c.in-Move.to.name.now make.sensible.0 to other.0 other.1 other.2)) in
           let third = c.add_name-in-Move.ensures.reports (without_name (without_name objects c.in-Move.moment c.in-Move.from.directory c.in-Move.from.name.now) c.in-Move.moment c.in-Move.to.directory c.in-Move.to.name.now) c.in-Move.to.name.now second

@@ -3,7 +3,7 @@ use Rattle.std.proofs.Common.{◌∙◌, sym, ap, subst, inl, inr, arith}
 use Rattle.std.proofs.lemmas.Bool.{true≢false}
 use Rattle.std.proofs.lemmas.Result.{err_from_is_err_and}
 use Rattle.page_store.specs.Changing.{IsBroken}
-use Rattle.page_store.specs.BufferOf.{buffered}
+use Rattle.page_store.specs.BufferOf.{contents}
 use Rattle.page_store.specs.declared.buffer.Buffer.{Buffer}
 use Rattle.pages.specs.laws.Changes.{changed_same}
 use Rattle.flash_tree.specs.declared.place.FreshPage.{FreshPage}
@@ -44,7 +44,7 @@ returns-in_err-prepare-clause-carried g c =
     let p = c.prepare.new.self in
     let b : StoreState = state_of p in
     carried_made (state_of c.args.self.now) b b b c.prepare.ensures.same (same_here b)
-    (λ whole honest. inl (store_finds p.log.spare b.log.device b.log.table p.log.index c.the_counts_are_of_the_keys.ensures.none p.log.ready p.log.stands.tables (p.newest whole honest)))
+    (λ whole honest. inl (store_finds p.log.spare b.log.device b.log.table p.log.index c.the_counts_are_of_the_keys.ensures.none p.log.can_write p.log.consistent.tables (p.newest whole honest)))
 
 pub returns-in_err-prepare-clause-ends : goal.returns-in_err-prepare-clause-ends
 returns-in_err-prepare-clause-ends g c =
@@ -89,8 +89,8 @@ returns-in_err-is_committed-clause-ends g c =
 pub make-requires-clause-prepared : goal.make-requires-clause-prepared
 make-requires-clause-prepared g c =
     let m = c.make_room.new.self in
-    let ready : AreReady c.prepare.new.self.log.index c.args.change.pages.items = subst (AreReady c.prepare.new.self.log.index) c.deref.ensures.value c.in_ok-prepare.ensures.ready in
-    λ o k i of. ready_prepared m.log.index o k (c.make_room.ensures.keeps.keys o k (ready o k i of))
+    let can_write : AreReady c.prepare.new.self.log.index c.args.change.pages.items = subst (AreReady c.prepare.new.self.log.index) c.deref.ensures.value c.in_ok-prepare.ensures.can_write in
+    λ o k i of. ready_prepared m.log.index o k (c.make_room.ensures.keeps.keys o k (can_write o k i of))
 
 pub make-requires-clause-lacks : goal.make-requires-clause-lacks
 make-requires-clause-lacks g c = λ none.
@@ -139,9 +139,9 @@ returns-clause-ends g c =
       current = λ honest o k.
           let reported : m.log.device.honest ≡ true = (lasts_made a b m m before (same_here m) c.make_room.ensures.keeps.lasts).device.honest ∙ honest in
           c.make.ensures.current reported o k ∙ changed_same c.args.change (current_in m) (current_in a) o k (room.current o k ∙ current_before a b m n before after o k);
-      buffered = c.make.ensures.buffered;
+      in_buffer = c.make.ensures.in_buffer;
       within_limit =
-          let same = ap (λ (x : Buffer). length (buffered x)) before.buffer in
+          let same = ap (λ (x : Buffer). length (contents x)) before.buffer in
           let fewer = room.fewer in
           omega (arith, c.make.ensures.within_limit, fewer, same, few_new m.index c.args.change.pages.items);
       places = λ fits i q is uncut.

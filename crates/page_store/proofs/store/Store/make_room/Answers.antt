@@ -1,7 +1,7 @@
 use Rattle.std.specs.Prelude.{◌≡◌, ◌≤◌, ◌/◌, length, true, false}
 use Rattle.std.proofs.Common.{◌∙◌, refl, sym, ap, subst, inl, inr, arith}
 use Rattle.nand_model.specs.declared.geometry.Geometry.{Geometry}
-use Rattle.page_store.specs.BufferOf.{buffered}
+use Rattle.page_store.specs.BufferOf.{contents}
 use Rattle.block_state.specs.TableOf.{table}
 use Rattle.page_store.specs.StoreState.{StoreState, waiting}
 use Rattle.page_store.specs.StateOf.{state_of}
@@ -19,7 +19,7 @@ returns-then-has_room-clause-pays g c = let old : StoreState = state_of c.args.s
 pub returns-then-has_room-clause-carried : goal.returns-then-has_room-clause-carried
 returns-then-has_room-clause-carried g c = λ whole honest.
     let self = c.args.self.now in
-    inl (store_finds self.log.spare (g.N.Nand.state self.log.device) (table self.log.blocks) self.log.index c.the_counts_are_of_the_keys.ensures.none self.log.ready self.log.stands.tables (self.newest whole honest))
+    inl (store_finds self.log.spare (g.N.Nand.state self.log.device) (table self.log.blocks) self.log.index c.the_counts_are_of_the_keys.ensures.none self.log.can_write self.log.consistent.tables (self.newest whole honest))
 
 pub returns-then-has_room-clause-sufficient : goal.returns-then-has_room-clause-sufficient
 returns-then-has_room-clause-sufficient g c = λ _. record { log = refl; index = refl; commits = refl }
@@ -46,12 +46,12 @@ returns-in-Ok-clause-ends g c =
     let new = c.write_out.new.self in
     let done = c.in-Ok.ensures.ends in
     let most = new.most ∙ ap (λ (k : Geometry). k.pages / 4) c.write_out.ensures.keeps.lasts.device.geometry in
-    let none : length (buffered new.buffer) ≡ 0 = ap length done.empty in
+    let none : length (contents new.buffer) ≡ 0 = ap length done.empty in
     record {
       whole = done.whole;
       committed_map = inr done.committed_map;
       current = done.current;
-      room = room_after new.log.index (buffered new.buffer) c.args.pages.now _ done.empty (subst (λ n. length c.args.pages.now ≤ n) (sym most) c.requires.within_limit);
+      room = room_after new.log.index (contents new.buffer) c.args.pages.now _ done.empty (subst (λ n. length c.args.pages.now ≤ n) (sym most) c.requires.within_limit);
       fewer = omega (arith, none);
       cache = λ not. absurd (let two : true ≡ false = not in cc);
       keeps_open = inr done.keeps_open;

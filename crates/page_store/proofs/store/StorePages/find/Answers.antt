@@ -2,7 +2,7 @@ use Rattle.std.proofs.Common.{◌≡◌, ◌<◌, length, ◌∙◌, sym, subst}
 use Rattle.chunk_index.specs.declared.form.Present.TheVariants as presents
 use Rattle.chunk_index.specs.Maps.{present}
 use Rattle.page_store.specs.laws.Buffering.{place_within}
-use Rattle.page_store.specs.BufferOf.{buffered}
+use Rattle.page_store.specs.BufferOf.{contents}
 use Rattle.page_store.specs.StateOf.{lent_by, state_of}
 use Rattle.page_store.proofs.ReadOnly.{near_cached, finds_seen, buffered_lent, committed_lent, not_absent, fault_seen}
 use Rattle.page_store.proofs.store.StorePages.find.Goals as goal
@@ -20,7 +20,7 @@ invariant_of-self g c =
       cache_size = self.cache_size;
       place = λ i same.
           let one : c.in-InBuffer.place ≡ i = cc in
-          subst (λ n. n < length (buffered self.buffer)) one (place_within (buffered self.buffer) c.in-InBuffer.place _ (self.buffers.there _ _ c.in-InBuffer.place is));
+          subst (λ n. n < length (contents self.buffer)) one (place_within (contents self.buffer) c.in-InBuffer.place _ (self.buffers.there _ _ c.in-InBuffer.place is));
       within_limit = self.within_limit;
       free = self.free;
       newest = self.newest;
@@ -31,8 +31,8 @@ pub returns-in-InBuffer-clause-page : goal.returns-in-InBuffer-clause-page
 returns-in-InBuffer-clause-page g c = λ sound.
     let self = c.args.self.now in
     let is : present self.log.index c.args.key.object c.args.key.chunk ≡ presents.InBuffer c.in-InBuffer.place = sym c.present.ensures ∙ c.in-InBuffer.is in
-    buffered_lent (g.N.Nand.state self.log.device) self.log.index (buffered self.buffer) self.scratch.items c.args.key.object c.args.key.chunk c.in-InBuffer.place self.broken is
-    (place_within (buffered self.buffer) c.in-InBuffer.place _ (self.buffers.there _ _ c.in-InBuffer.place is)) sound
+    buffered_lent (g.N.Nand.state self.log.device) self.log.index (contents self.buffer) self.scratch.items c.args.key.object c.args.key.chunk c.in-InBuffer.place self.broken is
+    (place_within (contents self.buffer) c.in-InBuffer.place _ (self.buffers.there _ _ c.in-InBuffer.place is)) sound
 
 pub returns-in-OnFlash-clause-lookups : goal.returns-in-OnFlash-clause-lookups
 returns-in-OnFlash-clause-lookups g c =
@@ -48,7 +48,7 @@ returns-in-OnFlash-clause-page g c = λ sound.
 pub returns-in-OnFlash-clause-absent : goal.returns-in-OnFlash-clause-absent
 returns-in-OnFlash-clause-absent g c = λ sound none.
     let self = c.args.self.now in
-    absurd (not_absent (g.N.Nand.state self.log.device) self.log.index (buffered self.buffer) c.args.key.object c.args.key.chunk c.in-OnFlash.at self.broken (sym c.present.ensures ∙ c.in-OnFlash.is) self.newest sound none)
+    absurd (not_absent (g.N.Nand.state self.log.device) self.log.index (contents self.buffer) c.args.key.object c.args.key.chunk c.in-OnFlash.at self.broken (sym c.present.ensures ∙ c.in-OnFlash.is) self.newest sound none)
 
 pub returns-in-OnFlash-clause-fault : goal.returns-in-OnFlash-clause-fault
 returns-in-OnFlash-clause-fault g c =

@@ -1,5 +1,5 @@
 use Rattle.std.proofs.Common.{◌∙◌, sym, ap, option_and_then}
-use Rattle.page_store.specs.BufferOf.{buffered}
+use Rattle.page_store.specs.BufferOf.{contents}
 use Rattle.page_store.specs.Slots.{page_in}
 use Rattle.page_store.specs.StateOf.{state_of}
 use Rattle.page_store.proofs.CachedPages.{committed_same}
@@ -27,4 +27,4 @@ invariant_of-self g c =
 pub returns-clause-same : goal.returns-clause-same
 returns-clause-same g c =
     let self = c.args.self.now in
-    seen_same (state_of self) c.take_spare.new.self (buffered self.buffer) self.scratch.items self.found c.take_spare.ensures.same
+    seen_same (state_of self) c.take_spare.new.self (contents self.buffer) self.scratch.items self.found c.take_spare.ensures.same

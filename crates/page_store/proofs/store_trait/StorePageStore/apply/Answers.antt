@@ -4,7 +4,7 @@ use Rattle.nand_model.specs.Calls.{Device}
 use Rattle.nand_model.specs.declared.geometry.Geometry.{Geometry}
 use Rattle.block_state.specs.Table.{Table}
 use Rattle.flash_log.specs.Snapshots.{Snapshot, remembered_flash}
-use Rattle.page_store.specs.BufferOf.{buffered, most_pages}
+use Rattle.page_store.specs.BufferOf.{contents, most_pages}
 use Rattle.pages.specs.Stores.{BuffersPages}
 use Rattle.page_store.specs.StoreOf.{next_numbers}
 use Rattle.page_store.specs.StoreState.{committed_in, current_in, seen_of, StoreState}
@@ -33,8 +33,8 @@ returns-clause-goes_on g c =
       failed = failed_stays a.log.device b.log.device a.broken b.broken lasts.device (stays_broken_changed c.args.change c.change.result a b e.ends);
       device = lasts.device;
       numbers = hands_reported a.log.device b.log.device a.log.table b.log.table lasts.numbers;
-      marks = marks_reported a.log.device b.log.device a.log.table b.log.table c.args.self.now.log.ready new.log.ready e.pays.pays.marks;
-      limits = λ honest _. limits_reported b.log.device b.log.table new.log.ready new.log.stands.limits (lasts.device.honest ∙ honest);
+      marks = marks_reported a.log.device b.log.device a.log.table b.log.table c.args.self.now.log.can_write new.log.can_write e.pays.pays.marks;
+      limits = λ honest _. limits_reported b.log.device b.log.table new.log.can_write new.log.consistent.limits (lasts.device.honest ∙ honest);
       truth = lasts.numbers.truth;
       mountable = stays_mountable a b (lent_by c.args.self.now) (lent_by new) lasts.device lasts.first new.log.mountable;
     }
@@ -66,7 +66,7 @@ returns-clause-committed g c = λ sound.
     (when_changed change r a b e.ends (λ is. is.committed_map)) (stops_reported r b.log.device.honest b.broken (stops_changed change r a b e.ends))
     (λ none. let is = unchanged change r a b e.ends none in (is_sound b.log.device.honest b.broken (e.lasts.device.honest ∙ honest) (is.broken ∙ whole), is.committed_map)))
     (λ is. record {
-      carried = store_carries b.spare b.log.device b.log.table b.index c.the_counts_are_of_the_keys.ensures.none new.log.ready new.log.stands.tables (new.newest (sound_whole b.log.device.honest b.broken is) (sound_honest b.log.device.honest b.broken is));
+      carried = store_carries b.spare b.log.device b.log.table b.index c.the_counts_are_of_the_keys.ensures.none new.log.can_write new.log.consistent.tables (new.newest (sound_whole b.log.device.honest b.broken is) (sound_honest b.log.device.honest b.broken is));
       found = finds_now b (lent_by new) new.log.mountable;
     })
     (either_since a b (lent_by c.args.self.now) (lent_by new) m n e.lasts c.args.self.now.log.mountable (e.carried whole honest))
@@ -100,10 +100,10 @@ returns-clause-fault g c = λ sound.
     let e = c.change.ensures in
     let honest = sound_honest a.log.device.honest a.broken sound in
     let whole = sound_whole a.log.device.honest a.broken sound in
-    let within_limit : length (buffered self.buffer) ≤ most_pages self.buffer = self.buffer.within_limit in
+    let within_limit : length (contents self.buffer) ≤ most_pages self.buffer = self.buffer.within_limit in
     let most : most_pages self.buffer ≡ a.log.device.geometry.pages / 4 = self.most in
-    change_reported a b (lent_by self) (lent_by new) self.log.ready.geometry e.lasts.device.geometry e.lasts.spare new.log.ready (omega (arith, most)) within_limit (self.within_limit whole)
-    (c.the_counts_add_up_to_the_committed_keys.ensures.all a.log.table a.index self.log.stands.tables.counts) (λ o k at is. has_page a.log.device a.index o k at honest (self.newest whole honest) is)
+    change_reported a b (lent_by self) (lent_by new) self.log.can_write.geometry e.lasts.device.geometry e.lasts.spare new.log.can_write (omega (arith, most)) within_limit (self.within_limit whole)
+    (c.the_counts_add_up_to_the_committed_keys.ensures.all a.log.table a.index self.log.consistent.tables.counts) (λ o k at is. has_page a.log.device a.index o k at honest (self.newest whole honest) is)
     c.args.change c.change.result whole e.ends
 
 pub returns-clause-room : goal.returns-clause-room
@@ -116,4 +116,4 @@ returns-clause-buffers g c =
     let new = c.change.new.self in
     when_changed {A = BuffersPages c.args.change.pages.items (seen_of (state_of c.args.self.now) (lent_by c.args.self.now)) (seen_of (state_of new) (lent_by new))} c.args.change c.change.result (state_of c.args.self.now)
     (state_of new) c.change.ensures.ends
-    (λ is. record { power = is.whole.power; buffered = is.within_limit; near = λ i p there. near_buffered _ _ (is.buffered i p there) })
+    (λ is. record { power = is.whole.power; in_buffer = is.within_limit; near = λ i p there. near_buffered _ _ (is.in_buffer i p there) })

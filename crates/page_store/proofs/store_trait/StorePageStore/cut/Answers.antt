@@ -58,7 +58,7 @@ returns-clause-committed g c = λ sound.
     let whole : new.broken ≡ false = e.same.broken ∙ sound_whole old.honest self.broken sound in
     let q : PagesState = seen_of (state_of new) (lent_by new) in
     committed_as q (committed_data_map old self.log.index) e.committed_map (record {
-      carried = store_carries new.log.spare now (table new.log.blocks) new.log.index c.the_counts_are_of_the_keys.ensures.none new.log.ready new.log.stands.tables (new.newest whole honest);
+      carried = store_carries new.log.spare now (table new.log.blocks) new.log.index c.the_counts_are_of_the_keys.ensures.none new.log.can_write new.log.consistent.tables (new.newest whole honest);
       found = finds_now (state_of new) (lent_by new) new.log.mountable;
     })
 

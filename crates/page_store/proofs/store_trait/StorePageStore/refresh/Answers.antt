@@ -1,7 +1,7 @@
 use Rattle.std.specs.Prelude.{◌/◌, length}
 use Rattle.std.proofs.Common.{refl, ◌∙◌, sym, ap}
 use Rattle.nand_model.specs.declared.geometry.Geometry.{Geometry}
-use Rattle.page_store.specs.BufferOf.{buffered}
+use Rattle.page_store.specs.BufferOf.{contents}
 use Rattle.page_store.specs.StoreState.{committed_in, StoreState}
 use Rattle.page_store.specs.StateOf.{lent_by, state_of}
 use Rattle.page_store.specs.declared.buffer.Buffer.{Buffer}
@@ -33,13 +33,13 @@ returns g c =
         failed = failed_stays a.log.device b.log.device a.broken b.broken lasts.device (breaks_refreshed r block a b e.ends);
         device = lasts.device;
         numbers = hands_reported a.log.device b.log.device a.log.table b.log.table lasts.numbers;
-        marks = marks_reported a.log.device b.log.device a.log.table b.log.table self.log.ready new.log.ready e.pays.marks;
-        limits = λ honest _. limits_reported b.log.device b.log.table new.log.ready new.log.stands.limits (lasts.device.honest ∙ honest);
+        marks = marks_reported a.log.device b.log.device a.log.table b.log.table self.log.can_write new.log.can_write e.pays.marks;
+        limits = λ honest _. limits_reported b.log.device b.log.table new.log.can_write new.log.consistent.limits (lasts.device.honest ∙ honest);
         truth = lasts.numbers.truth;
         mountable = stays_mountable a b (lent_by self) (lent_by new) lasts.device lasts.first new.log.mountable;
       };
       commits = ap (λ (k : StoreCounts). k.commits.total) e.keeps.counts;
-      buffered = ap (λ (k : Buffer). length (buffered k)) e.keeps.buffer;
+      in_buffer = ap (λ (k : Buffer). length (contents k)) e.keeps.buffer;
       lent = e.lent;
       power = when_refreshed r block a b e.ends (λ is. is.whole.power);
       stops = stopped r b.log.device.honest b.broken (stops_refreshed r block a b e.ends);
@@ -51,7 +51,7 @@ returns g c =
           record {
             committed = committed_seen r block a b (lent_by new) e.ends (carries_since a b (lent_by self) (lent_by new) (committed_in a) lasts self.log.mountable (e.carried whole honest));
             done = refreshed_seen r block a b (lent_by self) (lent_by new) lasts.device honest e.ends;
-            cause = refresh_reported r block a b (lent_by new) lasts.spare new.log.ready whole e.ends;
+            cause = refresh_reported r block a b (lent_by new) lasts.spare new.log.can_write whole e.ends;
             idle = λ none. e.nothing (none_held block a (lent_by self) honest (self.newest whole honest) none);
           };
     }

@@ -8,7 +8,7 @@ use Rattle.paged_objects.proofs.store.PagedObjectsObjectStore.commit.Goals as go
 pub returns-clause-commits : goal.returns-clause-commits
 returns-clause-commits g c = λ z objects has.
     let mine = has_objects (state_of g.P.Pages.state) c.args.self.now z objects has in
-    let sound = mine.pages.stands.sound in
+    let sound = mine.pages.represents.sound in
     let r = c.commit.result in
     let makes = c.commit.ensures.makes sound in
     commits {S = PagedObjects g.row.P.Denot} (state_of g.P.Pages.state) c.args.self.now

@@ -18,10 +18,10 @@ returns-in-Err-clause-lookups g c = λ z objects has is.
     let mine = has_objects (state_of g.P.Pages.state) c.args.self.now z objects has in
     rw c.fault_of.ensures (read_faults {S = PagedObjects g.row.P.Denot} (state_of g.P.Pages.state) c.args.self.now
     (record { alloc = c.args.self.now.alloc; pages = c.find.new.pages; table = c.args.self.now.table; names = c.args.self.now.names }) (fault_of c.in-Err.fault) c.find.ensures.lookups refl refl
-    (read_fault q c.in-Err.fault (g.met.P.PageStore.lost c.find.new.pages (c.find.ensures.lookups.sound ∙ mine.pages.stands.sound)) (lacks_memory p q c.in-Err.fault (c.in-Err.ensures.fault _ objects (holds_in _ p objects mine.pages.stands) is (c.entry_count-count.ensures objects mine.reports is ∙ ap (λ x. map.len (entries_of x)) is.2)))))
+    (read_fault q c.in-Err.fault (g.met.P.PageStore.lost c.find.new.pages (c.find.ensures.lookups.sound ∙ mine.pages.represents.sound)) (lacks_memory p q c.in-Err.fault (c.in-Err.ensures.fault _ objects (holds_in _ p objects mine.pages.represents) is (c.entry_count-count.ensures objects mine.reports is ∙ ap (λ x. map.len (entries_of x)) is.2)))))
 
 pub returns-in-Ok-clause-lookups : goal.returns-in-Ok-clause-lookups
 returns-in-Ok-clause-lookups g c = λ z objects has is.
     let p : PagesState = g.P.Pages.state c.args.self.now.pages in
     let mine = has_objects (state_of g.P.Pages.state) c.args.self.now z objects has in
-    c.in-Ok.ensures.found _ objects (record { holds = holds_in _ p objects mine.pages.stands; hashes = mine.named }) is (c.entry_count-count.ensures objects mine.reports is ∙ ap (λ x. map.len (entries_of x)) is.2)
+    c.in-Ok.ensures.found _ objects (record { holds = holds_in _ p objects mine.pages.represents; hashes = mine.named }) is (c.entry_count-count.ensures objects mine.reports is ∙ ap (λ x. map.len (entries_of x)) is.2)

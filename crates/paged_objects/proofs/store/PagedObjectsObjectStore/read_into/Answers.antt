@@ -16,10 +16,10 @@ returns-in-Err-clause-lookups g c = λ z objects has is.
     let mine = has_objects (state_of g.P.Pages.state) c.args.self.now z objects has in
     rw c.fault_of.ensures (read_faults {S = PagedObjects g.row.P.Denot} (state_of g.P.Pages.state) c.args.self.now
     (record { alloc = c.args.self.now.alloc; pages = c.read_into.new.pages; table = c.args.self.now.table; names = c.args.self.now.names }) (fault_of c.in-Err.fault) c.read_into.ensures.lookups refl refl
-    (read_fault q c.in-Err.fault (g.met.P.PageStore.lost c.read_into.new.pages (c.read_into.ensures.lookups.sound ∙ mine.pages.stands.sound)) (lacks_memory p q c.in-Err.fault c.in-Err.ensures.fault)))
+    (read_fault q c.in-Err.fault (g.met.P.PageStore.lost c.read_into.new.pages (c.read_into.ensures.lookups.sound ∙ mine.pages.represents.sound)) (lacks_memory p q c.in-Err.fault c.in-Err.ensures.fault)))
 
 pub returns-in-Ok-clause-lookups : goal.returns-in-Ok-clause-lookups
 returns-in-Ok-clause-lookups g c = λ z objects has is.
     let p : PagesState = g.P.Pages.state c.args.self.now.pages in
     let mine = has_objects (state_of g.P.Pages.state) c.args.self.now z objects has in
-    c.in-Ok.ensures.found _ objects (holds_in _ p objects mine.pages.stands) is (c.length_of-len.ensures objects mine.reports mine.pages.can.forest)
+    c.in-Ok.ensures.found _ objects (holds_in _ p objects mine.pages.represents) is (c.length_of-len.ensures objects mine.reports mine.pages.can.forest)

@@ -21,7 +21,7 @@ pub returns-in_ok-look_up-in-Some-clause-page : goal.returns-in_ok-look_up-in-So
 returns-in_ok-look_up-in-Some-clause-page c = λ sound.
     let items : List FreshPage = c.args.self.now.pages.items in
     let first : IsFirstOf items c.args.key.object c.args.key.chunk c.in-Some.place =
-    subst (λ (ps : List FreshPage). IsFirstOf ps c.args.key.object c.args.key.chunk c.in-Some.place) c.deref.ensures.value (rw c.in-Some.is at c.place_of.ensures.some) in
+    subst (λ (ps : List FreshPage). IsFirstOf ps c.args.key.object c.args.key.chunk c.in-Some.place) c.deref.ensures.value (rw c.in-Some.is at c.place_of.ensures.first) in
     let lent : bytes_or (slice_get items c.in-Some.place) c.args.self.now.blank.items ≡ bytes_or (slice_get c.look_up.new.self.pages.items c.look_up.new.self.found) c.look_up.new.self.blank.items =
     ap (λ (n : ℕ). bytes_or (slice_get items n) c.args.self.now.blank.items) (sym c.in_ok-look_up-in-Some.ensures.found)
     ∙ ap (λ (ps : List FreshPage). bytes_or (slice_get ps c.look_up.new.self.found) c.args.self.now.blank.items) (sym (ap (λ v. v.items) c.look_up.ensures.pages))
@@ -32,13 +32,13 @@ returns-in_ok-look_up-in-Some-clause-page c = λ sound.
 pub returns-in_ok-look_up-in-Some-clause-absent : goal.returns-in_ok-look_up-in-Some-clause-absent
 returns-in_ok-look_up-in-Some-clause-absent c = λ sound none.
     let first : IsFirstOf c.args.self.now.pages.items c.args.key.object c.args.key.chunk c.in-Some.place =
-    subst (λ (ps : List FreshPage). IsFirstOf ps c.args.key.object c.args.key.chunk c.in-Some.place) c.deref.ensures.value (rw c.in-Some.is at c.place_of.ensures.some) in
+    subst (λ (ps : List FreshPage). IsFirstOf ps c.args.key.object c.args.key.chunk c.in-Some.place) c.deref.ensures.value (rw c.in-Some.is at c.place_of.ensures.first) in
     absurd (not_absent c.args.self.now.pages.items c.args.key.object c.args.key.chunk c.in-Some.place first none)
 
 pub returns-in_err-look_up-in-Some-clause-absent : goal.returns-in_err-look_up-in-Some-clause-absent
 returns-in_err-look_up-in-Some-clause-absent c = λ sound none.
     let first : IsFirstOf c.args.self.now.pages.items c.args.key.object c.args.key.chunk c.in-Some.place =
-    subst (λ (ps : List FreshPage). IsFirstOf ps c.args.key.object c.args.key.chunk c.in-Some.place) c.deref.ensures.value (rw c.in-Some.is at c.place_of.ensures.some) in
+    subst (λ (ps : List FreshPage). IsFirstOf ps c.args.key.object c.args.key.chunk c.in-Some.place) c.deref.ensures.value (rw c.in-Some.is at c.place_of.ensures.first) in
     absurd (not_absent c.args.self.now.pages.items c.args.key.object c.args.key.chunk c.in-Some.place first none)
 
 pub returns-in-None-clause-page : goal.returns-in-None-clause-page

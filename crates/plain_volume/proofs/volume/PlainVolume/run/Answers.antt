@@ -1,6 +1,6 @@
 use Rattle.std.proofs.Common.{◌≡◌, ◌≤◌, ℕ, length, OnOk, subst}
 use Rattle.plain_volume.specs.Runs.{RunsPlain}
-use Rattle.plain_volume.specs.Standing.{view_of}
+use Rattle.plain_volume.specs.Representing.{view_of}
 use Rattle.plain_volume.specs.Views.{PlainView}
 use Rattle.plain_volume.proofs.Plain.{run_plain, runs_plain}
 use Rattle.plain_volume.proofs.volume.PlainVolume.run.Goals as goal

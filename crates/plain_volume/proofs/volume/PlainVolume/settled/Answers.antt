@@ -6,7 +6,7 @@ use Rattle.posix_profile.specs.laws.Step.{settle_sound}
 use Rattle.object_store.specs.Stores.{settled}
 use Rattle.object_commands.specs.Volumes.{store_of}
 use Rattle.plain_volume.specs.PlainMeaning.{objects_of, numbers_of}
-use Rattle.plain_volume.specs.Standing.{state_of}
+use Rattle.plain_volume.specs.Representing.{state_of}
 use Rattle.plain_volume.proofs.Plain.{none_open, plain_from}
 use Rattle.plain_volume.proofs.volume.PlainVolume.settled.Goals as goal
 

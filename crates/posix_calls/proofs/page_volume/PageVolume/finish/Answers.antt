@@ -3,7 +3,7 @@ use Rattle.std.proofs.Common.{sym, ◌∙◌, ap, subst}
 use Rattle.std.proofs.lemmas.Bool.{not-true, not-false}
 use Rattle.object_store.specs.Stores.{settled}
 use Rattle.paged_objects.specs.Ending.{HasEnded}
-use Rattle.paged_objects.specs.Standing.{Shown}
+use Rattle.paged_objects.specs.Representing.{Shown}
 use Rattle.paged_objects.specs.laws.Going.{ended_after, goes_here, goes_on}
 use Rattle.pages.specs.State.{PagesState}
 use Rattle.pages.specs.Stores.{GoesOn}
@@ -59,7 +59,7 @@ returns-clause-done g c goes z s is reported =
     let state = g.P.Pages.state in
     let a = c.into_store-objects.result in
     let b = c.commit.new.self in
-    let at = c.close_all.ensures.closes.stands (not-true _ (sym c.if-not-close_all.ensures.stops)) z s is in
+    let at = c.close_all.ensures.closes.represents (not-true _ (sym c.if-not-close_all.ensures.stops)) z s is in
     let has = has_of state z at.0 c.close_all.new.self a c.into_store-objects.ensures at.1 in
     elim c.match-commit.branch [
       | in-Ok w ↦ subst (λ (q : PagesState). Shown z q (settled s.objects)) (sym (ap state c.into_pages-2.ensures))
@@ -76,7 +76,7 @@ returns-clause-exact g c z s is reported =
     let v = c.close_all.new.self in
     let goes : GoesOn (state (pages_of c.args.self)) (state b.pages) = goes_on (state (pages_of c.args.self)) (state (pages_of v)) (state b.pages) c.close_all.ensures.closes.goes_on
     (subst (λ (p : PagesState). GoesOn p (state b.pages)) (ap (λ o. state o.pages) c.into_store-objects.ensures) c.commit.ensures.lasts.0) in
-    let at = c.close_all.ensures.closes.stands (not-true _ (sym c.if-not-close_all.ensures.stops)) z s is.1 in
+    let at = c.close_all.ensures.closes.represents (not-true _ (sym c.if-not-close_all.ensures.stops)) z s is.1 in
     let has = has_of state z at.0 c.close_all.new.self a c.into_store-objects.ensures at.1 in
     elim c.match-commit.branch [
       | in-Ok w ↦ subst (λ (q : PagesState). KeepsOnly z q (settled s.objects)) (sym (ap state c.into_pages-2.ensures))
@@ -91,7 +91,7 @@ returns-clause-tree g c goes z s is tree shown =
     let a = c.into_store-objects.result in
     let b = c.commit.new.self in
     let v = c.close_all.new.self in
-    let at = c.close_all.ensures.closes.stands (not-true _ (sym c.if-not-close_all.ensures.stops)) z s is in
+    let at = c.close_all.ensures.closes.represents (not-true _ (sym c.if-not-close_all.ensures.stops)) z s is in
     let has = has_of state z at.0 v a c.into_store-objects.ensures at.1 in
     let before : state a.pages ≡ state (pages_of v) = ap (λ o. state o.pages) c.into_store-objects.ensures in
     subst (λ (q : PagesState). Shown z q tree ⊎ Shown z q (settled s.objects)) (sym (ap state c.into_pages-2.ensures))
@@ -103,7 +103,7 @@ returns-clause-cause g c goes z s is reported =
     let state = g.P.Pages.state in
     let a = c.into_store-objects.result in
     let b = c.commit.new.self in
-    let at = c.close_all.ensures.closes.stands (not-true _ (sym c.if-not-close_all.ensures.stops)) z s is in
+    let at = c.close_all.ensures.closes.represents (not-true _ (sym c.if-not-close_all.ensures.stops)) z s is in
     let has = has_of state z at.0 c.close_all.new.self a c.into_store-objects.ensures at.1 in
     elim c.match-commit.branch [
       | in-Ok w ↦ let two : replies.Done ≡ replies.Error errors.EIO = sym w.reply-is ∙ reported in absurd cc

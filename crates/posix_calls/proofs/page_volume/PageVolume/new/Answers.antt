@@ -5,7 +5,7 @@ use Rattle.name_index.specs.declared.index.NameIndex.{NameIndex}
 use Rattle.paged_objects.specs.Naming.{HasNames}
 use Rattle.object_store.specs.Reported.{table_sizes, Reports}
 use Rattle.object_store.specs.declared.table.ObjectTable.{ObjectTable}
-use Rattle.paged_objects.specs.Standing.{StandsFor, Shown}
+use Rattle.paged_objects.specs.Representing.{PagesRepresent, Shown}
 use Rattle.pages.specs.State.{PagesState}
 use Rattle.posix_calls.proofs.page_volume.PageVolume.new.Goals as goal
 
@@ -23,14 +23,14 @@ returns-clause-at g c tree has =
     record {
       numbers = stored.numbers;
       sizes = ap table_sizes table;
-      stands = subst (λ (p : PagesState). StandsFor z p tree) (sym pages) stored.stands;
+      represents = subst (λ (p : PagesState). PagesRepresent z p tree) (sym pages) stored.represents;
       reports = subst (λ (t : ObjectTable). Reports t tree) (sym table) stored.reports;
       hashes = subst (λ (x : NameIndex). HasNames x z (state c.over.result.store.pages).present tree) (sym names)
           (subst (λ (p : PagesState). HasNames c.args.objects.names z p.present tree) (sym pages) stored.hashes);
       handles = made.1 ∙ c.requires;
       sound = stored.sound;
       worn = ap (λ (p : PagesState). p.worn) pages ∙ worn ∙ sym made.2;
-      within_limit = λ writes. g.met.P.PageStore.within_limit c.over.result.store.pages (ap (λ (p : PagesState). p.sound) pages ∙ stored.stands.sound) (ap (λ (p : PagesState). p.worn) pages ∙ worn ∙ sym made.2 ∙ writes);
+      within_limit = λ writes. g.met.P.PageStore.within_limit c.over.result.store.pages (ap (λ (p : PagesState). p.sound) pages ∙ stored.represents.sound) (ap (λ (p : PagesState). p.worn) pages ∙ worn ∙ sym made.2 ∙ writes);
       reading = λ only fd handle is. let two : None ≡ Some handle = sym (map.get-empty nat_cmp fd) ∙ is in absurd cc;
       named = λ only. (shown (sym made.2 ∙ only)).named;
       shown = λ only. subst (λ (p : PagesState). Shown z p tree) (sym pages) (shown (sym made.2 ∙ only)).shown;

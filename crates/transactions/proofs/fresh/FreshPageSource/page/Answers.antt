@@ -6,7 +6,7 @@ use Rattle.transactions.proofs.fresh.FreshPageSource.page.Goals as goal
 pub returns-clause-name : goal.returns-clause-name
 returns-clause-name g c =
     let place = c.requires.place in
-    let numbered = c.requires.ready.numbered in
+    let numbered = c.requires.can_write.numbered in
     grind (arith, common_steps, gets)
 
 pub returns-clause-bytes : goal.returns-clause-bytes

@@ -8,9 +8,9 @@ use Rattle.plain_volume.proofs.objects.store.PlainObjectsObjectStore.parent.Goal
 
 pub returns-then-is_named : goal.returns-then-is_named
 returns-then-is_named c z objects has dir =
-    subst (λ (o : Objects). NamedBy o c.args.directory (Some c.parent.result)) has.stands
+    subst (λ (o : Objects). NamedBy o c.args.directory (Some c.parent.result)) has.represents
     (subst (λ p. NamedBy (objects_in c.args.self.now.objects) c.args.directory (Some p)) (sym c.parent.ensures) (named_by (objects_in c.args.self.now.objects) c.args.directory (sym c.is_named.ensures ∙ c.if-is_named.true)))
 
 pub returns-else-is_named : goal.returns-else-is_named
 returns-else-is_named c z objects has dir =
-    subst (λ (o : Objects). NamedBy o c.args.directory None) has.stands (named_none (objects_in c.args.self.now.objects) c.args.directory (sym c.is_named.ensures ∙ c.if-is_named.false))
+    subst (λ (o : Objects). NamedBy o c.args.directory None) has.represents (named_none (objects_in c.args.self.now.objects) c.args.directory (sym c.is_named.ensures ∙ c.if-is_named.false))

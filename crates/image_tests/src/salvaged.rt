@@ -112,11 +112,7 @@ fn a_lost_page_leaves_the_rest_and_a_line(rt: HostRuntime) {
     }
     assert_eq!(&rt; left.lost.len(), 1);
     let range = ByteRange { from: 0, count: 5 };
-    assert!(&rt;
-        left.lost
-            .iter()
-            .all(|at| at.power_loss == Loss::Bytes(range))
-    );
+    assert!(&rt; left.lost.iter().all(|at| at.loss == Loss::Bytes(range)));
     let mut out = Vec::new(alloc);
     show_losses(alloc, &mut out, &left).expect(&rt, "lines");
     assert_eq!(&rt;

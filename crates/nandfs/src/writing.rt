@@ -101,7 +101,7 @@ pub(crate) fn change_image(
 ) -> Result<(), ToolFault> {
     let file = open_to_change(rt, word(matches, "IMAGE"))?;
     let mut volume = volume_to_change(rt.alloc(), file)?;
-    let after_change = change(rt, name, matches, &mut volume);
+    let outcome = change(rt, name, matches, &mut volume);
     end_image(volume)?;
-    after_change
+    outcome
 }

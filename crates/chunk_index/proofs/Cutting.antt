@@ -20,7 +20,7 @@ pub record Cutting (o from : ℕ) (bound : Option ℕ) (old new : Index) : Type 
   pub others : (k l : ℕ) → (k ≢ o) ⊎ (l < from) → present new k l ≡ present old k l
   pub committed : SameCommitted old new
   pub prepared : StaysPrepared old new
-  pub can_write : (k l : ℕ) → (k ≢ o) ⊎ (l < from) → IsReadyKey old k l → IsReadyKey new k l
+  pub has_room : (k l : ℕ) → (k ≢ o) ⊎ (l < from) → IsReadyKey old k l → IsReadyKey new k l
 
 pub below_or_not : (l : ℕ) (bound : Option ℕ) → IsBelow l bound ⊎ (IsBelow l bound → ⊥)
 below_or_not l None = inl tt
@@ -37,7 +37,7 @@ differs o from k l c le (inr lt) = inr (λ e. omega (arith, le, lt, e))
 pub cutting_more : (o from : ℕ) (bound : Option ℕ) (old mid new : Index) (e : KeyEntry) → Cutting o from bound old mid → IsLastFrom mid.shelf.objects o from bound (Some e)
     → Places o (chunk e) forms.Dropped mid new → SameCommitted mid new → StaysPrepared mid new → ((k l : ℕ) → Differs o (chunk e) k l → IsReadyKey mid k l → IsReadyKey new k l)
     → Cutting o from (Some (chunk e)) old new
-cutting_more o from bound old mid new e was last places committed prepared can_write = record {
+cutting_more o from bound old mid new e was last places committed prepared has_room = record {
   gone = λ l le not. elim (cases_eq l (chunk e)) [
     | inl same ↦ ap (present new o) same ∙ places.here
     | inr ne ↦
@@ -50,5 +50,5 @@ cutting_more o from bound old mid new e was last places committed prepared can_w
   others = λ k l other. places.others k l (differs o from k l (chunk e) last.1 other) ∙ was.others k l other;
   committed = record { committed = λ k l. committed.committed k l ∙ was.committed.committed k l; counts = λ b. committed.counts b ∙ was.committed.counts b };
   prepared = λ k l is. prepared k l (was.prepared k l is);
-  can_write = λ k l other is. can_write k l (differs o from k l (chunk e) last.1 other) (was.can_write k l other is);
+  has_room = λ k l other is. has_room k l (differs o from k l (chunk e) last.1 other) (was.has_room k l other is);
 }

@@ -17,8 +17,8 @@ pub mod Retaining
 pub mod Staying
 pub mod Totals
 pub mod Rising
+pub mod KeysLeft
 pub mod Following
-pub mod PassedKeys
 pub mod Freeing
 pub mod Once
 pub mod Committed

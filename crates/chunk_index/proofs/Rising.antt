@@ -23,18 +23,14 @@ use Rattle.chunk_index.specs.declared.index.Index.{Index}
 use Rattle.chunk_index.specs.Lists.{find_by, Rises}
 use Rattle.chunk_index.specs.Entries.{chunk, committed_of, weigh}
 use Rattle.chunk_index.specs.Shelves.{entry_of}
-use Rattle.flash_tree.specs.Places.{ComesBefore}
-use Rattle.chunk_index.specs.Committed.{KeyRises, IsListOf, HasCommitted}
+use Rattle.chunk_index.specs.Committed.{Before, KeyRises, IsListOf, HasCommitted}
+use Rattle.chunk_index.specs.Following.{committed_key, object_keys, all_keys}
 use Rattle.chunk_index.specs.Maps.{CommittedMap, committed_pages, CountsAgree}
 use Rattle.chunk_index.proofs.Finding.{find_at}
 use Rattle.chunk_index.proofs.Keys.{IsIn, first, later, is_in_left, is_in_right, is_in_place, each_append}
 use Rattle.chunk_index.proofs.Totals.{committed_one, all_counted}
 
 -- ---- lists of keys
-
--- the key of one comes before that of another
-abbrev Before : CommittedKey → CommittedKey → Type 0
-Before j k = ComesBefore j.key.object j.key.chunk k.key.object k.key.chunk
 
 -- each element of the list comes after a key
 abbrev After : CommittedKey → List CommittedKey → Type 0
@@ -93,18 +89,52 @@ one_length m n k one two =
           let there = b.all k.key.object k.key.chunk k.at (a.each i k at) in
           (there.0, omega arith, there.1))
 
+-- and they are one list
+module _ (m : CommittedMap) where
+  -- each key of the first list stands in the second
+  abbrev AreIn : List CommittedKey → List CommittedKey → Type 0
+  AreIn ks js = (i : ℕ) (k : CommittedKey) → slice_get ks i ≡ Some k → (n : ℕ) × (slice_get js n ≡ Some k)
+
+  tail_in : (k : CommittedKey) (ks js : List CommittedKey) → KeyRises (k ∷ ks) → AreIn (k ∷ ks) (k ∷ js) → AreIn ks js
+  tail_in k ks js rise each i l at =
+      let there = each (suc i) l at in
+      let before : Before k l = rise 0 (suc i) k l (omega arith) refl at in
+      go before there.0 there.1 where
+        go : Before k l → (n : ℕ) → slice_get (k ∷ js) n ≡ Some l → (n : ℕ) × (slice_get js n ≡ Some l)
+        go before zero is =
+            let same : k ≡ l = cc in
+            let itself : Before l l = subst (λ x. Before x l) same before in
+            absurd (not_both l l itself itself)
+        go before (suc n) is = (n, is)
+
+  one_head : (k j : CommittedKey) (ks js : List CommittedKey) → KeyRises (k ∷ ks) → KeyRises (j ∷ js) → AreIn (k ∷ ks) (j ∷ js) → AreIn (j ∷ js) (k ∷ ks) → k ≡ j
+  one_head k j ks js rise other each back =
+      let a = each 0 k refl in
+      let b = back 0 j refl in
+      go a.0 a.1 b.0 b.1 where
+        go : (a : ℕ) → slice_get (j ∷ js) a ≡ Some k → (b : ℕ) → slice_get (k ∷ ks) b ≡ Some j → k ≡ j
+        go zero at b there = cc
+        go (suc a) at zero there = cc
+        go (suc a) at (suc b) there = absurd (not_both j k (other 0 (suc a) j k (omega arith) refl at) (rise 0 (suc b) k j (omega arith) refl there))
+
+  same_keys : (ks js : List CommittedKey) → KeyRises ks → KeyRises js → AreIn ks js → AreIn js ks → ks ≡ js
+  same_keys [] [] rise other each back = refl
+  same_keys [] (j ∷ js) rise other each back = let two = (back 0 j refl).1 in absurd cc
+  same_keys (k ∷ ks) [] rise other each back = let two = (each 0 k refl).1 in absurd cc
+  same_keys (k ∷ ks) (j ∷ js) rise other each back =
+      let head : k ≡ j = one_head k j ks js rise other each back in
+      let each_k : AreIn (k ∷ ks) (k ∷ js) = subst (λ x. AreIn (k ∷ ks) (x ∷ js)) (sym head) each in
+      let back_k : AreIn (k ∷ js) (k ∷ ks) = subst (λ x. AreIn (x ∷ js) (k ∷ ks)) (sym head) back in
+      let other_k : KeyRises (k ∷ js) = subst (λ x. KeyRises (x ∷ js)) (sym head) other in
+      let tail : ks ≡ js = same_keys ks js (rising_tail k ks rise) (rising_tail k js other_k) (tail_in k ks js rise each_k) (tail_in k js ks other_k back_k) in
+      ap (λ x. x ∷ ks) head ∙ ap (λ xs. j ∷ xs) tail
+
+  pub one_list : (ks js : List CommittedKey) → IsListOf m ks → IsListOf m js → ks ≡ js
+  one_list ks js a b = same_keys ks js a.rise b.rise (in_other ks js a b) (in_other js ks b a) where
+    in_other : (ks js : List CommittedKey) → IsListOf m ks → IsListOf m js → AreIn ks js
+    in_other ks js a b i k at = b.all k.key.object k.key.chunk k.at (a.each i k at)
+
 -- ---- the list of an index
-
-abbrev committed_key : ℕ → KeyEntry → Option CommittedKey
-committed_key o e = option_map (λ (p : CommittedPage). record { key = record { object = o; chunk = e.chunk }; at = p }) e.committed
-
-abbrev object_keys : ℕ → List KeyEntry → List CommittedKey
-object_keys o [] = []
-object_keys o (e ∷ es) = cons_option (committed_key o e) (object_keys o es)
-
-abbrev all_keys : List (ℕ × ObjectEntries) → List CommittedKey
-all_keys [] = []
-all_keys (x ∷ xs) = object_keys x.0 x.1.entries.items ++ all_keys xs
 
 -- a committed key of an entry
 record IsOfEntry (o : ℕ) (e : KeyEntry) (k : CommittedKey) : Type 0 where
@@ -239,13 +269,12 @@ objects_rise x i j o k y z lt at_i at_j =
     let rise : get_or (keys_of es) i 0 < get_or (keys_of es) j 0 = below_from_sorted (keys_of es) i j 0 x.shelf.ordered lt two.0 in
     omega (arith, rise, one.1 0, two.1 0)
 
+pub all_listed : (x : Index) → IsListOf (committed_pages x) (all_keys x.shelf.objects.entries)
+all_listed x = record {
+  each = listed_committed x;
+  all = λ o c p is. is_in_place _ (all_keys x.shelf.objects.entries) (is_in_all o c p x.shelf.objects.entries is);
+  rise = rising_all x.shelf.objects.entries (objects_rise x);
+}
+
 pub committed_counted : (t : Table) (x : Index) → CountsAgree t x → HasCommitted (committed_pages x) (committed_count t)
-committed_counted t x agree = (
-  all_keys x.shelf.objects.entries,
-  record {
-    each = listed_committed x;
-    all = λ o c p is. is_in_place _ (all_keys x.shelf.objects.entries) (is_in_all o c p x.shelf.objects.entries is);
-    rise = rising_all x.shelf.objects.entries (objects_rise x);
-  },
-  length_all x.shelf.objects.entries ∙ sym (all_counted t x agree),
-)
+committed_counted t x agree = (all_keys x.shelf.objects.entries, all_listed x, length_all x.shelf.objects.entries ∙ sym (all_counted t x agree))

@@ -159,7 +159,7 @@ retains_of keeps x y looks = record {
   committed = λ o c is. ap committed_of (stays o c is);
   present = λ o c is. ap present_of (stays o c is);
   prepared = λ o c is some. subst IsSome (sym (stays o c is)) some;
-  can_write = λ o c is some. ap stays_of (stays o c is) ∙ some;
+  has_room = λ o c is some. ap stays_of (stays o c is) ∙ some;
   committed_no_more = λ o c is. ap committed_of (looks o c) ∙ retained_committed (keeps o c) (look x.shelf.objects o c) is;
   present_no_more = λ o c is. ap present_of (looks o c) ∙ retained_present (keeps o c) (look x.shelf.objects o c) is;
 } where

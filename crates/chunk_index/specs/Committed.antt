@@ -1,6 +1,5 @@
 -- Which keys are committed, in a block and in all.
-use Rattle.std.specs.Prelude.{◌≡◌, ◌≢◌, ◌<◌, ℕ, zero, suc, List, length, slice_get, Option, Some, None}
-use Rattle.std.specs.Option.{option_map_or}
+use Rattle.std.specs.Prelude.{◌≡◌, ◌≢◌, ◌<◌, ℕ, List, length, slice_get, Option, Some, None}
 use Rattle.chunk_index.specs.declared.form.CommittedPage.{CommittedPage}
 use Rattle.chunk_index.specs.declared.form.CommittedKey.{CommittedKey}
 use Rattle.flash_tree.specs.Places.{ComesBefore}
@@ -11,6 +10,10 @@ use Rattle.chunk_index.specs.Maps.{CommittedMap}
 abbrev pub HoldsNone : CommittedMap → ℕ → Type 0
 HoldsNone m b = (o c : ℕ) (p : CommittedPage) → m o c ≡ Some p → p.block ≢ b
 
+-- the key of one comes before that of another
+abbrev pub Before : CommittedKey → CommittedKey → Type 0
+Before j k = ComesBefore j.key.object j.key.chunk k.key.object k.key.chunk
+
 -- the keys rise, so that no key comes twice
 abbrev pub KeyRises : List CommittedKey → Type 0
 KeyRises ks = (i j : ℕ) (k l : CommittedKey) → i < j → slice_get ks i ≡ Some k → slice_get ks j ≡ Some l → ComesBefore k.key.object k.key.chunk l.key.object l.key.chunk
@@ -20,11 +23,6 @@ pub record IsListOf (m : CommittedMap) (ks : List CommittedKey) : Type 0 where
   pub each : (i : ℕ) (k : CommittedKey) → slice_get ks i ≡ Some k → m k.key.object k.key.chunk ≡ Some k.at
   pub all : (o c : ℕ) (p : CommittedPage) → m o c ≡ Some p → (i : ℕ) × (slice_get ks i ≡ Some (record { key = record { object = o; chunk = c }; at = p }))
   pub rise : KeyRises ks
-
--- the key of the last of the first n on a list, or of all where there are fewer
-abbrev pub last_key : List CommittedKey → ℕ → Option Key
-last_key ks zero = None
-last_key ks (suc n) = option_map_or (λ (k : CommittedKey). Some k.key) (slice_get ks n) (last_key ks n)
 
 -- so many keys are committed: there is a list of them of this length
 abbrev pub HasCommitted : CommittedMap → ℕ → Type 0

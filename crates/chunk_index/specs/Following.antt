@@ -1,11 +1,13 @@
 -- The committed key that comes next.
-use Rattle.std.specs.Prelude.{◌≡◌, ◌⊎◌, ◌<◌, ◌≤◌, ℕ, zero, suc, ◌+◌, List, [], length, get_or, slice_get, Option, Some, None}
-use Rattle.std.specs.Option.{option_map_or}
+use Rattle.std.specs.Prelude.{◌≡◌, ◌<◌, ◌≤◌, ℕ, List, [], ◌∷◌, ◌++◌, length, get_or, Option, Some, None}
+use Rattle.std.specs.Borrow.{Bor}
+use Rattle.std.specs.List.{cons_option}
+use Rattle.std.specs.Option.{option_map}
 use Rattle.chunk_index.specs.declared.form.CommittedPage.{CommittedPage}
 use Rattle.chunk_index.specs.declared.form.CommittedKey.{CommittedKey}
 use Rattle.chunk_index.specs.declared.entry.KeyEntry.{KeyEntry}
 use Rattle.chunk_index.specs.declared.object.ObjectEntries.{ObjectEntries}
-use Rattle.chunk_index.specs.declared.passing.Passed.{Passed}
+use Rattle.chunk_index.specs.declared.committed_keys.CommittedKeys.{CommittedKeys}
 use Rattle.chunk_index.specs.Lists.{find_by}
 use Rattle.chunk_index.specs.Entries.{chunk, committed_of}
 use Rattle.chunk_index.specs.Shelves.{IsAfterNumber}
@@ -33,25 +35,30 @@ IsNextBeyond m object None = (o c : ℕ) → IsAfterNumber o object → m o c �
 IsNextBeyond m object (Some k) = (m k.key.object k.key.chunk ≡ Some k.at) × IsAfterNumber k.key.object object
     × ((o c : ℕ) → IsAfterNumber o object → ComesBefore o c k.key.object k.key.chunk → m o c ≡ None)
 
--- the entries of an object that is here, or none
-abbrev pub items_in : Option ObjectEntries → List KeyEntry
-items_in None = []
-items_in (Some x) = x.entries.items
+-- the key of an entry of object o with its page, if it is committed
+abbrev pub committed_key : ℕ → KeyEntry → Option CommittedKey
+committed_key o e = option_map (λ (p : CommittedPage). record { key = record { object = o; chunk = e.chunk }; at = p }) e.committed
 
--- what is passed once an entry of an object was, if it is there: a key more, where a page of it is committed
-abbrev pub pass_entry : ℕ → Option KeyEntry → Passed → Passed
-pass_entry o None passed = passed
-pass_entry o (Some e) passed = option_map_or (λ (p : CommittedPage). record { count = passed.count + 1; last = Some (record { object = o; chunk = chunk e }) }) e.committed passed
+-- those of some entries of an object
+abbrev pub object_keys : ℕ → List KeyEntry → List CommittedKey
+object_keys o [] = []
+object_keys o (e ∷ es) = cons_option (committed_key o e) (object_keys o es)
 
--- and once the first n entries were
-abbrev pub pass_first : ℕ → List KeyEntry → ℕ → Passed → Passed
-pass_first o es zero passed = passed
-pass_first o es (suc n) passed = pass_entry o (slice_get es n) (pass_first o es n passed)
+-- those of some objects, one after another
+abbrev pub all_keys : List (ℕ × ObjectEntries) → List CommittedKey
+all_keys [] = []
+all_keys (x ∷ xs) = object_keys x.0 x.1.entries.items ++ all_keys xs
 
--- The first entries of an object are passed over: all of them, or until so many keys are passed.
-pub record PassesEntries (o : ℕ) (es : List KeyEntry) (count : ℕ) (old new : Passed) : Type 0 where
-  pub entries : ℕ
-  pub within : entries ≤ length es
-  pub are : new ≡ pass_first o es entries old
-  pub within_limit : new.count ≤ count
-  pub ends : (new.count ≡ count) ⊎ (entries ≡ length es)
+-- the committed keys that are still to come
+abbrev pub keys_left : CommittedKeys → List CommittedKey
+keys_left left = object_keys left.object left.entries.now ++ all_keys left.objects
+
+-- the first key of some entries of an object with the entries after its own; with none, none of them is committed
+abbrev pub SplitsFirst : ℕ → List KeyEntry → Option (CommittedKey × Bor (List KeyEntry)) → Type 0
+SplitsFirst o es None = object_keys o es ≡ []
+SplitsFirst o es (Some x) = object_keys o es ≡ x.0 ∷ object_keys o x.1.now
+
+-- the first key of a list is taken from it, if it has one
+abbrev pub TakesFirstKey : List CommittedKey → Option CommittedKey → List CommittedKey → Type 0
+TakesFirstKey old None new = (old ≡ []) × (new ≡ [])
+TakesFirstKey old (Some k) new = old ≡ k ∷ new

@@ -98,7 +98,7 @@ once_written g (presents.InBuffer i) = Some (written_page g i)
 pub record Settles (g : WrittenGroup) (old new : Index) : Type 0 where
   pub committed : (o c : ℕ) → committed_pages new o c ≡ once_written g (present old o c)
   pub presents : (o c : ℕ) → present new o c ≡ as_committed (committed_pages new o c)
-  pub can_write : (o c : ℕ) → IsReadyKey old o c → IsReadyKey new o c
+  pub has_room : (o c : ℕ) → IsReadyKey old o c → IsReadyKey new o c
 
 -- each page of the buffer lies in a block of so many pages
 abbrev pub Fits : ℕ → WrittenGroup → Index → Type 0
@@ -111,4 +111,4 @@ pub record Retains (keeps : ℕ → ℕ → Bool) (old new : Index) : Type 0 whe
   pub committed : (o c : ℕ) → keeps o c ≡ true → committed_pages new o c ≡ committed_pages old o c
   pub present : (o c : ℕ) → keeps o c ≡ true → present new o c ≡ present old o c
   pub prepared : (o c : ℕ) → keeps o c ≡ true → IsPrepared old o c → IsPrepared new o c
-  pub can_write : (o c : ℕ) → keeps o c ≡ true → IsReadyKey old o c → IsReadyKey new o c
+  pub has_room : (o c : ℕ) → keeps o c ≡ true → IsReadyKey old o c → IsReadyKey new o c

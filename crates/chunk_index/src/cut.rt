@@ -18,7 +18,7 @@ impl Index {
         ensures cuts { Cuts object 0 self.old self.new }
         ensures committed { SameCommitted self.old self.new }
         ensures prepared { StaysPrepared self.old self.new }
-        ensures can_write { (k l : ℕ) → k ≢ object → IsReadyKey self.old k l → IsReadyKey self.new k l }
+        ensures has_room { (k l : ℕ) → k ≢ object → IsReadyKey self.old k l → IsReadyKey self.new k l }
     {
         self.cut(object, 0);
     }
@@ -28,7 +28,7 @@ impl Index {
         ensures cuts { Cuts object from self.old self.new }
         ensures committed { SameCommitted self.old self.new }
         ensures prepared { StaysPrepared self.old self.new }
-        ensures can_write { (k l : ℕ) → (k ≢ object) ⊎ (l < from) → IsReadyKey self.old k l → IsReadyKey self.new k l }
+        ensures has_room { (k l : ℕ) → (k ≢ object) ⊎ (l < from) → IsReadyKey self.old k l → IsReadyKey self.new k l }
     {
         if self.shelf.last_from(object, from, None).is_none() {
             return;
@@ -54,7 +54,7 @@ impl Index {
         ensures committed { SameCommitted self.old self.new }
         ensures prepared { StaysPrepared self.old self.new }
         ensures changes { self.new.changes ≡ self.old.changes }
-        ensures can_write { (k l : ℕ) → Differs key.object key.chunk k l → IsReadyKey self.old k l → IsReadyKey self.new k l }
+        ensures has_room { (k l : ℕ) → Differs key.object key.chunk k l → IsReadyKey self.old k l → IsReadyKey self.new k l }
     {
         match entry.present() {
             Present::Absent => {}

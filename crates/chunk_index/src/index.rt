@@ -76,7 +76,7 @@ impl Index {
         requires { key.chunk < 2 ^ 32 }
         ensures committed { SameCommitted self.old self.new }
         ensures present { SamePresent self.old self.new }
-        ensures can_write { OnOk result (IsReadyKey self.new key.object key.chunk) }
+        ensures has_room { OnOk result (IsReadyKey self.new key.object key.chunk) }
         ensures stays { (o c : ℕ) → IsReadyKey self.old o c → IsReadyKey self.new o c }
         ensures prepared { StaysPrepared self.old self.new }
         ensures succeeds { IsPrepared self.old key.object key.chunk → IsOk result }
@@ -97,7 +97,7 @@ impl Index {
         requires small { IsSmall entry }
         ensures committed { SameCommitted self.old self.new }
         ensures present { SamePresent self.old self.new }
-        ensures can_write { IsReadyKey self.new key.object key.chunk }
+        ensures has_room { IsReadyKey self.new key.object key.chunk }
         ensures stays { (o c : ℕ) → IsReadyKey self.old o c → IsReadyKey self.new o c }
         ensures prepared { StaysPrepared self.old self.new }
     {
@@ -118,7 +118,7 @@ impl Index {
         requires low { key.chunk < 2 ^ 32 }
         ensures committed { SameCommitted self.old self.new }
         ensures present { SamePresent self.old self.new }
-        ensures can_write { OnOk result (IsReadyKey self.new key.object key.chunk) }
+        ensures has_room { OnOk result (IsReadyKey self.new key.object key.chunk) }
         ensures stays { (o c : ℕ) → IsReadyKey self.old o c → IsReadyKey self.new o c }
         ensures prepared { StaysPrepared self.old self.new }
     {
@@ -153,7 +153,7 @@ impl Index {
         ensures places { Places key.object key.chunk form self.old self.new }
         ensures committed { SameCommitted self.old self.new }
         ensures prepared { StaysPrepared self.old self.new }
-        ensures can_write { (o c : ℕ) → Differs key.object key.chunk o c → IsReadyKey self.old o c → IsReadyKey self.new o c }
+        ensures has_room { (o c : ℕ) → Differs key.object key.chunk o c → IsReadyKey self.old o c → IsReadyKey self.new o c }
     {
         if self.shelf.place(key, form.state()) {
             self.changes.note(key);
@@ -181,7 +181,7 @@ impl Index {
         requires agree { CountsAgree (table blocks.old) self.old }
         ensures copies { (was : CommittedPage) → committed_pages self.old key.object key.chunk ≡ Some was → Copies key.object key.chunk place was self.old self.new }
         ensures prepared { StaysPrepared self.old self.new }
-        ensures can_write { (o c : ℕ) → IsReadyKey self.old o c → IsReadyKey self.new o c }
+        ensures has_room { (o c : ℕ) → IsReadyKey self.old o c → IsReadyKey self.new o c }
         ensures agree { CountsAgree (table blocks.new) self.new }
         ensures counts { Recounts (count_committed_in self.old) (count_committed_in self.new) (table blocks.old) (table blocks.new) }
     {

@@ -3,6 +3,7 @@
 
 mod change;
 mod changes;
+mod committed_keys;
 mod copied;
 mod cut;
 mod entry;
@@ -16,12 +17,12 @@ mod newest;
 mod next;
 mod object;
 mod packed;
-mod passing;
 mod placed_pages;
 mod retain;
 mod settle;
 mod shelf;
 
+pub use committed_keys::CommittedKeys;
 pub use filter::KeyFilter;
 pub use form::{CommittedKey, CommittedPage, Form, PagePlace, Present, WrittenGroup};
 pub use index::Index;

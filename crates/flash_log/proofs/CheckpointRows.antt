@@ -1,13 +1,12 @@
 -- Parts of 32 bytes that are written one after another.
-use Rattle.std.proofs.Common.{◌≡◌, ℕ, zero, suc, ◌+◌, ◌-◌, ◌*◌, ◌≤◌, List, ◌++◌, length, take, drop, Option, sym, ap, ◌∙◌, arith, append_assoc, append-nil, length-append, length-take, length-drop}
+use Rattle.std.proofs.Common.{◌≡◌, ℕ, zero, suc, ◌+◌, ◌-◌, ◌*◌, ◌≤◌, List, ◌++◌, length, take, drop, sym, ap, ◌∙◌, arith, append_assoc, append-nil, length-append, length-take, length-drop}
 use Rattle.std.specs.Prelude.{flat_map}
 use Rattle.std.specs.List.{range_with_len}
 use Rattle.std.proofs.lemmas.Slice.{take-put_mid}
 use borrow.Rule.Slice.PartMut.{put_mid}
-use Rattle.flash_tree.specs.declared.place.Key.{Key}
 use Rattle.page_tags.specs.Checks.{check_slot}
 use Rattle.chunk_index.specs.declared.form.CommittedKey.{CommittedKey}
-use Rattle.chunk_index.specs.Committed.{IsListOf, last_key}
+use Rattle.chunk_index.specs.Committed.{IsListOf}
 use Rattle.chunk_index.specs.Maps.{CommittedMap}
 use Rattle.flash_log.specs.CheckpointListing.{check_entries}
 
@@ -23,23 +22,23 @@ rows_more f a (suc n) =
     ∙ sym (append_assoc (f a) (flat_map f (range_with_len (a + 1) n)) (f (a + 1 + n)))
     ∙ ap (λ k. (f a ++ flat_map f (range_with_len (a + 1) n)) ++ f k) (omega arith)
 
--- The first k parts of a page of a checkpoint are written, and the key of the last entry before the next part is known.
-pub record WritesParts (m : CommittedMap) (count first k : ℕ) (last : Option Key) (old new : List ℕ) : Type 0 where
+-- The first k parts of a page of a checkpoint are written, and the keys of the entries before the next part are taken.
+pub record WritesParts (m : CommittedMap) (count first k : ℕ) (left : List CommittedKey) (old new : List ℕ) : Type 0 where
   pub size : length new ≡ length old
-  pub key : (ks : List CommittedKey) → IsListOf m ks → last ≡ last_key ks (first + k - 1)
+  pub keys : (ks : List CommittedKey) → IsListOf m ks → left ≡ drop (first + k - 1) ks
   pub parts : (ks : List CommittedKey) → IsListOf m ks → count ≡ length ks → take (32 * k) new ≡ flat_map (check_slot (check_entries ks)) (range_with_len first k)
 
 -- one part more
 pub writes_more :
-    (m : CommittedMap) (count first k n : ℕ) (last next : Option Key) (old page part : List ℕ) → n ≡ 32 → 32 * k + 32 ≤ length page → length part ≡ 32 → WritesParts m count first k last old page
-    → ((ks : List CommittedKey) → IsListOf m ks → count ≡ length ks → last ≡ last_key ks (first + k - 1) → part ≡ check_slot (check_entries ks) (first + k))
-    → ((ks : List CommittedKey) → IsListOf m ks → last ≡ last_key ks (first + k - 1) → next ≡ last_key ks (first + k)) → WritesParts m count first (k + 1) next old (put_mid (32 * k) n page part)
-writes_more m count first k n last next old page part is room len was writes goes = record {
+    (m : CommittedMap) (count first k n : ℕ) (left next : List CommittedKey) (old page part : List ℕ) → n ≡ 32 → 32 * k + 32 ≤ length page → length part ≡ 32 → WritesParts m count first k left old page
+    → ((ks : List CommittedKey) → count ≡ length ks → left ≡ drop (first + k - 1) ks → part ≡ check_slot (check_entries ks) (first + k))
+    → ((ks : List CommittedKey) → left ≡ drop (first + k - 1) ks → next ≡ drop (first + k) ks) → WritesParts m count first (k + 1) next old (put_mid (32 * k) n page part)
+writes_more m count first k n left next old page part is room len was writes goes = record {
   size = length-put_mid (32 * k) n page part (omega (arith, room, is)) (omega (arith, len, is)) ∙ was.size;
-  key = λ ks list. let here_k : first + k ≡ first + (k + 1) - 1 = omega arith in goes ks list (was.key ks list) ∙ ap (last_key ks) here_k;
+  keys = λ ks list. let here_k : first + k ≡ first + (k + 1) - 1 = omega arith in goes ks (was.keys ks list) ∙ ap (λ n. drop n ks) here_k;
   parts = λ ks list counts.
       let f = check_slot (check_entries ks) in
-      let here : part ≡ f (first + k) = writes ks list counts (was.key ks list) in
+      let here : part ≡ f (first + k) = writes ks counts (was.keys ks list) in
       let front : take (32 * (k + 1)) (put_mid (32 * k) n page part) ≡ take (32 * k) page ++ part =
       take-put_mid (32 * k) n page part (32 * (k + 1)) (omega (arith, is)) (omega (arith, len, is)) in
       let next_k : suc k ≡ k + 1 = omega arith in

@@ -4,8 +4,7 @@ use Rattle.std.specs.Option.{option_map_or}
 use Rattle.std.proofs.lemmas.Bool.{cases_lt}
 use Rattle.chunk_index.specs.declared.form.CommittedPage.{CommittedPage}
 use Rattle.chunk_index.specs.declared.form.CommittedKey.{CommittedKey}
-use Rattle.chunk_index.specs.Committed.{KeyRises, IsListOf}
-use Rattle.chunk_index.specs.laws.Following.{Before}
+use Rattle.chunk_index.specs.Committed.{Before, KeyRises, IsListOf}
 use Rattle.chunk_index.specs.Maps.{CommittedMap}
 use Rattle.flash_log.specs.CheckpointListing.{key_at, chunk_keys, object_keys, key_end, committed_keys}
 

@@ -196,10 +196,11 @@ fn expect_next(rt: &impl Abort, index: &Index, wanted: &[(Option<Key>, Option<Co
     }
 }
 
-/// Asserts which key is the last of so many committed ones.
-fn expect_last(rt: &impl Abort, index: &Index, wanted: &[(u32, Option<Key>)]) {
-    for (count, last) in wanted {
-        assert_same!(rt; index.last_committed(*count), *last, *count);
+/// Asserts which committed key comes after so many.
+fn expect_after(rt: &impl Abort, index: &Index, wanted: &[(u32, Option<CommittedKey>)]) {
+    for (count, next) in wanted {
+        let mut keys = index.committed_from(*count);
+        assert_same!(rt; keys.next(), *next, *count);
     }
 }
 
@@ -221,13 +222,13 @@ fn keys_come_in_order_and_some_stay(rt: HostRuntime) {
         (Some(key(5, 2)), None),
     ];
     expect_next(&rt, &store.index, &order);
-    let last = [
-        (0, None),
-        (1, Some(key(1, 9))),
-        (2, Some(key(5, 0))),
-        (9, Some(key(5, 2))),
+    let after = [
+        (0, committed(key(1, 9), at(3, 11, 7))),
+        (1, second),
+        (2, committed(key(5, 2), at(3, 10, 7))),
+        (9, None),
     ];
-    expect_last(&rt, &store.index, &last);
+    expect_after(&rt, &store.index, &after);
     store.retain(&UpTo { object: 5, last: 1 });
     expect_next(
         &rt,

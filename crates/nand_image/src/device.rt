@@ -108,6 +108,19 @@ impl<F: WriteAt> Nand for ImageNand<F> {
         self.memory.read_page(block, page, bytes, tag)
     }
 
+    fn read_data(&mut self, block: u32, page: u32, bytes: &mut [u8]) -> Result<PageKind, Gone>
+        requires block { block < (device self.old).geometry.blocks }
+        requires page { page < (device self.old).geometry.pages }
+        requires size { length bytes.old ≡ (device self.old).geometry.bytes }
+        ensures reads { Reads (device self.old) (device self.new) result }
+        ensures kind { ReadReports (device self.old).honest ((device self.old).flash.page block page) result }
+        ensures bytes { Fills (device self.old).honest (bytes_of ((device self.old).flash.page block page) bytes.old) result bytes.old bytes.new }
+        ensures ok { (device self.old).gone ≡ false → IsOk result }
+        ensures file { self.new.file ≡ self.old.file }
+    {
+        self.memory.read_data(block, page, bytes)
+    }
+
     fn program(
         &mut self,
         block: u32,

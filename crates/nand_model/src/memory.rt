@@ -186,6 +186,19 @@ impl Nand for MemNand {
         Ok(slot.kind)
     }
 
+    fn read_data(&mut self, block: u32, page: u32, bytes: &mut [u8]) -> Result<PageKind, Gone>
+        requires block { block < (device self.old).geometry.blocks }
+        requires page { page < (device self.old).geometry.pages }
+        requires size { length bytes.old ≡ (device self.old).geometry.bytes }
+        ensures reads { Reads (device self.old) (device self.new) result }
+        ensures kind { ReadReports (device self.old).honest ((device self.old).flash.page block page) result }
+        ensures bytes { Fills (device self.old).honest (bytes_of ((device self.old).flash.page block page) bytes.old) result bytes.old bytes.new }
+        ensures planned { ReadsAsPlanned (plan self.old) (device self.old) result }
+        ensures totaled { plan self.new ≡ after_read (plan self.old) }
+    {
+        self.read_page(block, page, bytes, &mut [0; 48])
+    }
+
     fn program(
         &mut self,
         block: u32,

@@ -73,6 +73,15 @@ pub trait Nand {
         ensures bytes { FillsData (state self.old).honest (bytes_of ((state self.old).flash.page block page) bytes.old) result bytes.new }
         ensures tag { Fills (state self.old).honest (tag_of ((state self.old).flash.page block page) tag.old) result tag.old tag.new };
 
+    /// Reads the data of a page alone. The buffer is filled where the page is written; else it may hold anything.
+    fn read_data(&mut self, block: u32, page: u32, bytes: &mut [u8]) -> Result<PageKind, Gone>
+        requires block { block < (state self.old).geometry.blocks }
+        requires page { page < (state self.old).geometry.pages }
+        requires size { length bytes.old ≡ (state self.old).geometry.bytes }
+        ensures reads { Reads (state self.old) (state self.new) result }
+        ensures kind { ReadReports (state self.old).honest ((state self.old).flash.page block page) result }
+        ensures bytes { FillsData (state self.old).honest (bytes_of ((state self.old).flash.page block page) bytes.old) result bytes.new };
+
     /// Programs the next page of a good block.
     fn program(
         &mut self,

@@ -71,6 +71,10 @@ impl<N: Nand> Nand for TrustedNand<N> {
         self.inner.read_page(block, page, bytes, tag)
     }
 
+    fn read_data(&mut self, block: u32, page: u32, bytes: &mut [u8]) -> Result<PageKind, Gone> {
+        self.inner.read_data(block, page, bytes)
+    }
+
     fn program(
         &mut self,
         block: u32,

@@ -297,7 +297,7 @@ module _ (spare : ℕ) (lists : ListsAreWhole) (d e : Device) (t u v : Table) (x
       mountable = mountable;
     };
     settled = settles.presents;
-    keys = settles.can_write;
+    keys = settles.has_room;
     committed = λ honest on. written_committed group x y pages d.flash e.flash settles buffers (reads_buffered t x pages o buffers d.flash e.flash (shows honest)) (reads_on_flash t x pages o buffers d.flash e.flash (shows honest) (committed honest));
     newest = λ honest. record {
       carries = record {

@@ -19,7 +19,7 @@ pub fn prepare(index: &mut Index, pages: &[FreshPage]) -> Result<(), AllocError>
     requires { AreOfTrees pages.now }
     ensures committed { SameCommitted index.old index.new }
     ensures present { SamePresent index.old index.new }
-    ensures can_write { OnOk result (AreReady index.new pages.now) }
+    ensures has_room { OnOk result (AreReady index.new pages.now) }
     ensures stays { (o c : ℕ) → IsReadyKey index.old o c → IsReadyKey index.new o c }
     ensures prepared { StaysPrepared index.old index.new }
 {

@@ -9,12 +9,8 @@ use crate::slot::Slot;
 use flash_tree::Key;
 use lru::LruCache;
 use std::alloc::{AllocError, Global};
-use std::hash::{BuildHasherDefault, FoldHasher};
 use std::mem;
 use std::num::NonZeroUsize;
-
-/// Slots under their keys, an object and a chunk. Keys that collide make a look-up as long as the capacity, and no longer.
-type Slots = LruCache<(u64, u64), Slot, BuildHasherDefault<FoldHasher>>;
 
 /// Pages of one size under their keys, and places for pages. The number of keys is bounded; the least recently used goes
 /// first.
@@ -26,7 +22,8 @@ type Slots = LruCache<(u64, u64), Slot, BuildHasherDefault<FoldHasher>>;
 pub struct PageCache {
     alloc: Global,
     page_bytes: usize,
-    slots: Slots,
+    // Under an object and a chunk. Keys that collide make a look-up as long as the capacity, and no longer.
+    slots: LruCache<(u64, u64), Slot>,
     // Frames that no key has.
     spare: Vec<Vec<u8>>,
     ghost sized: { AreSized page_bytes slots.entries },
@@ -38,16 +35,6 @@ pub(crate) const SPARE_FRAMES: usize = 16;
 
 /// How many of them stay after a commit that was wanted: as many as an append has pages.
 pub(crate) const SPARE_AT_REST: usize = 2;
-
-/// No slots yet, at most so many.
-fn no_slots(alloc: Global, capacity: NonZeroUsize) -> Result<Slots, AllocError>
-    ensures entries { IfOk result (λ slots. slots.entries ≡ []) }
-    ensures capacity { IfOk result (λ slots. slots.cap ≡ non_zero_usize_get capacity) }
-{
-    let mut slots = LruCache::unbounded_with_hasher(alloc, BuildHasherDefault::new())?;
-    slots.resize(capacity);
-    Ok(slots)
-}
 
 impl PageCache {
     ghost use Rattle.page_store.specs.Cached.{held, cached, held_count, capacity_of, page_bytes_of};
@@ -67,7 +54,7 @@ impl PageCache {
         Ok(PageCache {
             alloc,
             page_bytes,
-            slots: no_slots(alloc, capacity)?,
+            slots: LruCache::sparse(alloc, capacity)?,
             spare: Vec::with_capacity(alloc, SPARE_FRAMES)?,
         })
     }

@@ -60,7 +60,7 @@ impl<N: Nand> Store<N> {
     fn prepare(&mut self, pages: &[FreshPage]) -> Result<(), StoreFault>
         requires { AreOfTrees pages.now }
         ensures same { Prepares (state_of self.old) (state_of self.new) }
-        ensures can_write { OnOk result (AreReady self.new.log.index pages.now) }
+        ensures has_room { OnOk result (AreReady self.new.log.index pages.now) }
         ensures places { held_count self.old.cache + length pages.now ≤ capacity_of self.old.cache → OnOk result (HavePlaces pages.now self.new.cache) }
         ensures lacks { OnOk result (LacksPages pages.now self.new.cache) }
         ensures fault { IfErr result (λ fault. (fault ≡ faults.NoMemory) × IsRefused self.old.counts self.new.counts) }
@@ -125,7 +125,7 @@ fn prepare_all(
     requires { AreOfTrees pages.now }
     ensures committed { SameCommitted index.old index.new }
     ensures present { SamePresent index.old index.new }
-    ensures can_write { OnOk result (AreReady index.new pages.now) }
+    ensures has_room { OnOk result (AreReady index.new pages.now) }
     ensures places { held_count cache.old + length pages.now ≤ capacity_of cache.old → OnOk result (HavePlaces pages.now cache.new) }
     ensures lacks { OnOk result (LacksPages pages.now cache.new) }
     ensures sizes { KeepsSizes cache.old cache.new }

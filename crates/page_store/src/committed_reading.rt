@@ -24,8 +24,7 @@ pub fn read_committed<N: Nand>(
     ensures bytes { (N.state device.old).honest ≡ true → OnOk result (data_at (N.state device.old).flash at ≡ Some page.new) }
     ensures fault { IfErr result (IsReadFault (N.state device.old) (N.state device.new) at) }
 {
-    let mut tag = [0; 48];
-    match device.read_page(at.block, at.page, page, &mut tag) {
+    match device.read_data(at.block, at.page, page) {
         Ok(PageKind::Written) => Ok(()),
         Ok(PageKind::Erased) => Err(StoreFault::Device),
         Ok(PageKind::Uncorrectable) => Err(StoreFault::Device),

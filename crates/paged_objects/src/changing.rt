@@ -35,7 +35,7 @@ use volume_terms::StoreFault;
 /// Makes room in the table for a new object, where the change makes one.
 fn prepare(table: &mut ObjectTable, change: &ObjectChange<'_>) -> Result<(), AllocError>
     ensures same { ReportsTheSame table.old table.new }
-    ensures can_write { OnOk result (IsReadyFor table.new change.now) }
+    ensures has_room { OnOk result (IsReadyFor table.new change.now) }
 {
     match change {
         ObjectChange::Create { .. } => table.prepare(),

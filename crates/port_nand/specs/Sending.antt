@@ -34,9 +34,18 @@ pub record Reading : Type 0 where
 abbrev pub reading : ℕ → ℕ → List ℕ → List ℕ → List ℕ → Reading
 reading block page bytes tag was = record { block = block; page = page; bytes = bytes; tag = tag; was = was }
 
+-- the request for the data of a page, which came into a buffer, with its answer
+abbrev pub data_call : ℕ → ℕ → List ℕ → Answer → Call
+data_call block page bytes answer = call (requests.ReadPage block page) bytes answer
+
+-- A read of the data of a page alone: one request, and the result is what its answer says. Once power is gone no request is sent.
+pub record IssuesData (asked : Answer → Call) (old new : List Call) (result : Result PageKind Gone) : Type 0 where
+  pub gone : is_gone (session old) ≡ true → (new ≡ old) × (result ≡ kind_result answers.Lost)
+  pub issued : is_gone (session old) ≡ false → (answer : Answer) × (new ≡ asked answer ∷ old) × (result ≡ kind_result answer)
+
 -- the request for the data
 abbrev pub asks_data : Reading → Answer → Call
-asks_data r answer = call (requests.ReadPage r.block r.page) r.bytes answer
+asks_data r answer = data_call r.block r.page r.bytes answer
 
 -- what a read of a page returns by the answer to the request for its tag
 abbrev pub tag_reported : Answer → Result PageKind Gone

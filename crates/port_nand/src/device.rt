@@ -20,7 +20,7 @@ impl<P: Port> Nand for PortNand<P> {
     ghost use Rattle.nand_model.specs.Flash.{Erased};
     ghost use Rattle.nand_model.specs.Calls.{Reads, ReadReports, Fills, FillsData, Programs, Erases, Marks};
     ghost use Rattle.port_nand.specs.Calls.{erase_result, mark_result};
-    ghost use Rattle.port_nand.specs.Sending.{Issues, IssuesPage, SendsPage, programming, reading, tag_read};
+    ghost use Rattle.port_nand.specs.Sending.{Issues, IssuesData, IssuesPage, SendsPage, data_call, programming, reading, tag_read};
     ghost use Rattle.port_nand.specs.State.{device};
     ghost use Rattle.port_nand.specs.declared.request.Request.TheVariants as requests;
     ghost use Rattle.port_nand.specs.laws.Within.{within_of, of_dishonest};
@@ -71,6 +71,19 @@ impl<P: Port> Nand for PortNand<P> {
         ensures asks { IssuesPage (reading block page bytes.new tag.new tag.old) (P.calls self.old.driver.port) (P.calls self.new.driver.port) result }
     {
         self.driver.read_page(block, page, bytes, tag)
+    }
+
+    /// One request, for the data.
+    fn read_data(&mut self, block: u32, page: u32, bytes: &mut [u8]) -> Result<PageKind, Gone>
+        requires block { block < self.old.driver.geometry.blocks }
+        requires page { page < self.old.driver.geometry.pages }
+        requires size { length bytes.old ≡ self.old.driver.geometry.bytes }
+        ensures reads { Reads (device P.calls self.old.driver) (device P.calls self.new.driver) result }
+        ensures kind { ReadReports false Erased result }
+        ensures bytes { FillsData false bytes.old result bytes.new }
+        ensures asks { IssuesData (data_call block page bytes.new) (P.calls self.old.driver.port) (P.calls self.new.driver.port) result }
+    {
+        self.driver.read_data(block, page, bytes)
     }
 
     /// Two requests: with the tag, and where it is taken with the data.

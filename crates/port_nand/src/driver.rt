@@ -5,7 +5,7 @@ ghost use Rattle.port_nand.specs.Calls.{call, cuts, erase_result, mark_result};
 ghost use Rattle.port_nand.specs.Driving.{IsCommittedKey};
 ghost use Rattle.port_nand.specs.Knowing.{IsBelow};
 ghost use Rattle.port_nand.specs.Opening.{IssuesAll, IssuesMarks};
-ghost use Rattle.port_nand.specs.Sending.{Issues, IssuesPage, SendsPage, programming, reading, tag_read, tag_with};
+ghost use Rattle.port_nand.specs.Sending.{Issues, IssuesData, IssuesPage, SendsPage, data_call, programming, reading, tag_read, tag_with};
 ghost use Rattle.port_nand.specs.declared.request.Request.TheVariants as requests;
 
 use crate::block::{Block, new_blocks, note_mark, note_next};
@@ -91,6 +91,26 @@ impl<P: Port> Driver<P> {
         let answer = self.ask(Request::ReadTag { block, page }, &mut bytes);
         fill_tag(tag, &bytes, answer);
         kind_result(answer)
+    }
+
+    /// Issues for the data of a page.
+    pub(crate) fn read_data(
+        &mut self,
+        block: u32,
+        page: u32,
+        bytes: &mut [u8],
+    ) -> Result<PageKind, Gone>
+        requires committed { IsCommittedKey P.calls self.old }
+        requires block { block < self.old.geometry.blocks }
+        requires page { page < self.old.geometry.pages }
+        ensures committed { IsCommittedKey P.calls self.new }
+        ensures geometry { self.new.geometry ≡ self.old.geometry }
+        ensures asks { IssuesData (data_call block page bytes.new) (P.calls self.old.port) (P.calls self.new.port) result }
+    {
+        if self.gone {
+            return Err(Gone);
+        }
+        kind_result(self.ask(Request::ReadPage { block, page }, bytes))
     }
 
     /// Issues for a page, and where it is written for its tag.

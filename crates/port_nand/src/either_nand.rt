@@ -56,6 +56,13 @@ impl<A: Nand, B: Nand> Nand for EitherNand<A, B> {
         }
     }
 
+    fn read_data(&mut self, block: u32, page: u32, bytes: &mut [u8]) -> Result<PageKind, Gone> {
+        match self {
+            EitherNand::First(device) => device.read_data(block, page, bytes),
+            EitherNand::Second(device) => device.read_data(block, page, bytes),
+        }
+    }
+
     fn program(
         &mut self,
         block: u32,

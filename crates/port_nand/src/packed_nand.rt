@@ -91,6 +91,12 @@ impl<N: SmallSpareNand> Nand for PackedNand<N> {
         answer
     }
 
+    fn read_data(&mut self, block: u32, page: u32, bytes: &mut [u8]) -> Result<PageKind, Gone> {
+        let answer = self.inner.read_data(block, page, bytes);
+        self.gone = answer.is_err();
+        answer
+    }
+
     fn program(
         &mut self,
         block: u32,

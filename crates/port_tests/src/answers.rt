@@ -132,6 +132,17 @@ fn read_page(rt: &impl Abort, alloc: Global, answers: &[Answer]) -> (Result<Page
     (answer, bytes == [7; 512] && tag == [7; 48])
 }
 
+/// What a read of the data of a page alone says that has this answer, and whether it fills the buffer.
+fn read_data(rt: &impl Abort, alloc: Global, answer: Answer) -> (Result<PageKind, Gone>, bool) {
+    let mut nand = opened(rt, alloc, &[answer]);
+    if nand.geometry().bytes() != 512 {
+        panic!(rt; "a page of another size");
+    }
+    let mut bytes = [0u8; 512];
+    let answer = nand.read_data(2, 3, &mut bytes);
+    (answer, bytes == [7; 512])
+}
+
 /// What an erase, and a program after it, say that have these answers.
 fn change(
     rt: &impl Abort,
@@ -166,6 +177,10 @@ fn each_answer_has_its_meaning(rt: HostRuntime) {
     );
     assert_eq!(rt; read_page(&rt, alloc, &[One, One]), (Err(Gone), false));
     assert_eq!(rt; read_page(&rt, alloc, &[Lost]), (Err(Gone), false));
+    assert_eq!(rt; read_data(&rt, alloc, One), (Ok(PageKind::Written), true));
+    assert_eq!(rt; read_data(&rt, alloc, Zero).0, Ok(PageKind::Erased));
+    assert_eq!(rt; read_data(&rt, alloc, Two).0, Ok(PageKind::Uncorrectable));
+    assert_eq!(rt; read_data(&rt, alloc, Lost).0, Err(Gone));
     assert_eq!(rt; change(&rt, alloc, &[Zero, Zero, Zero]), (Ok(()), Ok(())));
     assert_eq!(rt;
         change(&rt, alloc, &[Zero, Zero, One]),

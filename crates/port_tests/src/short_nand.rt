@@ -65,6 +65,10 @@ impl<N: Nand> SmallSpareNand for ShortNand<N> {
         answer
     }
 
+    fn read_data(&mut self, block: u32, page: u32, bytes: &mut [u8]) -> Result<PageKind, Gone> {
+        self.inner.read_data(block, page, bytes)
+    }
+
     fn program(
         &mut self,
         block: u32,

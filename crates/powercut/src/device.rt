@@ -86,6 +86,10 @@ impl Nand for PlannedNand {
         self.nand.read_page(block, page, bytes, tag)
     }
 
+    fn read_data(&mut self, block: u32, page: u32, bytes: &mut [u8]) -> Result<PageKind, Gone> {
+        self.nand.read_data(block, page, bytes)
+    }
+
     fn program(
         &mut self,
         block: u32,

@@ -92,6 +92,11 @@ impl<N: Nand> Nand for CountedNand<N> {
         self.inner.read_page(block, page, bytes, tag)
     }
 
+    fn read_data(&mut self, block: u32, page: u32, bytes: &mut [u8]) -> Result<PageKind, Gone> {
+        self.counts.reads = self.counts.reads.saturating_add(1);
+        self.inner.read_data(block, page, bytes)
+    }
+
     fn program(
         &mut self,
         block: u32,

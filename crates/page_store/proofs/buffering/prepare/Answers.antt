@@ -23,18 +23,18 @@ loop-page-preserved c =
     record {
       committed = committed_on _ _ _ c.loop-page.invariant.committed c.prepare.ensures.committed;
       present = λ o k. c.prepare.ensures.present o k ∙ c.loop-page.invariant.present o k;
-      can_write = λ o k i lt of. elim (cases_eq i c.loop-page.page-index) [
-        | inr ne ↦ c.prepare.ensures.stays o k (c.loop-page.invariant.can_write o k i (omega (arith, lt, ne)) of)
+      has_room = λ o k i lt of. elim (cases_eq i c.loop-page.page-index) [
+        | inr ne ↦ c.prepare.ensures.stays o k (c.loop-page.invariant.has_room o k i (omega (arith, lt, ne)) of)
         | inl e ↦
             let there : slice_get c.args.pages.now i ≡ Some p = ap (slice_get c.args.pages.now) e ∙ at in
             subst (λ n. IsReadyKey c.prepare.new.self n k) (sym (object_is c.args.pages.now o k i p there of))
-            (subst (λ n. IsReadyKey c.prepare.new.self p.key.object n) (sym (chunk_is c.args.pages.now o k i p there of)) c.in_ok-prepare.ensures.can_write)
+            (subst (λ n. IsReadyKey c.prepare.new.self p.key.object n) (sym (chunk_is c.args.pages.now o k i p there of)) c.in_ok-prepare.ensures.has_room)
       ];
       stays = λ o k is. c.prepare.ensures.stays o k (c.loop-page.invariant.stays o k is);
       prepared = λ o k is. c.prepare.ensures.prepared o k (c.loop-page.invariant.prepared o k is);
     }
 
-pub returns-clause-can_write : goal.returns-clause-can_write
-returns-clause-can_write c = λ o k i of.
+pub returns-clause-has_room : goal.returns-clause-has_room
+returns-clause-has_room c = λ o k i of.
     let within : i < length c.args.pages.now = slice_get_within c.args.pages.now i of.page of.there in
-    c.loop-page.invariant.can_write o k i (omega (arith, within, c.loop-page-test.false)) of
+    c.loop-page.invariant.has_room o k i (omega (arith, within, c.loop-page-test.false)) of

@@ -7,7 +7,7 @@ abbrev pub invariant-loop-page : goal.invariant-loop-page
 invariant-loop-page l = record {
   committed : SameCommitted l.fn.index l.index;
   present : SamePresent l.fn.index l.index;
-  can_write : (o c i : ℕ) → i < l.page-index → IsPageOf l.pages o c i → IsReadyKey l.index o c;
+  has_room : (o c i : ℕ) → i < l.page-index → IsPageOf l.pages o c i → IsReadyKey l.index o c;
   stays : (o c : ℕ) → IsReadyKey l.fn.index o c → IsReadyKey l.index o c;
   prepared : StaysPrepared l.fn.index l.index;
 }

@@ -22,8 +22,8 @@ returns-clause-copies c = λ was is. copies_of c.args.place was _ _ c.args.key.o
 pub returns-clause-prepared : goal.returns-clause-prepared
 returns-clause-prepared c = λ k l was. reported_same c.copied.ensures.alters is_some (moved_there c.args.place _) k l ∙ was
 
-pub returns-clause-can_write : goal.returns-clause-can_write
-returns-clause-can_write c = λ k l was. reported_same c.copied.ensures.alters stays_of (moved_stays c.args.place _) k l ∙ was
+pub returns-clause-has_room : goal.returns-clause-has_room
+returns-clause-has_room c = λ k l was. reported_same c.copied.ensures.alters stays_of (moved_stays c.args.place _) k l ∙ was
 
 pub returns-clause-agree : goal.returns-clause-agree
 returns-clause-agree c =

@@ -8,6 +8,6 @@ drop_entry-requires-clause-noted c = c.loop-entry.invariant.noted c.in-Some.entr
 
 pub loop-entry-preserved : goal.loop-entry-preserved
 loop-entry-preserved c = record {
-  cutting = cutting_more c.args.object c.args.from _ c.args.self.now c.loop-entry.self c.drop_entry.new.self c.in-Some.entry c.loop-entry.invariant.cutting c.in-Some.ensures.last c.drop_entry.ensures.places c.drop_entry.ensures.committed c.drop_entry.ensures.prepared c.drop_entry.ensures.can_write;
+  cutting = cutting_more c.args.object c.args.from _ c.args.self.now c.loop-entry.self c.drop_entry.new.self c.in-Some.entry c.loop-entry.invariant.cutting c.in-Some.ensures.last c.drop_entry.ensures.places c.drop_entry.ensures.committed c.drop_entry.ensures.prepared c.drop_entry.ensures.has_room;
   noted = λ l le. subst (λ x. ∥ IsNoted x c.args.object l ∥₁) (sym c.drop_entry.ensures.changes) (c.loop-entry.invariant.noted l le);
 }

@@ -24,7 +24,7 @@ returns-in-Dropped-clause-present c =
     let alters = at_chunk c.args.self.now.shelf.objects c.set.new.self.objects c.args.key.object c.args.key.chunk c.args.entry _ c.requires.entry refl c.set.ensures.alters in
     reported_same alters present_of (sym (ap present_of c.requires.entry ∙ ap (present_by c.args.entry.committed) c.in-Dropped.is))
 
-pub returns-in-Dropped-clause-can_write : goal.returns-in-Dropped-clause-can_write
-returns-in-Dropped-clause-can_write c =
+pub returns-in-Dropped-clause-has_room : goal.returns-in-Dropped-clause-has_room
+returns-in-Dropped-clause-has_room c =
     let alters = at_chunk c.args.self.now.shelf.objects c.set.new.self.objects c.args.key.object c.args.key.chunk c.args.entry _ c.requires.entry refl c.set.ensures.alters in
     ap stays_of alters.here

@@ -89,8 +89,8 @@ returns-in_err-is_committed-clause-ends g c =
 pub make-requires-clause-prepared : goal.make-requires-clause-prepared
 make-requires-clause-prepared g c =
     let m = c.make_room.new.self in
-    let can_write : AreReady c.prepare.new.self.log.index c.args.change.pages.items = subst (AreReady c.prepare.new.self.log.index) c.deref.ensures.value c.in_ok-prepare.ensures.can_write in
-    λ o k i of. ready_prepared m.log.index o k (c.make_room.ensures.keeps.keys o k (can_write o k i of))
+    let has_room : AreReady c.prepare.new.self.log.index c.args.change.pages.items = subst (AreReady c.prepare.new.self.log.index) c.deref.ensures.value c.in_ok-prepare.ensures.has_room in
+    λ o k i of. ready_prepared m.log.index o k (c.make_room.ensures.keeps.keys o k (has_room o k i of))
 
 pub make-requires-clause-lacks : goal.make-requires-clause-lacks
 make-requires-clause-lacks g c = λ none.

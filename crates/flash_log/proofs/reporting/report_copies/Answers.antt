@@ -49,7 +49,7 @@ loop-i-preserved c =
       reports = λ v lists apart.
           let is = committed_yet v i c.args.place c.args.copies.now c.args.index.now c.loop-i.index c.loop-i.index (table c.args.blocks.now) (table c.loop-i.blocks) (table c.loop-i.blocks) lists apart (so_far.reports v lists apart) _ at in
           reports_more v i c.args.place c.args.copies.now c.args.index.now c.loop-i.index c.copied.new.self (table c.args.blocks.now) (table c.loop-i.blocks) (table c.copied.new.blocks) lists apart
-          (so_far.reports v lists apart) _ at (record { block = c.args.place.block; page = c.args.place.page + i }) refl refl (reported.copies _ is) reported.counts reported.prepared reported.can_write;
+          (so_far.reports v lists apart) _ at (record { block = c.args.place.block; page = c.args.place.page + i }) refl refl (reported.copies _ is) reported.counts reported.prepared reported.has_room;
     }
 
 pub returns-clause-reports : goal.returns-clause-reports

@@ -111,7 +111,7 @@ returns-then-is_empty-clause-buffer g c =
     let a : BufferedLog = held c.args.log.now c.args.buffer.now in
     let b : BufferedLog = in_parts g.N.Nand.state c.args.log.now.device c.settle_empty.new.blocks c.settle_empty.new.index c.settle_empty.new.buffer in
     let settled = c.settle_empty.ensures in
-    (settled.sizes, record { buffers = buffers_empty b.index b.pages settled.unbuffered settled.empty; waits = inr (settled.empty, settled.settles.1.presents); keys = settled.settles.1.can_write })
+    (settled.sizes, record { buffers = buffers_empty b.index b.pages settled.unbuffered settled.empty; waits = inr (settled.empty, settled.settles.1.presents); keys = settled.settles.1.has_room })
 
 pub returns-then-is_empty-clause-nothing : goal.returns-then-is_empty-clause-nothing
 returns-then-is_empty-clause-nothing g c = λ none.

@@ -10,7 +10,20 @@
 # PROVE=yes first proves by `rt lib` what changed of those libraries, and builds nothing where the archive was made of the same
 # texts. KEEP=FILE keeps there the LLVM module that the archive is compiled from. JOBS: how many proofs at a time (2).
 # OPTIMIZE=-Os compiles the module by this flag in place of -O3, for less code: the archive lies in a folder Os beside the other.
+#
+# Two kinds of functions get an attribute in the module's text, and nothing else is changed there:
+#   optsize        what is done seldom (a format, an unmount, a salvage, a list, and of a mount the scans and the walk of the tree) and the
+#                  long loops of the kit's collections. Those that move a volume in a mount do not: apart they would take more stack.
+#   alwaysinline   what runs for each page, and has few callers.
 set -eu
+seldom='^(formatting|salvage|surviving_pages|volume_check|tree_walk|mount_scan|name_map)::'
+seldom+='|^page_store::(opening|checkpoint_opening|summary_opening|first_pages|newest_pages|read_only)::'
+seldom+='|^chunk_index::index::Index::(from_|retain)|^flash_(format|unmount|abandon|salvage|list)|^flash_c::(salvag|listing|names)'
+seldom+='|::Node::(destroy|balance|peel_first)|::Vec::remove|::insert_reserved|::Row::reverse|::sort::'
+seldom+='|::BTreeMap::insert|::BTreeSet::|::btree::owned::|::iter::owned::'
+often='^page_store::cache::PageCache::insert|^lru::nodes::Nodes::(insert|remove_node)::|FlashPagesPages::page::'
+often+='|^port_nand::driver::Driver::(send|ask)::|^std::io::count_or_last_error|EitherNandNand::(program|read_data|read_page)::'
+often+='|^page_tags::header::decode_header|^pages::frames::copied_page::'
 module=${KEEP:+$(realpath -m "$KEEP")}
 cd "$(dirname "$0")/.."
 kit=$(dirname "$(dirname "$(readlink -f "$(command -v rt)")")")
@@ -46,14 +59,15 @@ prove_libraries() {
     done
 }
 
-# A sum of the sources of flash_c and of the libraries, whose file `format` has the sum of theirs.
+# A sum of this script, of the sources of flash_c and of the libraries, whose file `format` has the sum of theirs.
 made_of() {
-    { find crates/flash_c/{src,specs,proofs} -type f | sort | xargs sha256sum; sha256sum "${formats[@]}"; cat "$kit/KIT-ID"; } |
+    { find c/archive.sh crates/flash_c/{src,specs,proofs} -type f | sort | xargs sha256sum; sha256sum "${formats[@]}"; cat "$kit/KIT-ID"; } |
         sha256sum
 }
 
-# A toolchain folder whose clang is the kit's, saves its input in the file of KEEP, and takes the flag of OPTIMIZE in place of -O3.
-# rattle clears the environment: paths and flags are in the script.
+# A toolchain folder whose clang is the kit's, saves the module in the file of KEEP, gives functions their attributes, and
+# takes the flag of OPTIMIZE in place of -O3. rattle clears the environment: paths and flags are in the script. The first word that rattle
+# gives is the target's.
 make_toolchain() {
     local tool
     mkdir "$1/bin"
@@ -61,10 +75,31 @@ make_toolchain() {
     for tool in "$kit"/toolchain/bin/*; do
         [ "${tool##*/}" = clang ] || ln -s "$tool" "$1/bin/"
     done
+    cat > "$1/mark.awk" << 'MARK'
+/^define / && match($0, /@"[^"]*"|@[A-Za-z0-9_.$]+/) {
+    name = substr($0, RSTART + 1, RLENGTH - 1)
+    gsub(/"/, "", name)
+    attribute = name ~ seldom ? " optsize" : name ~ often ? " alwaysinline" : ""
+    sub(/ (#[0-9]+ )?\{$/, attribute "&")
+}
+{ print }
+MARK
     cat > "$1/bin/clang" << WRAPPER
 #!/usr/bin/env bash
-for word in "\$@"; do case \$word in *.bc) cat "\$word" > "${module:-/dev/null}";; esac; done
-exec -a clang "$kit/toolchain/bin/clang" "\${@/#-O3/${OPTIMIZE:--O3}}"
+set -eu
+words=()
+for word in "\$@"; do
+    case \$word in
+    *.bc)
+        cat "\$word" > "${module:-/dev/null}"
+        "$kit/toolchain/bin/clang" "\$1" -S -emit-llvm -Xclang -disable-llvm-passes -o "$1/plain.ll" "\$word"
+        awk -v seldom='$seldom' -v often='$often' -f "$1/mark.awk" "$1/plain.ll" > "$1/module.ll"
+        words+=("$1/module.ll");;
+    -O3) words+=("${OPTIMIZE:--O3}");;
+    *) words+=("\$word");;
+    esac
+done
+exec -a clang "$kit/toolchain/bin/clang" "\${words[@]}"
 WRAPPER
     chmod +x "$1/bin/clang"
 }
@@ -82,12 +117,9 @@ for name in std $(libraries_of flash_c); do
         words+=(--extern "$name=$kit/rlibs/$name.rlib")
     fi
 done
-toolchain=$kit/toolchain
-if [ -n "$module${OPTIMIZE:-}" ]; then
-    toolchain=$(mktemp -d)
-    trap 'rm -rf "$toolchain"' EXIT
-    make_toolchain "$toolchain"
-fi
+toolchain=$(mktemp -d)
+trap 'rm -rf "$toolchain"' EXIT
+make_toolchain "$toolchain"
 mkdir -p "$folder"
 rm -f "$archive.made_of"
 cd crates/flash_c

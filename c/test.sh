@@ -1,6 +1,6 @@
 #!/usr/bin/env bash
 # The tests of the C library: a line for each, and at the end how many there were. What asks for a tool that is not on the machine
-# is skipped, with a line. FLASH_C_ARCHIVE names a libflash_c.a that is there; else `rt lib` makes one. OUT: where all is built.
+# is skipped, with a line. FLASH_C_ARCHIVE names a libflash_c.a that is there; else `archive.sh` makes one. OUT: where all is built.
 # `make test TARGET=..` runs it for another target: RUN is what runs its programs here, and CC, CXX and NM are its tools.
 #
 #   bash c/test.sh [quick]     quick: without the sanitizer, without valgrind, without a volume that is mounted on Linux, and without

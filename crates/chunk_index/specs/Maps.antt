@@ -64,6 +64,12 @@ pub record Places (o c : ℕ) (form : Form) (old new : Index) : Type 0 where
   pub here : present new o c ≡ shown_by form
   pub others : (k l : ℕ) → Differs o c k l → present new k l ≡ present old k l
 
+-- the number that a key's page has in the buffer, or this one where it has none there
+abbrev pub buffered_or : ℕ → Present → ℕ
+buffered_or n presents.Absent = n
+buffered_or n (presents.OnFlash p) = n
+buffered_or n (presents.InBuffer i) = i
+
 -- Nothing of an object is present from a chunk on, and no other key's present page changes.
 pub record Cuts (o from : ℕ) (old new : Index) : Type 0 where
   pub gone : (l : ℕ) → from ≤ l → present new o l ≡ presents.Absent

@@ -1,5 +1,5 @@
 // What the index has of one chunk.
-ghost use Rattle.std.specs.Prelude.{◌≡◌};
+ghost use Rattle.std.specs.Prelude.{◌≡◌, ◌<◌};
 
 use crate::form::{CommittedPage, Form, Present};
 
@@ -14,6 +14,26 @@ pub enum State {
     Dropped,
     /// Nothing is present, and the entry stays, for a page that it was prepared for.
     Vacant,
+}
+
+impl State {
+    ghost use Rattle.chunk_index.specs.Entries.{IsSmallState};
+    ghost use Rattle.chunk_index.specs.InPlace.{buffered_state};
+
+    /// The state once a page of the buffer is present: the one that is there stays, and else the one of this number is.
+    pub(crate) fn in_buffer(self, number: u32) -> State
+        requires small { IsSmallState self }
+        requires number { number < 253 }
+        ensures state { result ≡ buffered_state number self }
+        ensures small { IsSmallState result }
+    {
+        match self {
+            State::Buffered(i) => State::Buffered(i),
+            State::Same => State::Buffered(number),
+            State::Dropped => State::Buffered(number),
+            State::Vacant => State::Buffered(number),
+        }
+    }
 }
 
 #[derive(Clone, Copy, Debug, PartialEq, Eq)]

@@ -7,6 +7,7 @@ ghost use Rattle.chunk_index.specs.Noted.{IsNoted};
 ghost use Rattle.chunk_index.specs.Shelves.{look, total, Differs, AltersKey, SameEntries};
 ghost use Rattle.chunk_index.specs.Counts.{Recounts};
 ghost use Rattle.chunk_index.specs.declared.form.CommittedPage.{CommittedPage};
+ghost use Rattle.chunk_index.specs.declared.form.Form.TheVariants as forms;
 
 use crate::change;
 use crate::changes::ChangeList;
@@ -27,7 +28,7 @@ pub struct Index {
 }
 
 impl Index {
-    ghost use Rattle.chunk_index.specs.Maps.{committed_pages, present, count_committed_in, IsPrepared, IsReadyKey, StaysPrepared, IsEmpty, CountsAgree, SameCommitted, SamePresent, Places, Copies, Settles, Fits};
+    ghost use Rattle.chunk_index.specs.Maps.{committed_pages, present, count_committed_in, IsPrepared, IsReadyKey, StaysPrepared, IsEmpty, CountsAgree, SameCommitted, SamePresent, Places, buffered_or, Copies, Settles, Fits};
 
     /// No key is committed or present.
     pub fn new(alloc: Global) -> Index
@@ -157,6 +158,28 @@ impl Index {
     {
         if self.shelf.place(key, form.state()) {
             self.changes.note(key);
+        }
+    }
+
+    /// Makes a page of the buffer the present one of a prepared key: the page that it has there stays, and else the one of this
+    /// number, which is below 253, is it. Returns the number of the page.
+    pub fn place_in_buffer(&mut self, key: Key, number: u32) -> u32
+        requires prepared { IsPrepared self.old key.object key.chunk }
+        requires number { number < 253 }
+        ensures number { result ≡ buffered_or number (present self.old key.object key.chunk) }
+        ensures places { Places key.object key.chunk (forms.Buffered result) self.old self.new }
+        ensures committed { SameCommitted self.old self.new }
+        ensures prepared { StaysPrepared self.old self.new }
+        ensures has_room { (o c : ℕ) → Differs key.object key.chunk o c → IsReadyKey self.old o c → IsReadyKey self.new o c }
+    {
+        match self.shelf.place_in_buffer(key, number) {
+            State::Buffered(i) => i,
+            State::Same => {
+                self.changes.note(key);
+                number
+            }
+            State::Dropped => number,
+            State::Vacant => number,
         }
     }
 

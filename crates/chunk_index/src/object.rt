@@ -1,8 +1,8 @@
 // The entries of one object.
-ghost use Rattle.std.specs.Prelude.{◌≡◌, [], None, Some, IfOk, IfErr, IfSome, OnOk, OnErr, IsSome};
+ghost use Rattle.std.specs.Prelude.{◌≡◌, ◌<◌, [], None, Some, IfOk, IfErr, IfSome, OnOk, OnErr, IsSome};
 ghost use Rattle.chunk_index.specs.Lists.{Rises, IsAt, IsGapFor, IsEndFor, find_by, is_nil};
 ghost use Rattle.chunk_index.specs.Entries.{chunk, same_of, Alters, IsLastBelow, IsSmall, IsSmallState};
-ghost use Rattle.chunk_index.specs.InPlace.{placed};
+ghost use Rattle.chunk_index.specs.InPlace.{placed, buffered, state_in};
 
 use crate::entry::{KeyEntry, State};
 use crate::packed::PackedEntry;
@@ -130,6 +130,24 @@ impl ObjectEntries {
                 entry.is_same()
             }
             Err(_) => true,
+        }
+    }
+
+    /// Gives the entry of a chunk the page of this number in the buffer, unless it has one there, and returns the state that it had.
+    pub fn place_in_buffer(&mut self, number: u64, page: u32) -> State
+        requires here { IsSome (find_by chunk self.old.entries.items number) }
+        requires page { page < 253 }
+        ensures alters { Alters number (buffered page (find_by chunk self.old.entries.items number)) self.old.entries.items self.new.entries.items }
+        ensures state { result ≡ state_in (find_by chunk self.old.entries.items number) }
+    {
+        match self.search(number) {
+            Ok(at) => {
+                let entry = self.entries[at].unpack();
+                let state = entry.state.in_buffer(page);
+                self.entries[at] = PackedEntry::pack(KeyEntry { state, ..entry });
+                entry.state
+            }
+            Err(_) => State::Same,
         }
     }
 

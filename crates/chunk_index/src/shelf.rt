@@ -5,7 +5,7 @@ ghost use Rattle.std.proofs.Props.{props};
 ghost use Rattle.std.specs.BTreeMap.{get, IsEmpty, IsOrdered};
 ghost use Rattle.chunk_index.specs.Shelves.{look, total, AltersKey, SameEntries, IsLastOf, IsNextObject};
 ghost use Rattle.chunk_index.specs.Entries.{same_of, IsSmall, IsSmallState};
-ghost use Rattle.chunk_index.specs.InPlace.{placed};
+ghost use Rattle.chunk_index.specs.InPlace.{placed, buffered, state_in};
 
 use crate::entry::{KeyEntry, State};
 use crate::object::ObjectEntries;
@@ -99,6 +99,20 @@ impl Shelf {
         }
     }
 
+    /// Gives the entry of a key the page of this number in the buffer, unless it has one there, and returns the state that it had.
+    pub fn place_in_buffer(&mut self, key: Key, page: u32) -> State
+        requires here { IsSome (look self.old.objects key.object key.chunk) }
+        requires page { page < 253 }
+        ensures alters { AltersKey key.object key.chunk (buffered page (look self.old.objects key.object key.chunk)) self.old.objects self.new.objects }
+        ensures state { result ≡ state_in (look self.old.objects key.object key.chunk) }
+        ensures size { self.new.size ≡ self.old.size }
+    {
+        match self.objects.get_mut(&key.object) {
+            Some(entries) => entries.place_in_buffer(key.chunk, page),
+            None => State::Same,
+        }
+    }
+
     /// Puts an entry of a key that has none.
     pub fn insert(&mut self, object: u64, entry: KeyEntry) -> Result<(), AllocError>
         requires absent { look self.old.objects object entry.chunk ≡ None }
@@ -111,6 +125,28 @@ impl Shelf {
         if self.is_full() {
             return Err(AllocError);
         }
+        match self.objects.get_mut(&object) {
+            Some(entries) => match entries.insert(entry) {
+                Ok(()) => {
+                    self.size += 1;
+                    Ok(())
+                }
+                Err(error) => Err(error),
+            },
+            None => self.insert_first(object, entry),
+        }
+    }
+
+    /// Puts the first entry of an object that is not here.
+    fn insert_first(&mut self, object: u64, entry: KeyEntry) -> Result<(), AllocError>
+        requires absent { look self.old.objects object entry.chunk ≡ None }
+        requires room { self.old.size < 2 ^ 32 - 1 }
+        requires small { IsSmall entry }
+        ensures ok { OnOk result (AltersKey object entry.chunk (Some entry) self.old.objects self.new.objects) }
+        ensures grown { OnOk result (self.new.size ≡ self.old.size + 1) }
+        ensures err { OnErr result (SameEntries self.old.objects self.new.objects) }
+        ensures same_size { OnErr result (self.new.size ≡ self.old.size) }
+    {
         self.prepare_in_order(object)?;
         self.put(object, entry)
     }
@@ -143,16 +179,13 @@ impl Shelf {
         }
     }
 
-    /// Sees that an object is here. Where objects are made in the order of their numbers, every other one of those to come
-    /// is here before, without entries, and those between fill the nodes of the map. No key gets or loses an entry.
+    /// Brings in an object that is not here. Where objects are made in the order of their numbers, every other one of those to
+    /// come is here before, without entries, and those between fill the nodes of the map. No key gets or loses an entry.
     fn prepare_in_order(&mut self, object: u64) -> Result<(), AllocError>
         ensures same { SameEntries self.old.objects self.new.objects }
         ensures here { OnOk result (IsSome (get nat_cmp self.new.objects object)) }
         ensures size { self.new.size ≡ self.old.size }
     {
-        if self.objects.contains_key(&object) {
-            return Ok(());
-        }
         self.prepare_ahead(object)?;
         self.prepare_object(object)
     }

@@ -18,14 +18,14 @@ use Rattle.chunk_index.specs.declared.form.Present.TheVariants as presents
 use Rattle.chunk_index.specs.declared.form.Form.TheVariants as forms
 use Rattle.chunk_index.specs.declared.index.Index.{Index}
 use Rattle.chunk_index.specs.Shelves.{Differs}
-use Rattle.chunk_index.specs.Maps.{present, Places, IsPrepared, SameCommitted, StaysPrepared}
+use Rattle.chunk_index.specs.Maps.{present, Places, buffered_or, IsPrepared, SameCommitted, SamePresent, StaysPrepared}
 use Rattle.page_store.specs.Shown.{data_by, present_data}
 use Rattle.page_store.specs.Buffering.{Buffers, lacks, new_keys, with_new, PutsPage, ArePrepared}
-use Rattle.page_store.proofs.Keys.{Holding, key_cases, here, object_is, chunk_is, data_same, lacks_none, new_same, apart_tail}
+use Rattle.page_store.proofs.Keys.{Holding, holding, buffers, key_cases, here, object_is, chunk_is, data_same, lacks_one, lacks_none, new_same, apart_tail}
 use Rattle.page_store.proofs.Slots.{get_set, set_other, set_here}
 
--- a page takes the place of the one of its key
-module _ (x : Index) (pages : List FreshPage) (p : FreshPage) (slot : ℕ) (b : Holding x pages) (is : present x p.key.object p.key.chunk ≡ presents.InBuffer slot) where
+-- a page takes the place of the one of its key, and every present page stays
+module _ (x y : Index) (pages : List FreshPage) (p : FreshPage) (slot : ℕ) (b : Holding x pages) (is : present x p.key.object p.key.chunk ≡ presents.InBuffer slot) (same : SamePresent x y) where
   of_slot : IsPageOf pages p.key.object p.key.chunk slot
   of_slot = b.there _ _ slot is
 
@@ -35,31 +35,31 @@ module _ (x : Index) (pages : List FreshPage) (p : FreshPage) (slot : ℕ) (b : 
   slot_key : (o c : ℕ) → IsPageOf pages o c slot → (o ≡ p.key.object) × (c ≡ p.key.chunk)
   slot_key o c of = (object_is pages o c slot of_slot.page of_slot.there of ∙ of_slot.object, chunk_is pages o c slot of_slot.page of_slot.there of ∙ of_slot.chunk)
 
-  pub filled_buffers : Holding x (set pages slot p)
+  filled_buffers : Holding y (set pages slot p)
   filled_buffers = record {
-    there = λ o c i at. elim (cases_eq i slot) [
+    there = λ o c i now. let at : present x o c ≡ presents.InBuffer i = sym (same o c) ∙ now in elim (cases_eq i slot) [
       | inr ne ↦ let of = b.there o c i at in record { page = of.page; there = set_other pages slot i p of.page ne of.there; object = of.object; chunk = of.chunk }
       | inl e ↦
           let key = slot_key o c (subst (IsPageOf pages o c) e (b.there o c i at)) in
           record { page = p; there = ap (slice_get (set pages slot p)) e ∙ set_here pages slot p within; object = sym key.0; chunk = sym key.1 }
     ];
     reported = λ o c i of. elim (get_set pages slot i p of.page of.there) [
-      | inl other ↦ b.reported o c i (record { page = of.page; there = other.1; object = of.object; chunk = of.chunk })
+      | inl other ↦ same o c ∙ b.reported o c i (record { page = of.page; there = other.1; object = of.object; chunk = of.chunk })
       | inr filled ↦
           let object : o ≡ p.key.object = sym of.object ∙ ap (λ (q : FreshPage). q.key.object) filled.1 in
           let chunk : c ≡ p.key.chunk = sym of.chunk ∙ ap (λ (q : FreshPage). q.key.chunk) filled.1 in
-          ap (λ k. present x k c) object ∙ ap (present x p.key.object) chunk ∙ is ∙ ap presents.InBuffer (sym filled.0)
+          same o c ∙ ap (λ k. present x k c) object ∙ ap (present x p.key.object) chunk ∙ is ∙ ap presents.InBuffer (sym filled.0)
     ];
   }
 
-  pub filled_puts : PutsPage p x x pages (set pages slot p)
+  filled_puts : PutsPage p x y pages (set pages slot p)
   filled_puts = record {
-    here = λ flash. ap (data_by flash (set pages slot p)) is ∙ ap (λ (m : Option FreshPage). option_map (λ (q : FreshPage). q.bytes.items) m) (set_here pages slot p within);
-    others = λ flash o c none. data_same flash pages (set pages slot p) (present x o c) (λ i at. elim (cases_eq i slot) [
+    here = λ flash. ap (data_by flash (set pages slot p)) (same p.key.object p.key.chunk ∙ is) ∙ ap (λ (m : Option FreshPage). option_map (λ (q : FreshPage). q.bytes.items) m) (set_here pages slot p within);
+    others = λ flash o c none. ap (data_by flash (set pages slot p)) (same o c) ∙ data_same flash pages (set pages slot p) (present x o c) (λ i at. elim (cases_eq i slot) [
       | inl e ↦ let key = slot_key o c (subst (IsPageOf pages o c) e (b.there o c i at)) in absurd (none (sym key.0, sym key.1))
       | inr ne ↦ let of = b.there o c i at in set_other pages slot i p of.page ne of.there ∙ sym of.there
     ]);
-    lacking = λ o c none. refl;
+    lacking = λ o c none. ap lacks (same o c);
     longer = let zero : lacks (present x p.key.object p.key.chunk) ≡ 0 = ap lacks is in omega (arith, zero, length-set pages slot p);
   }
 
@@ -76,7 +76,7 @@ module _ (x y : Index) (pages : List FreshPage) (p : FreshPage) (b : Holding x p
   put_here : (o c : ℕ) → o ≡ p.key.object → c ≡ p.key.chunk → present y o c ≡ presents.InBuffer (length pages)
   put_here o c a d = ap (λ k. present y k c) a ∙ ap (present y p.key.object) d ∙ place.here
 
-  pub pushed_buffers : Holding y (pages ++ p ∷ [])
+  pushed_buffers : Holding y (pages ++ p ∷ [])
   pushed_buffers = record {
     there = λ o c i is. elim (key_cases p.key.object p.key.chunk o c) [
       | inl same ↦
@@ -95,7 +95,7 @@ module _ (x y : Index) (pages : List FreshPage) (p : FreshPage) (b : Holding x p
     ];
   }
 
-  pub pushed_puts : PutsPage p x y pages (pages ++ p ∷ [])
+  pushed_puts : PutsPage p x y pages (pages ++ p ∷ [])
   pushed_puts = record {
     here = λ flash. ap (data_by flash (pages ++ p ∷ [])) place.here ∙ ap (λ (m : Option FreshPage). option_map (λ (q : FreshPage). q.bytes.items) m) (push_last pages p);
     others = λ flash o c none. elim (key_cases p.key.object p.key.chunk o c) [
@@ -109,6 +109,57 @@ module _ (x y : Index) (pages : List FreshPage) (p : FreshPage) (b : Holding x p
     ];
     longer = omega (arith, lacking, length-append pages (p ∷ []));
   }
+
+-- a page becomes the present one of its key, at the number that the key has in the buffer, or else behind all pages
+module _ (x y : Index) (pages : List FreshPage) (p : FreshPage) (n slot : ℕ) (b : Buffers x pages) (len : n ≡ length pages)
+    (number : slot ≡ buffered_or n (present x p.key.object p.key.chunk)) (place : Places p.key.object p.key.chunk (forms.Buffered slot) x y) where
+  held : Holding x pages
+  held = holding x pages b
+
+  -- where there is a page of that number, it is the key's
+  there_before : slot < length pages → present x p.key.object p.key.chunk ≡ presents.InBuffer slot
+  there_before lt = go (present x p.key.object p.key.chunk) refl where
+    go : (q : Present) → present x p.key.object p.key.chunk ≡ q → present x p.key.object p.key.chunk ≡ presents.InBuffer slot
+    go presents.Absent is = let e : slot ≡ n = number ∙ ap (buffered_or n) is in absurd (omega (arith, e, lt, len))
+    go (presents.OnFlash k) is = let e : slot ≡ n = number ∙ ap (buffered_or n) is in absurd (omega (arith, e, lt, len))
+    go (presents.InBuffer i) is = let e : slot ≡ i = number ∙ ap (buffered_or n) is in is ∙ ap presents.InBuffer (sym e)
+
+  -- and every present page stays
+  same_before : slot < length pages → SamePresent x y
+  same_before lt = λ k l. elim (key_cases p.key.object p.key.chunk k l) [
+    | inr differs ↦ place.others k l differs
+    | inl at ↦ ap (λ o. present y o l) at.0 ∙ ap (present y p.key.object) at.1 ∙ place.here ∙ sym (ap (λ o. present x o l) at.0 ∙ ap (present x p.key.object) at.1 ∙ there_before lt)
+  ]
+
+  pub before_buffers : slot < length pages → Buffers y (set pages slot p)
+  before_buffers lt = buffers y (set pages slot p) (filled_buffers x y pages p slot held (there_before lt) (same_before lt))
+
+  pub before_puts : slot < length pages → PutsPage p x y pages (set pages slot p)
+  before_puts lt = filled_puts x y pages p slot held (there_before lt) (same_before lt)
+
+  -- where there is none, the key has none in the buffer
+  pub past_lacks : length pages ≤ slot → lacks (present x p.key.object p.key.chunk) ≡ 1
+  past_lacks le = lacks_one (present x p.key.object p.key.chunk) (λ i is.
+      let e : slot ≡ i = number ∙ ap (buffered_or n) is in
+      let of = held.there p.key.object p.key.chunk i is in
+      let lt : i < length pages = slice_get_within pages i of.page of.there in
+      omega (arith, e, lt, le))
+
+  last_past : length pages ≤ slot → slot ≡ length pages
+  last_past le = go (present x p.key.object p.key.chunk) refl where
+    go : (q : Present) → present x p.key.object p.key.chunk ≡ q → slot ≡ length pages
+    go presents.Absent is = number ∙ ap (buffered_or n) is ∙ len
+    go (presents.OnFlash k) is = number ∙ ap (buffered_or n) is ∙ len
+    go (presents.InBuffer i) is = absurd (lacks_none (present x p.key.object p.key.chunk) i (past_lacks le) is)
+
+  place_past : length pages ≤ slot → Places p.key.object p.key.chunk (forms.Buffered (length pages)) x y
+  place_past le = subst (λ k. Places p.key.object p.key.chunk (forms.Buffered k) x y) (last_past le) place
+
+  pub past_buffers : length pages ≤ slot → Buffers y (pages ++ p ∷ [])
+  past_buffers le = buffers y (pages ++ p ∷ []) (pushed_buffers x y pages p held (past_lacks le) (place_past le))
+
+  pub past_puts : length pages ≤ slot → PutsPage p x y pages (pages ++ p ∷ [])
+  past_puts le = pushed_puts x y pages p held (past_lacks le) (place_past le)
 
 -- What stands while pages are put one after the other, of which `rest` are left, of `all`.
 pub record PuttingAll (most bytes : ℕ) (all rest : List FreshPage) (x y : Index) (old new : List FreshPage) : Type 0 where

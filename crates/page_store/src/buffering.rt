@@ -8,7 +8,7 @@ ghost use Rattle.page_store.specs.Shown.{present_data};
 ghost use Rattle.page_store.specs.Buffering.{Buffers, with_new, new_keys, lacks, ArePrepared, AreReady, PutsPage, ChangesPages, AreBuffered, CanPut};
 
 use crate::buffer::Buffer;
-use chunk_index::{Form, Index, Present};
+use chunk_index::{Index, Present};
 use flash_tree::{FreshPage, Key};
 use pages::Change;
 use std::alloc::AllocError;
@@ -81,28 +81,13 @@ impl Buffer {
         ensures puts { PutsPage page index.old index.new (contents self.old) (contents self.new) }
         ensures sizes { (most_pages self.new ≡ most_pages self.old) × (bytes_of_page self.new ≡ bytes_of_page self.old) }
     {
-        match index.present(page.key) {
-            Present::InBuffer(slot) => self.pages[slot as usize] = page,
-            Present::Absent => self.push(index, page),
-            Present::OnFlash(_) => self.push(index, page),
+        let count = self.pages.len();
+        let slot = index.place_in_buffer(page.key, count as u32) as usize;
+        if slot < count {
+            self.pages[slot] = page;
+        } else {
+            self.pages.push_reserved(page);
         }
-    }
-
-    /// A page of a key that has none in the buffer becomes the present one.
-    fn push(&mut self, index: &mut Index, page: FreshPage)
-        requires buffers { Buffers index.old (contents self.old) }
-        requires prepared { IsPrepared index.old page.key.object page.key.chunk }
-        requires lacking { lacks (present index.old page.key.object page.key.chunk) ≡ 1 }
-        requires size { length page.bytes.items ≡ bytes_of_page self.old }
-        requires room { length (contents self.old) < most_pages self.old }
-        ensures buffers { Buffers index.new (contents self.new) }
-        ensures committed { SameCommitted index.old index.new }
-        ensures prepared { StaysPrepared index.old index.new }
-        ensures puts { PutsPage page index.old index.new (contents self.old) (contents self.new) }
-        ensures sizes { (most_pages self.new ≡ most_pages self.old) × (bytes_of_page self.new ≡ bytes_of_page self.old) }
-    {
-        index.place(page.key, Form::Buffered(self.pages.len() as u32));
-        self.pages.push_reserved(page);
     }
 
     /// Each page becomes the present one of its key.

@@ -1,0 +1,27 @@
+use Rattle.std.proofs.Common.{sym, ap, ◌∙◌}
+use Rattle.chunk_index.specs.Entries.{chunk, with_state}
+use Rattle.chunk_index.specs.InPlace.{state_in, with_buffered}
+use Rattle.chunk_index.proofs.Altering.{gap_absurd}
+use Rattle.chunk_index.proofs.InPlace.{element_found, rises_at, alters_by}
+use Rattle.chunk_index.proofs.object.ObjectEntries.place_in_buffer.Goals as goal
+
+pub invariant_of-self : goal.invariant_of-self
+invariant_of-self c =
+    let is = element_found _ c.args.self.now.rises _ _ c.in-Ok.ensures.found _ c.unpack-entry.result c.unpack-entry.ensures.entry c.index.ensures in
+    record { rises = rises_at _ c.args.self.now.rises _ _ c.in-Ok.ensures.found c.unpack-entry.result is c.pack.result (ap chunk c.pack.ensures) }
+
+pub returns-in-Ok-clause-alters : goal.returns-in-Ok-clause-alters
+returns-in-Ok-clause-alters c =
+    let is = element_found _ c.args.self.now.rises _ _ c.in-Ok.ensures.found _ c.unpack-entry.result c.unpack-entry.ensures.entry c.index.ensures in
+    alters_by _ c.args.self.now.rises _ _ c.in-Ok.ensures.found c.unpack-entry.result is c.pack.result (ap chunk c.pack.ensures) (with_buffered c.args.page) (c.pack.ensures ∙ ap (λ s. with_state s c.unpack-entry.result) c.in_buffer-state.ensures.state)
+
+pub returns-in-Ok-clause-state : goal.returns-in-Ok-clause-state
+returns-in-Ok-clause-state c =
+    let is = element_found _ c.args.self.now.rises _ _ c.in-Ok.ensures.found _ c.unpack-entry.result c.unpack-entry.ensures.entry c.index.ensures in
+    sym (ap state_in is)
+
+pub returns-in-Err-clause-alters : goal.returns-in-Err-clause-alters
+returns-in-Err-clause-alters c = absurd (gap_absurd _ _ _ c.in-Err.ensures.absent c.requires.here)
+
+pub returns-in-Err-clause-state : goal.returns-in-Err-clause-state
+returns-in-Err-clause-state c = absurd (gap_absurd _ _ _ c.in-Err.ensures.absent c.requires.here)

@@ -36,12 +36,12 @@ IsAmiss device = Answers device.geometry device.flash (IsWrong IsDamaged)
 -- The tree was read, has room, and fits into the volume of these sizes; of an honest device it is what a mount answers, and the table
 -- knows the first page of each block, and in which a whole checkpoint lies.
 pub record IsGoing {N : Type 0} (device : Device) (going : Going N) : Type 0 where
-  pub named : IsNamedTree device going.named
-  pub sizes : volume_sizes going.sizes ≡ sizes_of device.geometry going.named.on.spare
-  pub fitting : AreFitting (table going.named.on.blocks)
-  pub room : HasRoomOn device (table going.named.on.blocks) going.named.on.spare
-  pub blocks : KnowsBlocks device (table going.named.on.blocks) (numbers_of going.named.on.numbers)
-  pub tree : device.honest ≡ true → GoesOnBy device going.named.on (volume_sizes going.sizes)
+  pub named : IsNamedTree device going.named.value
+  pub sizes : volume_sizes going.sizes ≡ sizes_of device.geometry going.named.value.on.spare
+  pub fitting : AreFitting (table going.named.value.on.blocks)
+  pub room : HasRoomOn device (table going.named.value.on.blocks) going.named.value.on.spare
+  pub blocks : KnowsBlocks device (table going.named.value.on.blocks) (numbers_of going.named.value.on.numbers)
+  pub tree : device.honest ≡ true → GoesOnBy device going.named.value.on (volume_sizes going.sizes)
 
 -- the block is a good one of the device
 abbrev pub IsGoodOn : Device → ℕ → Type 0

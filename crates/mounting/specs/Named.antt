@@ -10,10 +10,14 @@ use Rattle.nand_model.specs.Trusting.{trusted_as}
 use Rattle.mounting.specs.Mounted.{IsTreeRead, CoversNewest}
 use Rattle.mounting.specs.declared.tree_on.NamedTree.{NamedTree}
 
+-- the index has the hashes of the tree's names
+abbrev pub CoversNamed : {N : Type 0} → Device → NamedTree N → Type 0
+CoversNamed device named = CoversNewest named.names device named.on.spare named.on.tree
+
 -- the pages of the tree are committed, and the index has the hashes of its names
 pub record IsNamedTree {N : Type 0} (device : Device) (named : NamedTree N) : Type 0 where
   pub tree : IsTreeRead device (table named.on.blocks) named.on.index (numbers_of named.on.numbers) named.on.spare named.on.tree
-  pub names : device.honest ≡ true → CoversNewest named.names device named.on.spare named.on.tree
+  pub names : device.honest ≡ true → CoversNamed device named
 
 -- The device was only read, and has power if it had it; it is seen as it is trusted.
 pub record IsReadAs (reported : Bool) (old new seen : Device) : Type 0 where

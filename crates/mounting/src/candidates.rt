@@ -29,8 +29,7 @@ fn read_or_zeros<N: Nand>(
     ensures bytes { (N.state device.old).honest ≡ true → OnOk result (page.new ≡ read_on (N.state device.old) at) }
     ensures fault { IfErr result (λ fault. (fault ≡ StoreFault.Device) × ((N.state device.new).gone ≡ true)) }
 {
-    let mut tag = [0; 48];
-    match device.read_page(at.block, at.page, page, &mut tag) {
+    match device.read_data(at.block, at.page, page) {
         Ok(PageKind::Written) => Ok(()),
         Ok(PageKind::Erased) => {
             page.fill(0);

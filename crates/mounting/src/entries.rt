@@ -29,14 +29,14 @@ fn go_by<N: Nand>(
     bounded: Bounded<N>,
     found: &FoundCheckpoint,
     opened: Opened,
-) -> Result<NamedTree<TrustedNand<N>>, (N, RootFault)>
+) -> Result<Box<NamedTree<TrustedNand<N>>>, (N, RootFault)>
     ghost reported: { Bool }
     requires { IsOpenedBy (Some found.now.block) (trusted_as reported (N.state bounded.device)) (table opened.blocks) opened.index (numbers_of opened.numbers) }
-    ensures read { IfOk result (λ named. IsOnAs N.state reported (N.state bounded.device) named.on) }
-    ensures named { IfOk result (λ named. IsNamedTree (seen_on N.state named.on) named) }
-    ensures noted { IfOk result (λ named. (table named.on.blocks).checkpoint ≡ Some found.now.block) }
-    ensures firsts { KnowsFirstsIn (trusted_as reported (N.state bounded.device)) opened → IfOk result (λ named. KnowsFirstsOn (seen_on N.state named.on) named.on) }
-    ensures within_limit { OfTrusted (N.state bounded.device) reported (IfOk result (λ named. ReadsOn N.state (N.state bounded.device) named.on)) }
+    ensures read { IfOk result (λ named. IsOnAs N.state reported (N.state bounded.device) named.value.on) }
+    ensures named { IfOk result (λ named. IsNamedTree (seen_on N.state named.value.on) named.value) }
+    ensures noted { IfOk result (λ named. (table named.value.on.blocks).checkpoint ≡ Some found.now.block) }
+    ensures firsts { KnowsFirstsIn (trusted_as reported (N.state bounded.device)) opened → IfOk result (λ named. KnowsFirstsOn (seen_on N.state named.value.on) named.value.on) }
+    ensures within_limit { OfTrusted (N.state bounded.device) reported (IfOk result (λ named. ReadsOn N.state (N.state bounded.device) named.value.on)) }
     ensures back { IfErr result (λ failed. OnlyReads (N.state bounded.device) (N.state failed.0)) }
     ensures fault { OfTrusted (N.state bounded.device) reported (IfErr result (λ failed. WhyNotThrough opened.index (N.state bounded.device) (N.state failed.0) failed.1)) }
 {
@@ -59,10 +59,14 @@ fn go_by<N: Nand>(
         spare: walked.spare,
         tree: walked.tree,
     };
-    Ok(NamedTree {
+    let named = NamedTree {
         on,
         names: walked.names,
-    })
+    };
+    match named.boxed(alloc) {
+        Ok(named) => Ok(named),
+        Err(device) => Err((device.into_inner(), RootFault::NoMemory)),
+    }
 }
 
 /// Goes through the tree of a device by the entries of a whole checkpoint, whose block is noted. The device is trusted then where
@@ -73,18 +77,18 @@ pub(crate) fn open_entries<N: Nand>(
     device: N,
     found: &FoundCheckpoint,
     firsts: &FirstPages,
-) -> Result<NamedTree<TrustedNand<N>>, (N, RootFault)>
+) -> Result<Box<NamedTree<TrustedNand<N>>>, (N, RootFault)>
     requires form { HasForm (N.state device) (checkpoint_of found.now) }
     requires whole { IsWholeOn (N.state device) (checkpoint_of found.now) }
     requires firsts { AreFirstsOf (N.state device) firsts.now }
-    ensures read { IfOk result (λ named. IsOnSince N.state (N.state device) named.on) }
-    ensures named { IfOk result (λ named. IsNamedTree (seen_on N.state named.on) named) }
+    ensures read { IfOk result (λ named. IsOnSince N.state (N.state device) named.value.on) }
+    ensures named { IfOk result (λ named. IsNamedTree (seen_on N.state named.value.on) named.value) }
     ensures blocks { IfOk result (λ named.
-        KnowsBlocksOn (seen_on N.state named.on) named.on) }
+        KnowsBlocksOn (seen_on N.state named.value.on) named.value.on) }
     ensures checked { HasTrueFlash (N.state device)
-        → IfOk result (λ named. IsCheckedOn (N.state device) named.on) }
+        → IfOk result (λ named. IsCheckedOn (N.state device) named.value.on) }
     ensures within_limit { HasTrueFlash (N.state device)
-        → IfOk result (λ named. ReadsOn N.state (N.state device) named.on) }
+        → IfOk result (λ named. ReadsOn N.state (N.state device) named.value.on) }
     ensures back { IfErr result (λ failed. OnlyReads (N.state device) (N.state failed.0)) }
     ensures fault { HasTrueFlash (N.state device) → IfErr result (λ failed. EndsMount (N.state failed.0) failed.1) }
 {

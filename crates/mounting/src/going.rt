@@ -54,11 +54,11 @@ fn by_entries<N: Nand>(
     requires form { HasForm (N.state device) (checkpoint_of found.now) }
     requires whole { IsWholeOn (N.state device) (checkpoint_of found.now) }
     requires firsts { AreFirstsOf (N.state device) firsts.now }
-    ensures read { IfOk result (λ going. IsOnSince N.state (N.state device) going.named.on) }
-    ensures going { IfOk result (λ going. IsGoing (seen_on N.state going.named.on) going) }
+    ensures read { IfOk result (λ going. IsOnSince N.state (N.state device) going.named.value.on) }
+    ensures going { IfOk result (λ going. IsGoing (seen_on N.state going.named.value.on) going) }
     ensures checked { HasTrueFlash (N.state device)
-        → IfOk result (λ going. IsCheckedOn (N.state device) going.named.on) }
-    ensures within_limit { HasTrueFlash (N.state device) → IfOk result (λ going. ReadsTree (N.state device) (own_on N.state going.named.on)) }
+        → IfOk result (λ going. IsCheckedOn (N.state device) going.named.value.on) }
+    ensures within_limit { HasTrueFlash (N.state device) → IfOk result (λ going. ReadsTree (N.state device) (own_on N.state going.named.value.on)) }
     ensures back { IfErr result (λ failed. OnlyReads (N.state device) (N.state failed.0)) }
     ensures fault { HasTrueFlash (N.state device) → OfSoundFlash (N.state device) (IfErr result (λ failed. EndsMount (N.state failed.0) failed.1)) }
 {
@@ -68,7 +68,10 @@ fn by_entries<N: Nand>(
     let named = open_entries(alloc, device, found, firsts)?;
     match go_on(&named.on) {
         Some(sizes) => Ok(Going { named, sizes }),
-        None => Err((named.on.device.into_inner(), RootFault::Damaged)),
+        None => Err((
+            Box::into_inner(named).on.device.into_inner(),
+            RootFault::Damaged,
+        )),
     }
 }
 
@@ -80,11 +83,11 @@ fn by_summaries<N: Nand>(
 ) -> Result<Going<TrustedNand<N>>, (N, RootFault)>
     requires firsts { AreFirstsOf (N.state device) firsts.now }
     requires none { HasTrueFlash (N.state device) → LiesOnlyIn (N.state device).geometry (N.state device).flash None }
-    ensures read { IfOk result (λ going. IsOnSince N.state (N.state device) going.named.on) }
-    ensures going { IfOk result (λ going. IsGoing (seen_on N.state going.named.on) going) }
+    ensures read { IfOk result (λ going. IsOnSince N.state (N.state device) going.named.value.on) }
+    ensures going { IfOk result (λ going. IsGoing (seen_on N.state going.named.value.on) going) }
     ensures checked { HasTrueFlash (N.state device)
-        → IfOk result (λ going. IsCheckedOn (N.state device) going.named.on) }
-    ensures within_limit { HasTrueFlash (N.state device) → IfOk result (λ going. ReadsBySummaries (N.state device) (own_on N.state going.named.on)) }
+        → IfOk result (λ going. IsCheckedOn (N.state device) going.named.value.on) }
+    ensures within_limit { HasTrueFlash (N.state device) → IfOk result (λ going. ReadsBySummaries (N.state device) (own_on N.state going.named.value.on)) }
     ensures back { IfErr result (λ failed. OnlyReads (N.state device) (N.state failed.0)) }
     ensures fault { HasTrueFlash (N.state device) → OfSoundFlash (N.state device) (IfErr result (λ failed. EndsMount (N.state failed.0) failed.1)) }
 {
@@ -94,7 +97,10 @@ fn by_summaries<N: Nand>(
     let named = open_by_summaries(alloc, device, firsts)?;
     match go_on(&named.on) {
         Some(sizes) => Ok(Going { named, sizes }),
-        None => Err((named.on.device.into_inner(), RootFault::Damaged)),
+        None => Err((
+            Box::into_inner(named).on.device.into_inner(),
+            RootFault::Damaged,
+        )),
     }
 }
 
@@ -107,10 +113,10 @@ fn by_scan<N: Nand>(
 ) -> Result<Going<TrustedNand<N>>, (N, MountFault)>
     requires noted { MayBeNoted (N.state device) noted }
     requires firsts { AreFirstsOf (N.state device) firsts.now }
-    ensures read { IfOk result (λ going. IsOnAs N.state true (N.state device) going.named.on) }
-    ensures going { IfOk result (λ going. IsGoing (seen_on N.state going.named.on) going) }
-    ensures checked { OfTrueFlash (N.state device) (IfOk result (λ going. IsCheckedOn (N.state device) going.named.on)) }
-    ensures scans { (N.state device).honest ≡ true → IfOk result (λ going. ReadsAll (N.state device) (own_on N.state going.named.on)) }
+    ensures read { IfOk result (λ going. IsOnAs N.state true (N.state device) going.named.value.on) }
+    ensures going { IfOk result (λ going. IsGoing (seen_on N.state going.named.value.on) going) }
+    ensures checked { OfTrueFlash (N.state device) (IfOk result (λ going. IsCheckedOn (N.state device) going.named.value.on)) }
+    ensures scans { (N.state device).honest ≡ true → IfOk result (λ going. ReadsAll (N.state device) (own_on N.state going.named.value.on)) }
     ensures back { IfErr result (λ failed. OnlyReads (N.state device) (N.state failed.0)) }
     ensures fault { IfErr result (λ failed. WhyNotMounted (N.state failed.0) failed.1) }
 {
@@ -122,7 +128,7 @@ fn by_scan<N: Nand>(
     the_tree_looks_up_its_footprint();
     let going = scan_going(alloc, device, firsts)?;
     let Going { named, sizes } = going;
-    let NamedTree { on, names } = named;
+    let NamedTree { on, names } = Box::into_inner(named);
     let TreeOn {
         device,
         blocks,
@@ -141,8 +147,10 @@ fn by_scan<N: Nand>(
         spare,
         tree,
     };
-    let named = NamedTree { on, names };
-    Ok(Going { named, sizes })
+    match (NamedTree { on, names }).boxed(alloc) {
+        Ok(named) => Ok(Going { named, sizes }),
+        Err(device) => Err(unmounted(device.into_inner(), MountFault::NoMemory)),
+    }
 }
 
 /// Goes on by a scan after a checkpoint's entries or the summaries of blocks did not do, unless power was lost or memory was refused. This
@@ -156,11 +164,11 @@ fn scan_after<N: Nand>(
 ) -> Result<Going<TrustedNand<N>>, (N, MountFault)>
     requires noted { MayBeNoted (N.state device) noted }
     requires firsts { AreFirstsOf (N.state device) firsts.now }
-    ensures read { IfOk result (λ going. IsOnSince N.state (N.state device) going.named.on) }
-    ensures power { IfOk result (λ going. (own_on N.state going.named.on).gone ≡ false) }
-    ensures going { IfOk result (λ going. IsGoing (seen_on N.state going.named.on) going) }
+    ensures read { IfOk result (λ going. IsOnSince N.state (N.state device) going.named.value.on) }
+    ensures power { IfOk result (λ going. (own_on N.state going.named.value.on).gone ≡ false) }
+    ensures going { IfOk result (λ going. IsGoing (seen_on N.state going.named.value.on) going) }
     ensures checked { HasTrueFlash (N.state device)
-        → IfOk result (λ going. IsCheckedOn (N.state device) going.named.on) }
+        → IfOk result (λ going. IsCheckedOn (N.state device) going.named.value.on) }
     ensures back { IfErr result (λ failed. OnlyReads (N.state device) (N.state failed.0)) }
     ensures fault { IfErr result (λ failed. WhyNotMounted (N.state failed.0) failed.1) }
     ensures ends { EndsMount (N.state device) fault → IfOk result (λ going. ⊥) }
@@ -183,11 +191,11 @@ fn without_checkpoint<N: Nand>(
 ) -> Result<Going<TrustedNand<N>>, (N, MountFault)>
     requires noted { MayBeNoted (N.state device) None }
     requires firsts { AreFirstsOf (N.state device) firsts.now }
-    ensures read { IfOk result (λ going. IsOnSince N.state (N.state device) going.named.on) }
-    ensures going { IfOk result (λ going. IsGoing (seen_on N.state going.named.on) going) }
+    ensures read { IfOk result (λ going. IsOnSince N.state (N.state device) going.named.value.on) }
+    ensures going { IfOk result (λ going. IsGoing (seen_on N.state going.named.value.on) going) }
     ensures checked { HasTrueFlash (N.state device)
-        → IfOk result (λ going. IsCheckedOn (N.state device) going.named.on) }
-    ensures within_limit { HasTrueFlash (N.state device) → IfOk result (λ going. ReadsBySummaries (N.state device) (own_on N.state going.named.on)) }
+        → IfOk result (λ going. IsCheckedOn (N.state device) going.named.value.on) }
+    ensures within_limit { HasTrueFlash (N.state device) → IfOk result (λ going. ReadsBySummaries (N.state device) (own_on N.state going.named.value.on)) }
     ensures back { IfErr result (λ failed. OnlyReads (N.state device) (N.state failed.0)) }
     ensures fault { IfErr result (λ failed. WhyNotMounted (N.state failed.0) failed.1) }
 {
@@ -203,12 +211,12 @@ pub(crate) fn open_volume<N: Nand>(
     alloc: Global,
     device: N,
 ) -> Result<Going<TrustedNand<N>>, (N, MountFault)>
-    ensures read { IfOk result (λ going. IsOnSince N.state (N.state device) going.named.on) }
-    ensures going { IfOk result (λ going. IsGoing (seen_on N.state going.named.on) going) }
+    ensures read { IfOk result (λ going. IsOnSince N.state (N.state device) going.named.value.on) }
+    ensures going { IfOk result (λ going. IsGoing (seen_on N.state going.named.value.on) going) }
     ensures checked { HasTrueFlash (N.state device)
-        → IfOk result (λ going. IsCheckedOn (N.state device) going.named.on) }
-    ensures within_limit { IfOk result (λ going. ReadsByCheckpoint (N.state device) (own_on N.state going.named.on)) }
-    ensures without { IfOk result (λ going. ReadsWithoutCheckpoint (N.state device) (own_on N.state going.named.on)) }
+        → IfOk result (λ going. IsCheckedOn (N.state device) going.named.value.on) }
+    ensures within_limit { IfOk result (λ going. ReadsByCheckpoint (N.state device) (own_on N.state going.named.value.on)) }
+    ensures without { IfOk result (λ going. ReadsWithoutCheckpoint (N.state device) (own_on N.state going.named.value.on)) }
     ensures back { IfErr result (λ failed. OnlyReads (N.state device) (N.state failed.0)) }
     ensures fault { IfErr result (λ failed. WhyNotMounted (N.state failed.0) failed.1) }
 {
@@ -234,10 +242,10 @@ pub(crate) fn open_scanned<N: Nand>(
     alloc: Global,
     device: N,
 ) -> Result<Going<TrustedNand<N>>, (N, MountFault)>
-    ensures read { IfOk result (λ going. IsOnAs N.state true (N.state device) going.named.on) }
-    ensures going { IfOk result (λ going. IsGoing (seen_on N.state going.named.on) going) }
-    ensures checked { OfTrueFlash (N.state device) (IfOk result (λ going. IsCheckedOn (N.state device) going.named.on)) }
-    ensures within_limit { IfOk result (λ going. ReadsAllTags (N.state device) (own_on N.state going.named.on)) }
+    ensures read { IfOk result (λ going. IsOnAs N.state true (N.state device) going.named.value.on) }
+    ensures going { IfOk result (λ going. IsGoing (seen_on N.state going.named.value.on) going) }
+    ensures checked { OfTrueFlash (N.state device) (IfOk result (λ going. IsCheckedOn (N.state device) going.named.value.on)) }
+    ensures within_limit { IfOk result (λ going. ReadsAllTags (N.state device) (own_on N.state going.named.value.on)) }
     ensures back { IfErr result (λ failed. OnlyReads (N.state device) (N.state failed.0)) }
     ensures fault { IfErr result (λ failed. WhyNotMounted (N.state failed.0) failed.1) }
 {

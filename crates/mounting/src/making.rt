@@ -32,22 +32,47 @@ pub(crate) fn is_worn<N: Nand>(on: &TreeOn<N>) -> bool
         || count_bad(&on.device) > u32::from(on.spare)
 }
 
+/// Moves a store to the heap. Where memory is refused the device is given back.
+fn boxed_store<N: Nand>(alloc: Global, store: Store<N>) -> Result<Box<Store<N>>, (N, AllocError)>
+    ensures store { IfOk result (λ boxed. boxed.value ≡ store) }
+    ensures given_back { IfErr result (λ back. back.0 ≡ store.log.device) }
+{
+    match Box::new(alloc, store) {
+        Ok(boxed) => Ok(boxed),
+        Err(refused) => Err((refused.value.into_device(), AllocError)),
+    }
+}
+
+/// Moves pages that are only read to the heap. Where memory is refused the device is given back.
+fn boxed_pages<N: Nand>(
+    alloc: Global,
+    pages: ReadOnlyPages<N>,
+) -> Result<Box<ReadOnlyPages<N>>, (N, AllocError)>
+    ensures pages { IfOk result (λ boxed. boxed.value ≡ pages) }
+    ensures given_back { IfErr result (λ back. back.0 ≡ device_of pages.pages) }
+{
+    match Box::new(alloc, pages) {
+        Ok(boxed) => Ok(boxed),
+        Err(refused) => Err((refused.value.into_device(), AllocError)),
+    }
+}
+
 /// The pages of a device on which groups can be written. The log remembers the flash with which it begins.
 fn store_pages<N: Nand>(
     alloc: Global,
     on: TreeOn<N>,
     capacity: NonZeroUsize,
-) -> Result<Store<N>, (N, AllocError)>
+) -> Result<Box<Store<N>>, (N, AllocError)>
     requires read { IsTreeRead (N.state on.device) (table on.blocks) on.index (numbers_of on.numbers) on.spare on.tree }
     requires fitting { AreFitting (table on.blocks) }
     requires room { HasRoomOn (N.state on.device) (table on.blocks) on.spare }
     requires ordinary { (N.state on.device).honest ≡ true → KeepsOrdinary on.index }
     requires can { MayWrite (N.state on.device) (table on.blocks) on.index (numbers_of on.numbers) on.spare }
-    ensures made { IfOk result (λ store. ArePagesOn (N.state on.device) on.index (numbers_of on.numbers) on.spare (store_pages store)) }
-    ensures worn { IfOk result (λ store. (store_pages store).worn ≡ false) }
-    ensures device { IfOk result (λ store. store.log.device ≡ on.device) }
-    ensures checkpoint { IfOk result (λ store. (store_pages store).checkpoint ≡ (table on.blocks).checkpoint) }
-    ensures tables { IfOk result (λ store. (store.log.index ≡ on.index) × (table store.log.blocks ≡ table on.blocks)) }
+    ensures made { IfOk result (λ store. ArePagesOn (N.state on.device) on.index (numbers_of on.numbers) on.spare (store_pages store.value)) }
+    ensures worn { IfOk result (λ store. (store_pages store.value).worn ≡ false) }
+    ensures device { IfOk result (λ store. store.value.log.device ≡ on.device) }
+    ensures checkpoint { IfOk result (λ store. (store_pages store.value).checkpoint ≡ (table on.blocks).checkpoint) }
+    ensures tables { IfOk result (λ store. (store.value.log.index ≡ on.index) × (table store.value.log.blocks ≡ table on.blocks)) }
     ensures given_back { IfErr result (λ back. back.0 ≡ on.device) }
 {
     the_counts_are_of_the_keys();
@@ -63,20 +88,23 @@ fn store_pages<N: Nand>(
         Err(refused) => return Err(refused),
     };
     match Store::new(alloc, log, capacity) {
-        Ok(store) => Ok(store),
+        Ok(store) => boxed_store(alloc, store),
         Err(refused) => Err(refused),
     }
 }
 
 /// The pages of a device that can only be read.
-fn read_pages<N: Nand>(alloc: Global, on: TreeOn<N>) -> Result<ReadOnlyPages<N>, (N, AllocError)>
+fn read_pages<N: Nand>(
+    alloc: Global,
+    on: TreeOn<N>,
+) -> Result<Box<ReadOnlyPages<N>>, (N, AllocError)>
     requires read { IsTreeRead (N.state on.device) (table on.blocks) on.index (numbers_of on.numbers) on.spare on.tree }
     requires worn { IsWorn (N.state on.device) (numbers_of on.numbers) on.spare }
-    ensures made { IfOk result (λ pages. ArePagesOn (N.state on.device) on.index (numbers_of on.numbers) on.spare (read_only_pages pages)) }
-    ensures worn { IfOk result (λ pages. (read_only_pages pages).worn ≡ true) }
-    ensures device { IfOk result (λ pages. device_of pages.pages ≡ on.device) }
-    ensures checkpoint { IfOk result (λ pages. (read_only_pages pages).checkpoint ≡ (table on.blocks).checkpoint) }
-    ensures index { IfOk result (λ pages. index_of pages.pages ≡ on.index) }
+    ensures made { IfOk result (λ pages. ArePagesOn (N.state on.device) on.index (numbers_of on.numbers) on.spare (read_only_pages pages.value)) }
+    ensures worn { IfOk result (λ pages. (read_only_pages pages.value).worn ≡ true) }
+    ensures device { IfOk result (λ pages. device_of pages.value.pages ≡ on.device) }
+    ensures checkpoint { IfOk result (λ pages. (read_only_pages pages.value).checkpoint ≡ (table on.blocks).checkpoint) }
+    ensures index { IfOk result (λ pages. index_of pages.value.pages ≡ on.index) }
     ensures given_back { IfErr result (λ back. back.0 ≡ on.device) }
 {
     the_opened_pages_are_the_newest();
@@ -91,7 +119,8 @@ fn read_pages<N: Nand>(alloc: Global, on: TreeOn<N>) -> Result<ReadOnlyPages<N>,
     let checkpoint = blocks.checkpoint();
     let most = device.geometry().pages() / BUFFERS_IN_BLOCK;
     let pages = NewestPages::new(alloc, device, index)?;
-    Ok(ReadOnlyPages::new(pages, numbers, u32::from(spare), most, checkpoint))
+    let pages = ReadOnlyPages::new(pages, numbers, u32::from(spare), most, checkpoint);
+    boxed_pages(alloc, pages)
 }
 
 /// The pages of a device, which are only read where it is worn. Where memory is refused the device is given back.

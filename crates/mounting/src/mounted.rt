@@ -35,13 +35,13 @@ pub(crate) fn make_mounted<N: Nand>(
     going: Going<N>,
     capacity: NonZeroUsize,
 ) -> Result<Mounted<N>, N>
-    requires { IsGoing (N.state going.named.on.device) going }
-    ensures device { IfOk result (λ mounted. (mounted_pages mounted.pages).device ≡ N.state going.named.on.device) }
-    ensures same { IfOk result (λ mounted. device_in mounted.pages ≡ going.named.on.device) }
-    ensures checkpoint { IfOk result (λ mounted. (mounted_pages mounted.pages).checkpoint ≡ (table going.named.on.blocks).checkpoint) }
+    requires { IsGoing (N.state going.named.value.on.device) going }
+    ensures device { IfOk result (λ mounted. (mounted_pages mounted.pages).device ≡ N.state going.named.value.on.device) }
+    ensures same { IfOk result (λ mounted. device_in mounted.pages ≡ going.named.value.on.device) }
+    ensures checkpoint { IfOk result (λ mounted. (mounted_pages mounted.pages).checkpoint ≡ (table going.named.value.on.blocks).checkpoint) }
     ensures made { IfOk result (IsMade mounted_pages) }
-    ensures remembers { IfOk result (λ mounted. Remembers (N.state going.named.on.device) (mounted_pages mounted.pages)) }
-    ensures back { IfErr result (λ device. device ≡ going.named.on.device) }
+    ensures remembers { IfOk result (λ mounted. Remembers (N.state going.named.value.on.device) (mounted_pages mounted.pages)) }
+    ensures back { IfErr result (λ device. device ≡ going.named.value.on.device) }
 {
     a_volume_has_sizes();
     a_table_of_first_pages_knows_erased_blocks();
@@ -49,7 +49,7 @@ pub(crate) fn make_mounted<N: Nand>(
     the_footprint_holds_the_tree();
     the_names_of_a_tree_are_those_of_its_objects();
     let Going { named, sizes } = going;
-    let NamedTree { on, names } = named;
+    let NamedTree { on, names } = Box::into_inner(named);
     let table = match table(alloc, &on.tree, sizes) {
         Ok(table) => table,
         Err(_) => return Err(on.device),

@@ -6,7 +6,7 @@ ghost use Rattle.block_state.specs.TableOf.{table};
 ghost use Rattle.mount_scan.specs.FirstPages.{AreFirstsOf};
 ghost use Rattle.mounting.specs.Faults.{WhyNotMounted};
 ghost use Rattle.mounting.specs.Going.{IsGoing};
-ghost use Rattle.mounting.specs.Mounted.{CoversNewest};
+ghost use Rattle.mounting.specs.Named.{CoversNamed};
 ghost use Rattle.mounting.specs.Tables.{KnowsScanned};
 ghost use Rattle.mounting.specs.OnDevice.{IsReadOn, ReadsScannedOn};
 
@@ -27,15 +27,15 @@ fn open_tree<N: Nand>(
     alloc: Global,
     device: N,
     firsts: &FirstPages,
-) -> Result<NamedTree<N>, (N, MountFault)>
+) -> Result<Box<NamedTree<N>>, (N, MountFault)>
     requires { AreFirstsOf (N.state device) firsts.now }
-    ensures reads { IfOk result (λ named. OnlyReads (N.state device) (N.state named.on.device)) }
-    ensures within_limit { (N.state device).honest ≡ true → IfOk result (λ named. ReadsScannedOn N.state (N.state device) named.on) }
-    ensures power { (N.state device).gone ≡ false → IfOk result (λ named. (N.state named.on.device).gone ≡ false) }
-    ensures read { IfOk result (λ named. IsReadOn (N.state named.on.device) named.on) }
-    ensures firsts { IfOk result (λ named. KnowsScanned (N.state named.on.device) (table named.on.blocks) (numbers_of named.on.numbers)) }
-    ensures none { IfOk result (λ named. (table named.on.blocks).checkpoint ≡ None) }
-    ensures names { (N.state device).honest ≡ true → IfOk result (λ named. CoversNewest named.names (N.state named.on.device) named.on.spare named.on.tree) }
+    ensures reads { IfOk result (λ named. OnlyReads (N.state device) (N.state named.value.on.device)) }
+    ensures within_limit { (N.state device).honest ≡ true → IfOk result (λ named. ReadsScannedOn N.state (N.state device) named.value.on) }
+    ensures power { (N.state device).gone ≡ false → IfOk result (λ named. (N.state named.value.on.device).gone ≡ false) }
+    ensures read { IfOk result (λ named. IsReadOn (N.state named.value.on.device) named.value.on) }
+    ensures firsts { IfOk result (λ named. KnowsScanned (N.state named.value.on.device) (table named.value.on.blocks) (numbers_of named.value.on.numbers)) }
+    ensures none { IfOk result (λ named. (table named.value.on.blocks).checkpoint ≡ None) }
+    ensures names { (N.state device).honest ≡ true → IfOk result (λ named. CoversNamed (N.state named.value.on.device) named.value) }
     ensures back { IfErr result (λ failed. OnlyReads (N.state device) (N.state failed.0)) }
     ensures fault { IfErr result (λ failed. WhyNotMounted (N.state failed.0) failed.1) }
 {
@@ -58,10 +58,14 @@ fn open_tree<N: Nand>(
         spare: found.spare,
         tree: found.tree,
     };
-    Ok(NamedTree {
+    let named = NamedTree {
         on,
         names: found.names,
-    })
+    };
+    match named.boxed(alloc) {
+        Ok(named) => Ok(named),
+        Err(device) => Err(unmounted(device, MountFault::NoMemory)),
+    }
 }
 
 /// Scans a device for the tree with which a volume goes on.
@@ -71,17 +75,17 @@ pub(crate) fn scan_going<N: Nand>(
     firsts: &FirstPages,
 ) -> Result<Going<N>, (N, MountFault)>
     requires { AreFirstsOf (N.state device) firsts.now }
-    ensures reads { IfOk result (λ going. OnlyReads (N.state device) (N.state going.named.on.device)) }
+    ensures reads { IfOk result (λ going. OnlyReads (N.state device) (N.state going.named.value.on.device)) }
     ensures within_limit { (N.state device).honest ≡ true
-        → IfOk result (λ going. ReadsScannedOn N.state (N.state device) going.named.on) }
-    ensures power { (N.state device).gone ≡ false → IfOk result (λ going. (N.state going.named.on.device).gone ≡ false) }
-    ensures going { IfOk result (λ going. IsGoing (N.state going.named.on.device) going) }
+        → IfOk result (λ going. ReadsScannedOn N.state (N.state device) going.named.value.on) }
+    ensures power { (N.state device).gone ≡ false → IfOk result (λ going. (N.state going.named.value.on.device).gone ≡ false) }
+    ensures going { IfOk result (λ going. IsGoing (N.state going.named.value.on.device) going) }
     ensures back { IfErr result (λ failed. OnlyReads (N.state device) (N.state failed.0)) }
     ensures fault { IfErr result (λ failed. WhyNotMounted (N.state failed.0) failed.1) }
 {
     let named = open_tree(alloc, device, firsts)?;
     match go_on(&named.on) {
         Some(sizes) => Ok(Going { named, sizes }),
-        None => Err(unmounted(named.on.device, MountFault::Damaged)),
+        None => Err(unmounted(Box::into_inner(named).on.device, MountFault::Damaged)),
     }
 }

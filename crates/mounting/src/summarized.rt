@@ -74,17 +74,17 @@ fn go_by_summaries<N: Nand>(
     alloc: Global,
     device: N,
     opened: Opened,
-) -> Result<NamedTree<TrustedNand<N>>, (N, RootFault)>
+) -> Result<Box<NamedTree<TrustedNand<N>>>, (N, RootFault)>
     requires opened { IsOpenedBy None (trusted_as false (N.state device)) (table opened.blocks) opened.index (numbers_of opened.numbers) }
     requires tree { HasTrueFlash (N.state device) → FindsItsTree (N.state device) opened }
     requires knows { (N.state device).honest ≡ true → KnowsItsFirsts (N.state device) opened }
-    ensures read { IfOk result (λ named. IsOnSince N.state (N.state device) named.on) }
-    ensures named { IfOk result (λ named. IsNamedTree (seen_on N.state named.on) named) }
+    ensures read { IfOk result (λ named. IsOnSince N.state (N.state device) named.value.on) }
+    ensures named { IfOk result (λ named. IsNamedTree (seen_on N.state named.value.on) named.value) }
     ensures blocks { IfOk result (λ named.
-        KnowsBlocksOn (seen_on N.state named.on) named.on) }
-    ensures none { IfOk result (λ named. (table named.on.blocks).checkpoint ≡ None) }
+        KnowsBlocksOn (seen_on N.state named.value.on) named.value.on) }
+    ensures none { IfOk result (λ named. (table named.value.on.blocks).checkpoint ≡ None) }
     ensures within_limit { (N.state device).honest ≡ true
-        → IfOk result (λ named. ReadsOn N.state (N.state device) named.on) }
+        → IfOk result (λ named. ReadsOn N.state (N.state device) named.value.on) }
     ensures back { IfErr result (λ failed. OnlyReads (N.state device) (N.state failed.0)) }
     ensures fault { HasTrueFlash (N.state device) → IfErr result (λ failed. EndsMount (N.state failed.0) failed.1) }
 {
@@ -105,7 +105,10 @@ fn go_by_summaries<N: Nand>(
         index,
         numbers,
     };
-    Ok(on_trusted(Bounded { device }, pruned, found))
+    match on_trusted(Bounded { device }, pruned, found).boxed(alloc) {
+        Ok(named) => Ok(named),
+        Err(device) => Err((device.into_inner(), RootFault::NoMemory)),
+    }
 }
 
 /// Goes through the tree of a device by the summaries of its blocks; no block is noted that may have a checkpoint. The device is
@@ -115,15 +118,15 @@ pub(crate) fn open_by_summaries<N: Nand>(
     alloc: Global,
     device: N,
     firsts: &FirstPages,
-) -> Result<NamedTree<TrustedNand<N>>, (N, RootFault)>
+) -> Result<Box<NamedTree<TrustedNand<N>>>, (N, RootFault)>
     requires { AreFirstsOf (N.state device) firsts.now }
-    ensures read { IfOk result (λ named. IsOnSince N.state (N.state device) named.on) }
-    ensures named { IfOk result (λ named. IsNamedTree (seen_on N.state named.on) named) }
+    ensures read { IfOk result (λ named. IsOnSince N.state (N.state device) named.value.on) }
+    ensures named { IfOk result (λ named. IsNamedTree (seen_on N.state named.value.on) named.value) }
     ensures blocks { IfOk result (λ named.
-        KnowsBlocksOn (seen_on N.state named.on) named.on) }
-    ensures none { IfOk result (λ named. (table named.on.blocks).checkpoint ≡ None) }
+        KnowsBlocksOn (seen_on N.state named.value.on) named.value.on) }
+    ensures none { IfOk result (λ named. (table named.value.on.blocks).checkpoint ≡ None) }
     ensures within_limit { HasTrueFlash (N.state device)
-        → IfOk result (λ named. ReadsNeededOn N.state (N.state device) named.on) }
+        → IfOk result (λ named. ReadsNeededOn N.state (N.state device) named.value.on) }
     ensures back { IfErr result (λ failed. OnlyReads (N.state device) (N.state failed.0)) }
     ensures fault { HasTrueFlash (N.state device) → IfErr result (λ failed. EndsMount (N.state failed.0) failed.1) }
 {

@@ -10,15 +10,15 @@ use Rattle.page_store.specs.declared.flash_pages.FlashPages.TheVariants as kinds
 
 -- the device that the pages lie on
 abbrev pub device_in : {N : Type 0} {nand : Ghosts N} → FlashPages N nand → N
-device_in (kinds.Store store) = store.log.device
-device_in (kinds.ReadOnly pages) = device_of pages.pages
+device_in (kinds.Store store) = store.value.log.device
+device_in (kinds.ReadOnly pages) = device_of pages.value.pages
 
 -- the index of the pages that are committed
 abbrev pub index_in : {N : Type 0} {nand : Ghosts N} → FlashPages N nand → Index
-index_in (kinds.Store store) = store.log.index
-index_in (kinds.ReadOnly pages) = index_of pages.pages
+index_in (kinds.Store store) = store.value.log.index
+index_in (kinds.ReadOnly pages) = index_of pages.value.pages
 
 -- the table of blocks; pages that are only read need none
 abbrev pub table_in : {N : Type 0} {nand : Ghosts N} → FlashPages N nand → Option Table
-table_in (kinds.Store store) = Some (table store.log.blocks)
+table_in (kinds.Store store) = Some (table store.value.log.blocks)
 table_in (kinds.ReadOnly pages) = None

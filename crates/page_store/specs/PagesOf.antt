@@ -28,5 +28,5 @@ read_only_pages pages =
 
 -- the pages of a mounted volume
 abbrev pub mounted_pages : {N : Type 0} {nand : Ghosts N} → FlashPages N nand → PagesState
-mounted_pages (kinds.Store store) = store_pages store
-mounted_pages (kinds.ReadOnly pages) = read_only_pages pages
+mounted_pages (kinds.Store store) = store_pages store.value
+mounted_pages (kinds.ReadOnly pages) = read_only_pages pages.value

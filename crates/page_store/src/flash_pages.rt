@@ -12,11 +12,11 @@ use nand_model::Nand;
 use pages::{Change, Cut, PageStore, Pages, Presence};
 use volume_terms::StoreFault;
 
-/// The pages of a mounted volume: a store, or pages that are only read.
+/// The pages of a mounted volume: a store, or pages that are only read. They are on the heap, so that a volume is moved in few bytes.
 #[derive(Drop)]
 pub enum FlashPages<N: Nand> {
-    Store(Store<N>),
-    ReadOnly(ReadOnlyPages<N>),
+    Store(Box<Store<N>>),
+    ReadOnly(Box<ReadOnlyPages<N>>),
 }
 
 impl<N: Nand> FlashPages<N> {
@@ -29,8 +29,8 @@ impl<N: Nand> FlashPages<N> {
         ensures device { result ≡ device_in self }
     {
         match self {
-            FlashPages::Store(store) => store.into_device(),
-            FlashPages::ReadOnly(pages) => pages.into_device(),
+            FlashPages::Store(store) => Box::into_inner(store).into_device(),
+            FlashPages::ReadOnly(pages) => Box::into_inner(pages).into_device(),
         }
     }
 
@@ -45,8 +45,8 @@ impl<N: Nand> FlashPages<N> {
         ensures worn { (mounted_pages self).worn ≡ true → (N.state result.0 ≡ (mounted_pages self).device) × (result.1 ≡ Ok tt) }
     {
         match self {
-            FlashPages::Store(store) => store.seal(),
-            FlashPages::ReadOnly(pages) => (pages.into_device(), Ok(())),
+            FlashPages::Store(store) => Box::into_inner(store).seal(),
+            FlashPages::ReadOnly(pages) => (Box::into_inner(pages).into_device(), Ok(())),
         }
     }
 }
@@ -55,8 +55,8 @@ impl<N: Nand> Pages for FlashPages<N> {
     ghost state = { mounted_pages };
 
     ghost sized = { elim [
-      | kinds.Store s ↦ ((store_pages s).device.geometry.least_bytes, (store_pages s).device.geometry.most_bytes)
-      | kinds.ReadOnly s ↦ ((read_only_pages s).device.geometry.least_bytes, (read_only_pages s).device.geometry.most_bytes)
+      | kinds.Store s ↦ ((store_pages s.value).device.geometry.least_bytes, (store_pages s.value).device.geometry.most_bytes)
+      | kinds.ReadOnly s ↦ ((read_only_pages s.value).device.geometry.least_bytes, (read_only_pages s.value).device.geometry.most_bytes)
     ] };
 
     fn page_bytes(&self) -> u32 {
@@ -115,47 +115,47 @@ impl<N: Nand> PageStore for FlashPages<N> {
     ghost use Rattle.page_store.specs.laws.ReadOnlySound.{lost_reading, only_worn};
 
     ghost lost = { elim [
-      | kinds.Store s ↦ λ sound failed. lost_alone (store_pages s).device.gone (store_pages s).device.honest s.broken sound failed
-      | kinds.ReadOnly s ↦ λ sound failed. lost_reading (read_only_pages s).device.gone (read_only_pages s).device.honest s.refused_change sound failed
+      | kinds.Store s ↦ λ sound failed. lost_alone (store_pages s.value).device.gone (store_pages s.value).device.honest s.value.broken sound failed
+      | kinds.ReadOnly s ↦ λ sound failed. lost_reading (read_only_pages s.value).device.gone (read_only_pages s.value).device.honest s.value.refused_change sound failed
     ] };
 
     ghost within_limit = { elim [
-      | kinds.Store s ↦ λ sound fresh. few_bad (store_pages s).device (table s.log.blocks) s.log.spare s.broken s.log.can_write s.within_limit sound
+      | kinds.Store s ↦ λ sound fresh. few_bad (store_pages s.value).device (table s.value.log.blocks) s.value.log.spare s.value.broken s.value.log.can_write s.value.within_limit sound
       | kinds.ReadOnly s ↦ λ sound fresh. only_worn _ _ fresh
     ] };
 
     fn most_pages(&self) -> u32 {
         match self {
-            FlashPages::Store(store) => PageStore::most_pages(store),
-            FlashPages::ReadOnly(pages) => PageStore::most_pages(pages),
+            FlashPages::Store(store) => PageStore::most_pages(store.as_ref()),
+            FlashPages::ReadOnly(pages) => PageStore::most_pages(pages.as_ref()),
         }
     }
 
     fn apply(&mut self, change: Change) -> Result<(), StoreFault> {
         match self {
-            FlashPages::Store(store) => PageStore::apply(store, change),
-            FlashPages::ReadOnly(pages) => PageStore::apply(pages, change),
+            FlashPages::Store(store) => PageStore::apply(store.as_mut(), change),
+            FlashPages::ReadOnly(pages) => PageStore::apply(pages.as_mut(), change),
         }
     }
 
     fn cut(&mut self, cut: Cut) -> Result<(), StoreFault> {
         match self {
-            FlashPages::Store(store) => PageStore::cut(store, cut),
-            FlashPages::ReadOnly(pages) => PageStore::cut(pages, cut),
+            FlashPages::Store(store) => PageStore::cut(store.as_mut(), cut),
+            FlashPages::ReadOnly(pages) => PageStore::cut(pages.as_mut(), cut),
         }
     }
 
     fn commit(&mut self) -> Result<(), StoreFault> {
         match self {
-            FlashPages::Store(store) => PageStore::commit(store),
-            FlashPages::ReadOnly(pages) => PageStore::commit(pages),
+            FlashPages::Store(store) => PageStore::commit(store.as_mut()),
+            FlashPages::ReadOnly(pages) => PageStore::commit(pages.as_mut()),
         }
     }
 
     fn refresh(&mut self, block: u32) -> Result<(), StoreFault> {
         match self {
-            FlashPages::Store(store) => PageStore::refresh(store, block),
-            FlashPages::ReadOnly(pages) => PageStore::refresh(pages, block),
+            FlashPages::Store(store) => PageStore::refresh(store.as_mut(), block),
+            FlashPages::ReadOnly(pages) => PageStore::refresh(pages.as_mut(), block),
         }
     }
 }

@@ -82,7 +82,8 @@ fn commit<P: PageStore>(pages: &mut P) -> Result<(), StoreFault> {
 #[test]
 fn pages_of_a_worn_device_are_read(rt: HostRuntime) {
     let alloc = rt.alloc();
-    let mut pages = FlashPages::ReadOnly(read_only(&rt, alloc, worn(&rt, alloc)));
+    let pages = read_only(&rt, alloc, worn(&rt, alloc));
+    let mut pages = FlashPages::ReadOnly(Box::new(alloc, pages).expect(&rt, "memory"));
     assert_eq!(rt; pages.page_bytes(), 512);
     assert_eq!(rt; fill(&mut pages, KEY), Ok(Some(9)));
     assert_eq!(rt; fill(&mut pages, OTHER), Ok(None));

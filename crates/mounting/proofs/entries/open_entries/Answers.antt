@@ -26,7 +26,7 @@ pub returns-in-Ok-Some-clause-read : goal.returns-in-Ok-Some-clause-read
 returns-in-Ok-Some-clause-read g c =
     let d = g.N.Nand.state c.args.device in
     let k = checkpoint_of c.args.found.now in
-    since_read c.go_by.result _ d (λ named. g.N.Nand.state (inner_of named.on.device)) (λ named. trusted_as named.on.device.trust.reported (g.N.Nand.state named.on.device.inner))
+    since_read c.go_by.result _ d (λ named. g.N.Nand.state (inner_of named.value.on.device)) (λ named. trusted_as named.value.on.device.trust.reported (g.N.Nand.state named.value.on.device.inner))
     (λ (honest, true_flash). (trust d k _).2 (right_said d.geometry d.flash k (true_flash.truth k (c.requires.whole honest)))) c.go_by.ensures.read
 
 pub returns-in-Ok-Some-clause-checked : goal.returns-in-Ok-Some-clause-checked
@@ -36,7 +36,7 @@ returns-in-Ok-Some-clause-checked g c = λ is.
     let opened = subst (λ m. IfSome m (IsOpenedFor d k)) c.in-Ok-Some.field-0-is c.in-Ok-Some.ensures.opened in
     let keeps = subst (λ m. IfSome m (KeepsItsTree d)) c.in-Ok-Some.field-0-is (c.in-Ok-Some.ensures.tree is) in
     let trusted = trust d k (g.met.N.Nand.within c.args.device) in
-    checked_at c.go_by.result d.geometry d.flash (λ named. named.on.blocks.checkpoint) c.args.found.now.block
+    checked_at c.go_by.result d.geometry d.flash (λ named. named.value.on.blocks.checkpoint) c.args.found.now.block
     (subst (IsChecked d.geometry d.flash) (opened trusted.0 trusted.1).noted keeps.checked) c.go_by.ensures.noted
 
 pub returns-in-Ok-Some-clause-within_limit : goal.returns-in-Ok-Some-clause-within_limit
@@ -58,5 +58,5 @@ returns-in-Ok-Some-clause-blocks g c =
     let d = g.N.Nand.state c.args.device in
     let k = checkpoint_of c.args.found.now in
     let known = subst (λ m. IfSome m (KnowsFirstsBy d k)) c.in-Ok-Some.field-0-is c.in-Ok-Some.ensures.firsts in
-    blocks_known c.go_by.result _ d k (λ named. g.N.Nand.state (inner_of named.on.device)) (λ named. trusted_as named.on.device.trust.reported (g.N.Nand.state named.on.device.inner))
-    (λ named. table named.on.blocks) (λ named. numbers_of named.on.numbers) c.requires.whole c.go_by.ensures.read c.go_by.ensures.noted (c.go_by.ensures.firsts (known_trusted _ d k c.in-Ok-Some.opened (trust d k _).1 known))
+    blocks_known c.go_by.result _ d k (λ named. g.N.Nand.state (inner_of named.value.on.device)) (λ named. trusted_as named.value.on.device.trust.reported (g.N.Nand.state named.value.on.device.inner))
+    (λ named. table named.value.on.blocks) (λ named. numbers_of named.value.on.numbers) c.requires.whole c.go_by.ensures.read c.go_by.ensures.noted (c.go_by.ensures.firsts (known_trusted _ d k c.in-Ok-Some.opened (trust d k _).1 known))

@@ -54,7 +54,7 @@ returns-clause-checked g c = λ is.
 
 pub returns-in-Ok-by_entries-clause-within_limit : goal.returns-in-Ok-by_entries-clause-within_limit
 returns-in-Ok-by_entries-clause-within_limit g c =
-    reads_by (g.N.Nand.state c.args.device) (g.N.Nand.state c.find_checkpoint.new.device) (g.N.Nand.state (inner_of c.in-Ok-by_entries.going.named.on.device)) c.in-Ok.ensures.reads.only
+    reads_by (g.N.Nand.state c.args.device) (g.N.Nand.state c.find_checkpoint.new.device) (g.N.Nand.state (inner_of c.in-Ok-by_entries.going.named.value.on.device)) c.in-Ok.ensures.reads.only
     c.in-Ok.ensures.reads_bounded c.in-Ok-by_entries.ensures.within_limit
 
 pub returns-clause-within_limit : goal.returns-clause-within_limit
@@ -62,23 +62,23 @@ returns-clause-within_limit g c =
     let e = g.N.Nand.state c.in-Err-by_entries.device in
     let fault = c.in-Err-by_entries.fault in
     ok_unless c.scan_after.result (EndsMount e fault) c.scan_after.ensures.ends
-    (λ x not. reads_none (g.N.Nand.state c.args.device) (g.N.Nand.state c.find_checkpoint.new.device) e (g.N.Nand.state (inner_of x.named.on.device)) fault c.in-Ok.ensures.reads.only c.in-Err-by_entries.ensures.fault not)
+    (λ x not. reads_none (g.N.Nand.state c.args.device) (g.N.Nand.state c.find_checkpoint.new.device) e (g.N.Nand.state (inner_of x.named.value.on.device)) fault c.in-Ok.ensures.reads.only c.in-Err-by_entries.ensures.fault not)
 
 pub returns-in-None-clause-without : goal.returns-in-None-clause-without
 returns-in-None-clause-without g c =
     let a = g.N.Nand.state c.args.device in
     let b = g.N.Nand.state c.find_checkpoint.new.device in
     let reads = c.in-Ok.ensures.reads in
-    ok_all c.without_checkpoint.result (HasTrueFlash b) c.without_checkpoint.ensures.within_limit (λ x all. without_after a b (g.N.Nand.state (inner_of x.named.on.device)) reads.only reads.most all)
+    ok_all c.without_checkpoint.result (HasTrueFlash b) c.without_checkpoint.ensures.within_limit (λ x all. without_after a b (g.N.Nand.state (inner_of x.named.value.on.device)) reads.only reads.most all)
 
 pub returns-in-Ok-by_entries-clause-without : goal.returns-in-Ok-by_entries-clause-without
 returns-in-Ok-by_entries-clause-without g c =
     let a = g.N.Nand.state c.args.device in
     let whole = subst (λ m. IfSome m (λ f. IsWholeOn a (checkpoint_of f))) c.in-Some.is c.in-Ok.ensures.found in
-    without_not a (g.N.Nand.state (inner_of c.in-Ok-by_entries.going.named.on.device)) (checkpoint_of c.in-Some.found) whole
+    without_not a (g.N.Nand.state (inner_of c.in-Ok-by_entries.going.named.value.on.device)) (checkpoint_of c.in-Some.found) whole
 
 pub returns-clause-without : goal.returns-clause-without
 returns-clause-without g c =
     let a = g.N.Nand.state c.args.device in
     let whole = subst (λ m. IfSome m (λ f. IsWholeOn a (checkpoint_of f))) c.in-Some.is c.in-Ok.ensures.found in
-    ok_each c.scan_after.result (λ x. without_not a (g.N.Nand.state (inner_of x.named.on.device)) (checkpoint_of c.in-Some.found) whole)
+    ok_each c.scan_after.result (λ x. without_not a (g.N.Nand.state (inner_of x.named.value.on.device)) (checkpoint_of c.in-Some.found) whole)

@@ -30,4 +30,4 @@ returns-in-Err-clause-within_limit g c = λ is.
     let a = g.N.Nand.state c.args.device in
     let e = g.N.Nand.state c.in-Err.device in
     ok_unless c.scan_after.result (EndsMount e c.in-Err.fault) c.scan_after.ensures.ends
-    (λ x not. summaries_not a e (g.N.Nand.state (inner_of x.named.on.device)) c.in-Err.fault (c.in-Err.ensures.fault is) not)
+    (λ x not. summaries_not a e (g.N.Nand.state (inner_of x.named.value.on.device)) c.in-Err.fault (c.in-Err.ensures.fault is) not)

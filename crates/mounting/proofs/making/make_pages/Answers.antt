@@ -9,7 +9,7 @@ pub returns-clause-tables : goal.returns-clause-tables
 returns-clause-tables g c =
     let on = c.args.on in
     let flash = (g.N.Nand.state on.device).flash in
-    let blocks = table c.in_ok-store.store.log.blocks in
+    let blocks = table c.in_ok-store.store.value.log.blocks in
     let reported = c.in_ok-store.ensures.tables in
     let opened = c.requires.read.tables.tables in
     let can_write = opened.can_write (c.requires.can c.if-worn.false).can.0 in

@@ -11,6 +11,7 @@ use Rattle.page_store.specs.StateOf.{lent_by, state_of}
 use Rattle.tree_walk.specs.Trees.{keeps_key}
 use Rattle.mounting.proofs.Mountable.{mountable_since, store_finds, store_remembers}
 use Rattle.mounting.proofs.PagesMade.{can_write, consistent, within_limit, free, store_pages}
+use Rattle.mounting.proofs.Noting.{ok_map}
 use Rattle.mounting.proofs.making.store_pages.Goals as goal
 
 pub new-requires : goal.new-requires
@@ -62,9 +63,10 @@ returns-in-Ok-new-clause-made g c =
     let first = ap (λ l. l.origin.first) stored.log ∙ logged.origin in
     let within = g.met.N.Nand.within on.device in
     let mountable = c.requires.can.mountable in
-    store_pages (keeps_key on.tree) d (table on.blocks) on.index (numbers_of on.numbers) on.spare c.requires.read.tables c.requires.fitting c.requires.room c.requires.can.can (c.the_counts_are_of_the_keys.ensures.none on.index)
+    ok_map c.boxed_store.result (λ boxed is. rw is (store_pages (keeps_key on.tree) d (table on.blocks) on.index (numbers_of on.numbers) on.spare c.requires.read.tables c.requires.fitting c.requires.room c.requires.can.can (c.the_counts_are_of_the_keys.ensures.none on.index)
     (state_of s) (lent_by s) device_is (table_is, ap (λ l. l.spare) stored.log ∙ logged.spare ∙ same) stored.whole
     (stored.most ∙ ap (λ (e : Device). e.geometry.pages / 4) device)
     (λ o k. ap (λ l. committed_data_map (g.N.Nand.state l.device) l.index o k) stored.log ∙ ap (λ (e : Device). committed_data_map e log.index o k) device ∙ ap (λ x. committed_data_map d x o k) logged.tables.1)
     (λ o k. ap (λ l. present_data l.index (contents s.buffer) d.flash o k) stored.log ∙ ap (λ x. present_data x (contents s.buffer) d.flash o k) logged.tables.1 ∙ (rw (device, logged.tables.1) at stored.pages o k))
-    (store_finds d (table on.blocks) on.index within mountable (state_of s) (lent_by s) device_is table_is first) (store_remembers d (table on.blocks) on.index within mountable (state_of s) (lent_by s) device_is table_is first)
+    (store_finds d (table on.blocks) on.index within mountable (state_of s) (lent_by s) device_is table_is first) (store_remembers d (table on.blocks) on.index within mountable (state_of s) (lent_by s) device_is table_is first)))
+    c.boxed_store.ensures.store

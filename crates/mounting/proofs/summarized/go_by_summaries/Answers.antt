@@ -40,8 +40,8 @@ on_trusted-requires g c = λ κs within.
       ),
     )
 
-pub returns-clause-read : goal.returns-clause-read
-returns-clause-read g c =
+pub returns-in-Ok-clause-read : goal.returns-in-Ok-clause-read
+returns-in-Ok-clause-read g c =
     let a = g.N.Nand.state c.args.device in
     let b = g.N.Nand.state c.in_ok-device.device in
     let opened = c.args.opened in
@@ -49,6 +49,6 @@ returns-clause-read g c =
     let e = c.in_ok-device.ensures in
     let inside = g.met.N.Nand.within c.in_ok-device.device in
     let lists : ListsKeys = record { committed = c.the_list_of_a_block_is_whole.ensures.committed; all = c.the_list_of_a_block_is_whole.ensures.all } in
-    since_by _ a b _ _ c.on_trusted.ensures.inner c.on_trusted.ensures.seen e.reads e.power
+    rw c.in-Ok.ensures.same (since_by _ a b _ _ c.on_trusted.ensures.inner c.on_trusted.ensures.seen e.reads e.power
     (λ is. (decide b c.prune.new.index (numbers_of opened.numbers) _).2 (sure_committed lists c.the_headers_report_the_keys.ensures c.the_tree_looks_up_its_footprint.ensures.keys a b opened c.prune.new.index found.spare found.tree e.reads is (c.requires.tree is) inside
-    c.prune.ensures.only (e.tree is.0)))
+    c.prune.ensures.only (e.tree is.0))))

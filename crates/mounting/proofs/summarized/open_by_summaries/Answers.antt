@@ -9,6 +9,6 @@ returns-in-Ok-clause-read g c = ok_map c.go_by_summaries.result (λ named since.
 pub returns-in-Ok-clause-within_limit : goal.returns-in-Ok-clause-within_limit
 returns-in-Ok-clause-within_limit g c = λ is.
     ok_map c.go_by_summaries.result
-    (λ named within_limit. reads_needed (g.N.Nand.state c.args.device) (g.N.Nand.state c.open_summarized.new.device) (g.N.Nand.state (inner_of named.on.device)) named.on.spare named.on.tree c.in-Ok.ensures.reads is.0
+    (λ named within_limit. reads_needed (g.N.Nand.state c.args.device) (g.N.Nand.state c.open_summarized.new.device) (g.N.Nand.state (inner_of named.value.on.device)) named.value.on.spare named.value.on.tree c.in-Ok.ensures.reads is.0
     c.in-Ok.ensures.within_limit within_limit)
     (c.go_by_summaries.ensures.within_limit (true_after (g.N.Nand.state c.args.device) (g.N.Nand.state c.open_summarized.new.device) c.in-Ok.ensures.reads is).0)

@@ -12,7 +12,6 @@ ghost use Rattle.directories.specs.Stores.{later, OfHeaded};
 use flash_tree::{FreshPage, Key};
 use page_tags::{Format, Header, ObjectKind, decode_header, encode_header};
 use pages::{Change, PageFault, Pages, load_after, page_after};
-use std::alloc::{AllocError, Global};
 
 /// What the header of a directory says: its spare blocks, which are meant in the root's alone, how many entries it
 /// has, and the moment of its last change.
@@ -80,24 +79,19 @@ fn decode_head(page: &[u8]) -> Option<DirectoryHead>
     })
 }
 
-/// The page of a directory's header.
-pub fn head_page(
-    alloc: Global,
-    page_bytes: u32,
-    directory: u64,
-    head: DirectoryHead,
-) -> Result<FreshPage, AllocError>
-    requires least { 32 ≤ page_bytes }
-    requires most { page_bytes ≤ 4096 }
-    ensures { IfOk result (λ page. IsHeadPage page page_bytes directory head) }
+/// The page of a directory's header, written over a frame.
+pub fn head_page(frame: Vec<u8>, directory: u64, head: DirectoryHead) -> FreshPage
+    requires least { 32 ≤ length frame.items }
+    requires most { length frame.items ≤ 4096 }
+    ensures { IsHeadPage result (length frame.items) directory head }
 {
-    let mut bytes = vec![in alloc; 0u8; page_bytes as usize]?;
+    let mut bytes = frame;
     write_head(head, &mut bytes);
     let key = Key {
         object: directory,
         chunk: 0,
     };
-    Ok(FreshPage { key, bytes })
+    FreshPage { key, bytes }
 }
 
 /// The presence bits of a directory, of which none is set.

@@ -1,5 +1,5 @@
 // The removal of a slot.
-ghost use Rattle.std.specs.Prelude.{◌≡◌, ◌<◌, ◌≤◌, ◌+◌, ◌^◌, ℕ, [], OnOk, IfOk, IfErr, option_copied};
+ghost use Rattle.std.specs.Prelude.{◌≡◌, ◌<◌, ◌≤◌, ◌+◌, ◌^◌, ℕ, [], OnOk, IfOk, IfErr, length, option_copied};
 ghost use Rattle.volume_terms.specs.Sizes.{Sizes};
 ghost use Rattle.pages.specs.Afterwards.{IsSizedBy};
 ghost use Rattle.pages.specs.Changes.{IsChange, IsOnlyOf};
@@ -14,7 +14,7 @@ use crate::head::{DirectoryHead, head_page};
 use crate::page::slot_of;
 use crate::writing::{Writing, write};
 use flash_tree::{Key, decode_tree_slot};
-use pages::{Change, Cut, PageFault, Pages, load_after, page_after};
+use pages::{Change, Cut, PageFault, Pages, load_after, page_after, spare_page};
 use std::alloc::{AllocError, Global};
 use volume_terms::SLOT_BYTES;
 
@@ -75,7 +75,8 @@ fn shorten<P: Pages>(
     if place < shorter.length {
         fill(alloc, pages, earlier, directory, place, shorter)
     } else {
-        Ok(head_change(alloc, pages.page_bytes(), directory, shorter)?)
+        let frame = spare_page(alloc, pages)?;
+        Ok(head_change(alloc, frame, directory, shorter)?)
     }
 }
 
@@ -165,24 +166,23 @@ fn slot_bytes<P: Pages>(
     Ok(bytes)
 }
 
-/// The change of a directory's header alone.
+/// The change of a directory's header alone, written over a frame.
 fn head_change(
     alloc: Global,
-    page_bytes: u32,
+    frame: Vec<u8>,
     directory: u64,
     head: DirectoryHead,
 ) -> Result<Change, AllocError>
-    requires least { 32 ≤ page_bytes }
-    requires most { page_bytes ≤ 4096 }
-    ensures change { IfOk result (λ change. IsChange change page_bytes 2) }
+    requires least { 32 ≤ length frame.items }
+    requires most { length frame.items ≤ 4096 }
+    ensures change { IfOk result (λ change. IsChange change (length frame.items) 2) }
     ensures cuts { IfOk result (λ change. change.cuts.items ≡ []) }
     ensures only { IfOk result (λ change. IsOnlyOf change directory) }
     ensures head { IfOk result (λ change. HasKey change directory 0) }
-    ensures writes { (z : Sizes) (old : PageMap) → z.page_bytes ≡ page_bytes → IfOk result (WritesHead z old directory head) }
+    ensures writes { (z : Sizes) (old : PageMap) → z.page_bytes ≡ length frame.items → IfOk result (WritesHead z old directory head) }
     ensures pages { (m : PageMap) (c : ℕ) → 1 ≤ c → IfOk result (KeepsKey m directory c) }
 {
-    let page = head_page(alloc, page_bytes, directory, head)?;
-    let pages = vec![in alloc; page]?;
+    let pages = vec![in alloc; head_page(frame, directory, head)]?;
     Ok(Change {
         pages,
         cuts: Vec::new(alloc),

@@ -16,7 +16,7 @@ use crate::head::{DirectoryHead, head_page};
 use crate::page::{copy_slots, write_slot};
 use flash_tree::{FreshPage, Key};
 use page_tags::Slot;
-use pages::{Change, PageFault, Pages, blank_page, load_after, page_after};
+use pages::{Change, PageFault, Pages, blank_page, load_after, page_after, spare_page};
 use std::alloc::Global;
 use volume_terms::SLOT_BYTES;
 
@@ -117,7 +117,8 @@ pub(crate) fn write<P: Pages>(
     ensures fault { OfSlotted (later earlier.entry (P.state pages.old)) directory writing.before (IfErr result (MayLackMemory (P.state pages.new))) }
 {
     let slot_page = slot_page(alloc, pages, earlier, directory, writing, slot)?;
-    let head_page = head_page(alloc, pages.page_bytes(), directory, head)?;
+    let frame = spare_page(alloc, pages)?;
+    let head_page = head_page(frame, directory, head);
     let pages = vec![in alloc; slot_page, head_page]?;
     Ok(Change {
         pages,

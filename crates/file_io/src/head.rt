@@ -13,7 +13,7 @@ ghost use Rattle.pages.specs.declared.fault.PageFault.TheVariants as faults;
 use crate::file_head::FileHead;
 use flash_tree::{FreshPage, Key};
 use page_tags::{Header, ObjectKind, decode_header, write_file_header};
-use pages::{PageFault, Pages, copied_page, load};
+use pages::{PageFault, Pages, blank_page, copied_page, load};
 use std::alloc::Global;
 
 /// The length of a file in bytes, and the moment of its last change.
@@ -102,17 +102,18 @@ pub(crate) fn head_page(object: u64, len: u64, moment: u64, page: Vec<u8>) -> Fr
 /// The page that makes an object a file of no bytes: its header.
 pub fn create<P: Pages>(
     alloc: Global,
-    pages: &P,
+    pages: &mut P,
     object: u64,
     moment: u64,
 ) -> Result<FreshPage, PageFault>
+    ensures same { P.state pages.new ≡ P.state pages.old }
     ensures object { IfOk result (λ page. page.key.object ≡ object) }
     ensures chunk { IfOk result (λ page. page.key.chunk ≡ 0) }
-    ensures size { IfOk result (λ page. length page.bytes.items ≡ (P.state pages.now).page_bytes) }
-    ensures reads { (z : Sizes) (m : PageMap) → z.page_bytes ≡ (P.state pages.now).page_bytes
+    ensures size { IfOk result (λ page. length page.bytes.items ≡ (P.state pages.old).page_bytes) }
+    ensures reads { (z : Sizes) (m : PageMap) → z.page_bytes ≡ (P.state pages.old).page_bytes
         → IfOk result (IsEmptyFile z m object moment) }
     ensures fault { IfErr result (λ e. e ≡ faults.NoMemory) }
 {
-    let page = vec![in alloc; 0u8; pages.page_bytes() as usize]?;
+    let page = blank_page(alloc, pages)?;
     Ok(head_page(object, 0, moment, page))
 }

@@ -55,9 +55,10 @@ pub fn format<N: Nand>(alloc: Global, device: N, spare: u32) -> Result<N, (N, Fo
         length: 0,
         moment: 0,
     };
-    let Ok(page) = head_page(alloc, geometry.bytes(), ROOT, head) else {
+    let Ok(frame) = vec![in alloc; 0u8; geometry.bytes() as usize] else {
         return Err((device, FormatFault::NoMemory));
     };
+    let page = head_page(frame, ROOT, head);
     let mut device = device;
     match lay_out(&mut device, &page, spare) {
         Ok(()) => Ok(device),

@@ -31,8 +31,8 @@ fn empty_file(rt: &impl Abort, alloc: Global, page_bytes: u32) -> MemPages {
     if !(512..=4096).contains(&page_bytes) {
         panic!(rt; "no such page");
     }
-    let pages = MemPages::new(alloc, page_bytes).expect(rt, "memory");
-    let header = create(alloc, &pages, FILE, 0).expect(rt, "memory");
+    let mut pages = MemPages::new(alloc, page_bytes).expect(rt, "memory");
+    let header = create(alloc, &mut pages, FILE, 0).expect(rt, "memory");
     let change = Change {
         pages: vec![in alloc; header].expect(rt, "memory"),
         cuts: Vec::new(alloc),

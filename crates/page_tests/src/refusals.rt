@@ -110,7 +110,7 @@ fn three_names(rt: &impl Abort, alloc: Global) -> Store {
         let change = add(alloc, &mut store.pages, HOME, &slot, 1).expect(rt, "a change");
         store = taken(rt, alloc, store, change);
     }
-    let header = create(alloc, &store.pages, FILE, 1).expect(rt, "memory");
+    let header = create(alloc, &mut store.pages, FILE, 1).expect(rt, "memory");
     let change = Change {
         pages: vec![in alloc; header].expect(rt, "memory"),
         cuts: Vec::new(alloc),

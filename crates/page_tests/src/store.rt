@@ -1,5 +1,5 @@
 // A store in memory that takes changes, with an index of its names, and slots that a directory takes.
-ghost use Rattle.std.specs.Prelude.{◌≤◌};
+ghost use Rattle.std.specs.Prelude.{◌≡◌, ◌≤◌, length};
 ghost use Rattle.page_tags.specs.SlotEntry.{entry_of};
 ghost use Rattle.flash_tree.specs.Slots.{IsTreeSlot};
 
@@ -72,6 +72,13 @@ pub(crate) fn taken_from(
     Store { names, pages }
 }
 
+/// A frame of zeros.
+fn frame(rt: &impl Abort, alloc: Global, page_bytes: u32) -> Vec<u8>
+    ensures { length result.items ≡ page_bytes }
+{
+    vec![in alloc; 0u8; page_bytes as usize].expect(rt, "memory")
+}
+
 /// A store with the two directories, without names.
 pub(crate) fn two_directories(rt: &impl Abort, alloc: Global, page_bytes: u32) -> Store {
     if !(512..=4096).contains(&page_bytes) {
@@ -82,8 +89,8 @@ pub(crate) fn two_directories(rt: &impl Abort, alloc: Global, page_bytes: u32) -
         length: 0,
         moment: 0,
     };
-    let home = head_page(alloc, page_bytes, HOME, head).expect(rt, "memory");
-    let away = head_page(alloc, page_bytes, AWAY, head).expect(rt, "memory");
+    let home = head_page(frame(rt, alloc, page_bytes), HOME, head);
+    let away = head_page(frame(rt, alloc, page_bytes), AWAY, head);
     let change = Change {
         pages: vec![in alloc; home, away].expect(rt, "memory"),
         cuts: Vec::new(alloc),
@@ -106,7 +113,7 @@ pub(crate) fn empty_volume(rt: &impl Abort, alloc: Global) -> Store {
         length: 0,
         moment: 0,
     };
-    let root = head_page(alloc, 512, ROOT, head).expect(rt, "memory");
+    let root = head_page(frame(rt, alloc, 512), ROOT, head);
     let change = Change {
         pages: vec![in alloc; root].expect(rt, "memory"),
         cuts: Vec::new(alloc),

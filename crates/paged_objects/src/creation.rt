@@ -8,22 +8,23 @@ ghost use Rattle.paged_objects.specs.Making.{HoldsEmpty, OfBare, OfUnused};
 
 use directories::{DirectoryHead, head_page};
 use flash_tree::FreshPage;
-use pages::{Change, PageFault, Pages};
+use pages::{Change, PageFault, Pages, spare_page};
 use posix_profile::Kind;
 use std::alloc::Global;
 
 /// The page of an object without content: its header.
 fn first_page<P: Pages>(
-    pages: &P,
+    pages: &mut P,
     alloc: Global,
     number: u64,
     kind: Kind,
     moment: u64,
 ) -> Result<FreshPage, PageFault>
+    ensures same { P.state pages.new ≡ P.state pages.old }
     ensures object { IfOk result (λ page. page.key.object ≡ number) }
     ensures chunk { IfOk result (λ page. page.key.chunk ≡ 0) }
-    ensures size { IfOk result (λ page. length page.bytes.items ≡ (P.state pages.now).page_bytes) }
-    ensures holds { OfBare (P.state pages.now) number (λ z m.
+    ensures size { IfOk result (λ page. length page.bytes.items ≡ (P.state pages.old).page_bytes) }
+    ensures holds { OfBare (P.state pages.old) number (λ z m.
         IfOk result (λ page. m number 0 ≡ Some page.bytes.items → HoldsEmpty z m number kind moment)) }
     ensures fault { IfErr result (λ e. e ≡ faults.NoMemory) }
 {
@@ -35,22 +36,24 @@ fn first_page<P: Pages>(
                 length: 0,
                 moment,
             };
-            Ok(head_page(alloc, pages.page_bytes(), number, head)?)
+            let frame = spare_page(alloc, pages)?;
+            Ok(head_page(frame, number, head))
         }
     }
 }
 
 /// The change that makes an object without content under a number that has no pages, which is not the root's.
 pub(crate) fn new_object<P: Pages>(
-    pages: &P,
+    pages: &mut P,
     alloc: Global,
     number: u64,
     kind: Kind,
     moment: u64,
 ) -> Result<Change, PageFault>
-    ensures change { IfOk result (IsChangeIn (P.state pages.now) 1) }
+    ensures same { P.state pages.new ≡ P.state pages.old }
+    ensures change { IfOk result (IsChangeIn (P.state pages.old) 1) }
     ensures only { IfOk result (λ change. IsOnlyOf change number) }
-    ensures holds { OfUnused (P.state pages.now) number (λ z m. IfOk result (λ change. HoldsEmpty z (after_change change m) number kind moment)) }
+    ensures holds { OfUnused (P.state pages.old) number (λ z m. IfOk result (λ change. HoldsEmpty z (after_change change m) number kind moment)) }
     ensures fault { IfErr result (λ e. e ≡ faults.NoMemory) }
 {
     let page = first_page(pages, alloc, number, kind, moment)?;

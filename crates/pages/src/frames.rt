@@ -19,6 +19,17 @@ pub fn copied_page<P: Pages>(alloc: Global, pages: &mut P) -> Result<Vec<u8>, Al
     }
 }
 
+/// A frame that is written over, and may hold anything.
+pub fn spare_page<P: Pages>(alloc: Global, pages: &mut P) -> Result<Vec<u8>, AllocError>
+    ensures same { P.state pages.new ≡ P.state pages.old }
+    ensures size { IfOk result (λ frame. length frame.items ≡ (P.state pages.old).page_bytes) }
+{
+    match pages.take_frame() {
+        Some(frame) => Ok(frame),
+        None => vec![in alloc; 0u8; pages.page_bytes() as usize],
+    }
+}
+
 /// A frame of zeros.
 pub fn blank_page<P: Pages>(alloc: Global, pages: &mut P) -> Result<Vec<u8>, AllocError>
     ensures same { P.state pages.new ≡ P.state pages.old }

@@ -15,7 +15,7 @@ mod store;
 pub use after::{Source, load_after, page_after};
 pub use change::{Change, Cut, are_sized};
 pub use fault::PageFault;
-pub use frames::{blank_page, copied_page, filled_page};
+pub use frames::{blank_page, copied_page, filled_page, spare_page};
 pub use law::{
     changes_of_two_objects_commute, no_change_keeps_all_pages, other_objects_keep_their_pages,
 };

@@ -9,7 +9,7 @@ pub returns-in_ok-head_change-clause-shortens : goal.returns-in_ok-head_change-c
 returns-in_ok-head_change-clause-shortens g c = λ sound z size.
     let old : PagesState = g.P.Pages.state c.args.pages.now in
     let m : PageMap = changed_by (option_copied c.args.earlier) old.present in
-    let w = c.in_ok-head_change.ensures.writes z m (size ∙ sym c.page_bytes.ensures.bytes) in
+    let w = c.in_ok-head_change.ensures.writes z m (size ∙ sym c.in_ok-frame.ensures.size) in
     let over : c.args.shorter.length ≤ c.args.place = c.if-place-shorter.false in
     let last : c.args.shorter.length ≡ c.args.place = omega (arith, over, c.requires.within) in
     record {

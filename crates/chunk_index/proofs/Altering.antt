@@ -1,15 +1,13 @@
 -- What an edit of an object's entries does to what is reported of its chunks.
-use Rattle.std.proofs.Common.{◌≡◌, ℕ, ◌+◌, ◌-◌, ◌<◌, ◌≤◌, List, length, get_or, set, Option, Some, None, Bool, true, false, if◌then◌else◌, IsSome, refl, sym, ap, subst, ◌∙◌, arith, inl, inr}
+use Rattle.std.proofs.Common.{◌≡◌, ℕ, ◌+◌, List, get_or, set, Some, None, Bool, true, false, if◌then◌else◌, IsSome, refl, sym, ap, ◌∙◌, arith}
 use mathlib.Core.Bool.{false≢true}
 use Rattle.std.specs.List.{insert, remove}
-use Rattle.std.proofs.lemmas.Bool.{cases_lt}
 use Rattle.std.proofs.lemmas.Bool.Decides.{nat_tests}
-use Rattle.std.proofs.lemmas.List.{get_or_default}
 use Rattle.std.proofs.lemmas.List.Sums.{sum_by-set, sum_by-insert, sum_by-remove}
 use Rattle.chunk_index.specs.declared.entry.KeyEntry.{KeyEntry}
-use Rattle.chunk_index.specs.Lists.{find_by, Rises, IsAt, IsGapFor, IsBelow, IsEndFor}
-use Rattle.chunk_index.specs.Entries.{chunk, weight, weigh, Alters, IsLastBelow}
-use Rattle.chunk_index.proofs.Finding.{find_at, find_at_set, find_at_remove, find_in_gap, find_gap_insert, find_absent}
+use Rattle.chunk_index.specs.Lists.{find_by, Rises, IsAt, IsGapFor}
+use Rattle.chunk_index.specs.Entries.{chunk, weight, weigh, Alters}
+use Rattle.chunk_index.proofs.Finding.{find_at, find_at_set, find_at_remove, find_in_gap, find_gap_insert}
 
 -- an entry in the gap for it
 pub alters_insert : (es : List KeyEntry) (e : KeyEntry) (i : ℕ) → IsGapFor chunk es (chunk e) i → Alters (chunk e) (Some e) es (insert es i e)
@@ -56,29 +54,3 @@ gap_absurd es c i gap some = false≢true (rw (find_in_gap chunk es c i gap) at 
 -- a chunk without an entry stands nowhere
 pub at_absurd : (es : List KeyEntry) → Rises chunk es → (c i : ℕ) (d : KeyEntry) → IsAt chunk es c i → find_by chunk es c ≡ None → ⊥
 at_absurd es rises c i d at none = let both : Some (get_or es i d) ≡ None = sym (find_at chunk es rises c i at d) ∙ none in absurd cc
-
--- where no entry lies before a bound
-pub none_below : (es : List KeyEntry) (bound : Option ℕ) → IsEndFor chunk es bound 0 → IsLastBelow es bound None
-none_below es bound end l below = find_absent chunk es l (λ j d lt same. end.greater j d (omega arith) lt (subst (λ n. IsBelow n bound) (sym same) below))
-
--- the last one that does
-pub last_below : (es : List KeyEntry) → Rises chunk es → (bound : Option ℕ) (end : ℕ) → IsEndFor chunk es bound end → 1 ≤ end → (e : KeyEntry) → e ≡ get_or es (end - 1) e → IsLastBelow es bound (Some e)
-last_below es rises bound end is some e here =
-    let within : end ≤ length es = is.within in
-    let at : IsAt chunk es (chunk e) (end - 1) = record { within = omega (arith, within, some); number = λ d. ap chunk (get_or_default es (end - 1) d e (omega (arith, within, some)) ∙ sym here) } in (
-      find_at chunk es rises (chunk e) (end - 1) at e ∙ ap Some (sym here),
-      subst (λ n. IsBelow n bound) (ap chunk (sym here)) (is.lesser (end - 1) e (omega (arith, some))),
-      λ l above below. find_absent chunk es l (λ j d lt same. elim (cases_lt j end) [
-        | inl less ↦ elim (cases_lt j (end - 1)) [
-          | inl before ↦
-              let r : chunk (get_or es j d) < chunk (get_or es (end - 1) d) = rises j (end - 1) d before at.within in
-              let n : chunk (get_or es (end - 1) d) ≡ chunk e = at.number d in
-              omega (arith, r, n, same, above)
-          | inr last ↦
-              let e_last : j ≡ end - 1 = omega (arith, less, last) in
-              let n : chunk (get_or es j d) ≡ chunk e = ap (λ k. chunk (get_or es k d)) e_last ∙ at.number d in
-              omega (arith, n, same, above)
-        ]
-        | inr more ↦ is.greater j d more lt (subst (λ n. IsBelow n bound) (sym same) below)
-      ]),
-    )

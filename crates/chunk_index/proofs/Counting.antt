@@ -89,12 +89,6 @@ recounts_more {t} {u} {f} {g} {h} {k} more c = record {
 }
 
 -- a page that is in the count lies on the device
-pub room_block : (t : Table) (p : CommittedPage) (n : ℕ) → HasRoom t (one_at (Some p)) n → p.block < t.geometry.blocks
-room_block t p n r = elim (cases_lt p.block t.geometry.blocks) [
-  | inl lt ↦ lt
-  | inr ge ↦ let none : one_at (Some p) p.block ≡ 0 = r.within p.block ge in absurd (grind (arith, nat_tests, none))
-]
-
 pub counted_block : (t : Table) (p : CommittedPage) → HasCounted t (one_at (Some p)) → p.block < t.geometry.blocks
 counted_block t p r = elim (cases_lt p.block t.geometry.blocks) [
   | inl lt ↦ lt
@@ -104,7 +98,7 @@ counted_block t p r = elim (cases_lt p.block t.geometry.blocks) [
 -- ---- one key among all
 
 -- what an entry adds is part of what all of its object add
-part_of_object : (f : KeyEntry → ℕ) (es : List KeyEntry) (c : ℕ) → weight f (find_by chunk es c) ≤ weigh f es
+pub part_of_object : (f : KeyEntry → ℕ) (es : List KeyEntry) (c : ℕ) → weight f (find_by chunk es c) ≤ weigh f es
 part_of_object f [] c = omega arith
 part_of_object f (e ∷ es) c =
     let all : weigh f (e ∷ es) ≡ f e + weigh f es = sum_by-cons f e es in
@@ -162,7 +156,7 @@ one_most (Some p) b = elim (cases_eq p.block b) [
   | inr ne ↦ grind (arith, nat_tests, ne)
 ]
 
-reported_count : (v : Option KeyEntry) (b : ℕ) → weight (counted_at b) v ≡ one_at (committed_of v) b
+pub reported_count : (v : Option KeyEntry) (b : ℕ) → weight (counted_at b) v ≡ one_at (committed_of v) b
 reported_count None b = refl
 reported_count (Some e) b = refl
 

@@ -126,16 +126,16 @@ module _ {X : Type 0} (f : X → ℕ) where
         ]
 
     -- the elements before it are those with lesser numbers
-    pub ends_at : IsEndFor f xs (Some n) i
+    pub ends_at : IsEndFor f xs n i
     ends_at = record {
       within = let lt : i < length xs = at.within in omega (arith, lt);
       lesser = λ j d lt. let r : f (get_or xs j d) < f (get_or xs i d) = rises j i d lt at.within in let e : f (get_or xs i d) ≡ n = at.number d in omega (arith, r, e);
-      greater = λ j d le lt below. elim (cases_eq i j) [
-        | inl e ↦ let here : f (get_or xs j d) ≡ n = ap (λ k. f (get_or xs k d)) (sym e) ∙ at.number d in omega (arith, here, below)
+      greater = λ j d le lt. elim (cases_eq i j) [
+        | inl e ↦ let here : f (get_or xs j d) ≡ n = ap (λ k. f (get_or xs k d)) (sym e) ∙ at.number d in omega (arith, here)
         | inr ne ↦
             let r : f (get_or xs i d) < f (get_or xs j d) = rises i j d (omega (arith, le, ne)) lt in
             let e : f (get_or xs i d) ≡ n = at.number d in
-            omega (arith, r, e, below)
+            omega (arith, r, e)
       ];
     }
 
@@ -176,10 +176,6 @@ module _ {X : Type 0} (f : X → ℕ) where
         let greater : (k : ℕ) → i ≤ k → k < length xs → n < f (get_or xs k d) = λ k. gap.greater k d in
         let up : (k l : ℕ) → k < l → l < length xs → f (get_or xs k d) < f (get_or xs l d) = λ k l. rises k l d in
         grind (arith, longer, below a, here a, above a, below b, here b, above b, up a b, up a (b - 1), up (a - 1) (b - 1), lesser a, greater (b - 1))
-
-  -- with no bound all elements lie before it
-  pub ends_all : (xs : List X) → IsEndFor f xs None (length xs)
-  ends_all xs = record { within = omega arith; lesser = λ j d lt. tt; greater = λ j d le lt below. omega (arith, le, lt) }
 
 -- a number greater than that of the last element goes behind it
 pub gap_after : {X : Type 0} (f : X → ℕ) (xs : List X) (n i : ℕ) → Rises f xs → i ≡ length xs → ((j : ℕ) (d : X) → j + 1 ≡ length xs → f (get_or xs j d) < n) → IsGapFor f xs n i

@@ -1,27 +1,25 @@
 -- What a change of an entry in its place does to what is reported of its key.
-use Rattle.std.proofs.Common.{◌≡◌, ℕ, ◌+◌, ◌<◌, List, get_or, set, true, false, Option, Some, None, IsSome, IfSome, is_none, refl, sym, ap, subst, ◌∙◌, arith}
+use Rattle.std.proofs.Common.{◌≡◌, ℕ, ◌+◌, List, get_or, set, true, false, Option, Some, None, IsSome, is_none, refl, sym, ap, subst, ◌∙◌, arith}
 use mathlib.Core.Bool.{false≢true}
 use Rattle.std.specs.Option.{option_map, unwrap_or}
 use Rattle.std.specs.Ordering.{nat_cmp}
 use Rattle.std.specs.BTreeMap.{get, WritesThrough}
-use Rattle.flash_tree.specs.declared.place.Key.{Key}
 use Rattle.block_state.specs.Table.{Table}
 use Rattle.chunk_index.specs.declared.form.WrittenGroup.{WrittenGroup}
 use Rattle.chunk_index.specs.declared.entry.KeyEntry.{KeyEntry}
+use Rattle.chunk_index.specs.declared.entry.State.{State}
+use Rattle.chunk_index.specs.declared.entry.State.TheVariants as states
 use Rattle.chunk_index.specs.declared.object.ObjectEntries.{ObjectEntries}
 use Rattle.chunk_index.specs.Lists.{find_by, Rises, IsAt}
-use Rattle.chunk_index.specs.Entries.{chunk, settled, settled_by, committed_of, one_at, weight, Alters}
+use Rattle.chunk_index.specs.Entries.{chunk, settled, settled_by, weight, weigh, Alters}
 use Rattle.chunk_index.specs.Shelves.{ObjectMap, look, total, AltersKey}
-use Rattle.chunk_index.specs.Counts.{Recounts, Tallies}
-use Rattle.chunk_index.specs.Settled.{MaySettle, MaySettleEntry, SettlesWhere, RecountsSettled, IsKey}
-use Rattle.chunk_index.specs.InPlace.{goes_of, left_of}
+use Rattle.chunk_index.specs.Settled.{RecountsSettled}
+use Rattle.chunk_index.specs.InPlace.{goes_of, left, left_of}
 use Rattle.chunk_index.proofs.Finding.{find_at, rises_set}
 use Rattle.chunk_index.proofs.Altering.{alters_set}
 use Rattle.chunk_index.proofs.Shelving.{found_chunk, look_in, written}
-use Rattle.chunk_index.proofs.Counting.{recounts_here, tallies_altered, recounts_altered}
-use Rattle.chunk_index.proofs.Settling.{settled_page, settled_room}
+use Rattle.chunk_index.proofs.Counting.{recounts_here}
 use Rattle.chunk_index.proofs.Mapping.{total_same}
-use Rattle.chunk_index.proofs.Noting.{where_key}
 
 -- ---- among the entries of an object
 
@@ -43,28 +41,24 @@ module _ (es : List KeyEntry) (rises : Rises chunk es) (c i : ℕ) (at : IsAt ch
   pub alters_by : (f : KeyEntry → KeyEntry) → new ≡ f e → Alters c (option_map f (find_by chunk es c)) es (set es i new)
   alters_by f to = subst (λ v. Alters c v es (set es i new)) (ap Some to ∙ sym (ap (option_map f) is)) alters_at
 
-  pub alters_left : (g : WrittenGroup) → Some new ≡ settled_by g e e.state → Alters c (left_of g (find_by chunk es c)) es (set es i new)
-  alters_left g by = subst (λ v. Alters c v es (set es i new)) (ap (λ (w : Option KeyEntry). Some (unwrap_or w e)) by ∙ sym (ap (left_of g) is)) alters_at
-
 -- nothing changes
 alters_none : (es : List KeyEntry) (c : ℕ) (v : Option KeyEntry) → find_by chunk es c ≡ v → Alters c v es es
 alters_none es c v is = subst (λ w. Alters c w es es) is (record { here = refl; others = λ l ne. refl; weighs = λ f. refl })
 
--- so it is where the entry goes, and where there is none
-pub alters_gone : (es : List KeyEntry) (c : ℕ) (e : KeyEntry) → find_by chunk es c ≡ Some e → (g : WrittenGroup) → None ≡ settled_by g e e.state → Alters c (left_of g (find_by chunk es c)) es es
-alters_gone es c e is g by = alters_none es c _ (is ∙ ap (λ (w : Option KeyEntry). Some (unwrap_or w e)) by ∙ sym (ap (left_of g) is))
-
+-- so it is where there is no entry
 pub alters_absent : (es : List KeyEntry) (c : ℕ) → find_by chunk es c ≡ None → (f : KeyEntry → KeyEntry) → Alters c (option_map f (find_by chunk es c)) es es
 alters_absent es c none f = alters_none es c _ (none ∙ sym (ap (option_map f) none))
 
+-- what is left of an entry in its place is of its chunk
+pub left_chunk : (g : WrittenGroup) (e : KeyEntry) → chunk (left g e) ≡ chunk e
+left_chunk g e = go e.state where
+  go : (s : State) → chunk (unwrap_or (settled_by g e s) e) ≡ chunk e
+  go states.Same = refl
+  go (states.Buffered i) = refl
+  go states.Dropped = refl
+  go states.Vacant = refl
+
 -- ---- what is reported of the key of an entry
-
-module _ (g : WrittenGroup) (v : Option KeyEntry) (e : KeyEntry) (is : v ≡ Some e) (w : Option KeyEntry) (by : w ≡ settled_by g e e.state) where
-  pub goes_found : is_none w ≡ goes_of g v
-  goes_found = ap is_none by ∙ sym (ap (goes_of g) is)
-
-  pub counts_found : (t u : Table) → Recounts (one_at e.committed) (one_at (committed_of w)) t u → RecountsSettled g v t u
-  counts_found t u counts = subst (λ z. RecountsSettled g z t u) (sym is) (subst (λ z. Recounts (one_at e.committed) (one_at (committed_of z)) t u) by counts)
 
 pub goes_absent : (g : WrittenGroup) (v : Option KeyEntry) → v ≡ None → false ≡ goes_of g v
 goes_absent g v none = sym (ap (goes_of g) none)
@@ -78,7 +72,7 @@ map_size f None = refl
 map_size f (Some e) = refl
 
 -- an entry that stays is settled
-left_stays : (g : WrittenGroup) (v : Option KeyEntry) → goes_of g v ≡ false → left_of g v ≡ settled g v
+pub left_stays : (g : WrittenGroup) (v : Option KeyEntry) → goes_of g v ≡ false → left_of g v ≡ settled g v
 left_stays g None stays = refl
 left_stays g (Some e) stays = go (settled_by g e e.state) stays where
   go : (w : Option KeyEntry) → is_none w ≡ false → Some (unwrap_or w e) ≡ w
@@ -90,12 +84,38 @@ left_there : (g : WrittenGroup) (v : Option KeyEntry) → goes_of g v ≡ true �
 left_there g None gone = absurd (false≢true gone)
 left_there g (Some e) gone = refl
 
-gone_settled : (g : WrittenGroup) (v : Option KeyEntry) → goes_of g v ≡ true → None ≡ settled g v
+pub gone_settled : (g : WrittenGroup) (v : Option KeyEntry) → goes_of g v ≡ true → None ≡ settled g v
 gone_settled g None gone = refl
 gone_settled g (Some e) gone = go (settled_by g e e.state) gone where
   go : (w : Option KeyEntry) → is_none w ≡ true → None ≡ w
   go None is = refl
   go (Some x) is = absurd (false≢true is)
+
+-- ---- one chunk
+
+-- one change of a chunk after another
+alters_twice : {es fs gs : List KeyEntry} {c : ℕ} {v w : Option KeyEntry} → Alters c v es fs → Alters c w fs gs → Alters c w es gs
+alters_twice {es} {fs} {gs} {c} {v} {w} a b = record {
+  here = b.here;
+  others = λ l differs. b.others l differs ∙ a.others l differs;
+  weighs = λ f.
+      let one : weigh f fs + weight f (find_by chunk es c) ≡ weigh f es + weight f v = a.weighs f in
+      let two : weigh f gs + weight f (find_by chunk fs c) ≡ weigh f fs + weight f w = b.weighs f in
+      let mid : weight f (find_by chunk fs c) ≡ weight f v = ap (weight f) a.here in
+      omega (arith, one, two, mid);
+}
+
+module _ (g : WrittenGroup) (c : ℕ) (es fs : List KeyEntry) (alters : Alters c (left_of g (find_by chunk es c)) es fs) where
+  -- an entry that stays is settled in its place
+  pub settles_staying : goes_of g (find_by chunk es c) ≡ false → Alters c (settled g (find_by chunk es c)) es fs
+  settles_staying stays = subst (λ v. Alters c v es fs) (left_stays g _ stays) alters
+
+  -- one that goes is there to be taken out
+  pub going_there : goes_of g (find_by chunk es c) ≡ true → IsSome (find_by chunk fs c)
+  going_there gone = subst IsSome (sym alters.here) (left_there g _ gone)
+
+  pub settles_going : (gs : List KeyEntry) → goes_of g (find_by chunk es c) ≡ true → Alters c None fs gs → Alters c (settled g (find_by chunk es c)) es gs
+  settles_going gs gone out = subst (λ v. Alters c v es gs) (gone_settled g _ gone) (alters_twice alters out)
 
 -- ---- among the entries of all objects
 
@@ -108,42 +128,3 @@ module _ (o c : ℕ) (m n : ObjectMap) (x y : ObjectEntries) (found : get nat_cm
   -- as many entries
   pub size_by : (size : ℕ) → total (λ (e : KeyEntry). 1) m ≡ size → total (λ (e : KeyEntry). 1) n ≡ size
   size_by size was = total_same written_by (λ (e : KeyEntry). 1) (map_size f (look m o c)) ∙ was
-
--- one change of a key after another
-alters_twice : {m n p : ObjectMap} {o c : ℕ} {v w : Option KeyEntry} → AltersKey o c v m n → AltersKey o c w n p → AltersKey o c w m p
-alters_twice {m} {n} {p} {o} {c} {v} {w} a b = record {
-  here = b.here;
-  others = λ k l differs. b.others k l differs ∙ a.others k l differs;
-  weighs = λ f.
-      let one : total f n + weight f (look m o c) ≡ total f m + weight f v = a.weighs f in
-      let two : total f p + weight f (look n o c) ≡ total f n + weight f w = b.weighs f in
-      let mid : weight f (look n o c) ≡ weight f v = ap (weight f) a.here in
-      omega (arith, one, two, mid);
-}
-
--- the entry of a key may be settled, where all may
-pub may_key : (g : WrittenGroup) (m : ObjectMap) (o c : ℕ) (t : Table) → MaySettle g m t → (size : ℕ) → total (λ (e : KeyEntry). 1) m ≡ size → size < 4294967296 → IfSome (look m o c) (λ e. MaySettleEntry g e t)
-may_key g m o c t may size totaled within_limit = go (look m o c) refl where
-  go : (v : Option KeyEntry) → look m o c ≡ v → IfSome v (λ e. MaySettleEntry g e t)
-  go None is = tt
-  go (Some e) is = record {
-    block = may.block;
-    page = settled_page g m o c e is (λ i shown. let fits = may.fits o c i shown in omega (arith, fits, t.geometry.most_pages));
-    room = settled_room g m o c e is t may.tallies size totaled within_limit;
-  }
-
-module _ (g : WrittenGroup) (k : Key) (m n : ObjectMap) (t u : Table) (alters : AltersKey k.object k.chunk (left_of g (look m k.object k.chunk)) m n)
-    (counts : RecountsSettled g (look m k.object k.chunk) t u) (tallies : Tallies t m) where
-  settles_to : (p : ObjectMap) → AltersKey k.object k.chunk (settled g (look m k.object k.chunk)) m p → SettlesWhere g (IsKey k) m p t u
-  settles_to p to = where_key g k m p t u to (tallies_altered t u m p k.object k.chunk _ to counts tallies) (recounts_altered t u m p k.object k.chunk _ to counts)
-
-  -- an entry that stays is settled in its place
-  pub settles_staying : goes_of g (look m k.object k.chunk) ≡ false → SettlesWhere g (IsKey k) m n t u
-  settles_staying stays = settles_to n (subst (λ v. AltersKey k.object k.chunk v m n) (left_stays g _ stays) alters)
-
-  -- one that goes is there to be taken out
-  pub going_there : goes_of g (look m k.object k.chunk) ≡ true → IsSome (look n k.object k.chunk)
-  going_there gone = subst IsSome (sym alters.here) (left_there g _ gone)
-
-  pub settles_going : (p : ObjectMap) → goes_of g (look m k.object k.chunk) ≡ true → AltersKey k.object k.chunk None n p → SettlesWhere g (IsKey k) m p t u
-  settles_going p gone out = settles_to p (subst (λ v. AltersKey k.object k.chunk v m p) (gone_settled g _ gone) (alters_twice alters out))

@@ -1,5 +1,5 @@
 -- What a change of one entry does to what an index reports.
-use Rattle.std.proofs.Common.{◌≡◌, ℕ, false, Option, Some, None, Result, Ok, Err, IsSome, OnOk, OnErr, refl, sym, ap, subst, ◌∙◌, arith, inl, inr}
+use Rattle.std.proofs.Common.{◌≡◌, ℕ, false, Option, Some, Result, Ok, Err, IsSome, OnOk, OnErr, refl, sym, ap, subst, ◌∙◌, arith, inl, inr}
 use Rattle.std.proofs.lemmas.Bool.{cases_eq}
 use Rattle.chunk_index.specs.declared.entry.KeyEntry.{KeyEntry}
 use Rattle.chunk_index.specs.Entries.{same_of, weight}
@@ -41,12 +41,12 @@ module _ {m n : ObjectMap} {o c : ℕ} {to : Option KeyEntry} (alters : AltersKe
     ]
   ]
 
--- ---- an entry that is put, or refused
+-- ---- a change of one entry, or none where it is refused
 
-module _ {E : Type 0} (r : Result (Unit {0}) E) (m n : ObjectMap) (o c : ℕ) (e : KeyEntry) (ok : OnOk r (AltersKey o c (Some e) m n)) (err : OnErr r (SameEntries m n)) (none : look m o c ≡ None) where
-  -- what it reports as little of as no entry is the same
-  pub reported_inserted : {X : Type 0} (f : Option KeyEntry → X) → f (Some e) ≡ f None → (k l : ℕ) → f (look n k l) ≡ f (look m k l)
-  reported_inserted f same k l = go r ok err where
-    go : (q : Result (Unit {0}) E) → OnOk q (AltersKey o c (Some e) m n) → OnErr q (SameEntries m n) → f (look n k l) ≡ f (look m k l)
-    go (Ok u) alters x = reported_same alters f (same ∙ sym (ap f none)) k l
+module _ {E : Type 0} (r : Result (Unit {0}) E) (m n : ObjectMap) (o c : ℕ) (to : Option KeyEntry) (ok : OnOk r (AltersKey o c to m n)) (err : OnErr r (SameEntries m n)) where
+  -- what is the same of the entry is the same of each
+  pub reported_either : {X : Type 0} (f : Option KeyEntry → X) → f to ≡ f (look m o c) → (k l : ℕ) → f (look n k l) ≡ f (look m k l)
+  reported_either f same k l = go r ok err where
+    go : (q : Result (Unit {0}) E) → OnOk q (AltersKey o c to m n) → OnErr q (SameEntries m n) → f (look n k l) ≡ f (look m k l)
+    go (Ok u) alters x = reported_same alters f same k l
     go (Err x) u entries = ap f (entries.looks k l)

@@ -11,16 +11,14 @@ use Rattle.chunk_index.specs.declared.form.Present.TheVariants as presents
 use Rattle.chunk_index.specs.declared.entry.KeyEntry.{KeyEntry}
 use Rattle.chunk_index.specs.declared.entry.State.{State}
 use Rattle.chunk_index.specs.declared.entry.State.TheVariants as states
-use Rattle.chunk_index.specs.Lists.{IsBelow}
-use Rattle.chunk_index.specs.Entries.{chunk, settled, settled_by, same_of, present_of, present_by, as_committed, counted_at, written_page}
-use Rattle.chunk_index.specs.Shelves.{ObjectMap, look, total, AltersKey, SameEntries, IsListed, IsLastFrom, IsAfterNumber, IsNextObject}
-use Rattle.chunk_index.specs.Counts.{Recounts, Tallies}
+use Rattle.chunk_index.specs.Entries.{settled, settled_by, same_of, present_of, present_by, as_committed, written_page}
+use Rattle.chunk_index.specs.Shelves.{ObjectMap, look, SameEntries, IsListed, IsAfterNumber, IsNextObject}
+use Rattle.chunk_index.specs.Counts.{Tallies}
 use Rattle.chunk_index.specs.Settled.{MaySettle, SettlesWhere, IsKey, IsFrom, IsAny}
 use Rattle.chunk_index.specs.Noted.{IsCut, IsNotedBy}
 use Rattle.chunk_index.proofs.Counting.{recounts_on, recounts_here}
 use Rattle.chunk_index.proofs.Settling.{settled_twice, settled_same}
 use Rattle.chunk_index.proofs.Staying.{after_or_not, none_reported, tallies_then_same, counts_then_same}
-use Rattle.chunk_index.proofs.Cutting.{below_or_not}
 
 -- no key
 abbrev pub IsNone : ℕ → ℕ → Type 0
@@ -72,21 +70,6 @@ where_same g P old mid new t u was same = record {
   counts = counts_then_same t u old mid new was.counts same;
 }
 
--- one key
-pub where_key : (g : WrittenGroup) (k : Key) (m n : ObjectMap) (t u : Table) → AltersKey k.object k.chunk (settled g (look m k.object k.chunk)) m n → Tallies u n
-    → Recounts (λ b. total (counted_at b) m) (λ b. total (counted_at b) n) t u → SettlesWhere g (IsKey k) m n t u
-where_key g k m n t u alters tallies counts = record {
-  each = λ o c. elim (cases_eq o k.object) [
-    | inr ne ↦ inr (alters.others o c (inl ne), λ is. ne (sym is.0))
-    | inl e ↦ elim (cases_eq c k.chunk) [
-      | inr ne ↦ inr (alters.others o c (inr ne), λ is. ne (sym is.1))
-      | inl f ↦ inl (subst (λ p. look n p c ≡ settled g (look m p c)) (sym e) (subst (λ q. look n k.object q ≡ settled g (look m k.object q)) (sym f) alters.here))
-    ]
-  ];
-  tallies = tallies;
-  counts = counts;
-}
-
 -- nothing that is settled is in the buffer
 settled_not_buffered : (g : WrittenGroup) (w : Option KeyEntry) (i : ℕ) → present_of (settled g w) ≡ presents.InBuffer i → ⊥
 settled_not_buffered g None i is = absurd cc
@@ -136,43 +119,10 @@ among_none keys o c at = omega (arith, at.1)
 pub cut_none : (cuts : List Key) (o c : ℕ) → IsCutAmong cuts 0 o c → ⊥
 cut_none cuts o c at = omega (arith, at.1)
 
-pub among_more : (keys : List Key) (n : ℕ) (k : Key) → ((d : Key) → get_or keys n d ≡ k) → (m : ObjectMap) (o c : ℕ) → IsAmong keys (n + 1) o c → IsAmong keys n o c ⊎ IsKey k o c ⊎ (look m o c ≡ None)
-among_more keys n k here m o c at = elim (cases_eq at.0 n) [
-  | inl e ↦ inr (inl (subst (λ x. IsKey x o c) (ap (λ i. get_or keys i k) e ∙ here k) (at.2 k)))
-  | inr ne ↦ inl (at.0, (let lt = at.1 in omega (arith, lt, ne)), at.2)
-]
-
 pub cut_more : (cuts : List Key) (n : ℕ) (k : Key) → ((d : Key) → get_or cuts n d ≡ k) → (m : ObjectMap) (o c : ℕ) → IsCutAmong cuts (n + 1) o c → IsCutAmong cuts n o c ⊎ IsFrom k o c ⊎ (look m o c ≡ None)
 cut_more cuts n k here m o c at = elim (cases_eq at.0 n) [
   | inl e ↦ inr (inl (subst (λ x. IsFrom x o c) (ap (λ i. get_or cuts i k) e ∙ here k) (at.2 k)))
   | inr ne ↦ inl (at.0, (let lt = at.1 in omega (arith, lt, ne)), at.2)
-]
-
--- ---- one entry after another, from the last one of an object on
-
--- the key is from one on, and not before the bound
-abbrev pub IsFromBound : Key → Option ℕ → ℕ → ℕ → Type 0
-IsFromBound k bound o c = (k.object ≡ o) × (k.chunk ≤ c) × (IsBelow c bound → ⊥)
-
-pub from_none : (k : Key) (o c : ℕ) → IsFromBound k None o c → ⊥
-from_none k o c is = is.2 tt
-
-pub from_more : (k : Key) (bound : Option ℕ) (m : ObjectMap) (e : KeyEntry) → IsLastFrom m k.object k.chunk bound (Some e)
-    → (o c : ℕ) → IsFromBound k (Some (chunk e)) o c → IsFromBound k bound o c ⊎ IsKey (record { object = k.object; chunk = chunk e }) o c ⊎ (look m o c ≡ None)
-from_more k bound m e last o c is = elim (cases_eq (chunk e) c) [
-  | inl at ↦ inr (inl (is.0, at))
-  | inr ne ↦ elim (below_or_not c bound) [
-    | inl below ↦
-        let above : chunk e < c = elim (cases_lt c (chunk e)) [ inl lt ↦ absurd (is.2 lt) | inr ge ↦ omega (arith, ge, ne) ] in
-        inr (inr (subst (λ p. look m p c ≡ None) is.0 (last.3 c above below)))
-    | inr past ↦ inl (is.0, is.1, past)
-  ]
-]
-
-pub from_all : (k : Key) (bound : Option ℕ) (m : ObjectMap) → IsLastFrom m k.object k.chunk bound None → (o c : ℕ) → IsFrom k o c → IsFromBound k bound o c ⊎ (look m o c ≡ None)
-from_all k bound m none o c is = elim (below_or_not c bound) [
-  | inl below ↦ inr (subst (λ p. look m p c ≡ None) is.0 (none c is.1 below))
-  | inr past ↦ inl (is.0, is.1, past)
 ]
 
 -- ---- one object after another

@@ -140,12 +140,6 @@ size_more m n o c e alters none size was =
     let zero : weight (λ (x : KeyEntry). 1) (look m o c) ≡ 0 = ap (weight (λ (x : KeyEntry). 1)) none in
     omega (arith, one, zero, was)
 
-pub size_less : (m n : ObjectMap) (o c : ℕ) → AltersKey o c None m n → IsSome (look m o c) → total (λ (x : KeyEntry). 1) n + 1 ≡ total (λ (x : KeyEntry). 1) m
-size_less m n o c alters some =
-    let one = alters.weighs (λ (x : KeyEntry). 1) in
-    let there : weight (λ (x : KeyEntry). 1) (look m o c) ≡ 1 = one_there (look m o c) some in
-    omega (arith, one, there)
-
 -- an object that has no entries is taken out
 pub bare_less : (o : ℕ) (m n : ObjectMap) → IfSome (get nat_cmp m o) (λ (x : ObjectEntries). x.entries.items ≡ []) → n.entries ≡ remove_entry (is_at (nat_cmp o)) m.entries
     → Updates nat_cmp m n o None → SameEntries m n
@@ -200,10 +194,6 @@ look_chunk m o c e is = go (get nat_cmp m o) refl where
   go : (v : Option ObjectEntries) → get nat_cmp m o ≡ v → chunk e ≡ c
   go None none = let both : None ≡ Some e = sym (ap (option_and_then (entry_of c)) none) ∙ is in absurd cc
   go (Some x) some = found_chunk x.entries.items c e (sym (ap (option_and_then (entry_of c)) some) ∙ is)
-
-pub found_if : (es : List KeyEntry) (c : ℕ) (r : Option KeyEntry) → r ≡ find_by chunk es c → IfSome r (λ (e : KeyEntry). e.chunk ≡ c)
-found_if es c None is = tt
-found_if es c (Some e) is = found_chunk es c e (sym is)
 
 -- it stands at a place
 pub found_place : (es : List KeyEntry) (c : ℕ) (e : KeyEntry) → find_by chunk es c ≡ Some e → (j : ℕ) × (j < length es) × (get_or es j e ≡ e)

@@ -2,7 +2,7 @@
 use Rattle.std.specs.Prelude.{◌≡◌, ◌≢◌, ◌<◌, ◌^◌, ℕ, ◌+◌, List, if◌then◌else◌, ◌==◌, Bool, true, false, Option, Some, None, IfSome}
 use Rattle.std.specs.Option.{option_map_or, option_and_then}
 use Rattle.std.specs.List.{sum_by}
-use Rattle.chunk_index.specs.Lists.{find_by, IsBelow}
+use Rattle.chunk_index.specs.Lists.{find_by}
 use Rattle.chunk_index.specs.declared.form.CommittedPage.{CommittedPage}
 use Rattle.chunk_index.specs.declared.form.Form.{Form}
 use Rattle.chunk_index.specs.declared.form.Form.TheVariants as forms
@@ -120,11 +120,6 @@ pub record Alters (c : ℕ) (to : Option KeyEntry) (old new : List KeyEntry) : T
   pub here : find_by chunk new c ≡ to
   pub others : (l : ℕ) → l ≢ c → find_by chunk new l ≡ find_by chunk old l
   pub weighs : (f : KeyEntry → ℕ) → weigh f new + weight f (find_by chunk old c) ≡ weigh f old + weight f to
-
--- the last entry before a bound, or none where none lies before it
-abbrev pub IsLastBelow : List KeyEntry → Option ℕ → Option KeyEntry → Type 0
-IsLastBelow es bound None = (l : ℕ) → IsBelow l bound → find_by chunk es l ≡ None
-IsLastBelow es bound (Some e) = (find_by chunk es (chunk e) ≡ Some e) × IsBelow (chunk e) bound × ((l : ℕ) → chunk e < l → IsBelow l bound → find_by chunk es l ≡ None)
 
 -- each page of the buffer has a page of 8 bits on the flash, from the group's first on, as each page of a block has
 abbrev pub HasPage : WrittenGroup → State → Type 0

@@ -6,6 +6,8 @@ pub mod Noted
 pub mod Counts
 pub mod Settled
 pub mod InPlace
+pub mod Dropped
+pub mod Prepared
 pub mod Retained
 pub mod Maps
 pub mod Moved

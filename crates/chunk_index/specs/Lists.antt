@@ -21,16 +21,11 @@ pub record IsGapFor {X : Type 0} (f : X → ℕ) (xs : List X) (n i : ℕ) : Typ
   pub lesser : (j : ℕ) (d : X) → j < i → f (get_or xs j d) < n
   pub greater : (j : ℕ) (d : X) → i ≤ j → j < length xs → n < f (get_or xs j d)
 
--- the number lies before a bound, where there is one
-abbrev pub IsBelow : ℕ → Option ℕ → Type 0
-IsBelow n None = Unit {0}
-IsBelow n (Some bound) = n < bound
-
--- the elements before place i are those whose numbers lie before a bound
-pub record IsEndFor {X : Type 0} (f : X → ℕ) (xs : List X) (bound : Option ℕ) (i : ℕ) : Type 0 where
+-- the elements before place i are those whose numbers lie before n
+pub record IsEndFor {X : Type 0} (f : X → ℕ) (xs : List X) (n i : ℕ) : Type 0 where
   pub within : i ≤ length xs
-  pub lesser : (j : ℕ) (d : X) → j < i → IsBelow (f (get_or xs j d)) bound
-  pub greater : (j : ℕ) (d : X) → i ≤ j → j < length xs → IsBelow (f (get_or xs j d)) bound → ⊥
+  pub lesser : (j : ℕ) (d : X) → j < i → f (get_or xs j d) < n
+  pub greater : (j : ℕ) (d : X) → i ≤ j → j < length xs → n ≤ f (get_or xs j d)
 
 -- there is no element
 abbrev pub is_nil : {X : Type 0} → List X → Bool

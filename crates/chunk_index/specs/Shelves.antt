@@ -1,11 +1,11 @@
 -- The entries of all objects.
-use Rattle.std.specs.Prelude.{◌≡◌, ◌≢◌, ◌⊎◌, ◌<◌, ◌≤◌, ◌+◌, ℕ, List, length, get_or, Option, Some, None, IsSome}
+use Rattle.std.specs.Prelude.{◌≡◌, ◌≢◌, ◌⊎◌, ◌<◌, ◌+◌, ℕ, List, length, get_or, Option, Some, None, IsSome}
 use Rattle.flash_tree.specs.declared.place.Key.{Key}
 use Rattle.std.specs.Option.{option_and_then}
 use Rattle.std.specs.List.{sum_by}
 use Rattle.std.specs.Ordering.{nat_cmp}
 use Rattle.std.specs.BTreeMap.{BTreeMap, get, values}
-use Rattle.chunk_index.specs.Lists.{find_by, IsBelow}
+use Rattle.chunk_index.specs.Lists.{find_by}
 use Rattle.chunk_index.specs.Entries.{chunk, weight, weigh}
 use Rattle.chunk_index.specs.declared.entry.KeyEntry.{KeyEntry}
 use Rattle.chunk_index.specs.declared.object.ObjectEntries.{ObjectEntries}
@@ -44,16 +44,6 @@ pub record SameEntries (old new : ObjectMap) : Type 0 where
 -- the key is in the list
 abbrev pub IsListed : List Key → ℕ → ℕ → Type 0
 IsListed keys o c = (i : ℕ) × (i < length keys) × ((d : Key) → ((get_or keys i d).object ≡ o) × ((get_or keys i d).chunk ≡ c))
-
--- the last entry of an object before a bound, or none where none lies before it
-abbrev pub IsLastOf : ObjectMap → ℕ → Option ℕ → Option KeyEntry → Type 0
-IsLastOf m o bound None = (l : ℕ) → IsBelow l bound → look m o l ≡ None
-IsLastOf m o bound (Some e) = (look m o (chunk e) ≡ Some e) × IsBelow (chunk e) bound × ((l : ℕ) → chunk e < l → IsBelow l bound → look m o l ≡ None)
-
--- the same among the chunks from one on
-abbrev pub IsLastFrom : ObjectMap → ℕ → ℕ → Option ℕ → Option KeyEntry → Type 0
-IsLastFrom m o from bound None = (l : ℕ) → from ≤ l → IsBelow l bound → look m o l ≡ None
-IsLastFrom m o from bound (Some e) = (look m o (chunk e) ≡ Some e) × (from ≤ chunk e) × IsBelow (chunk e) bound × ((l : ℕ) → chunk e < l → IsBelow l bound → look m o l ≡ None)
 
 -- the number lies after another, where there is one
 abbrev pub IsAfterNumber : ℕ → Option ℕ → Type 0

@@ -1,14 +1,14 @@
 // Keys that are no longer present, whole objects and ends of objects.
-ghost use Rattle.std.specs.Prelude.{◌≡◌, ◌⊎◌, ◌≢◌, ◌<◌, ℕ, Some, IfSome};
-ghost use Rattle.chunk_index.specs.Entries.{IsSmall};
-ghost use Rattle.chunk_index.specs.Noted.{IsNoted};
-ghost use Rattle.chunk_index.specs.Shelves.{look, Differs, IsLastFrom};
-ghost use Rattle.chunk_index.specs.Maps.{IsReadyKey, StaysPrepared, SameCommitted, Places, Cuts};
-ghost use Rattle.chunk_index.specs.declared.form.Form.TheVariants as forms;
+ghost use Rattle.std.specs.Prelude.{◌≡◌, ◌⊎◌, ◌≢◌, ◌<◌, ◌≤◌, ◌↔◌, ℕ, false, None, length, map};
+ghost use Rattle.chunk_index.specs.Dropped.{dropped_from, DropsFrom};
+ghost use Rattle.chunk_index.specs.Entries.{chunk};
+ghost use Rattle.chunk_index.specs.Lists.{find_by, IsEndFor};
+ghost use Rattle.chunk_index.specs.Shelves.{look};
+ghost use Rattle.chunk_index.specs.Maps.{IsReadyKey, StaysPrepared, SameCommitted, Cuts};
 
-use crate::entry::KeyEntry;
-use crate::form::{Form, Present};
 use crate::index::Index;
+use crate::object::ObjectEntries;
+use crate::packed::PackedEntry;
 use crate::shelf::Shelf;
 use flash_tree::Key;
 
@@ -30,50 +30,47 @@ impl Index {
         ensures prepared { StaysPrepared self.old self.new }
         ensures has_room { (k l : ℕ) → (k ≢ object) ⊎ (l < from) → IsReadyKey self.old k l → IsReadyKey self.new k l }
     {
-        if self.shelf.last_from(object, from, None).is_none() {
-            return;
-        }
-        self.changes.note_from(Key {
-            object,
-            chunk: from,
-        });
-        let mut bound = None;
-        while let Some(entry) = self.shelf.last_from(object, from, bound) {
-            let chunk = entry.chunk;
-            self.drop_entry(Key { object, chunk }, entry);
-            bound = Some(chunk);
-        }
-    }
-
-    /// A key that is noted is no longer present.
-    fn drop_entry(&mut self, key: Key, entry: KeyEntry)
-        requires entry { look self.old.shelf.objects key.object key.chunk ≡ Some entry }
-        requires small { IsSmall entry }
-        requires noted { ∥ IsNoted self.old.changes key.object key.chunk ∥₁ }
-        ensures places { Places key.object key.chunk forms.Dropped self.old self.new }
-        ensures committed { SameCommitted self.old self.new }
-        ensures prepared { StaysPrepared self.old self.new }
-        ensures changes { self.new.changes ≡ self.old.changes }
-        ensures has_room { (k l : ℕ) → Differs key.object key.chunk k l → IsReadyKey self.old k l → IsReadyKey self.new k l }
-    {
-        match entry.present() {
-            Present::Absent => {}
-            Present::OnFlash(_) => self.place_noted(key, entry, Form::Dropped),
-            Present::InBuffer(_) => self.place_noted(key, entry, Form::Dropped),
+        if self.shelf.drop_from(object, from) {
+            self.changes.note_from(Key {
+                object,
+                chunk: from,
+            });
         }
     }
 }
 
 impl Shelf {
-    /// The last entry of an object from a chunk on, before a bound.
-    pub fn last_from(&self, object: u64, from: u64, bound: Option<u64>) -> Option<KeyEntry>
-        ensures last { IsLastFrom self.now.objects object from bound result }
-        ensures small { IfSome result IsSmall }
+    /// Nothing of an object is present any more from a chunk on. Returns whether it has entries there.
+    fn drop_from(&mut self, object: u64, from: u64) -> bool
+        ensures drops { DropsFrom object from self.old.objects self.new.objects }
+        ensures none { (result ≡ false) ↔ ((c : ℕ) → from ≤ c → look self.old.objects object c ≡ None) }
+        ensures size { self.new.size ≡ self.old.size }
     {
-        let entry = self.last_below(object, bound)?;
-        if entry.chunk < from {
-            return None;
+        match self.objects.get_mut(&object) {
+            Some(entries) => entries.drop_from(from),
+            None => false,
         }
-        Some(entry)
+    }
+}
+
+impl ObjectEntries {
+    /// Nothing is present any more from a chunk on. Returns whether there are entries.
+    fn drop_from(&mut self, from: u64) -> bool
+        ensures items { self.new.entries.items ≡ map (dropped_from from) self.old.entries.items }
+        ensures none { (result ≡ false) ↔ ((c : ℕ) → from ≤ c → find_by chunk self.old.entries.items c ≡ None) }
+    {
+        let first = self.count_below(from);
+        drop_behind(&mut self.entries, first);
+        first < self.entries.len()
+    }
+}
+
+/// Nothing is present any more of the entries from a place on.
+fn drop_behind(entries: &mut Vec<PackedEntry>, first: usize)
+    requires { first ≤ length entries.old.items }
+    ensures { (n : ℕ) → IsEndFor chunk entries.old.items n first → entries.new.items ≡ map (dropped_from n) entries.old.items }
+{
+    for at in first..entries.len() {
+        entries[at].drop_present();
     }
 }

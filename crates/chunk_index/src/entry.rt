@@ -1,7 +1,7 @@
 // What the index has of one chunk.
-ghost use Rattle.std.specs.Prelude.{◌≡◌, ◌<◌};
+ghost use Rattle.std.specs.Prelude.{◌≡◌, ◌<◌, ◌^◌, None};
 
-use crate::form::{CommittedPage, Form, Present};
+use crate::form::{CommittedPage, Form};
 
 /// How what is present of a chunk differs from what is committed.
 #[derive(Clone, Copy, Debug, PartialEq, Eq)]
@@ -16,26 +16,6 @@ pub enum State {
     Vacant,
 }
 
-impl State {
-    ghost use Rattle.chunk_index.specs.Entries.{IsSmallState};
-    ghost use Rattle.chunk_index.specs.InPlace.{buffered_state};
-
-    /// The state once a page of the buffer is present: the one that is there stays, and else the one of this number is.
-    pub(crate) fn in_buffer(self, number: u32) -> State
-        requires small { IsSmallState self }
-        requires number { number < 253 }
-        ensures state { result ≡ buffered_state number self }
-        ensures small { IsSmallState result }
-    {
-        match self {
-            State::Buffered(i) => State::Buffered(i),
-            State::Same => State::Buffered(number),
-            State::Dropped => State::Buffered(number),
-            State::Vacant => State::Buffered(number),
-        }
-    }
-}
-
 #[derive(Clone, Copy, Debug, PartialEq, Eq)]
 pub struct KeyEntry {
     pub chunk: u64,
@@ -44,20 +24,18 @@ pub struct KeyEntry {
 }
 
 impl KeyEntry {
-    ghost use Rattle.chunk_index.specs.Entries.{present_by, is_same};
+    ghost use Rattle.chunk_index.specs.Entries.{committed_at, is_same, IsSmall};
 
-    /// The present page.
-    pub fn present(&self) -> Present
-        ensures { result ≡ present_by self.now.committed self.now.state }
+    /// The entry of a chunk of which nothing is committed or present.
+    pub fn bare(chunk: u64) -> KeyEntry
+        requires { chunk < 2 ^ 32 }
+        ensures entry { result ≡ committed_at chunk None }
+        ensures small { IsSmall result }
     {
-        match self.state {
-            State::Same => match self.committed {
-                Some(page) => Present::OnFlash(page),
-                None => Present::Absent,
-            },
-            State::Buffered(i) => Present::InBuffer(i),
-            State::Dropped => Present::Absent,
-            State::Vacant => Present::Absent,
+        KeyEntry {
+            chunk,
+            committed: None,
+            state: State::Same,
         }
     }
 

@@ -1,8 +1,8 @@
 // The index.
-ghost use Rattle.std.specs.Prelude.{◌≡◌, ◌≢◌, ◌<◌, ◌≤◌, ◌+◌, ◌^◌, ℕ, true, false, length, vec_capacity, None, Some, OnOk, OnErr, IsOk, IsSome};
+ghost use Rattle.std.specs.Prelude.{◌≡◌, ◌≢◌, ◌<◌, ◌≤◌, ◌+◌, ◌^◌, ℕ, true, false, length, vec_capacity, None, Some, OnOk, OnErr, IsSome};
 ghost use Rattle.block_state.specs.Table.{Table};
 ghost use Rattle.block_state.specs.TableOf.{table};
-ghost use Rattle.chunk_index.specs.Entries.{same_of, with_state, with_committed, committed_at, state_of, IsSmall, IsSmallPage, IsSmallState};
+ghost use Rattle.chunk_index.specs.Entries.{same_of, with_committed, committed_at, state_of, IsSmall, IsSmallPage, IsSmallState};
 ghost use Rattle.chunk_index.specs.Noted.{IsNoted};
 ghost use Rattle.chunk_index.specs.Shelves.{look, total, Differs, AltersKey, SameEntries};
 ghost use Rattle.chunk_index.specs.Counts.{Recounts};
@@ -28,7 +28,7 @@ pub struct Index {
 }
 
 impl Index {
-    ghost use Rattle.chunk_index.specs.Maps.{committed_pages, present, count_committed_in, IsPrepared, IsReadyKey, StaysPrepared, IsEmpty, CountsAgree, SameCommitted, SamePresent, Places, buffered_or, Copies, Settles, Fits};
+    ghost use Rattle.chunk_index.specs.Maps.{committed_pages, present, count_committed_in, IsPrepared, IsReadyKey, StaysPrepared, IsEmpty, CountsAgree, SameCommitted, Places, buffered_or, Copies, Settles, Fits};
 
     /// No key is committed or present.
     pub fn new(alloc: Global) -> Index
@@ -54,76 +54,14 @@ impl Index {
     pub fn committed(&self, key: Key) -> Option<CommittedPage>
         ensures { result ≡ committed_pages self.now key.object key.chunk }
     {
-        match self.shelf.entry(key) {
-            Some(entry) => entry.committed,
-            None => None,
-        }
+        self.shelf.committed(key)
     }
 
     /// The present page of a key.
     pub fn present(&self, key: Key) -> Present
         ensures { result ≡ present self.now key.object key.chunk }
     {
-        match self.shelf.entry(key) {
-            Some(entry) => entry.present(),
-            None => Present::Absent,
-        }
-    }
-
-    /// Sees that there is room for the present page of a key, also once the changes are settled, so that `place` and
-    /// `settle_group` take no memory. No committed and no present page changes, also where memory is refused, which it never is
-    /// for a key that is committed or present. The chunk is one that a tree may look up.
-    pub fn prepare(&mut self, key: Key) -> Result<(), AllocError>
-        requires { key.chunk < 2 ^ 32 }
-        ensures committed { SameCommitted self.old self.new }
-        ensures present { SamePresent self.old self.new }
-        ensures has_room { OnOk result (IsReadyKey self.new key.object key.chunk) }
-        ensures stays { (o c : ℕ) → IsReadyKey self.old o c → IsReadyKey self.new o c }
-        ensures prepared { StaysPrepared self.old self.new }
-        ensures succeeds { IsPrepared self.old key.object key.chunk → IsOk result }
-    {
-        match self.shelf.entry(key) {
-            Some(entry) => {
-                let _ = self.changes.reserve();
-                self.keep_entry(key, entry);
-                Ok(())
-            }
-            None => self.add_entry(key),
-        }
-    }
-
-    /// Sees that the entry of a key stays once the changes are settled.
-    fn keep_entry(&mut self, key: Key, entry: KeyEntry)
-        requires entry { look self.old.shelf.objects key.object key.chunk ≡ Some entry }
-        requires small { IsSmall entry }
-        ensures committed { SameCommitted self.old self.new }
-        ensures present { SamePresent self.old self.new }
-        ensures has_room { IsReadyKey self.new key.object key.chunk }
-        ensures stays { (o c : ℕ) → IsReadyKey self.old o c → IsReadyKey self.new o c }
-        ensures prepared { StaysPrepared self.old self.new }
-    {
-        match entry.state {
-            State::Dropped => {
-                let state = State::Vacant;
-                self.shelf.set(key.object, KeyEntry { state, ..entry });
-            }
-            State::Same => {}
-            State::Buffered(_) => {}
-            State::Vacant => {}
-        }
-    }
-
-    /// Gives a key an entry, which holds nothing.
-    fn add_entry(&mut self, key: Key) -> Result<(), AllocError>
-        requires absent { look self.old.shelf.objects key.object key.chunk ≡ None }
-        requires low { key.chunk < 2 ^ 32 }
-        ensures committed { SameCommitted self.old self.new }
-        ensures present { SamePresent self.old self.new }
-        ensures has_room { OnOk result (IsReadyKey self.new key.object key.chunk) }
-        ensures stays { (o c : ℕ) → IsReadyKey self.old o c → IsReadyKey self.new o c }
-        ensures prepared { StaysPrepared self.old self.new }
-    {
-        self.add(key, None)
+        self.shelf.present(key)
     }
 
     /// Gives a key an entry, whose present page is the committed one.
@@ -181,19 +119,6 @@ impl Index {
             State::Dropped => number,
             State::Vacant => number,
         }
-    }
-
-    /// Gives a key that is noted another present page.
-    pub(crate) fn place_noted(&mut self, key: Key, entry: KeyEntry, form: Form)
-        requires entry { look self.old.shelf.objects key.object key.chunk ≡ Some entry }
-        requires small { IsSmall entry }
-        requires number { IsSmallState (state_of form) }
-        requires noted { ∥ IsNoted self.old.changes key.object key.chunk ∥₁ }
-        ensures alters { AltersKey key.object key.chunk (Some (with_state (state_of form) entry)) self.old.shelf.objects self.new.shelf.objects }
-        ensures changes { self.new.changes ≡ self.old.changes }
-    {
-        let state = form.state();
-        self.shelf.set(key.object, KeyEntry { state, ..entry });
     }
 
     /// Notes that the committed page of a key was copied to another place, in the same version.

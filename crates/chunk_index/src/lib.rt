@@ -18,6 +18,7 @@ mod next;
 mod object;
 mod packed;
 mod placed_pages;
+mod prepare;
 mod retain;
 mod settle;
 mod shelf;

@@ -1,10 +1,11 @@
 // The entries of one object.
-ghost use Rattle.std.specs.Prelude.{◌≡◌, ◌<◌, [], None, Some, IfOk, IfErr, IfSome, OnOk, OnErr, IsSome};
+ghost use Rattle.std.specs.Prelude.{◌≡◌, ◌<◌, [], None, Some, IfOk, IfErr, OnOk, OnErr, IsSome};
 ghost use Rattle.chunk_index.specs.Lists.{Rises, IsAt, IsGapFor, IsEndFor, find_by, is_nil};
-ghost use Rattle.chunk_index.specs.Entries.{chunk, same_of, Alters, IsLastBelow, IsSmall, IsSmallState};
+ghost use Rattle.chunk_index.specs.Entries.{chunk, committed_of, present_of, same_of, Alters, IsSmall, IsSmallState};
 ghost use Rattle.chunk_index.specs.InPlace.{placed, buffered, state_in};
 
 use crate::entry::{KeyEntry, State};
+use crate::form::{CommittedPage, Present};
 use crate::packed::PackedEntry;
 use std::alloc::{AllocError, Global};
 
@@ -60,14 +61,23 @@ impl ObjectEntries {
             .binary_search_by_key(&number, |entry| entry.chunk())
     }
 
-    /// The entry of a chunk.
-    pub fn get(&self, number: u64) -> Option<KeyEntry>
-        ensures entry { result ≡ find_by chunk self.now.entries.items number }
-        ensures small { IfSome result IsSmall }
+    /// The committed page of a chunk.
+    pub fn committed(&self, number: u64) -> Option<CommittedPage>
+        ensures { result ≡ committed_of (find_by chunk self.now.entries.items number) }
     {
         match self.search(number) {
-            Ok(at) => Some(self.entries[at].unpack()),
+            Ok(at) => self.entries[at].committed(),
             Err(_) => None,
+        }
+    }
+
+    /// The present page of a chunk.
+    pub fn present(&self, number: u64) -> Present
+        ensures { result ≡ present_of (find_by chunk self.now.entries.items number) }
+    {
+        match self.search(number) {
+            Ok(at) => self.entries[at].present(),
+            Err(_) => Present::Absent,
         }
     }
 
@@ -80,12 +90,20 @@ impl ObjectEntries {
     {
         match self.search(entry.chunk) {
             Ok(_) => Ok(()),
-            Err(at) => {
-                reserve_one(&mut self.entries)?;
-                self.entries.insert(at, PackedEntry::pack(entry))?;
-                Ok(())
-            }
+            Err(at) => self.insert_at(at, entry),
         }
+    }
+
+    /// Puts an entry at the place where it goes.
+    pub(crate) fn insert_at(&mut self, at: usize, entry: KeyEntry) -> Result<(), AllocError>
+        requires gap { IsGapFor chunk self.old.entries.items entry.chunk at }
+        requires small { IsSmall entry }
+        ensures ok { OnOk result (Alters entry.chunk (Some entry) self.old.entries.items self.new.entries.items) }
+        ensures err { OnErr result (self.new.entries.items ≡ self.old.entries.items) }
+    {
+        reserve_one(&mut self.entries)?;
+        self.entries.insert(at, PackedEntry::pack(entry))?;
+        Ok(())
     }
 
     /// Sees that there is room for so many entries more, and for no others.
@@ -125,9 +143,9 @@ impl ObjectEntries {
     {
         match self.search(number) {
             Ok(at) => {
-                let entry = self.entries[at].unpack();
-                self.entries[at] = PackedEntry::pack(KeyEntry { state, ..entry });
-                entry.is_same()
+                let same = self.entries[at].is_same();
+                self.entries[at].set_state(state);
+                same
             }
             Err(_) => true,
         }
@@ -141,12 +159,7 @@ impl ObjectEntries {
         ensures state { result ≡ state_in (find_by chunk self.old.entries.items number) }
     {
         match self.search(number) {
-            Ok(at) => {
-                let entry = self.entries[at].unpack();
-                let state = entry.state.in_buffer(page);
-                self.entries[at] = PackedEntry::pack(KeyEntry { state, ..entry });
-                entry.state
-            }
+            Ok(at) => self.entries[at].put_in_buffer(page),
             Err(_) => State::Same,
         }
     }
@@ -171,29 +184,14 @@ impl ObjectEntries {
         self.entries.is_empty()
     }
 
-    /// How many entries lie before a bound.
-    fn count_below(&self, bound: Option<u64>) -> usize
-        ensures { IsEndFor chunk self.now.entries.items bound result }
+    /// How many entries lie before a chunk.
+    pub(crate) fn count_below(&self, number: u64) -> usize
+        ensures { IsEndFor chunk self.now.entries.items number result }
     {
-        match bound {
-            Some(number) => match self.search(number) {
-                Ok(at) => at,
-                Err(at) => at,
-            },
-            None => self.entries.len(),
+        match self.search(number) {
+            Ok(at) => at,
+            Err(at) => at,
         }
-    }
-
-    /// The last entry whose chunk lies before a bound.
-    pub fn last_below(&self, bound: Option<u64>) -> Option<KeyEntry>
-        ensures last { IsLastBelow self.now.entries.items bound result }
-        ensures small { IfSome result IsSmall }
-    {
-        let end = self.count_below(bound);
-        if end == 0 {
-            return None;
-        }
-        Some(self.entries[end - 1].unpack())
     }
 }
 

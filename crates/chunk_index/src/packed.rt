@@ -1,10 +1,13 @@
 // An entry as it is held in memory.
 ghost use Rattle.std.specs.Prelude.{◌≡◌, ◌<◌, ◌^◌, is_some};
-ghost use Rattle.chunk_index.specs.Entries.{IsSmall, IsSmallPage, IsSmallState};
+ghost use Rattle.chunk_index.specs.Entries.{committed_at, is_same, present_by, with_state, IsSmall, IsSmallPage, IsSmallState};
+ghost use Rattle.chunk_index.specs.Dropped.{dropped};
+ghost use Rattle.chunk_index.specs.InPlace.{with_buffered};
+ghost use Rattle.chunk_index.specs.Prepared.{kept};
 ghost use Rattle.chunk_index.specs.Packed.{committed_from, state_from};
 
 use crate::entry::{KeyEntry, State};
-use crate::form::CommittedPage;
+use crate::form::{CommittedPage, Present};
 use std::marker::Model;
 
 /// The block of an entry without a committed page. A device has at most 4,096 blocks.
@@ -86,8 +89,82 @@ impl PackedEntry {
         self.committed().is_some()
     }
 
+    /// Whether what is present is what is committed.
+    pub fn is_same(&self) -> bool
+        ensures { result ≡ is_same self.now }
+    {
+        self.number == SAME
+    }
+
+    /// The present page.
+    pub fn present(&self) -> Present
+        ensures { result ≡ present_by self.now.committed self.now.state }
+    {
+        match self.state() {
+            State::Same => match self.committed() {
+                Some(page) => Present::OnFlash(page),
+                None => Present::Absent,
+            },
+            State::Buffered(i) => Present::InBuffer(i),
+            State::Dropped => Present::Absent,
+            State::Vacant => Present::Absent,
+        }
+    }
+
+    /// Gives it another state.
+    pub fn set_state(&mut self, state: State)
+        requires { IsSmallState state }
+        ensures { self.new ≡ with_state state self.old }
+    {
+        self.number = numbered(state);
+    }
+
+    /// Makes the page of this number in the buffer present, unless one there is, and returns the state that it had.
+    pub fn put_in_buffer(&mut self, page: u32) -> State
+        requires { page < 253 }
+        ensures entry { self.new ≡ with_buffered page self.old }
+        ensures state { result ≡ self.old.state }
+    {
+        let state = self.state();
+        if self.number >= VACANT {
+            self.number = page as u8;
+        }
+        state
+    }
+
+    /// Commits a page, or none, and what is present is the same.
+    pub fn commit(&mut self, page: Option<CommittedPage>)
+        requires { IsSmallPage page }
+        ensures { self.new ≡ committed_at self.old.chunk page }
+    {
+        let at = page_or_none(page);
+        self.version = at.version;
+        self.block = at.block as u16;
+        self.page = at.page as u8;
+        self.number = SAME;
+    }
+
+    /// Nothing of its chunk is present any more.
+    pub fn drop_present(&mut self)
+        ensures { self.new ≡ dropped self.old }
+    {
+        if self.number == VACANT || (self.number == SAME && self.block == NO_BLOCK) {
+            return;
+        }
+        self.number = DROPPED;
+    }
+
+    /// It stays once the changes are settled.
+    pub fn keep(&mut self)
+        ensures { self.new ≡ kept self.old }
+    {
+        if self.number == DROPPED {
+            self.number = VACANT;
+        }
+    }
+
     /// Where the page is committed, and its version.
-    fn committed(&self) -> Option<CommittedPage>
+    pub fn committed(&self) -> Option<CommittedPage>
         ensures committed { result ≡ self.now.committed }
         ensures small { IsSmallPage result }
     {
@@ -102,7 +179,7 @@ impl PackedEntry {
     }
 
     /// How what is present differs from what is committed.
-    fn state(&self) -> State
+    pub fn state(&self) -> State
         ensures state { result ≡ self.now.state }
         ensures small { IsSmallState result }
     {

@@ -1,17 +1,18 @@
 // What becomes of the entries once the buffer was written.
-ghost use Rattle.std.specs.Prelude.{◌≡◌, ◌<◌, ◌≤◌, ◌+◌, ◌^◌, ℕ, false, Some, IfSome};
+ghost use Rattle.std.specs.Prelude.{◌≡◌, ◌<◌, ◌≤◌, ◌+◌, ℕ, false, Some, IfSome, length, get_or};
 ghost use Rattle.block_state.specs.TableOf.{table};
-ghost use Rattle.chunk_index.specs.Entries.{chunk, settled, settled_by, same_of, committed_of, one_at, HasPage, Alters, IsSmall};
-ghost use Rattle.chunk_index.specs.InPlace.{goes_of, left_of};
-ghost use Rattle.chunk_index.specs.Lists.{find_by};
-ghost use Rattle.chunk_index.specs.Shelves.{look, AltersKey, IsListed};
-ghost use Rattle.chunk_index.specs.Counts.{Recounts, RecountsObjects, Tallies};
-ghost use Rattle.chunk_index.specs.Settled.{MaySettle, MaySettleEntry, SettlesWhere, RecountsSettled, IsKey, IsFrom, IsAny};
+ghost use Rattle.flash_tree.specs.declared.place.Key.{Key};
+ghost use Rattle.chunk_index.specs.Entries.{chunk, settled, same_of, Alters};
+ghost use Rattle.chunk_index.specs.InPlace.{goes, goes_of, left, left_of};
+ghost use Rattle.chunk_index.specs.Lists.{find_by, IsEndFor};
+ghost use Rattle.chunk_index.specs.Shelves.{look, IsListed};
+ghost use Rattle.chunk_index.specs.Counts.{RecountsEntries, RecountsObjects, Tallies};
+ghost use Rattle.chunk_index.specs.Settled.{MaySettle, MaySettleEntry, MaySettleEntries, SettlesWhere, SettlesChunks, settled_entries, RecountsSettled, IsFrom, IsAny, IsListedIn, IsChunkIn, AreOfObject};
 ghost use Rattle.chunk_index.specs.Noted.{IsNoted, IsCut};
 
 use crate::change;
 use crate::changes::ChangeList;
-use crate::entry::{KeyEntry, State};
+use crate::entry::State;
 use crate::form::{CommittedPage, WrittenGroup};
 use crate::object::ObjectEntries;
 use crate::packed::PackedEntry;
@@ -19,54 +20,36 @@ use crate::shelf::Shelf;
 use block_state::Blocks;
 use flash_tree::Key;
 
-impl KeyEntry {
-    /// What the entry becomes, if it stays. The page that is committed then is in the count in place of the one that was.
-    fn settle(self, group: WrittenGroup, blocks: &mut Blocks) -> Option<KeyEntry>
-        requires may { MaySettleEntry group self (table blocks.old) }
-        requires small { IsSmall self }
-        ensures result { result ≡ settled_by group self self.state }
-        ensures chunk { IfSome result (λ e. e.chunk ≡ self.chunk) }
-        ensures small { IfSome result IsSmall }
-        ensures counts { Recounts (one_at self.committed) (one_at (committed_of result)) (table blocks.old) (table blocks.new) }
+impl PackedEntry {
+    /// Settles the entry in its place, and counts the page that is committed then in place of the one that was. Returns whether it is to
+    /// go: its page is counted no longer.
+    fn settle(&mut self, group: WrittenGroup, blocks: &mut Blocks) -> bool
+        requires may { MaySettleEntry group self.old (table blocks.old) }
+        ensures entry { self.new ≡ left group self.old }
+        ensures goes { result ≡ goes group self.old }
+        ensures counts { RecountsSettled group (Some self.old) (table blocks.old) (table blocks.new) }
     {
-        match self.settled(group) {
-            Some(new) => {
-                change::recount(self.committed, new.committed, blocks);
-                Some(new)
-            }
-            None => {
-                change::recount(self.committed, None, blocks);
-                None
-            }
-        }
-    }
-
-    /// What the entry becomes, if it stays.
-    fn settled(self, group: WrittenGroup) -> Option<KeyEntry>
-        requires page { HasPage group self.state }
-        requires block { group.block < 65535 }
-        requires small { IsSmall self }
-        ensures result { result ≡ settled_by group self self.state }
-        ensures chunk { IfSome result (λ e. e.chunk ≡ self.chunk) }
-        ensures small { IfSome result IsSmall }
-    {
-        match self.state {
-            State::Same => Some(self),
-            State::Buffered(i) => Some(KeyEntry {
-                chunk: self.chunk,
-                committed: Some(CommittedPage {
+        match self.state() {
+            State::Same => false,
+            State::Buffered(i) => {
+                let page = CommittedPage {
                     block: group.block,
                     page: group.first + i,
                     version: group.number,
-                }),
-                state: State::Same,
-            }),
-            State::Dropped => None,
-            State::Vacant => Some(KeyEntry {
-                chunk: self.chunk,
-                committed: None,
-                state: State::Same,
-            }),
+                };
+                change::recount(self.committed(), Some(page), blocks);
+                self.commit(Some(page));
+                false
+            }
+            State::Dropped => {
+                change::release(self.committed(), blocks);
+                true
+            }
+            State::Vacant => {
+                change::release(self.committed(), blocks);
+                self.commit(None);
+                false
+            }
         }
     }
 }
@@ -88,13 +71,61 @@ impl Shelf {
         self.settle_cuts(&changes.cuts, group, blocks);
     }
 
-    /// Settles each key of a list.
+    /// Settles each key of a list. An object is looked up once for those of its keys that follow each other there.
     fn settle_keys(&mut self, keys: &[Key], group: WrittenGroup, blocks: &mut Blocks)
         requires { MaySettle group self.old.objects (table blocks.old) }
         ensures { SettlesWhere group (IsListed keys.now) self.old.objects self.new.objects (table blocks.old) (table blocks.new) }
     {
-        for key in keys {
-            self.settle_key(*key, group, blocks);
+        let mut done = 0;
+        while done < keys.len() {
+            done = self.settle_run(keys, done, group, blocks);
+        }
+    }
+
+    /// Settles the keys of one object that follow each other in a list from a place on, and drops the object where none of its entries is
+    /// left. Returns the place behind them.
+    fn settle_run(
+        &mut self,
+        keys: &[Key],
+        from: usize,
+        group: WrittenGroup,
+        blocks: &mut Blocks,
+    ) -> usize
+        requires may { MaySettle group self.old.objects (table blocks.old) }
+        requires from { from < length keys.now }
+        ensures settles { SettlesWhere group (IsListedIn keys.now from result) self.old.objects self.new.objects (table blocks.old) (table blocks.new) }
+        ensures end { (from < result) × (result ≤ length keys.now) }
+    {
+        let size = self.size;
+        let end = self.settle_listed(keys, from, group, blocks);
+        if self.size < size {
+            self.drop_empty(keys[from].object);
+        }
+        end
+    }
+
+    /// Settles the keys of one object that follow each other in a list from a place on. Returns the place behind them.
+    fn settle_listed(
+        &mut self,
+        keys: &[Key],
+        from: usize,
+        group: WrittenGroup,
+        blocks: &mut Blocks,
+    ) -> usize
+        requires may { MaySettle group self.old.objects (table blocks.old) }
+        requires from { from < length keys.now }
+        ensures settles { SettlesWhere group (IsListedIn keys.now from result) self.old.objects self.new.objects (table blocks.old) (table blocks.new) }
+        ensures end { (from < result) × (result ≤ length keys.now) }
+    {
+        let object = keys[from].object;
+        match self.objects.get_mut(&object) {
+            Some(entries) => {
+                let before = entries.entries.len();
+                let end = entries.settle_run(object, keys, from, group, blocks);
+                self.size -= before - entries.entries.len();
+                end
+            }
+            None => from + 1,
         }
     }
 
@@ -121,45 +152,29 @@ impl Shelf {
         }
     }
 
-    /// Settles the keys of an object from a chunk on, the last one first, so that no entry that stays is moved, and gives
-    /// back the room of those that go.
+    /// Settles the keys of an object from a chunk on, and drops the object where none of its entries is left.
     fn settle_from(&mut self, from: Key, group: WrittenGroup, blocks: &mut Blocks)
         requires { MaySettle group self.old.objects (table blocks.old) }
         ensures { SettlesWhere group (IsFrom from) self.old.objects self.new.objects (table blocks.old) (table blocks.new) }
     {
-        let mut bound = None;
-        while let Some(entry) = self.last_from(from.object, from.chunk, bound) {
-            let chunk = entry.chunk;
-            let key = Key {
-                object: from.object,
-                chunk,
-            };
-            self.settle_key(key, group, blocks);
-            bound = Some(chunk);
+        if self.settle_entries(from, group, blocks) > 0 {
+            self.drop_empty(from.object);
         }
-        self.shrink(from.object);
     }
 
-    /// Settles one key.
-    fn settle_key(&mut self, key: Key, group: WrittenGroup, blocks: &mut Blocks)
+    /// Settles the entries of an object from a chunk on. Returns how many go.
+    fn settle_entries(&mut self, from: Key, group: WrittenGroup, blocks: &mut Blocks) -> usize
         requires { MaySettle group self.old.objects (table blocks.old) }
-        ensures { SettlesWhere group (IsKey key) self.old.objects self.new.objects (table blocks.old) (table blocks.new) }
+        ensures settles { SettlesWhere group (IsFrom from) self.old.objects self.new.objects (table blocks.old) (table blocks.new) }
+        ensures gone { self.new.size + result ≡ self.old.size }
     {
-        if self.settle_entry(key, group, blocks) {
-            self.remove(key);
-        }
-    }
-
-    /// Settles the entry of a key in its place, if there is one, and counts its page. Returns whether it is to go.
-    fn settle_entry(&mut self, key: Key, group: WrittenGroup, blocks: &mut Blocks) -> bool
-        requires may { IfSome (look self.old.objects key.object key.chunk) (λ e. MaySettleEntry group e (table blocks.old)) }
-        ensures alters { AltersKey key.object key.chunk (left_of group (look self.old.objects key.object key.chunk)) self.old.objects self.new.objects }
-        ensures goes { result ≡ goes_of group (look self.old.objects key.object key.chunk) }
-        ensures counts { RecountsSettled group (look self.old.objects key.object key.chunk) (table blocks.old) (table blocks.new) }
-    {
-        match self.objects.get_mut(&key.object) {
-            Some(entries) => entries.settle(key.chunk, group, blocks),
-            None => false,
+        match self.objects.get_mut(&from.object) {
+            Some(entries) => {
+                let gone = entries.settle_from(from.chunk, group, blocks);
+                self.size -= gone;
+                gone
+            }
+            None => 0,
         }
     }
 }
@@ -173,14 +188,83 @@ impl ObjectEntries {
         ensures counts { RecountsSettled group (find_by chunk self.old.entries.items number) (table blocks.old) (table blocks.new) }
     {
         match self.search(number) {
-            Ok(at) => match self.entries[at].unpack().settle(group, blocks) {
-                Some(new) => {
-                    self.entries[at] = PackedEntry::pack(new);
-                    false
-                }
-                None => true,
-            },
+            Ok(at) => self.entries[at].settle(group, blocks),
             Err(_) => false,
         }
     }
+
+    /// Settles the entry of a chunk, if there is one, and counts its page.
+    fn settle_chunk(&mut self, number: u64, group: WrittenGroup, blocks: &mut Blocks)
+        requires may { IfSome (find_by chunk self.old.entries.items number) (λ e. MaySettleEntry group e (table blocks.old)) }
+        ensures alters { Alters number (settled group (find_by chunk self.old.entries.items number)) self.old.entries.items self.new.entries.items }
+        ensures counts { RecountsSettled group (find_by chunk self.old.entries.items number) (table blocks.old) (table blocks.new) }
+    {
+        if self.settle(number, group, blocks) {
+            self.remove(number);
+        }
+    }
+
+    /// Settles the keys of this object that follow each other in a list from a place on, and counts their pages. Returns the place behind
+    /// them.
+    fn settle_run(
+        &mut self,
+        object: u64,
+        keys: &[Key],
+        from: usize,
+        group: WrittenGroup,
+        blocks: &mut Blocks,
+    ) -> usize
+        requires may { MaySettleEntries group self.old.entries.items (table blocks.old) }
+        requires from { from < length keys.now }
+        requires object { (d : Key) → (get_or keys.now from d).object ≡ object }
+        ensures settles { SettlesChunks group (IsChunkIn keys.now from result) self.old.entries.items self.new.entries.items (table blocks.old) (table blocks.new) }
+        ensures object { AreOfObject keys.now from result object }
+        ensures end { (from < result) × (result ≤ length keys.now) }
+    {
+        for at in from..keys.len() {
+            if keys[at].object != object {
+                return at;
+            }
+            self.settle_chunk(keys[at].chunk, group, blocks);
+        }
+        keys.len()
+    }
+
+    /// Settles the entries from a chunk on, and gives back the room of those that go. Returns how many go.
+    fn settle_from(&mut self, from: u64, group: WrittenGroup, blocks: &mut Blocks) -> usize
+        requires may { MaySettleEntries group self.old.entries.items (table blocks.old) }
+        ensures items { self.new.entries.items ≡ settled_entries from group self.old.entries.items }
+        ensures gone { length self.new.entries.items + result ≡ length self.old.entries.items }
+        ensures counts { RecountsEntries self.old.entries.items self.new.entries.items (table blocks.old) (table blocks.new) }
+    {
+        let before = self.entries.len();
+        let first = self.count_below(from);
+        settle_behind(&mut self.entries, first, group, blocks);
+        self.shrink();
+        before - self.entries.len()
+    }
+}
+
+/// Settles the entries from a place on. Those that stay keep their order, and are moved to the places of those that go.
+fn settle_behind(
+    entries: &mut Vec<PackedEntry>,
+    first: usize,
+    group: WrittenGroup,
+    blocks: &mut Blocks,
+)
+    requires may { MaySettleEntries group entries.old.items (table blocks.old) }
+    requires first { first ≤ length entries.old.items }
+    ensures items { (n : ℕ) → IsEndFor chunk entries.old.items n first → entries.new.items ≡ settled_entries n group entries.old.items }
+    ensures counts { RecountsEntries entries.old.items entries.new.items (table blocks.old) (table blocks.new) }
+{
+    let mut kept = first;
+    for at in first..entries.len() {
+        if !entries[at].settle(group, blocks) {
+            if kept != at {
+                entries.swap(kept, at);
+            }
+            kept += 1;
+        }
+    }
+    entries.truncate(kept);
 }

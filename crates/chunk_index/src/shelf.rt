@@ -3,11 +3,12 @@ ghost use Rattle.std.specs.Prelude.{◌≡◌, ◌<◌, ◌≤◌, ◌+◌, ◌-
 ghost use Rattle.std.specs.Ordering.{nat_cmp};
 ghost use Rattle.std.proofs.Props.{props};
 ghost use Rattle.std.specs.BTreeMap.{get, IsEmpty, IsOrdered};
-ghost use Rattle.chunk_index.specs.Shelves.{look, total, AltersKey, SameEntries, IsLastOf, IsNextObject};
-ghost use Rattle.chunk_index.specs.Entries.{same_of, IsSmall, IsSmallState};
+ghost use Rattle.chunk_index.specs.Shelves.{look, total, AltersKey, SameEntries, IsNextObject};
+ghost use Rattle.chunk_index.specs.Entries.{committed_of, present_of, same_of, IsSmall, IsSmallState};
 ghost use Rattle.chunk_index.specs.InPlace.{placed, buffered, state_in};
 
 use crate::entry::{KeyEntry, State};
+use crate::form::{CommittedPage, Present};
 use crate::object::ObjectEntries;
 use flash_tree::Key;
 use std::alloc::{AllocError, Global};
@@ -53,15 +54,23 @@ impl Shelf {
         self.size
     }
 
-    /// The entry of a key.
-    pub fn entry(&self, key: Key) -> Option<KeyEntry>
-        ensures entry { result ≡ look self.now.objects key.object key.chunk }
-        ensures chunk { IfSome result (λ e. e.chunk ≡ key.chunk) }
-        ensures small { IfSome result IsSmall }
+    /// The committed page of a key.
+    pub fn committed(&self, key: Key) -> Option<CommittedPage>
+        ensures { result ≡ committed_of (look self.now.objects key.object key.chunk) }
     {
         match self.objects.get(&key.object) {
-            Some(entries) => entries.get(key.chunk),
+            Some(entries) => entries.committed(key.chunk),
             None => None,
+        }
+    }
+
+    /// The present page of a key.
+    pub fn present(&self, key: Key) -> Present
+        ensures { result ≡ present_of (look self.now.objects key.object key.chunk) }
+    {
+        match self.objects.get(&key.object) {
+            Some(entries) => entries.present(key.chunk),
+            None => Present::Absent,
         }
     }
 
@@ -113,6 +122,16 @@ impl Shelf {
         }
     }
 
+    /// How many entries more there may be, if it is allowed to add any.
+    pub(crate) fn room(&self, may_add: bool) -> usize
+        ensures { self.now.size + result < 2 ^ 32 }
+    {
+        if may_add {
+            return MOST_ENTRIES - self.size;
+        }
+        0
+    }
+
     /// Puts an entry of a key that has none.
     pub fn insert(&mut self, object: u64, entry: KeyEntry) -> Result<(), AllocError>
         requires absent { look self.old.objects object entry.chunk ≡ None }
@@ -138,7 +157,7 @@ impl Shelf {
     }
 
     /// Puts the first entry of an object that is not here.
-    fn insert_first(&mut self, object: u64, entry: KeyEntry) -> Result<(), AllocError>
+    pub(crate) fn insert_first(&mut self, object: u64, entry: KeyEntry) -> Result<(), AllocError>
         requires absent { look self.old.objects object entry.chunk ≡ None }
         requires room { self.old.size < 2 ^ 32 - 1 }
         requires small { IsSmall entry }
@@ -166,16 +185,6 @@ impl Shelf {
         match self.objects.get_mut(&object) {
             Some(entries) => entries.reserve(count),
             None => Ok(()),
-        }
-    }
-
-    /// Gives back room that the entries of an object no longer take. No key gets or loses an entry.
-    pub fn shrink(&mut self, object: u64)
-        ensures { SameEntries self.old.objects self.new.objects }
-    {
-        match self.objects.get_mut(&object) {
-            Some(entries) => entries.shrink(),
-            None => {}
         }
     }
 
@@ -253,31 +262,6 @@ impl Shelf {
         }
     }
 
-    /// Takes the entry of a key out, and its object where it was the last one. Those after it in its object are moved.
-    pub fn remove(&mut self, key: Key)
-        requires { IsSome (look self.old.objects key.object key.chunk) }
-        ensures alters { AltersKey key.object key.chunk None self.old.objects self.new.objects }
-        ensures size { self.new.size + 1 ≡ self.old.size }
-    {
-        self.take_out(key);
-        self.drop_empty(key.object);
-    }
-
-    /// Takes the entry of a key out.
-    fn take_out(&mut self, key: Key)
-        requires { IsSome (look self.old.objects key.object key.chunk) }
-        ensures alters { AltersKey key.object key.chunk None self.old.objects self.new.objects }
-        ensures size { self.new.size + 1 ≡ self.old.size }
-    {
-        match self.objects.get_mut(&key.object) {
-            Some(entries) => {
-                entries.remove(key.chunk);
-                self.size -= 1;
-            }
-            None => {}
-        }
-    }
-
     /// Drops an object that has no entries.
     pub fn drop_empty(&mut self, object: u64)
         ensures same { SameEntries self.old.objects self.new.objects }
@@ -321,17 +305,6 @@ impl Shelf {
                 let (object, entries) = self.objects.first_key_value()?;
                 Some((*object, entries))
             }
-        }
-    }
-
-    /// The last entry of an object whose chunk lies before a bound.
-    pub fn last_below(&self, object: u64, bound: Option<u64>) -> Option<KeyEntry>
-        ensures last { IsLastOf self.now.objects object bound result }
-        ensures small { IfSome result IsSmall }
-    {
-        match self.objects.get(&object) {
-            Some(entries) => entries.last_below(bound),
-            None => None,
         }
     }
 }

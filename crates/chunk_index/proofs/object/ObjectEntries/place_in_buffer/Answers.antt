@@ -1,5 +1,5 @@
-use Rattle.std.proofs.Common.{sym, ap, ◌∙◌}
-use Rattle.chunk_index.specs.Entries.{chunk, with_state}
+use Rattle.std.proofs.Common.{sym, ap, refl, ◌∙◌}
+use Rattle.chunk_index.specs.Entries.{chunk}
 use Rattle.chunk_index.specs.InPlace.{state_in, with_buffered}
 use Rattle.chunk_index.proofs.Altering.{gap_absurd}
 use Rattle.chunk_index.proofs.InPlace.{element_found, rises_at, alters_by}
@@ -7,18 +7,21 @@ use Rattle.chunk_index.proofs.object.ObjectEntries.place_in_buffer.Goals as goal
 
 pub invariant_of-self : goal.invariant_of-self
 invariant_of-self c =
-    let is = element_found _ c.args.self.now.rises _ _ c.in-Ok.ensures.found _ c.unpack-entry.result c.unpack-entry.ensures.entry c.index.ensures in
-    record { rises = rises_at _ c.args.self.now.rises _ _ c.in-Ok.ensures.found c.unpack-entry.result is c.pack.result (ap chunk c.pack.ensures) }
+    let e = c.index_mut.result.now in
+    let is = element_found _ c.args.self.now.rises _ _ c.in-Ok.ensures.found e e refl c.index_mut.ensures.value in
+    record { rises = rises_at _ c.args.self.now.rises _ _ c.in-Ok.ensures.found e is c.put_in_buffer.new.self (ap chunk c.put_in_buffer.ensures.entry) }
 
 pub returns-in-Ok-clause-alters : goal.returns-in-Ok-clause-alters
 returns-in-Ok-clause-alters c =
-    let is = element_found _ c.args.self.now.rises _ _ c.in-Ok.ensures.found _ c.unpack-entry.result c.unpack-entry.ensures.entry c.index.ensures in
-    alters_by _ c.args.self.now.rises _ _ c.in-Ok.ensures.found c.unpack-entry.result is c.pack.result (ap chunk c.pack.ensures) (with_buffered c.args.page) (c.pack.ensures ∙ ap (λ s. with_state s c.unpack-entry.result) c.in_buffer-state.ensures.state)
+    let e = c.index_mut.result.now in
+    let is = element_found _ c.args.self.now.rises _ _ c.in-Ok.ensures.found e e refl c.index_mut.ensures.value in
+    alters_by _ c.args.self.now.rises _ _ c.in-Ok.ensures.found e is c.put_in_buffer.new.self (ap chunk c.put_in_buffer.ensures.entry) (with_buffered c.args.page) c.put_in_buffer.ensures.entry
 
 pub returns-in-Ok-clause-state : goal.returns-in-Ok-clause-state
 returns-in-Ok-clause-state c =
-    let is = element_found _ c.args.self.now.rises _ _ c.in-Ok.ensures.found _ c.unpack-entry.result c.unpack-entry.ensures.entry c.index.ensures in
-    sym (ap state_in is)
+    let e = c.index_mut.result.now in
+    let is = element_found _ c.args.self.now.rises _ _ c.in-Ok.ensures.found e e refl c.index_mut.ensures.value in
+    c.put_in_buffer.ensures.state ∙ sym (ap state_in is)
 
 pub returns-in-Err-clause-alters : goal.returns-in-Err-clause-alters
 returns-in-Err-clause-alters c = absurd (gap_absurd _ _ _ c.in-Err.ensures.absent c.requires.here)

@@ -1,7 +1,8 @@
 use Rattle.std.proofs.Common.{subst, sym, arith, ap, length}
 use Rattle.chunk_index.specs.Lists.{Rises}
 use Rattle.chunk_index.specs.Entries.{chunk}
-use Rattle.chunk_index.proofs.Retaining.{rises_retained, retained_fewer}
+use Rattle.chunk_index.proofs.Gathering.{left_fewer}
+use Rattle.chunk_index.proofs.Retaining.{retained_by, rises_retained}
 use Rattle.chunk_index.proofs.object.ObjectEntries.retain.Goals as goal
 
 pub invariant_of-self : goal.invariant_of-self
@@ -10,11 +11,11 @@ invariant_of-self g c = record { rises = subst (Rises chunk) (sym c.gather.ensur
 pub overflow_sub-result : goal.overflow_sub-result
 overflow_sub-result g c =
     let same = ap length c.gather.ensures.items in
-    let fewer = retained_fewer (g.F.KeyFilter.keeps c.args.filter.now c.args.object) c.args.self.now.entries.items in
+    let fewer = left_fewer (retained_by (g.F.KeyFilter.keeps c.args.filter.now c.args.object)) c.args.self.now.entries.items in
     omega (arith, same, fewer, c.len-before.ensures, c.len.ensures)
 
 pub returns-clause-gone : goal.returns-clause-gone
 returns-clause-gone g c =
     let same = ap length c.gather.ensures.items in
-    let fewer = retained_fewer (g.F.KeyFilter.keeps c.args.filter.now c.args.object) c.args.self.now.entries.items in
+    let fewer = left_fewer (retained_by (g.F.KeyFilter.keeps c.args.filter.now c.args.object)) c.args.self.now.entries.items in
     omega (arith, same, fewer, c.len-before.ensures, c.len.ensures)

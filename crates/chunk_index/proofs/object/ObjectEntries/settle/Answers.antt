@@ -1,51 +1,41 @@
-use Rattle.std.proofs.Common.{Some, IfSome, ap, subst, ◌∙◌}
+use Rattle.std.proofs.Common.{IfSome, sym, ap, subst, refl, ◌∙◌}
 use Rattle.block_state.specs.TableOf.{table}
 use Rattle.chunk_index.specs.Entries.{chunk}
-use Rattle.chunk_index.specs.Settled.{MaySettleEntry}
-use Rattle.chunk_index.specs.InPlace.{left}
+use Rattle.chunk_index.specs.InPlace.{goes_of, left}
+use Rattle.chunk_index.specs.Settled.{MaySettleEntry, RecountsSettled}
 use Rattle.chunk_index.proofs.Finding.{find_in_gap}
-use Rattle.chunk_index.proofs.InPlace.{element_found, rises_at, alters_left, alters_gone, alters_absent, goes_found, goes_absent, counts_found, counts_absent}
+use Rattle.chunk_index.proofs.InPlace.{element_found, rises_at, alters_by, alters_absent, left_chunk, goes_absent, counts_absent}
 use Rattle.chunk_index.proofs.object.ObjectEntries.settle.Goals as goal
 
-pub settle-requires-clause-may : goal.settle-requires-clause-may
-settle-requires-clause-may c =
-    let is = element_found _ c.args.self.now.rises _ _ c.in-Ok.ensures.found _ c.unpack.result c.unpack.ensures.entry c.index.ensures in
-    subst (λ v. IfSome v (λ e. MaySettleEntry c.args.group e (table c.args.blocks.now))) is c.requires.may
+pub settle-requires : goal.settle-requires
+settle-requires c =
+    let e = c.index_mut.result.now in
+    let is = element_found _ c.args.self.now.rises _ _ c.in-Ok.ensures.found e e refl c.index_mut.ensures.value in
+    record { may = subst (λ v. IfSome v (λ x. MaySettleEntry c.args.group x (table c.args.blocks.now))) is c.requires.may }
 
 pub invariant_of-self : goal.invariant_of-self
 invariant_of-self c =
-    let is = element_found _ c.args.self.now.rises _ _ c.in-Ok.ensures.found _ c.unpack.result c.unpack.ensures.entry c.index.ensures in
-    record { rises = rises_at _ c.args.self.now.rises _ _ c.in-Ok.ensures.found c.unpack.result is c.pack.result (ap chunk c.pack.ensures ∙ c.in-Some.ensures.chunk) }
+    let e = c.index_mut.result.now in
+    let is = element_found _ c.args.self.now.rises _ _ c.in-Ok.ensures.found e e refl c.index_mut.ensures.value in
+    record { rises = rises_at _ c.args.self.now.rises _ _ c.in-Ok.ensures.found e is c.settle.new.self (ap chunk c.settle.ensures.entry ∙ left_chunk c.args.group e) }
 
-pub returns-in-Some-clause-alters : goal.returns-in-Some-clause-alters
-returns-in-Some-clause-alters c =
-    let is = element_found _ c.args.self.now.rises _ _ c.in-Ok.ensures.found _ c.unpack.result c.unpack.ensures.entry c.index.ensures in
-    alters_left _ c.args.self.now.rises _ _ c.in-Ok.ensures.found c.unpack.result is c.pack.result (ap chunk c.pack.ensures ∙ c.in-Some.ensures.chunk) c.args.group (ap Some c.pack.ensures ∙ c.in-Some.ensures.result)
+pub returns-in-Ok-clause-alters : goal.returns-in-Ok-clause-alters
+returns-in-Ok-clause-alters c =
+    let e = c.index_mut.result.now in
+    let is = element_found _ c.args.self.now.rises _ _ c.in-Ok.ensures.found e e refl c.index_mut.ensures.value in
+    alters_by _ c.args.self.now.rises _ _ c.in-Ok.ensures.found e is c.settle.new.self (ap chunk c.settle.ensures.entry ∙ left_chunk c.args.group e) (left c.args.group) c.settle.ensures.entry
 
-pub returns-in-Some-clause-goes : goal.returns-in-Some-clause-goes
-returns-in-Some-clause-goes c =
-    let is = element_found _ c.args.self.now.rises _ _ c.in-Ok.ensures.found _ c.unpack.result c.unpack.ensures.entry c.index.ensures in
-    goes_found c.args.group _ c.unpack.result is _ c.in-Some.ensures.result
+pub returns-in-Ok-clause-goes : goal.returns-in-Ok-clause-goes
+returns-in-Ok-clause-goes c =
+    let e = c.index_mut.result.now in
+    let is = element_found _ c.args.self.now.rises _ _ c.in-Ok.ensures.found e e refl c.index_mut.ensures.value in
+    c.settle.ensures.goes ∙ sym (ap (goes_of c.args.group) is)
 
-pub returns-in-Some-clause-counts : goal.returns-in-Some-clause-counts
-returns-in-Some-clause-counts c =
-    let is = element_found _ c.args.self.now.rises _ _ c.in-Ok.ensures.found _ c.unpack.result c.unpack.ensures.entry c.index.ensures in
-    counts_found c.args.group _ c.unpack.result is _ c.in-Some.ensures.result _ _ c.in-Some.ensures.counts
-
-pub returns-in-None-clause-alters : goal.returns-in-None-clause-alters
-returns-in-None-clause-alters c =
-    let is = element_found _ c.args.self.now.rises _ _ c.in-Ok.ensures.found _ c.unpack.result c.unpack.ensures.entry c.index.ensures in
-    alters_gone _ _ c.unpack.result is c.args.group c.in-None.ensures.result
-
-pub returns-in-None-clause-goes : goal.returns-in-None-clause-goes
-returns-in-None-clause-goes c =
-    let is = element_found _ c.args.self.now.rises _ _ c.in-Ok.ensures.found _ c.unpack.result c.unpack.ensures.entry c.index.ensures in
-    goes_found c.args.group _ c.unpack.result is _ c.in-None.ensures.result
-
-pub returns-in-None-clause-counts : goal.returns-in-None-clause-counts
-returns-in-None-clause-counts c =
-    let is = element_found _ c.args.self.now.rises _ _ c.in-Ok.ensures.found _ c.unpack.result c.unpack.ensures.entry c.index.ensures in
-    counts_found c.args.group _ c.unpack.result is _ c.in-None.ensures.result _ _ c.in-None.ensures.counts
+pub returns-in-Ok-clause-counts : goal.returns-in-Ok-clause-counts
+returns-in-Ok-clause-counts c =
+    let e = c.index_mut.result.now in
+    let is = element_found _ c.args.self.now.rises _ _ c.in-Ok.ensures.found e e refl c.index_mut.ensures.value in
+    subst (λ v. RecountsSettled c.args.group v (table c.args.blocks.now) (table c.settle.new.blocks)) (sym is) c.settle.ensures.counts
 
 pub returns-in-Err-clause-alters : goal.returns-in-Err-clause-alters
 returns-in-Err-clause-alters c = alters_absent _ _ (find_in_gap chunk _ _ _ c.in-Err.ensures.absent) (left c.args.group)

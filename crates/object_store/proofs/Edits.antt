@@ -40,7 +40,7 @@ reported_is objects k reported x f is was facts =
     subst (λ (v : Option Object). IsStated objects k v reported) (sym is) (subst (λ (g : Option ObjectFacts). IsStated objects k (Some x) g) (sym was) facts)
 
 -- and what is reported of what is there are its facts
-pub reported_there : (objects : Objects) (k : ℕ) (reported : Option ObjectFacts) (x : Object) (f : ObjectFacts) → map.get objects k ≡ Some x → reported ≡ Some f → IsStated objects k (map.get objects k) reported → AreFactsOf objects k x f
+reported_there : (objects : Objects) (k : ℕ) (reported : Option ObjectFacts) (x : Object) (f : ObjectFacts) → map.get objects k ≡ Some x → reported ≡ Some f → IsStated objects k (map.get objects k) reported → AreFactsOf objects k x f
 reported_there objects k reported x f is was all =
     subst (λ (g : Option ObjectFacts). IsStated objects k (Some x) g) was (subst (λ (v : Option Object). IsStated objects k v reported) is all)
 

@@ -18,7 +18,7 @@ use Rattle.posix_profile.specs.laws.Name.{not_both, namer_directory}
 use Rattle.posix_profile.specs.laws.Number.{new_number_is}
 use Rattle.posix_profile.specs.NameSteps.{reported_size}
 use Rattle.object_store.specs.Facts.{info_of, NamedBy}
-use Rattle.object_store.specs.TableFacts.{facts_cost, reported_info, unit_of, IsDirectoryFacts, AreFactsOf, IsStated}
+use Rattle.object_store.specs.TableFacts.{facts_cost, reported_info, unit_of, IsFileFacts, IsDirectoryFacts, AreFactsOf, IsStated}
 use Rattle.object_store.specs.declared.table_facts.ObjectFacts.{ObjectFacts}
 use Rattle.object_store.proofs.Counting.{same_length, list_other}
 
@@ -47,6 +47,15 @@ pub directory_facts : (objects : Objects) (o : ℕ) (f : Option ObjectFacts) (di
 directory_facts objects o f dir reported = go f (subst (λ x. IsStated objects o x f) dir.2 reported)
   where
     go : (g : Option ObjectFacts) → IsStated objects o (Some (Dir dir.0 dir.1)) g → (facts : ObjectFacts) × (g ≡ Some facts) × IsDirectoryFacts objects o dir.0 (map.len dir.1) facts
+    go None t = absurd t
+    go (Some facts) t = (facts, refl, t)
+
+-- and of a file that is there
+pub file_facts : (objects : Objects) (o : ℕ) (f : Option ObjectFacts) (file : IsFile objects o) → IsStated objects o (map.get objects o) f
+    → (facts : ObjectFacts) × (f ≡ Some facts) × IsFileFacts objects o file.0 (length file.1) facts
+file_facts objects o f file reported = go f (subst (λ x. IsStated objects o x f) file.2 reported)
+  where
+    go : (g : Option ObjectFacts) → IsStated objects o (Some (File file.0 file.1)) g → (facts : ObjectFacts) × (g ≡ Some facts) × IsFileFacts objects o file.0 (length file.1) facts
     go None t = absurd t
     go (Some facts) t = (facts, refl, t)
 

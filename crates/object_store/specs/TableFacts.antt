@@ -1,5 +1,5 @@
 -- What the table keeps of an object.
-use Rattle.std.specs.Prelude.{◌≡◌, ℕ, ◌+◌, ◌-◌, ◌^◌, min, List, length, Option, Some, None}
+use Rattle.std.specs.Prelude.{◌≡◌, ℕ, ◌+◌, ◌-◌, ◌^◌, min, max, List, length, Option, Some, None}
 use Rattle.std.specs.FinMap as map
 use Rattle.volume_terms.specs.Sizes.{Sizes, page_slots}
 use Rattle.volume_terms.specs.Rounding.{ceiling}
@@ -12,6 +12,8 @@ use Rattle.posix_profile.specs.declared.reply.Info.{Info}
 use Rattle.posix_profile.specs.laws.Link.{Lists, IsSubdirectory}
 use Rattle.object_store.specs.Facts.{NamedBy}
 use Rattle.object_store.specs.declared.table_facts.ObjectFacts.{ObjectFacts}
+use Rattle.object_store.specs.declared.edit.Edit.{Edit}
+use Rattle.object_store.specs.declared.edit.Edit.TheVariants as edits
 
 -- the links of an object without names or content
 abbrev pub fresh_links : Kind → ℕ
@@ -75,6 +77,15 @@ name_removed kinds.Directory f = record { kind = f.kind; moment = f.moment; link
 -- an object of another size
 abbrev pub resized_facts : ℕ → ℕ → ObjectFacts → ObjectFacts
 resized_facts size moment f = record { kind = f.kind; moment = moment; links = f.links; size = size; parent = f.parent }
+
+-- the facts after an edit
+abbrev pub edited : Edit → ObjectFacts → ObjectFacts
+edited (edits.EntryAdded child moment) f = entry_added child moment f
+edited (edits.EntryRemoved child moment) f = entry_removed child moment f
+edited (edits.NameAdded directory) f = name_added f.kind directory f
+edited edits.NameRemoved f = name_removed f.kind f
+edited (edits.Resized size moment) f = resized_facts size moment f
+edited (edits.Lengthened size moment) f = resized_facts (max f.size size) moment f
 
 -- The facts are of a file that is there: its moment and length, and as many links as it has names.
 pub record IsFileFacts (objects : Objects) (o stamp length' : ℕ) (f : ObjectFacts) : Type 0 where

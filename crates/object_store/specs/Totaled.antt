@@ -1,5 +1,5 @@
 -- What facts in totals represent.
-use Rattle.std.specs.Prelude.{◌≡◌, ◌≢◌, ◌<◌, ◌-◌, ◌+◌, ◌^◌, min, ℕ, Option, Some, None, IsSome, is_some, List, length}
+use Rattle.std.specs.Prelude.{◌≡◌, ◌≢◌, ◌<◌, ◌-◌, ◌+◌, ◌^◌, min, max, ℕ, Option, Some, None, IsSome, is_some, List, length}
 use Rattle.std.specs.FinMap as map
 use Rattle.std.specs.Ordering.{nat_cmp}
 use Rattle.std.specs.BTreeMap.{get}
@@ -11,7 +11,7 @@ use Rattle.posix_profile.specs.Charge.{charge}
 use Rattle.posix_profile.specs.Changes.{with_name, without_name, with_bytes}
 use Rattle.posix_profile.specs.WellFormed.{IsNamed}
 use Rattle.object_store.specs.Changes.{NamesNothing}
-use Rattle.object_store.specs.Facts.{entry_of}
+use Rattle.object_store.specs.Facts.{entry_of, bytes_of}
 use Rattle.object_store.specs.TableFacts.{facts_cost, IsStated, AreFactsOf}
 use Rattle.object_store.specs.Taken.{facts_in}
 use Rattle.object_store.specs.declared.table_facts.ObjectFacts.{ObjectFacts}
@@ -120,6 +120,10 @@ CountsCountable old new before after = IsCountable (sizes_in old) before → IsC
 -- where a file gets bytes of this length, the facts are of the objects with them
 abbrev pub CountsResized : CountedFacts → CountedFacts → ℕ → ℕ → ℕ → Type 0
 CountsResized old new moment file size = OfCountedFile old file (λ objects bytes. length bytes ≡ size → CountsCountable old new objects (with_bytes objects moment file bytes))
+
+-- where a file gets bytes of this length, or of its own where it is longer, the facts are of the objects with them
+abbrev pub CountsLengthened : CountedFacts → CountedFacts → ℕ → ℕ → ℕ → Type 0
+CountsLengthened old new moment file size = OfCountedFile old file (λ objects bytes. length bytes ≡ max (length (bytes_of (map.get objects file))) size → CountsCountable old new objects (with_bytes objects moment file bytes))
 
 -- where a new object of these facts comes at the number, the facts are of the objects with it
 abbrev pub CountsAdded : CountedFacts → CountedFacts → ℕ → ObjectFacts → Type 0

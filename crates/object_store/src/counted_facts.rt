@@ -1,16 +1,16 @@
 // The facts of objects, and what the objects cost.
-ghost use Rattle.std.specs.Prelude.{◌≡◌, ◌≢◌, ◌<◌, ◌+◌, ℕ, Some, None, IsSome, OnOk, true};
+ghost use Rattle.std.specs.Prelude.{◌≡◌, ◌≢◌, ◌<◌, ◌+◌, ℕ, Some, None, IsSome, is_some, OnOk, true};
 ghost use Rattle.std.specs.FinMap as map;
 ghost use Rattle.std.specs.Ordering.{nat_cmp};
 ghost use Rattle.std.specs.BTreeMap.{get};
 ghost use Rattle.volume_terms.specs.VolumeSizes as volume;
-ghost use Rattle.object_store.specs.TableFacts.{entry_added, entry_removed, name_added, name_removed};
+ghost use Rattle.object_store.specs.TableFacts.{edited};
 ghost use Rattle.object_store.specs.Taken.{facts_in};
-ghost use Rattle.object_store.specs.Totaled.{reported_at, sizes_in, HasRoomIn, units_of, Counts, CountsTheSame, Puts, Drops, KeepsNumbers, Edits, CountsAdded, CountsRemoved, CountsNamed, CountsUnnamed, CountsResized};
+ghost use Rattle.object_store.specs.Totaled.{reported_at, sizes_in, HasRoomIn, units_of, Counts, CountsTheSame, Puts, Drops, KeepsNumbers, Edits, CountsAdded, CountsRemoved, CountsNamed, CountsUnnamed, CountsResized, CountsLengthened};
 
+use crate::edit::Edit;
 use crate::packed_facts::PackedFacts;
 use crate::table_facts::ObjectFacts;
-use posix_profile::Kind;
 use std::alloc::{AllocError, Global};
 use std::collections::BTreeMap;
 use std::mem::replace;
@@ -27,16 +27,6 @@ pub(crate) struct CountedFacts {
 
 /// For how many objects to come there is room made beside one that comes behind all others.
 const AHEAD: u64 = 8;
-
-/// The facts at a number, if there are any.
-fn facts_at(facts: &BTreeMap<u64, PackedFacts>, number: u64) -> Option<ObjectFacts>
-    ensures { result ≡ facts_in facts.now number }
-{
-    match facts.get(&number) {
-        Some(facts) => facts.unpack(),
-        None => None,
-    }
-}
 
 /// Puts facts at a number at which there is room, and returns those that were there.
 fn put_facts(
@@ -82,7 +72,10 @@ impl CountedFacts {
     pub(crate) fn at(&self, number: u64) -> Option<ObjectFacts>
         ensures { result ≡ reported_at self.now number }
     {
-        facts_at(&self.facts, number)
+        match self.facts.get(&number) {
+            Some(facts) => facts.unpack(),
+            None => None,
+        }
     }
 
     /// Makes room for the facts of an object.
@@ -149,65 +142,44 @@ impl CountedFacts {
         self.put(number, facts);
     }
 
-    /// The facts at a number go, if there are any.
-    fn take_out(&mut self, number: u64)
-        ensures { Drops self.old self.new number }
+    /// The facts at a number go, and the room for them; it is returned whether there were any.
+    fn take_out(&mut self, number: u64) -> bool
+        ensures was { result ≡ is_some (reported_at self.old number) }
+        ensures drops { Drops self.old self.new number }
     {
-        match facts_at(&self.facts, number) {
-            Some(old) => {
-                let _facts = self.facts.remove(&number);
-                self.charge = self.charge.saturating_sub(old.cost(self.sizes));
-            }
-            None => {}
-        }
+        let Some(place) = self.facts.remove(&number) else {
+            return false;
+        };
+        let Some(old) = place.unpack() else {
+            return false;
+        };
+        self.charge = self.charge.saturating_sub(old.cost(self.sizes));
+        true
     }
 
-    /// An object goes.
-    pub(crate) fn remove(&mut self, number: u64)
+    /// An object goes, if there is one, and it is returned whether there was.
+    pub(crate) fn remove(&mut self, number: u64) -> bool
+        ensures was { result ≡ is_some (reported_at self.old number) }
         ensures drops { Drops self.old self.new number }
         ensures counts { CountsRemoved self.old self.new number }
     {
-        self.take_out(number);
+        self.take_out(number)
     }
 
-    /// A directory gets an entry, which leads to an object of this kind.
-    fn count_entry(&mut self, directory: u64, child: Kind, moment: u64)
-        ensures { Edits self.old self.new directory (entry_added child moment) }
+    /// The facts at a number, if there are any, are edited.
+    fn edit(&mut self, number: u64, edit: Edit)
+        ensures { Edits self.old self.new number (edited edit) }
     {
-        match self.at(directory) {
-            Some(facts) => self.put(directory, facts.with_entry(child, moment)),
-            None => {}
-        }
-    }
-
-    /// A directory loses an entry, which led to an object of this kind.
-    fn uncount_entry(&mut self, directory: u64, child: Kind, moment: u64)
-        ensures { Edits self.old self.new directory (entry_removed child moment) }
-    {
-        match self.at(directory) {
-            Some(facts) => self.put(directory, facts.without_entry(child, moment)),
-            None => {}
-        }
-    }
-
-    /// An object gets a name in a directory.
-    fn count_name(&mut self, number: u64, directory: u64)
-        ensures { Edits self.old self.new number (λ f. name_added f.kind directory f) }
-    {
-        match self.at(number) {
-            Some(facts) => self.put(number, facts.with_name(directory)),
-            None => {}
-        }
-    }
-
-    /// An object loses a name.
-    fn uncount_name(&mut self, number: u64)
-        ensures { Edits self.old self.new number (λ f. name_removed f.kind f) }
-    {
-        match self.at(number) {
-            Some(facts) => self.put(number, facts.without_name()),
-            None => {}
-        }
+        let Some(place) = self.facts.get_mut(&number) else {
+            return;
+        };
+        let Some(old) = place.unpack() else {
+            return;
+        };
+        let new = edit.edited(old);
+        *place = PackedFacts::pack(new);
+        let less = self.charge.saturating_sub(old.cost(self.sizes));
+        self.charge = less.saturating_add(new.cost(self.sizes));
     }
 
     /// A name of a directory leads to an object.
@@ -217,8 +189,9 @@ impl CountedFacts {
     {
         match self.at(number) {
             Some(facts) => {
-                self.count_entry(directory, facts.kind, moment);
-                self.count_name(number, directory);
+                let child = facts.kind;
+                self.edit(directory, Edit::EntryAdded { child, moment });
+                self.edit(number, Edit::NameAdded { directory });
             }
             None => {}
         }
@@ -231,8 +204,9 @@ impl CountedFacts {
     {
         match self.at(number) {
             Some(facts) => {
-                self.uncount_entry(directory, facts.kind, moment);
-                self.uncount_name(number);
+                let child = facts.kind;
+                self.edit(directory, Edit::EntryRemoved { child, moment });
+                self.edit(number, Edit::NameRemoved);
             }
             None => {}
         }
@@ -243,9 +217,14 @@ impl CountedFacts {
         ensures keeps { KeepsNumbers self.old self.new }
         ensures counts { CountsResized self.old self.new moment number size }
     {
-        match self.at(number) {
-            Some(facts) => self.put(number, facts.with_size(size, moment)),
-            None => {}
-        }
+        self.edit(number, Edit::Resized { size, moment });
+    }
+
+    /// A file has at least so many bytes now.
+    pub(crate) fn lengthen(&mut self, number: u64, size: u64, moment: u64)
+        ensures keeps { KeepsNumbers self.old self.new }
+        ensures counts { CountsLengthened self.old self.new moment number size }
+    {
+        self.edit(number, Edit::Lengthened { size, moment });
     }
 }

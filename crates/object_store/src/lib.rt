@@ -4,6 +4,7 @@
 
 mod change;
 mod counted_facts;
+mod edit;
 mod facts;
 mod free_numbers;
 mod packed_facts;

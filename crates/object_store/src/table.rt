@@ -213,13 +213,8 @@ impl ObjectTable {
         ensures size { table_sizes self.new ≡ table_sizes self.old }
         ensures reports { ReportsWritten self.old self.new moment number offset count }
     {
-        match self.totaled.at(number) {
-            Some(facts) => {
-                let end = offset.saturating_add(count);
-                self.totaled.set_length(number, facts.size.max(end), moment);
-            }
-            None => {}
-        }
+        let end = offset.saturating_add(count);
+        self.totaled.lengthen(number, end, moment);
     }
 
     /// A file has so many bytes now.

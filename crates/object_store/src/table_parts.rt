@@ -33,11 +33,7 @@ pub(crate) fn drop_object(totaled: &mut CountedFacts, numbers: &mut FreeNumbers,
     ensures free { KnowsFree numbers.old (taken_in totaled.old.facts) → KnowsFree numbers.new (taken_in totaled.new.facts) }
     ensures counts { CountsRemoved totaled.old totaled.new number }
 {
-    match totaled.at(number) {
-        Some(_) => {
-            totaled.remove(number);
-            numbers.give_back(number);
-        }
-        None => {}
+    if totaled.remove(number) {
+        numbers.give_back(number);
     }
 }

@@ -4,4 +4,3 @@ mod Dividing
 mod Running
 mod Ranging
 mod Naming
-mod Absent

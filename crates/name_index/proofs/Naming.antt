@@ -114,9 +114,11 @@ module _ (old new : NameIndex) (d : ℕ) (a b : NumberSet) (found : get nat_cmp 
       ];
     }
 
--- a directory without a number more
-pub more_names : (old new : NameIndex) (d : ℕ) (b : NumberSet) → get nat_cmp old.directories d ≡ None → ((x : ℕ) → Has b.runs x → ⊥) → Changes d (Some b) old.directories new.directories → HoldsSame old new
-more_names old new d b none empty changes = record {
+-- the first number of a directory that is not there
+pub first_name : (old new : NameIndex) (d hash slot : ℕ) (small : slot < 4294967296) (a b : NumberSet) → get nat_cmp old.directories d ≡ None → Changes d (Some b) old.directories new.directories
+    → ((x : ℕ) → Has a.runs x → ⊥) → Adds (packed hash slot) (Has a.runs) (Has b.runs) → AddsName d hash slot old new
+first_name old new d hash slot small a b none changes empty adds = record {
+  there = (b, changes.here, packed hash slot, adds.there, hash_packed hash slot small, slot_packed hash slot small);
   stays = λ k h s holds. elim (cases_eq k d) [
     | inl e ↦
         let both : Some holds.0 ≡ None = sym holds.1 ∙ ap (get nat_cmp old.directories) e ∙ none in
@@ -124,8 +126,11 @@ more_names old new d b none empty changes = record {
     | inr ne ↦ other_new old new d (Some b) changes k h s ne holds
   ];
   only = λ k h s holds. elim (cases_eq k d) [
-    | inl e ↦ absurd (empty holds.2 (has_in holds.0 b holds.2 (one_set new.directories k d holds.0 b holds.1 e changes.here) holds.3))
-    | inr ne ↦ other_old old new d (Some b) changes k h s ne holds
+    | inr ne ↦ inr (other_old old new d (Some b) changes k h s ne holds)
+    | inl e ↦ elim (adds.only holds.2 (has_in holds.0 b holds.2 (one_set new.directories k d holds.0 b holds.1 e changes.here) holds.3)) [
+      | inl is ↦ inl (e, sym holds.4 ∙ ap hash_of is ∙ hash_packed hash slot small, sym holds.5 ∙ ap slot_of is ∙ slot_packed hash slot small)
+      | inr had ↦ absurd (empty holds.2 had)
+    ]
   ];
 }
 
@@ -156,29 +161,16 @@ unchanged old new e = record {
   only = λ k h s holds. (holds.0, sym (ap (lookup (is_at (nat_cmp k))) e) ∙ holds.1, holds.2, holds.3, holds.4, holds.5);
 }
 
--- what a directory that was made ready adds
-pub adds_on : (d hash slot : ℕ) (old mid new : NameIndex) → HoldsSame old mid → AddsName d hash slot mid new → AddsName d hash slot old new
-adds_on d hash slot old mid new same adds = record {
-  there = adds.there;
-  stays = λ k h s holds. adds.stays k h s (same.stays k h s holds);
-  only = λ k h s holds. elim (adds.only k h s holds) [ inl e ↦ inl e | inr had ↦ inr (same.only k h s had) ];
-}
-
-pub same_on : (old mid new : NameIndex) → HoldsSame old mid → HoldsSame mid new → HoldsSame old new
-same_on old mid new a b = record {
-  stays = λ k h s holds. b.stays k h s (a.stays k h s holds);
-  only = λ k h s holds. a.only k h s (b.only k h s holds);
-}
-
-module _ {A E : Type 0} (old mid new : NameIndex) (same : HoldsSame old mid) (d hash slot : ℕ) (small : slot < 4294967296) (a b : NumberSet) (found : get nat_cmp mid.directories d ≡ Some a)
-    (through : WritesThrough nat_cmp (nat_cmp d) mid.directories b new.directories) where
+-- what a call adds that may fail
+module _ {A E : Type 0} (old new : NameIndex) (d hash slot : ℕ) (small : slot < 4294967296) (a b : NumberSet) (found : get nat_cmp old.directories d ≡ Some a)
+    (through : WritesThrough nat_cmp (nat_cmp d) old.directories b new.directories) where
   pub adds_result : (result : Result A E) → OnOk result (Adds (packed hash slot) (Has a.runs) (Has b.runs)) → OnOk result (AddsName d hash slot old new)
-  adds_result (Ok v) adds = adds_on d hash slot old mid new same (adds_name mid new d a b found (written d mid.directories new.directories a b found through) hash slot small adds)
+  adds_result (Ok v) adds = adds_name old new d a b found (written d old.directories new.directories a b found through) hash slot small adds
   adds_result (Err e) adds = tt
 
   pub same_result : (result : Result A E) → OnErr result (SameNumbers (Has a.runs) (Has b.runs)) → OnErr result (HoldsSame old new)
   same_result (Ok v) numbers = tt
-  same_result (Err e) numbers = same_on old mid new same (same_names mid new d a b found (written d mid.directories new.directories a b found through) numbers)
+  same_result (Err e) numbers = same_names old new d a b found (written d old.directories new.directories a b found through) numbers
 
 -- ---- the next slot
 module _ (index : NameIndex) (d hash from : ℕ) (small : from < 4294967296) (a : NumberSet) (found : get nat_cmp index.directories d ≡ Some a) where

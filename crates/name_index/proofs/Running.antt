@@ -183,6 +183,10 @@ module _ (m : RunMap) (tiled : IsTiled m) (x at : ℕ) (last : IsLastBegun m x (
       only = λ y has. (has.0, has.1, was m n at has.0 None has.1 alters (not_none has.0 has.1 has.2) has.2, has.3);
     }
 
+-- a number that is there already
+pub adds_held : (m : RunMap) (x : ℕ) → Has m x → Adds x (Has m) (Has m)
+adds_held m x has = record { there = has; stays = λ y is. is; only = λ y is. inr is }
+
 -- a number before which no run begins is not there
 pub drops_nothing : (m : RunMap) → IsTiled m → (x : ℕ) → IsLastBegun m x None → Drops x (Has m) (Has m)
 drops_nothing m tiled x none = record {

@@ -1,6 +1,7 @@
 pub mod Hashes
 pub mod Lists
 pub mod Halves
+pub mod Standings
 pub mod Sets
 pub mod Packing
 pub mod Names

@@ -4,7 +4,9 @@ use Rattle.std.specs.Ordering.{nat_cmp}
 use Rattle.std.specs.BTreeMap.{BTreeMap, get}
 use Rattle.name_index.specs.Lists.{IsIn, IsNextFrom}
 use Rattle.name_index.specs.Halves.{IsUpperPart}
+use Rattle.name_index.specs.Standings.{IsStanding}
 use Rattle.name_index.specs.declared.run.Run.{Run}
+use Rattle.name_index.specs.declared.standing.Standing.{Standing}
 
 -- the runs by the numbers that they begin at
 abbrev pub RunMap : Type 0
@@ -23,6 +25,15 @@ pub record IsTiled (m : RunMap) : Type 0 where
 abbrev pub IsLastBegun : RunMap → ℕ → Option ℕ → Type 0
 IsLastBegun m x None = (k : ℕ) → k ≤ x → get nat_cmp m k ≡ None
 IsLastBegun m x (Some at) = IsSome (get nat_cmp m at) × (at ≤ x) × ((k : ℕ) → k ≤ x → IsSome (get nat_cmp m k) → k ≤ at)
+
+-- the number stands so to the run that begins at another
+abbrev pub StandsTo : RunMap → ℕ → ℕ → Standing → Type 0
+StandsTo m at x standing = (r : Run) × (get nat_cmp m at ≡ Some r) × IsStanding r.numbers.items x standing
+
+-- the last run that begins at a number or before it, and how the number stands to it, or none where none does
+abbrev pub IsHome : RunMap → ℕ → Option (ℕ × Standing) → Type 0
+IsHome m x None = IsLastBegun m x None
+IsHome m x (Some home) = IsLastBegun m x (Some home.0) × StandsTo m home.0 x home.1
 
 -- a run begins at a number or before it
 abbrev pub HasBegun : RunMap → ℕ → Type 0

@@ -1,5 +1,5 @@
 // The index.
-ghost use Rattle.std.specs.Prelude.{◌≡◌, ℕ, IsSome, OnOk, OnErr};
+ghost use Rattle.std.specs.Prelude.{◌≡◌, ℕ, None, OnOk, OnErr};
 ghost use Rattle.std.specs.Ordering.{nat_cmp};
 ghost use Rattle.std.specs.BTreeMap.{get};
 ghost use Rattle.name_index.specs.Packing.{packed, IsSlotUnder};
@@ -36,22 +36,20 @@ impl NameIndex {
         ensures ok { OnOk result (AddsName directory hash slot self.old self.new) }
         ensures err { OnErr result (HoldsSame self.old self.new) }
     {
-        self.prepare(directory)?;
         match self.directories.get_mut(&directory) {
             Some(numbers) => numbers.insert(pack(hash, slot)),
-            None => Ok(()),
+            None => self.add_first(directory, hash, slot),
         }
     }
 
-    /// Sees that a directory is here.
-    fn prepare(&mut self, directory: u64) -> Result<(), AllocError>
-        ensures same { HoldsSame self.old self.new }
-        ensures here { OnOk result (IsSome (get nat_cmp self.new.directories directory)) }
+    /// Adds the first hash of a directory that is not here yet.
+    fn add_first(&mut self, directory: u64, hash: u32, slot: u32) -> Result<(), AllocError>
+        requires { get nat_cmp self.old.directories directory ≡ None }
+        ensures ok { OnOk result (AddsName directory hash slot self.old self.new) }
+        ensures err { OnErr result (HoldsSame self.old self.new) }
     {
-        if self.directories.contains_key(&directory) {
-            return Ok(());
-        }
-        let numbers = NumberSet::new(self.alloc);
+        let mut numbers = NumberSet::new(self.alloc);
+        numbers.insert(pack(hash, slot))?;
         let _ = self.directories.insert(directory, numbers)?;
         Ok(())
     }

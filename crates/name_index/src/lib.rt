@@ -5,6 +5,7 @@ mod hash;
 mod index;
 mod run;
 mod set;
+mod standing;
 
 pub use hash::name_hash;
 pub use index::NameIndex;

@@ -2,6 +2,7 @@
 ghost use Rattle.std.specs.Prelude.{◌≡◌, ◌≢◌, ◌<◌, ◌≤◌, [], ◌∷◌, length, slice_index, take, drop, IfOk, OnOk, OnErr, IsTrue, ◌↔◌};
 ghost use Rattle.name_index.specs.Lists.{Rises, IsIn, Adds, Drops, IsNextFrom};
 
+use crate::standing::Standing;
 use std::alloc::{AllocError, Global};
 
 /// The numbers of a full run, and how many of them stay where it is divided.
@@ -22,6 +23,7 @@ pub(crate) struct Run {
 
 impl Run {
     ghost use Rattle.name_index.specs.Halves.{IsUpperPart};
+    ghost use Rattle.name_index.specs.Standings.{IsStanding};
 
     /// One number.
     pub(crate) fn one(alloc: Global, number: u64) -> Result<Run, AllocError>
@@ -56,6 +58,22 @@ impl Run {
                     Some(self.numbers[at])
                 } else {
                     None
+                }
+            }
+        }
+    }
+
+    /// How a number stands to the run.
+    pub(crate) fn standing(&self, number: u64) -> Standing
+        ensures { IsStanding self.now.numbers.items number result }
+    {
+        match self.numbers.binary_search(&number) {
+            Ok(_) => Standing::Held,
+            Err(_) => {
+                if self.numbers.len() < MOST_NUMBERS {
+                    Standing::Fits
+                } else {
+                    Standing::Full
                 }
             }
         }

@@ -3,9 +3,10 @@ ghost use Rattle.std.specs.Prelude.{◌≡◌, ◌≤◌, ℕ, OnOk, OnErr, IfOk
 ghost use Rattle.std.specs.Ordering.{nat_cmp};
 ghost use Rattle.std.specs.BTreeMap.{get};
 ghost use Rattle.name_index.specs.Lists.{Adds, Drops, SameNumbers, IsNextFrom};
-ghost use Rattle.name_index.specs.Sets.{Has, IsTiled, IsLastBegun, HasBegun, IsUpperOf, IsOnlyOf, IsNextWithin, IsFirstBeyond};
+ghost use Rattle.name_index.specs.Sets.{Has, IsTiled, IsLastBegun, IsHome, HasBegun, IsUpperOf, IsOnlyOf, IsNextWithin, IsFirstBeyond};
 
 use crate::run::Run;
+use crate::standing::Standing;
 use std::alloc::{AllocError, Global};
 use std::collections::BTreeMap;
 use std::ops::Bound;
@@ -74,13 +75,25 @@ impl NumberSet {
         ensures ok { OnOk result (Adds number (Has self.old.runs) (Has self.new.runs)) }
         ensures err { OnErr result (SameNumbers (Has self.old.runs) (Has self.new.runs)) }
     {
-        match self.last_begun(number) {
-            Some(at) => {
+        let Some((at, standing)) = self.home_of(number) else {
+            return self.begin(number);
+        };
+        match standing {
+            Standing::Held => Ok(()),
+            Standing::Fits => self.put_at(at, number),
+            Standing::Full => {
                 self.divide(at)?;
                 self.put(number)
             }
-            None => self.begin(number),
         }
+    }
+
+    /// The last run that begins at a number or before it, and how the number stands to it.
+    fn home_of(&self, number: u64) -> Option<(u64, Standing)>
+        ensures { IsHome self.now.runs number result }
+    {
+        let (at, run) = self.runs.range(..=number).next_back()?;
+        Some((*at, run.standing(number)))
     }
 
     /// Puts a number into a run of its own, before which none begins.
@@ -125,9 +138,18 @@ impl NumberSet {
         ensures ok { OnOk result (Adds number (Has self.old.runs) (Has self.new.runs)) }
         ensures err { OnErr result (SameNumbers (Has self.old.runs) (Has self.new.runs)) }
     {
-        let Some(at) = self.last_begun(number) else {
-            return Ok(());
-        };
+        match self.last_begun(number) {
+            Some(at) => self.put_at(at, number),
+            None => Ok(()),
+        }
+    }
+
+    /// Puts a number into the last run that begins at it or before it, which begins at `at`.
+    fn put_at(&mut self, at: u64, number: u64) -> Result<(), AllocError>
+        requires { IsLastBegun self.old.runs number (Some at) }
+        ensures ok { OnOk result (Adds number (Has self.old.runs) (Has self.new.runs)) }
+        ensures err { OnErr result (SameNumbers (Has self.old.runs) (Has self.new.runs)) }
+    {
         match self.runs.get_mut(&at) {
             Some(run) => run.insert(number),
             None => Ok(()),

@@ -1,14 +1,13 @@
 -- What a directory reads after a change of its slots.
-use Rattle.std.specs.Prelude.{◌≡◌, ◌<◌, ◌≤◌, ℕ, ◌+◌, List, [], ◌∷◌, ◌++◌, length, take, set, Some, None, slice_get}
+use Rattle.std.specs.Prelude.{◌≡◌, ◌<◌, ◌≤◌, ℕ, ◌+◌, List, length, take, set, Some, slice_get}
 use Rattle.std.specs.FinMap as map
 use Rattle.std.proofs.Common.{refl, sym, ◌∙◌, ap, subst, inl, inr, arith}
-use Rattle.std.proofs.lemmas.List.{length-append, length-take}
-use Rattle.std.proofs.lemmas.Option.{slice_get_within}
+use Rattle.std.proofs.lemmas.List.{length-take}
 use Rattle.page_tags.specs.Slots.{Entry}
 use Rattle.flash_tree.specs.Tree.{slot_pairs}
 use Rattle.flash_tree.specs.Tree.{ReadsDir}
 use Rattle.volume_terms.specs.Sizes.{Sizes}
-use Rattle.volume_terms.specs.laws.List.{get_push, slice_get_there}
+use Rattle.volume_terms.specs.laws.List.{slice_get_there}
 use Rattle.posix_profile.specs.State.{Entries}
 use Rattle.pages.specs.Maps.{PageMap, has}
 use Rattle.directories.specs.Directories.{SlotOf, ReadsDirectory}
@@ -16,27 +15,12 @@ use Rattle.directories.specs.Heads.{fields_in}
 use Rattle.directories.specs.Writes.{HasHead, KeepsSlots}
 use Rattle.directories.specs.declared.head.DirectoryHead.{DirectoryHead}
 use Rattle.flash_tree.specs.laws.SlotCounts.{AreOnce}
-use Rattle.directories.proofs.Lists.{once_push, entries_push, put_len, get_put, once_put, entries_put, fewer, origin, once_fewer, entries_fewer}
+use Rattle.directories.proofs.Lists.{put_len, fewer, origin, once_fewer, entries_fewer, entries_len}
 use Rattle.directories.proofs.Reading.{one_entry}
 
 -- ---- the slots afterwards
 
 module _ (z : Sizes) (old new : PageMap) (o before : ℕ) (entries : Entries) (r : ReadsDir z (has old) o before entries) where
-  -- one slot more
-  pub added_each : (entry : Entry) → SlotOf z new o (length r.slots) entry → KeepsSlots z old new o (length r.slots) (length r.slots)
-      → (k : ℕ) (e : Entry) → slice_get (r.slots ++ entry ∷ []) k ≡ Some e → SlotOf z new o k e
-  added_each entry slot committed k e at = elim (get_push r.slots entry k e at) [
-    | inl x ↦ committed k e (λ same. omega (arith, same, x.0)) x.0 (r.each k e x.1)
-    | inr x ↦ subst (λ y. SlotOf z new o k y) (sym x.1) (subst (λ n. SlotOf z new o n entry) (sym x.0) slot)
-  ]
-
-  -- a slot in place of another
-  pub put_each : (i : ℕ) (entry : Entry) → SlotOf z new o i entry → KeepsSlots z old new o (length r.slots) i → (k : ℕ) (e : Entry) → slice_get (set r.slots i entry) k ≡ Some e → SlotOf z new o k e
-  put_each i entry slot committed k y at = elim (get_put r.slots i entry k y at) [
-    | inl x ↦ subst (λ e. SlotOf z new o k e) (sym x.1) (subst (λ n. SlotOf z new o n entry) (sym x.0) slot)
-    | inr x ↦ committed k y x.0 (slice_get_within r.slots k y x.1) (r.each k y x.1)
-  ]
-
   -- one slot less
   pub fewer_each : z.page_bytes ≤ 4096 → (last : ℕ) → length r.slots ≡ last + 1 → (i : ℕ) (e : Entry) → slice_get r.slots i ≡ Some e → (l : Entry) → slice_get r.slots last ≡ Some l
       → (i < last → (x : Entry) × SlotOf z old o last x × SlotOf z new o i x) → KeepsSlots z old new o last i → (k : ℕ) (y : Entry) → slice_get (take last (set r.slots i l)) k ≡ Some y → SlotOf z new o k y
@@ -51,11 +35,20 @@ module _ (z : Sizes) (old new : PageMap) (o before : ℕ) (entries : Entries) (r
         | inr p ↦ committed k y p.0 x.3 (r.each k y (ap (slice_get r.slots) (sym p.1) ∙ x.1))
       ]
 
+-- where the slots of a directory stay, each name in one of them was there before
+pub slots_were : (z : Sizes) → z.page_bytes ≤ 4096 → (old new : PageMap) (o moment : ℕ) (entries : Entries) (r : ReadsDir z (has old) o moment entries)
+    → ((k : ℕ) (e : Entry) → k < map.len entries → SlotOf z old o k e → SlotOf z new o k e) → (k : ℕ) (e : Entry) → k < map.len entries → SlotOf z new o k e → SlotOf z old o k e
+slots_were z within_limit old new o moment entries r stay k e less at =
+    let counted : map.len entries ≡ length r.slots = entries_len r.slots r.once entries r.entries_are in
+    let s = slice_get_there r.slots k (omega (arith, less, counted)) in
+    let there : SlotOf z old o k s.0 = r.each k s.0 s.1 in
+    subst (λ (x : Entry). SlotOf z old o k x) (one_entry z within_limit new o k s.0 e (stay k s.0 less there) at) there
+
 -- ---- what it reads
 
 module _ (z : Sizes) (old new : PageMap) (o before moment : ℕ) (entries : Entries) (r : ReadsDir z (has old) o before entries) (head : DirectoryHead) (h : HasHead z new o head)
     (spare : head.spare ≡ r.fields.spare) (when : head.moment ≡ moment) where
-  reads_slots : (slots : List Entry) (now : Entries) → head.length ≡ length slots → ((k : ℕ) (e : Entry) → slice_get slots k ≡ Some e → SlotOf z new o k e) → AreOnce slots
+  pub reads_slots : (slots : List Entry) (now : Entries) → head.length ≡ length slots → ((k : ℕ) (e : Entry) → slice_get slots k ≡ Some e → SlotOf z new o k e) → AreOnce slots
       → now ≡ map.from_entries (slot_pairs slots) → ReadsDirectory z new o moment now r.fields.spare
   reads_slots slots now len each once are = (
     record {
@@ -71,20 +64,6 @@ module _ (z : Sizes) (old new : PageMap) (o before moment : ℕ) (entries : Entr
     },
     spare,
   )
-
-  -- one slot more
-  pub reads_added : head.length ≡ length r.slots + 1 → (entry : Entry) → map.get entries entry.name ≡ None → SlotOf z new o (length r.slots) entry → KeepsSlots z old new o (length r.slots) (length r.slots)
-      → ReadsDirectory z new o moment (map.insert entries entry.name entry.object) r.fields.spare
-  reads_added len entry absent slot committed = reads_slots (r.slots ++ entry ∷ []) (map.insert entries entry.name entry.object) (len ∙ sym (length-append r.slots (entry ∷ [])))
-      (added_each z old new o before entries r entry slot committed)
-      (once_push r.slots r.once entries r.entries_are entry absent) (entries_push r.slots r.once entries r.entries_are entry absent)
-
-  -- a slot in place of another
-  pub reads_put : head.length ≡ length r.slots → (i : ℕ) (e : Entry) → slice_get r.slots i ≡ Some e → (entry : Entry) → entry.name ≡ e.name → SlotOf z new o i entry → KeepsSlots z old new o (length r.slots) i
-      → ReadsDirectory z new o moment (map.insert entries entry.name entry.object) r.fields.spare
-  reads_put len i e at_i entry name_is slot committed = reads_slots (set r.slots i entry) (map.insert entries entry.name entry.object) (len ∙ sym (put_len r.slots i entry))
-      (put_each z old new o before entries r i entry slot committed)
-      (once_put r.slots r.once entries r.entries_are i e at_i entry name_is) (entries_put r.slots r.once entries r.entries_are i e at_i entry name_is)
 
   -- one slot less
   pub reads_fewer : z.page_bytes ≤ 4096 → length r.slots ≡ head.length + 1 → (i : ℕ) (e : Entry) → slice_get r.slots i ≡ Some e

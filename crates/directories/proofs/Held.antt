@@ -71,3 +71,8 @@ asks_both names d e to from old mid next new one two more = (
 -- the second is not looked for
 pub asks_first : (names : NameIndex) (d e : ℕ) (to from : List ℕ) (old new : ℕ) → IssuesHeld names d to (old + 1) new → (k : ℕ) × IssuesHeld names d to (old + 6) k × IssuesHeld names e from k new
 asks_first names d e to from old new one = (new, asks_more names d to (old + 1) new (old + 6) new 0 one (omega arith) (omega arith), asks_none names e from new new (omega arith))
+
+-- the same in one directory, whose header is looked up once
+pub asks_two : (names : NameIndex) (d : ℕ) (to from : List ℕ) (old mid next new : ℕ) → IssuesHeld names d to (old + 1) mid → IssuesHeld names d from mid next → new ≤ next + 3
+    → (k : ℕ) × IssuesHeld names d to (old + 6) k × IssuesHeld names d from k new
+asks_two names d to from old mid next new one two more = asks_both names d d to from old mid (next + 3) new one (asks_more names d from mid next (mid + 3) (next + 3) 3 two (omega arith) (omega arith)) (omega (arith, more))

@@ -4,11 +4,13 @@ use Rattle.std.specs.Int.{div_ceil}
 use Rattle.std.proofs.Common.{◌∙◌, ap, inl, inr, arith}
 use Rattle.std.proofs.Math.Nat.{div-add-mod'}
 use Rattle.std.proofs.lemmas.Bool.{cases_lt}
+use Rattle.page_tags.specs.Slots.{Entry}
 use Rattle.volume_terms.specs.Sizes.{Sizes, page_slots}
 use Rattle.volume_terms.specs.laws.Rounding.{part_begins, parts_reach, part_within}
 use Rattle.pages.specs.Maps.{PageMap}
 use Rattle.directories.specs.Directories.{HasOnly}
-use Rattle.directories.specs.Writes.{KeepsPages, KeepsBehind}
+use Rattle.directories.specs.Writes.{IsWritten, KeepsPages, KeepsBehind}
+use Rattle.directories.specs.declared.writing.Writing.{Writing}
 
 -- more slots take no fewer pages
 pub ceil_up : (a b n : ℕ) → 1 ≤ n → a ≤ b → div_ceil a n ≤ div_ceil b n
@@ -31,12 +33,12 @@ one_more_page len n c some partly behind = elim (cases_lt (div_ceil len n) (div_
   | inr up ↦ omega (arith, up, behind)
 ]
 
-module _ (z : Sizes) (old new : PageMap) (d but count : ℕ) (some : 1 ≤ page_slots z) (less : but < count) (keeps : KeepsPages z old new d but) where
-  -- the slot that is written is one of these
+module _ (z : Sizes) (old new : PageMap) (d : ℕ) (writing : Writing) (count : ℕ) (some : 1 ≤ page_slots z) (less : (k : ℕ) (e : Entry) → IsWritten writing k e → k < count) (keeps : KeepsPages z old new d writing) where
+  -- the slots that are written are some of these
   pub committed_behind : KeepsBehind z old new d count
-  committed_behind c behind =
-      let up : but / page_slots z < div_ceil count (page_slots z) = part_within but count (page_slots z) some less in
-      keeps c (omega (arith, behind)) (λ same. omega (arith, same, behind, up))
+  committed_behind c behind = keeps c (omega (arith, behind)) (λ k e w same.
+      let up : k / page_slots z < div_ceil count (page_slots z) = part_within k count (page_slots z) some (less k e w) in
+      omega (arith, same, behind, up))
 
   pub only_written : (before : ℕ) → before ≤ count → HasOnly z old d before → HasOnly z new d count
   only_written before le only c behind =

@@ -1,7 +1,6 @@
 -- What a header and a search of the slots report on a directory that is there.
-use Rattle.std.specs.Prelude.{◌≡◌, ◌<◌, ◌≤◌, ◌+◌, ◌/◌, ℕ, length, Option, Some, None, slice_get, true}
+use Rattle.std.specs.Prelude.{◌≡◌, ◌<◌, ◌≤◌, ℕ, length, Option, Some, None, slice_get, true}
 use Rattle.std.specs.FinMap as map
-use Rattle.std.specs.Int.{div_ceil}
 use Rattle.std.proofs.Common.{refl, sym, ◌∙◌, subst, arith}
 use Rattle.page_tags.specs.Headers.{IsHeader, greatest_recorded}
 use Rattle.page_tags.specs.declared.header.ObjectKind.TheVariants as kinds
@@ -9,10 +8,9 @@ use Rattle.page_tags.specs.Slots.{Entry}
 use Rattle.flash_tree.specs.Tree.{IsPageSize}
 use Rattle.volume_terms.specs.Sizes.{Sizes, page_slots}
 use Rattle.posix_profile.specs.State.{Name, Entries}
-use Rattle.pages.specs.Afterwards.{after}
 use Rattle.pages.specs.Maps.{PageMap}
 use Rattle.pages.specs.State.{PagesState, OnlyFinds}
-use Rattle.directories.specs.Directories.{DirIn, HasBeside, SlotOf, ReportsEnd, ReportsName}
+use Rattle.directories.specs.Directories.{DirIn, HasBeside, SlotOf, ReportsEnd}
 use Rattle.directories.specs.Heads.{IsHeadOf, SaysHead}
 use Rattle.directories.specs.Slots.{AreSlots, Finds}
 use Rattle.directories.specs.declared.head.DirectoryHead.{DirectoryHead}
@@ -64,38 +62,13 @@ module _ (p q : PagesState) (lookups : OnlyFinds p q) (z : Sizes) (o moment : �
       let at = at_entry name (Some l) is in
       (at.entry, slot_is p z o moment entries d within_limit l.place at.entry at.most at.there, at.name_is, at.object_is)
 
-  pub leads_to : (name : Name) (l : Located) → Finds (SlotOf z q.present o) 0 head.length name (Some l) → Some l.object ≡ map.get entries name
-  leads_to name l is = found_leads p z o moment entries d within_limit name (Some l) (at_entry name (Some l) is)
-
   pub leads_nowhere : (name : Name) → Finds (SlotOf z q.present o) 0 head.length name None → None ≡ map.get entries name
   leads_nowhere name is = found_leads p z o moment entries d within_limit name None (at_entry name None is)
 
-  -- how many pages a search looked up
-  pub asked_for : (old mid new : ℕ) → mid ≤ old + 1 → new ≤ mid + div_ceil head.length (q.page_bytes / 272) → new ≤ old + 1 + div_ceil (map.len entries) (page_slots z)
-  asked_for old mid new first rest =
-      let at : new ≤ mid + div_ceil (map.len entries) (page_slots z) =
-      subst (λ n. new ≤ mid + div_ceil n (page_slots z)) count_is (subst (λ n. new ≤ mid + div_ceil head.length (n / 272)) (sym size_on) rest) in
-      omega (arith, first, at)
-
-  -- and where more pages were
-  pub asked_more : (old mid next new most : ℕ) → mid ≤ old + 1 → next ≤ mid + div_ceil head.length (q.page_bytes / 272) → new ≤ next + most → new ≤ old + (1 + most) + div_ceil (map.len entries) (page_slots z)
-  asked_more old mid next new most first rest last = let at = asked_for old mid next first rest in omega (arith, at, last)
-
--- what is reported of a name, whatever is there
+-- what is reported of the page behind the slots
 module _ (p q : PagesState) (lookups : OnlyFinds p q) (z : Sizes) (o : ℕ) (head : DirectoryHead) (s : SaysHead p o head) where
-  pub reported_leads : (name : Name) (l : Located) → Finds (SlotOf z q.present o) 0 head.length name (Some l) → ReportsName z p o name (Some l.object)
-  reported_leads name l is =
-      let at : Finds (SlotOf z p.present o) 0 s.0.fields.length name (Some l) = subst (λ n. Finds (SlotOf z p.present o) 0 n name (Some l)) s.1.length_is
-      (subst (λ (m : PageMap). Finds (SlotOf z m o) 0 head.length name (Some l)) lookups.present is) in
-      (s.0, (l.place, at.most, (at.entry, at.there, at.name_is, at.object_is)))
-
-  -- and of the page behind the slots
   pub reported_end : HasBeside z q.present o head.length head.length → ReportsEnd z p o
   reported_end is = (s.0, subst (λ n. HasBeside z p.present o n n) s.1.length_is (subst (λ (m : PageMap). HasBeside z m o head.length head.length) lookups.present is))
-
--- what a header says after no change, it says
-pub said_now : (p : PagesState) (o : ℕ) (head : DirectoryHead) → SaysHead (after None p) o head → SaysHead p o head
-said_now p o head s = (record { fields = s.0.fields; has = s.0.has; valid = s.0.valid; kind = s.0.kind }, s.1)
 
 -- what is reported of a directory that is there, where its entries are in the count elsewhere
 module _ (p : PagesState) (z : Sizes) (o moment : ℕ) (entries : Entries) (d : DirIn p z o moment entries) (count : ℕ) (is : count ≡ map.len entries) where

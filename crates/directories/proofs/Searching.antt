@@ -1,14 +1,12 @@
 -- The slots of a chunk, in its page and in the directory.
-use Rattle.std.specs.Prelude.{◌≡◌, ◌<◌, ◌≤◌, ℕ, ◌+◌, ◌-◌, ◌*◌, ◌/◌, ◌%◌, Bool, true, false, is_some, List, take, drop, Option, Some, None}
+use Rattle.std.specs.Prelude.{◌≡◌, ◌<◌, ◌≤◌, ℕ, ◌+◌, ◌*◌, ◌/◌, ◌%◌, List, take, drop, Some}
 use Rattle.std.proofs.Common.{sym, ◌∙◌, ap, subst, arith}
 use Rattle.std.proofs.lemmas.Nat.{div-mul-add, mod-mul-add}
 use Rattle.page_tags.specs.Slots.{Entry}
 use Rattle.volume_terms.specs.Sizes.{Sizes, page_slots}
-use Rattle.posix_profile.specs.State.{Name}
 use Rattle.pages.specs.Maps.{PageMap}
 use Rattle.directories.specs.Directories.{SlotOf}
-use Rattle.directories.specs.Slots.{SlotAt, AreSlots, Finds}
-use Rattle.directories.specs.declared.lookup.Located.{Located}
+use Rattle.directories.specs.Slots.{SlotAt, AreSlots}
 
 -- a key has one page
 pub one_page : (m : PageMap) (o c : ℕ) (xs ys : List ℕ) → m o c ≡ Some xs → m o c ≡ Some ys → xs ≡ ys
@@ -45,7 +43,3 @@ module _ (z : Sizes) (m : PageMap) (d c : ℕ) where
 -- fewer slots are slots
 pub slots_among : (at : ℕ → Entry → Type 0) (from to most : ℕ) → to ≤ most → AreSlots at 0 most → AreSlots at from to
 slots_among at from to most high are i low less = are i (omega arith) (omega (arith, less, high))
-
-pub none_found : (at : ℕ → Entry → Type 0) (from to : ℕ) (name : Name) (found : Option Located) (b : Bool) → b ≡ is_some found → b ≡ false → Finds at from to name found → Finds at from to name None
-none_found at from to name None b reported is lookups = lookups
-none_found at from to name (Some found) b reported is lookups = let two : true ≡ false = sym reported ∙ is in absurd cc

@@ -1,5 +1,5 @@
 -- What a change makes of a directory.
-use Rattle.std.specs.Prelude.{◌≡◌, ℕ, List, Option, None, Result, IfOk, IfSome, ◌≢◌}
+use Rattle.std.specs.Prelude.{◌≡◌, ◌+◌, ℕ, List, Option, None, Result, IfOk, IfSome, ◌≢◌}
 use Rattle.std.specs.FinMap as map
 use Rattle.std.specs.Int.{div_ceil}
 use Rattle.page_tags.specs.Slots.{Entry}
@@ -11,12 +11,12 @@ use Rattle.pages.specs.Maps.{after_change}
 use Rattle.pages.specs.State.{PagesState}
 use Rattle.pages.specs.declared.change.Change.{Change}
 use Rattle.directories.specs.Directories.{DirIn, Directory, HasOnly, ReadsDirectory}
-use Rattle.directories.specs.Hashing.{WritesPast}
-use Rattle.directories.specs.Named.{NamedIn, IsAtSlot}
-use Rattle.directories.specs.SlotLists.{PutsSlot, IsWithout, IsPut, IsMoved, WritesSlots}
-use Rattle.directories.specs.Taking.{TakesName}
+use Rattle.directories.specs.Hashing.{KeepsFirst, WritesPast}
+use Rattle.directories.specs.Named.{NamedIn, IsFoundAt}
+use Rattle.directories.specs.SlotLists.{IsWithout, IsPut, IsMoved, WritesSlots}
+use Rattle.directories.specs.Heads.{IsHeadOf}
 use Rattle.directories.specs.declared.renaming.Route.{Route}
-use Rattle.directories.specs.declared.taking.Taken.{Taken}
+use Rattle.directories.specs.declared.seeking.Sought.{Sought}
 use Rattle.page_tags.specs.SlotEntry.{entry_of}
 use Rattle.pages.specs.Changes.{IsChange}
 use Rattle.directories.specs.Writes.{KeepsKey}
@@ -24,10 +24,6 @@ use Rattle.directories.specs.Writes.{KeepsKey}
 -- this holds of what was made, where something was
 abbrev pub IfMade : {A E : Type 0} → Result (Option A) E → (A → Type 0) → Type 0
 IfMade result P = IfOk result (λ made. IfSome made P)
-
--- this holds of the change by which a name was taken, where one was
-abbrev pub IfTaken : {E : Type 0} → Result (Option Taken) E → (Change → Type 0) → Type 0
-IfTaken result P = IfMade result (λ taken. P taken.change)
 
 -- the entries, of which the slot's name leads to its object
 abbrev pub with_slot : Entries → Slot → Entries
@@ -53,9 +49,9 @@ OfNamed names p o A =
     (z : Sizes) (before : ℕ) (entries : Entries) (d : NamedIn names p z o before entries)
     → A (record { sizes = z; pages = p.present; object = o; moment = before; entries = entries; reads = d.reads })
 
--- the same of a directory in which the slot's name is at this place, or nowhere, and of its entries with the slot
-abbrev pub OfPut : PagesState → ℕ → Slot → Option ℕ → (Directory → Entries → Type 0) → Type 0
-OfPut p o slot place A = OfDir p o (λ d. IsAtSlot d.reads.slots d.entries slot.name.now place → A d (with_slot d.entries slot))
+-- the same of a directory in which the slot's name was sought: of what its header says, and where the name is
+abbrev pub OfPut : PagesState → ℕ → Slot → Sought → (Directory → Type 0) → Type 0
+OfPut p o slot sought A = OfDir p o (λ d. IsHeadOf sought.head d.reads.fields → IsFoundAt d.reads.slots d.entries slot.name.now sought.found → A d)
 
 -- this holds where both ends of a route are directories of whose names the index has the hashes: of the entries of its target
 abbrev pub OfRoute : NameIndex → PagesState → Route → (Entries → Type 0) → Type 0
@@ -82,13 +78,11 @@ EndsAfter d new change = HasOnly d.sizes (after_change change d.pages) d.object 
 abbrev pub WritesNew : Directory → ℕ → Change → Type 0
 WritesNew d count change = WritesPast d.sizes change d.object (map.len d.entries) count
 
--- the change puts the entry into the directory's slots, and writes each page of theirs that becomes another
-abbrev pub PutsIn : Directory → Entry → Change → Type 0
-PutsIn d entry change = PutsSlot d.sizes change d.object entry d.reads.slots
-
--- the name's slot goes from the directory's: the last one is in its place
-abbrev pub TakesFrom : Directory → List ℕ → Taken → Type 0
-TakesFrom d name taken = TakesName d.sizes d.pages d.object d.reads.slots name taken
+-- A slot is added behind those of the directory: it lies on a page of the change, and each name in one of the others after the change was in that
+-- slot before.
+pub record AddsSlot (d : Directory) (change : Change) : Type 0 where
+  pub more : WritesNew d (map.len d.entries + 1) change
+  pub stays : KeepsFirst d.sizes d.pages change d.object (map.len d.entries)
 
 -- the change writes the pages of a list of slots that follows so from the directory's
 abbrev pub RewritesIn : Directory → (List Entry → List Entry → Type 0) → Change → Type 0

@@ -1,5 +1,5 @@
 -- A directory of a store's pages.
-use Rattle.std.specs.Prelude.{◌≡◌, ◌≢◌, ◌<◌, ◌+◌, ◌/◌, ℕ, true, List, Option, Some, None}
+use Rattle.std.specs.Prelude.{◌≡◌, ◌<◌, ◌+◌, ◌/◌, ℕ, true, List, Option, Some, None}
 use Rattle.std.specs.FinMap as map
 use Rattle.std.specs.Int.{div_ceil}
 use Rattle.flash_tree.specs.Tree.{ReadsDir, SlotIs}
@@ -42,15 +42,6 @@ HasBeside z m d count i = (k : ℕ) → k < count → k / page_slots z ≡ i / p
 -- after a change of the pages the object is this directory, with the spare blocks that were there
 abbrev pub ReadsDirectory : Sizes → PageMap → ℕ → ℕ → Entries → ℕ → Type 0
 ReadsDirectory z m o moment entries spare = (r : ReadsDir z (has m) o moment entries) × (r.fields.spare ≡ spare)
-
--- the name leads to the object from one of so many slots, or each of them has another name
-abbrev pub LeadsFrom : (ℕ → Entry → Type 0) → ℕ → List ℕ → Option ℕ → Type 0
-LeadsFrom at count name None = (i : ℕ) → i < count → (e : Entry) × at i e × (e.name ≢ name)
-LeadsFrom at count name (Some object) = (i : ℕ) × (i < count) × ((e : Entry) × at i e × (e.name ≡ name) × (object ≡ e.object))
-
--- what is reported of a name is what the header and the slots say
-abbrev pub ReportsName : Sizes → PagesState → ℕ → List ℕ → Option ℕ → Type 0
-ReportsName z p d name found = (h : IsHeaded p d) × LeadsFrom (SlotOf z p.present d) h.fields.length name found
 
 -- what is reported of a slot: it has the name and leads to the object, or it has another name
 abbrev pub ReportsSlot : Sizes → PageMap → ℕ → ℕ → List ℕ → Option ℕ → Type 0

@@ -7,7 +7,7 @@ pub mod Faults
 pub mod Writes
 pub mod Listings
 pub mod Named
-pub mod Taking
+pub mod Moving
 pub mod SlotLists
 pub mod Hashing
 pub mod Leaving

@@ -60,12 +60,7 @@ abbrev pub ReportsHeldChange : {A : Type 0} → NameIndex → Sizes → PagesSta
 ReportsHeldChange names z p d name None = ReportsHeld names z p d name None
 ReportsHeldChange names z p d name (Some change) = (object : ℕ) × ReportsHeld names z p d name (Some object)
 
--- the slots are those of the entries: the name is in this one of them, or it is none of the entries
-abbrev pub IsAtSlot : List Entry → Entries → List ℕ → Option ℕ → Type 0
-IsAtSlot slots entries name None = map.get entries name ≡ None
-IsAtSlot slots entries name (Some i) = (e : Entry) × (slice_get slots i ≡ Some e) × (e.name ≡ name)
-
--- the same of a slot that leads to an object
+-- the slots are those of the entries: the name is in this one of them and leads to its object, or it is none of the entries
 abbrev pub IsFoundAt : List Entry → Entries → List ℕ → Option Located → Type 0
 IsFoundAt slots entries name None = map.get entries name ≡ None
 IsFoundAt slots entries name (Some found) = (e : Entry) × (slice_get slots found.place ≡ Some e) × (e.name ≡ name) × (found.object ≡ e.object)

@@ -7,7 +7,6 @@ use Rattle.pages.specs.Maps.{IsPageOf}
 use Rattle.pages.specs.State.{PagesState}
 use Rattle.pages.specs.declared.change.Change.{Change}
 use Rattle.directories.specs.Directories.{DirIn}
-use Rattle.directories.specs.Writes.{HasKey}
 
 -- the bytes of page c of a directory with these slots: those that are on it, in their order, and zeros behind them
 abbrev pub slots_page : Sizes → List Entry → ℕ → List ℕ
@@ -47,8 +46,3 @@ IsMoved from entry old new = (mid : List Entry) × IsWithout from old mid × IsP
 abbrev pub Rewrites : PagesState → ℕ → (List Entry → List Entry → Type 0) → Change → Type 0
 Rewrites p o Follows change =
     (z : Sizes) (before : ℕ) (entries : Entries) (d : DirIn p z o before entries) → (new : List Entry) × Follows d.reads.slots new × WritesSlots z change o new
-
--- the change writes the pages of a list of slots in which the entry is put, and each page that is another in it
-abbrev pub PutsSlot : Sizes → Change → ℕ → Entry → List Entry → Type 0
-PutsSlot z change d entry old =
-    (new : List Entry) × IsPut entry old new × WritesSlots z change d new × ((c : ℕ) → (HasKey change d (1 + c) → ⊥) → slots_page z new c ≡ slots_page z old c)

@@ -1,22 +1,15 @@
 -- What is said of the pages of a sound store, and of an object in them.
-use denote.Ref.{Bor}
-use Rattle.std.specs.Prelude.{◌≡◌, ◌≢◌, ◌≤◌, ◌+◌, ◌*◌, ℕ, true, Option, option_copied}
+use Rattle.std.specs.Prelude.{◌≡◌, ◌≢◌, ℕ, true}
 use Rattle.page_tags.specs.Slots.{Entry}
 use Rattle.flash_tree.specs.declared.place.Key.{Key}
 use Rattle.volume_terms.specs.Sizes.{Sizes, page_slots}
-use Rattle.pages.specs.Afterwards.{after}
 use Rattle.pages.specs.Maps.{PageMap}
 use Rattle.pages.specs.Sound.{OfSound}
 use Rattle.pages.specs.State.{PagesState}
 use Rattle.pages.specs.Stores.{HasPage}
-use Rattle.pages.specs.declared.change.Change.{Change}
 use Rattle.directories.specs.Directories.{SlotOf}
 use Rattle.directories.specs.Heads.{IsHeaded}
 use Rattle.directories.specs.Slots.{AreSlots}
-
--- the store with its pages as they are after an earlier change, where one is given
-abbrev pub later : Option (Bor Change) → PagesState → PagesState
-later earlier p = after (option_copied earlier) p
 
 -- this holds of the sizes of each volume with so many bytes on a page
 abbrev pub OfSize : ℕ → (Sizes → Type 0) → Type 0

@@ -1,17 +1,16 @@
 // The header of a directory.
-ghost use Rattle.std.specs.Prelude.{◌≡◌, ◌≤◌, ◌+◌, true, OnOk, IfOk, IfErr, IfSome, IsSomeAnd, length, option_copied};
+ghost use Rattle.std.specs.Prelude.{◌≡◌, ◌≤◌, ◌+◌, true, OnOk, IfOk, IfErr, IfSome, IsSomeAnd, length};
 ghost use Rattle.page_tags.specs.Headers.{Fields, IsHeaderOf};
 ghost use Rattle.page_tags.specs.declared.header.ObjectKind.TheVariants as kinds;
-ghost use Rattle.pages.specs.Afterwards.{IsSizedBy};
 ghost use Rattle.pages.specs.Faults.{MayLack, SaysWhy};
 ghost use Rattle.pages.specs.State.{OnlyFinds, KeepsPower};
 ghost use Rattle.directories.specs.HeadPages.{IsHeadIn, IsHeadPage};
 ghost use Rattle.directories.specs.Heads.{IsHeadOf, SaysHead};
-ghost use Rattle.directories.specs.Stores.{later, OfHeaded};
+ghost use Rattle.directories.specs.Stores.{OfHeaded};
 
 use flash_tree::{FreshPage, Key};
 use page_tags::{Format, Header, ObjectKind, decode_header, encode_header};
-use pages::{Change, PageFault, Pages, load_after, page_after};
+use pages::{PageFault, Pages, load};
 
 /// What the header of a directory says: its spare blocks, which are meant in the root's alone, how many entries it
 /// has, and the moment of its last change.
@@ -31,29 +30,12 @@ pub fn read_head<P: Pages>(pages: &mut P, directory: u64) -> Result<DirectoryHea
     ensures why { IfErr result (SaysWhy (P.state pages.old) (P.state pages.new)) }
     ensures fault { OfHeaded (P.state pages.old) directory (IfErr result (MayLack (P.state pages.old) (P.state pages.new))) }
 {
-    head_after(pages, None, directory)
-}
-
-/// Reads the header of a directory, after an earlier change.
-pub(crate) fn head_after<P: Pages>(
-    pages: &mut P,
-    earlier: Option<&Change>,
-    directory: u64,
-) -> Result<DirectoryHead, PageFault>
-    requires { IsSizedBy (option_copied earlier) (P.state pages.old).page_bytes }
-    ensures lookups { OnlyFinds (P.state pages.old) (P.state pages.new) }
-    ensures issued { (P.state pages.new).issued ≤ (P.state pages.old).issued + 1 }
-    ensures power { OnOk result (KeepsPower (P.state pages.old) (P.state pages.new)) }
-    ensures reported { (P.state pages.old).sound ≡ true → IfOk result (SaysHead (later earlier.entry (P.state pages.old)) directory) }
-    ensures why { IfErr result (SaysWhy (P.state pages.old) (P.state pages.new)) }
-    ensures fault { OfHeaded (later earlier.entry (P.state pages.old)) directory (IfErr result (MayLack (P.state pages.old) (P.state pages.new))) }
-{
     let key = Key {
         object: directory,
         chunk: 0,
     };
-    let source = load_after(pages, earlier, key)?;
-    match decode_head(page_after(pages, earlier, source)) {
+    load(pages, key)?;
+    match decode_head(pages.page()) {
         Some(head) => Ok(head),
         None => Err(PageFault::Damaged),
     }

@@ -1,20 +1,18 @@
 // What slots say of a name.
-ghost use Rattle.std.specs.Prelude.{◌≡◌, ◌<◌, ◌≤◌, ◌+◌, ◌*◌, ◌/◌, ◌^◌, OnOk, IfOk, IfErr, IfSome, IsOk, length, option_copied};
-ghost use Rattle.std.specs.Int.{div_ceil};
+ghost use Rattle.std.specs.Prelude.{◌≡◌, ◌<◌, ◌≤◌, ◌+◌, ◌/◌, OnOk, IfOk, IfErr, IsOk, length};
 ghost use Rattle.page_tags.specs.Slots.{Entry, slot_bytes};
 ghost use Rattle.flash_tree.specs.Slots.{IsTreeSlot};
 ghost use Rattle.volume_terms.specs.Sizes.{slot_length};
-ghost use Rattle.pages.specs.Afterwards.{IsSizedBy};
 ghost use Rattle.pages.specs.Faults.{MayLack, SaysWhy};
 ghost use Rattle.pages.specs.State.{OnlyFinds, KeepsPower};
 ghost use Rattle.pages.specs.declared.fault.PageFault.TheVariants as faults;
 ghost use Rattle.directories.specs.Directories.{ReportsSlot};
-ghost use Rattle.directories.specs.Slots.{NamedBy, SlotAt, AreSlots, Finds, OfEntry};
-ghost use Rattle.directories.specs.Stores.{later, OfPages, OfSlots, OfSlotted, OfSlotAt};
+ghost use Rattle.directories.specs.Slots.{NamedBy, OfEntry};
+ghost use Rattle.directories.specs.Stores.{OfPages, OfSlotAt};
 
 use crate::page::slot_of;
 use flash_tree::{Key, decode_tree_slot};
-use pages::{Change, PageFault, Pages, load, load_after, page_after};
+use pages::{PageFault, Pages, load};
 use volume_terms::SLOT_BYTES;
 
 /// A slot that has the name that was looked for: its number, and the object that it leads to.

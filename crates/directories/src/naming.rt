@@ -1,14 +1,13 @@
 // The hashes of the names that a change writes, in an index.
-ghost use Rattle.std.specs.Prelude.{◌≡◌, ◌<◌, ◌≤◌, ◌+◌, ◌-◌, ◌*◌, ◌/◌, ◌^◌, ℕ, true, OnOk, Some, slice_get, length};
+ghost use Rattle.std.specs.Prelude.{◌≡◌, ◌<◌, ◌≤◌, ◌*◌, ◌/◌, ◌^◌, true, OnOk, length};
 ghost use Rattle.name_index.specs.Covering.{HasHashes};
 ghost use Rattle.name_index.specs.Hashes.{fnv1a};
 ghost use Rattle.name_index.specs.Names.{Holds};
 ghost use Rattle.page_tags.specs.Headers.{Fields, IsHeaderOf};
 ghost use Rattle.page_tags.specs.declared.header.ObjectKind.TheVariants as kinds;
-ghost use Rattle.flash_tree.specs.declared.place.FreshPage.{FreshPage};
 ghost use Rattle.volume_terms.specs.Sizes.{slot_length};
 ghost use Rattle.pages.specs.Changes.{AreSized};
-ghost use Rattle.directories.specs.Hashing.{HoldsMore, HoldsPage, SaysNoDirectory, HashesPage, OfNewSlots};
+ghost use Rattle.directories.specs.Hashing.{HoldsMore, HoldsPage, SaysNoDirectory, HashesPage, HashesPages, OfNewSlots, kept_count};
 ghost use Rattle.directories.specs.Slots.{OfEntry};
 
 use crate::page::slot_of;
@@ -23,32 +22,45 @@ const KIND_AT: usize = 5;
 
 const DIRECTORY: u8 = 2;
 
-/// Adds the hash of each name in the pages of directories' slots that a change writes. Of the names that were there before
-/// none is dropped.
+/// The first slots of a directory, which a change leaves as they are.
+#[derive(Clone, Copy, Debug, PartialEq, Eq)]
+pub struct KeptSlots {
+    pub directory: u64,
+    pub count: u32,
+}
+
+/// Adds the hash of each name in the pages of directories' slots that a change writes, but for those of slots that are kept.
+/// Of the names that were there before none is dropped.
 pub fn hash_change(
     names: &mut NameIndex,
     page_bytes: u32,
     change: &Change,
+    kept: Option<KeptSlots>,
 ) -> Result<(), AllocError>
     requires least { 512 ≤ page_bytes }
     requires most { page_bytes ≤ 4096 }
     requires sized { AreSized change.now.pages.items page_bytes }
     ensures committed { HoldsMore names.old names.new }
-    ensures hashes { OfNewSlots page_bytes change.now names.old (λ z m d count. OnOk result (HasHashes names.new z m d count)) }
+    ensures hashes { OfNewSlots page_bytes change.now kept names.old (λ z m d count. OnOk result (HasHashes names.new z m d count)) }
 {
-    hash_pages(names, page_bytes, &change.pages)
+    hash_pages(names, page_bytes, &change.pages, kept)
 }
 
 /// The same for the pages of a change.
-fn hash_pages(names: &mut NameIndex, page_bytes: u32, pages: &[FreshPage]) -> Result<(), AllocError>
+fn hash_pages(
+    names: &mut NameIndex,
+    page_bytes: u32,
+    pages: &[FreshPage],
+    kept: Option<KeptSlots>,
+) -> Result<(), AllocError>
     requires least { 512 ≤ page_bytes }
     requires most { page_bytes ≤ 4096 }
     requires sized { AreSized pages.now page_bytes }
     ensures committed { HoldsMore names.old names.new }
-    ensures all { OnOk result ((i : ℕ) (page : FreshPage) → slice_get pages.now i ≡ Some page → HashesPage names.new pages.now (page_bytes / slot_length) page) }
+    ensures all { OnOk result (HashesPages names.new pages.now (page_bytes / slot_length) kept) }
 {
     for page in pages {
-        hash_one(names, page_bytes, pages, page)?;
+        hash_one(names, page_bytes, pages, kept, page)?;
     }
     Ok(())
 }
@@ -58,6 +70,7 @@ fn hash_one(
     names: &mut NameIndex,
     page_bytes: u32,
     pages: &[FreshPage],
+    kept: Option<KeptSlots>,
     page: &FreshPage,
 ) -> Result<(), AllocError>
     requires least { 512 ≤ page_bytes }
@@ -65,7 +78,7 @@ fn hash_one(
     requires sized { AreSized pages.now page_bytes }
     requires here { length page.now.bytes.items ≡ page_bytes }
     ensures committed { HoldsMore names.old names.new }
-    ensures all { OnOk result (HashesPage names.new pages.now (page_bytes / slot_length) page.now) }
+    ensures all { OnOk result (HashesPage names.new pages.now (page_bytes / slot_length) kept page.now) }
 {
     if page.key.chunk == 0 {
         return Ok(());
@@ -73,7 +86,21 @@ fn hash_one(
     if is_no_directory(pages, page_bytes, page.key.object) {
         return Ok(());
     }
-    hash_page(names, page_bytes / SLOT_BYTES as u32, page)
+    let from = kept_of(kept, page.key.object);
+    hash_page(names, page_bytes / SLOT_BYTES as u32, from, page)
+}
+
+/// How many first slots of a directory are kept.
+fn kept_of(kept: Option<KeptSlots>, directory: u64) -> u32
+    ensures { result ≡ kept_count kept directory }
+{
+    let Some(kept) = kept else {
+        return 0;
+    };
+    if kept.directory != directory {
+        return 0;
+    }
+    kept.count
 }
 
 /// Whether the page of an object's header among these is not that of a directory. Where there is none it is not reported.
@@ -100,12 +127,17 @@ fn is_directory_page(page: &[u8]) -> bool
     page[KIND_AT] == DIRECTORY
 }
 
-/// Adds the hash of each name in the first slots of a page.
-fn hash_page(names: &mut NameIndex, slots: u32, page: &FreshPage) -> Result<(), AllocError>
+/// Adds the hash of each name in the first slots of a page, but for the directory's slots before slot `from`.
+fn hash_page(
+    names: &mut NameIndex,
+    slots: u32,
+    from: u32,
+    page: &FreshPage,
+) -> Result<(), AllocError>
     requires slots { 1 ≤ page.now.key.chunk }
     requires room { slot_length * slots ≤ length page.now.bytes.items }
     ensures committed { HoldsMore names.old names.new }
-    ensures all { OnOk result (HoldsPage names.new slots page.now) }
+    ensures all { OnOk result (HoldsPage names.new slots from page.now) }
 {
     let Some(first) = (page.key.chunk - 1).checked_mul(u64::from(slots)) else {
         return Ok(());
@@ -113,7 +145,8 @@ fn hash_page(names: &mut NameIndex, slots: u32, page: &FreshPage) -> Result<(), 
     if first > u64::from(u32::MAX) {
         return Ok(());
     }
-    for place in 0..slots {
+    let start = from.saturating_sub(first as u32);
+    for place in start..slots {
         let bytes = slot_of(&page.bytes, place);
         hash_slot(names, page.key.object, first + u64::from(place), bytes)?;
     }

@@ -1,26 +1,22 @@
 // The move of a name.
-ghost use Rattle.std.specs.Prelude.{◌≢◌, ◌≤◌, ◌+◌, ◌/◌, ℕ, OnOk, IfOk, IfErr, option_copied};
+ghost use Rattle.std.specs.Prelude.{◌<◌, ◌≢◌, ◌≤◌, ◌+◌, ℕ, IfOk, IfErr, IfSome};
 ghost use Rattle.std.specs.FinMap as map;
 ghost use Rattle.page_tags.specs.SlotEntry.{entry_of};
 ghost use Rattle.flash_tree.specs.Slots.{IsTreeSlot};
-ghost use Rattle.volume_terms.specs.Sizes.{page_slots};
-ghost use Rattle.pages.specs.Afterwards.{IsSizedBy};
-ghost use Rattle.pages.specs.Changes.{IsChange, IsOnlyOf};
+ghost use Rattle.pages.specs.Changes.{IsChange};
 ghost use Rattle.pages.specs.Faults.{SaysWhyChanging, LooksUp};
-ghost use Rattle.pages.specs.Maps.{PageMap, after_change};
-ghost use Rattle.pages.specs.State.{OnlyFinds, KeepsPower};
 ghost use Rattle.directories.specs.Directories.{IsNamed};
-ghost use Rattle.directories.specs.Faults.{MayLackRoom, MayLackRoomIn};
+ghost use Rattle.directories.specs.Faults.{MayLackRoomIn};
 ghost use Rattle.directories.specs.Named.{IssuesHeld, IssuesBoth};
-ghost use Rattle.directories.specs.Writes.{HasKey, KeepsPages, KeepsKey, PushesSlot};
-ghost use Rattle.directories.specs.Stores.{later, OfSlotted, OfObject};
-ghost use Rattle.directories.specs.Changing.{IfMade, OfNamed, OfPut, OfRoute, Becomes, Ends, EndsAfter, WritesNew, PutsIn, MovesName, ChangesBoth, TakesOut, PutsName};
-ghost use Rattle.pages.specs.Sound.{OfSound};
+ghost use Rattle.directories.specs.Writes.{KeepsKey, OnlyWrites};
+ghost use Rattle.directories.specs.Changing.{IfMade, OfNamed, OfPut, OfRoute, MovesName, ChangesBoth, TakesOut, PutsName};
 
-use crate::head::{DirectoryHead, head_after};
-use crate::seeking::seek;
-use crate::taking::take_name;
-use crate::writing::{Writing, write};
+use crate::addition::push_slot;
+use crate::head::DirectoryHead;
+use crate::moving::{Moving, move_slot, moved_to};
+use crate::seeking::{Sought, search_held, seek};
+use crate::taking::remove;
+use crate::writing::{Writing, Written, write};
 use name_index::NameIndex;
 use page_tags::Slot;
 use pages::{Change, PageFault, Pages};
@@ -47,13 +43,21 @@ pub fn rename_within<P: Pages>(
     ensures fault { OfNamed names.now (P.state pages.old) directory (λ d. IfErr result (MayLackRoomIn (map.remove d.entries from.now) (P.state pages.new))) }
 {
     let sought = seek(names, pages, directory, to.name)?;
-    let Some(taken) = take_name(alloc, names, pages, directory, from, moment)? else {
+    let before = sought.head.length;
+    let Some(found) = search_held(names, pages, directory, before, from)? else {
         return Ok(None);
     };
-    let place = taken.moved(sought.found);
-    let first = taken.change;
-    let second = put_at(alloc, pages, Some(&first), directory, place, to, moment)?;
-    let change = first.then(second)?;
+    let place = found.place;
+    let moving = Moving {
+        place,
+        before,
+        target: moved_to(sought.found, place, before - 1),
+    };
+    let later = DirectoryHead {
+        moment,
+        ..sought.head
+    };
+    let change = move_slot(alloc, pages, directory, moving, to, later)?;
     Ok(Some(change))
 }
 
@@ -87,96 +91,49 @@ pub fn rename_between<P: Pages>(
     ensures fault { OfRoute names.now (P.state pages.old) route (λ entries. IfErr result (MayLackRoomIn entries (P.state pages.new))) }
 {
     let sought = seek(names, pages, route.target, to.name)?;
-    let Some(taken) = take_name(alloc, names, pages, route.source, from, moment)? else {
+    let Some(first) = remove(alloc, names, pages, route.source, from, moment)? else {
         return Ok(None);
     };
-    let place = sought.place();
-    let first = taken.change;
-    let second = put_at(alloc, pages, Some(&first), route.target, place, to, moment)?;
+    let second = put_at(alloc, pages, route.target, sought, to, moment)?;
     let change = first.then(second)?;
     Ok(Some(change))
 }
 
-/// The change that leads a name of a directory to an object, after an earlier change: in its slot where it has one then,
-/// and else in one behind them.
+/// The change that leads a name that was sought in a directory to an object: in its slot where it has one, and else in one
+/// behind them.
 fn put_at<P: Pages>(
     alloc: Global,
     pages: &mut P,
-    earlier: Option<&Change>,
     directory: u64,
-    place: Option<u32>,
+    sought: Sought,
     slot: &Slot,
     moment: u64,
 ) -> Result<Change, PageFault>
-    requires sized { IsSizedBy (option_copied earlier) (P.state pages.old).page_bytes }
     requires valid { IsTreeSlot (entry_of slot.now) }
-    ensures lookups { OnlyFinds (P.state pages.old) (P.state pages.new) }
-    ensures issued { (P.state pages.new).issued ≤ (P.state pages.old).issued + 2 }
-    ensures power { OnOk result (KeepsPower (P.state pages.old) (P.state pages.new)) }
-    ensures change { IfOk result (λ change. IsChange change (P.state pages.old).page_bytes 2) }
-    ensures only { IfOk result (λ change. IsOnlyOf change directory) }
-    ensures head { IfOk result (λ change. HasKey change directory 0) }
-    ensures slot { OfPut (later earlier.entry (P.state pages.old)) directory slot.now place (λ d new. IfOk result (WritesNew d (map.len new))) }
-    ensures puts { OfPut (later earlier.entry (P.state pages.old)) directory slot.now place (λ d new. IfOk result (Becomes d moment new)) }
-    ensures besides { OfPut (later earlier.entry (P.state pages.old)) directory slot.now place (λ d new. Ends d → IfOk result (EndsAfter d new)) }
-    ensures slots { OfPut (later earlier.entry (P.state pages.old)) directory slot.now place (λ d new. IfOk result (PutsIn d (entry_of slot.now))) }
-    ensures why { IfErr result (SaysWhyChanging (P.state pages.new)) }
-    ensures fault { OfPut (later earlier.entry (P.state pages.old)) directory slot.now place (λ d new. IfErr result (MayLackRoomIn d.entries (P.state pages.new))) }
-{
-    let head = head_after(pages, earlier, directory)?;
-    match place {
-        Some(number) => {
-            if number >= head.length {
-                return Err(PageFault::Damaged);
-            }
-            let writing = Writing {
-                number,
-                before: head.length,
-                afterwards: head.length,
-            };
-            let later = DirectoryHead { moment, ..head };
-            write(alloc, pages, earlier, directory, writing, slot, later)
-        }
-        None => push_slot(alloc, pages, earlier, directory, head, slot, moment),
-    }
-}
-
-/// Writes a slot behind those that the header counts, after an earlier change.
-fn push_slot<P: Pages>(
-    alloc: Global,
-    pages: &mut P,
-    earlier: Option<&Change>,
-    directory: u64,
-    head: DirectoryHead,
-    slot: &Slot,
-    moment: u64,
-) -> Result<Change, PageFault>
-    requires sized { IsSizedBy (option_copied earlier) (P.state pages.old).page_bytes }
-    requires valid { IsTreeSlot (entry_of slot.now) }
-    ensures lookups { OnlyFinds (P.state pages.old) (P.state pages.new) }
+    requires within { IfSome sought.found (λ it. it.place < sought.head.length) }
+    ensures looks { LooksUp SaysWhyChanging (P.state pages.old) (P.state pages.new) result }
     ensures issued { (P.state pages.new).issued ≤ (P.state pages.old).issued + 1 }
-    ensures power { OnOk result (KeepsPower (P.state pages.old) (P.state pages.new)) }
-    ensures change { IfOk result (λ change. IsChange change (P.state pages.old).page_bytes 2) }
-    ensures only { IfOk result (λ change. IsOnlyOf change directory) }
-    ensures head { IfOk result (λ change. HasKey change directory 0) }
-    ensures slot { OfSound (P.state pages.old) (λ z. IfOk result (λ change. HasKey change directory (1 + head.length / page_slots z))) }
-    ensures pushes { OfObject (later earlier.entry (P.state pages.old)) directory (λ it. IfOk result (PushesSlot it head slot.now moment)) }
-    ensures pages { OfSound (P.state pages.old) (λ z. (m : PageMap) → IfOk result (λ change. KeepsPages z m (after_change change m) directory head.length)) }
-    ensures why { IfErr result (SaysWhyChanging (P.state pages.new)) }
-    ensures fault { OfSlotted (later earlier.entry (P.state pages.old)) directory head.length (IfErr result (MayLackRoom head.length (P.state pages.new))) }
+    ensures change { IfOk result (OnlyWrites directory (P.state pages.old).page_bytes 2) }
+    ensures puts { OfPut (P.state pages.old) directory slot.now sought (λ d. IfOk result (PutsName d moment slot.now)) }
+    ensures fault { OfPut (P.state pages.old) directory slot.now sought (λ d. IfErr result (MayLackRoomIn d.entries (P.state pages.new))) }
 {
-    let Some(length) = head.length.checked_add(1) else {
-        return Err(PageFault::Full);
+    let Some(found) = sought.found else {
+        return push_slot(alloc, pages, directory, sought.head, slot, moment);
+    };
+    let first = Written {
+        number: found.place,
+        slot: *slot,
     };
     let writing = Writing {
-        number: head.length,
-        before: head.length,
-        afterwards: length,
+        first,
+        second: None,
+        before: sought.head.length,
+        afterwards: sought.head.length,
     };
-    let longer = DirectoryHead {
-        length,
+    let later = DirectoryHead {
         moment,
-        ..head
+        ..sought.head
     };
-    write(alloc, pages, earlier, directory, writing, slot, longer)
+    let change = write(alloc, pages, directory, writing, later)?;
+    Ok(change)
 }

@@ -1,10 +1,8 @@
 // The search of a name through an index.
-ghost use Rattle.std.specs.Prelude.{◌≡◌, ◌<◌, ◌+◌, ℕ, List, OnOk, IfOk, IfErr, IfSome};
-ghost use Rattle.page_tags.specs.Slots.{Entry};
-ghost use Rattle.posix_profile.specs.State.{Entries};
+ghost use Rattle.std.specs.Prelude.{◌<◌, ◌+◌, OnOk, IfOk, IfErr, IfSome};
 ghost use Rattle.pages.specs.Faults.{MayLack, SaysWhy};
 ghost use Rattle.pages.specs.State.{OnlyFinds, KeepsPower};
-ghost use Rattle.directories.specs.Named.{IssuesHeld, FindsHeld, IsAtSlot, IsFoundAt, ReportsSought, IsHeld, IsSoughtIn};
+ghost use Rattle.directories.specs.Named.{IssuesHeld, FindsHeld, ReportsSought, IsHeld, IsSoughtIn};
 ghost use Rattle.directories.specs.Stores.{OfSlots, OfSlotted};
 ghost use Rattle.directories.specs.Changing.{OfDir};
 ghost use Rattle.pages.specs.Sound.{OfSound};
@@ -19,18 +17,6 @@ use pages::{PageFault, Pages};
 pub(crate) struct Sought {
     pub(crate) head: DirectoryHead,
     pub(crate) found: Option<Located>,
-}
-
-impl Sought {
-    /// The number of the slot that has the name.
-    pub(crate) fn place(&self) -> Option<u32>
-        ensures { (slots : List Entry) (entries : Entries) (name : List ℕ) → IsFoundAt slots entries name self.now.found → IsAtSlot slots entries name result }
-    {
-        match self.found {
-            Some(found) => Some(found.place),
-            None => None,
-        }
-    }
 }
 
 /// Looks for a name in the first slots of a directory that an index has under its hash. One page is looked up each.

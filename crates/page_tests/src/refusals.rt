@@ -41,7 +41,7 @@ const CALLS: [(Call, u64, usize); 12] = [
     (Call::Add, 1, 2),
     (Call::Remove, 4, 2),
     (Call::RenameWithin, 5, 3),
-    (Call::RenameBetween, 6, 4),
+    (Call::RenameBetween, 5, 4),
     (Call::Info, 1, 700),
     (Call::Read, 2, 401),
     (Call::Write, 3, 3),

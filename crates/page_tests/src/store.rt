@@ -45,7 +45,7 @@ pub(crate) fn taken(rt: &impl Abort, alloc: Global, store: Store, change: Change
     if !are_sized(&change.pages, pages.page_bytes()) {
         panic!(rt; "a page of another size");
     }
-    hash_names(&mut names, &pages, &change).expect(rt, "memory");
+    hash_names(&mut names, &pages, &change, None).expect(rt, "memory");
     let pages = pages.apply(alloc, change).expect(rt, "memory");
     Store { names, pages }
 }

@@ -83,7 +83,7 @@ module _ (p : PagesState) (z : Sizes) (objects : Objects) (h : HoldsIn p z objec
       (subst (λ (k : Name). HoldsObjects z n (map.insert objects d (Dir moment (map.insert dir.1 k got)))) same_name holds))
 
   -- where a number has no object, the directory is another
-  other_number : (o : ℕ) → map.get objects o ≡ None → d ≢ o
+  pub other_number : (o : ℕ) → map.get objects o ≡ None → d ≢ o
   other_number o free same = let two : None ≡ Some (Dir dir.0 dir.1) = sym free ∙ ap (map.get objects) (sym same) ∙ dir.2 in cc
 
   -- an object is new, and the directory names it

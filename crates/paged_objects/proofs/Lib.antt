@@ -6,6 +6,7 @@ pub mod Dropped
 pub mod Contents
 pub mod Entries
 pub mod Growing
+pub mod Kept
 pub mod NamedHere
 pub mod Holdings
 pub mod Results

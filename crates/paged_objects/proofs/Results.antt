@@ -12,6 +12,11 @@ pub on_ok : {A E : Type 0} (P Q : A → Type 0) (r : Result A E) → ((x : A) �
 on_ok P Q (Ok x) f is = f x is
 on_ok P Q (Err e) f is = tt
 
+-- nothing is said of a result
+pub on_any : {A E : Type 0} (r : Result A E) → IfOk r (λ x. Unit {0})
+on_any (Ok x) = tt
+on_any (Err e) = tt
+
 -- what follows of two things that hold of a result that is there
 pub on_both : {A E : Type 0} (P Q S : A → Type 0) (r : Result A E) → ((x : A) → P x → Q x → S x) → IfOk r P → IfOk r Q → IfOk r S
 on_both P Q S (Ok x) f p q = f x p q

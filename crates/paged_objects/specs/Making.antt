@@ -24,12 +24,14 @@ use Rattle.pages.specs.Maps.{PageMap, after_change}
 use Rattle.pages.specs.State.{PagesState}
 use Rattle.pages.specs.declared.change.Change.{Change}
 use Rattle.directories.specs.Directories.{IsNamed}
+use Rattle.directories.specs.Hashing.{KeepsFirst}
 use Rattle.directories.specs.declared.leaving.LeftSlot.{LeftSlot}
+use Rattle.directories.specs.declared.naming.KeptSlots.{KeptSlots}
 use Rattle.paged_objects.specs.Changing.{ChangeEnds, HasLeft, HasLeftBy, outcome_of}
 use Rattle.paged_objects.specs.Ending.{EndsPages, HasPages}
 use Rattle.paged_objects.specs.Holding.{HoldsObject, HoldsObjects}
 use Rattle.paged_objects.specs.Known.{HasObjects, ObjectsState, StaysIn, sizes_in}
-use Rattle.paged_objects.specs.Naming.{HasNames, HoldsNamed, WritesNames}
+use Rattle.paged_objects.specs.Naming.{HasNames, HoldsNamed, KeepsNames, WritesNames}
 use Rattle.paged_objects.specs.Placed.{AreAllowed, PlacedObjects, placed}
 
 -- after the change the pages are those of these objects, and no others
@@ -47,6 +49,26 @@ MakesBy a change it = MakesAll a (made a.objects change) it
 -- each slot that the change of objects adds lies on a page of the change of pages
 abbrev pub WritesBy : PlacedObjects → ObjectChange → Change → Type 0
 WritesBy a change it = WritesNames a.sizes it a.objects (made a.objects change)
+
+-- each name in one of the slots that the directory had, after the change of pages, was in that slot before
+abbrev pub KeepsIn : PlacedObjects → ℕ → Change → Type 0
+KeepsIn a directory it = KeepsFirst a.sizes a.pages.present it directory (map.len (entries_of (map.get a.objects directory)))
+
+-- the directory in which the change of objects makes an object, or gives one a further name, keeps its slots so
+abbrev pub KeepsBy : PlacedObjects → ObjectChange → Change → Type 0
+KeepsBy a (changes.Create entry kind moment) it = KeepsIn a entry.directory it
+KeepsBy a (changes.Name entry number moment) it = KeepsIn a entry.directory it
+KeepsBy a change it = Unit {0}
+
+-- where slots are kept, they are some of the directory's
+abbrev pub IsKeptIn : Objects → ℕ → Option KeptSlots → Type 0
+IsKeptIn objects directory kept = IfSome kept (λ it. (it.directory ≡ directory) × (it.count ≤ map.len (entries_of (map.get objects directory))))
+
+-- slots are kept only of the directory in which the change makes an object, or gives one a further name
+abbrev pub IsKeptBy : Objects → ObjectChange → Option KeptSlots → Type 0
+IsKeptBy objects (changes.Create entry kind moment) kept = IsKeptIn objects entry.directory kept
+IsKeptBy objects (changes.Name entry number moment) kept = IsKeptIn objects entry.directory kept
+IsKeptBy objects change kept = kept ≡ None
 
 -- if there is a change of pages, it makes these objects
 abbrev pub MayMake : PlacedObjects → ObjectChange → Option Change → Type 0
@@ -80,6 +102,10 @@ Makes old new change result =
 -- this holds if the change can be made, and the number is the one that a new object gets
 abbrev pub IfPlanned : PlacedObjects → ObjectChange → ℕ → Type 0 → Type 0
 IfPlanned a change new A = CanMake a.sizes a.objects change → new ≡ new_number a.objects → A
+
+-- the same where the kept slots are such as the change keeps
+abbrev pub IfKept : PlacedObjects → ObjectChange → Option KeptSlots → ℕ → Type 0 → Type 0
+IfKept a change kept new A = IsKeptBy a.objects change kept → IfPlanned a change new A
 
 -- this holds if the number is the one that a new object gets, and the directory has not the name
 abbrev pub IfNew : PlacedObjects → ℕ → DirectoryEntry → Type 0 → Type 0
@@ -143,10 +169,10 @@ OfTaken p planned A =
     (z : Sizes) (old new : Objects) → HasPages z p old → length planned.pages.items ≤ p.most → HoldsAfter z p.present new planned → A z old new
 
 -- This holds of objects that the volume has room for and the pages hold after a change, which writes each slot that they have more than the
--- objects that a sound store holds and whose names the index has.
-abbrev pub OfHashed : NameIndex → PagesState → Change → (Sizes → PageMap → Objects → Type 0) → Type 0
-OfHashed names p change A =
-    (z : Sizes) (old new : Objects) → HoldsNamed names p z old → WritesNames z change old new → HoldsAfter z p.present new change → IsSizes z
+-- objects that a sound store holds and whose names the index has, and keeps those of their slots that are kept.
+abbrev pub OfHashed : NameIndex → PagesState → Change → Option KeptSlots → (Sizes → PageMap → Objects → Type 0) → Type 0
+OfHashed names p change kept A =
+    (z : Sizes) (old new : Objects) → HoldsNamed names p z old → WritesNames z change old new → KeepsNames z p.present change old kept → HoldsAfter z p.present new change → IsSizes z
     → fits z new ≡ true → A z (after_change change p.present) new
 
 -- this holds of objects whose names the index has, and which the table reports

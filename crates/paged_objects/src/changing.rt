@@ -3,11 +3,11 @@ ghost use Rattle.std.specs.Prelude.{◌≡◌, ◌≤◌, true, OnOk, IfOk, IfEr
 ghost use Rattle.std.specs.FinMap as map;
 ghost use Rattle.volume_terms.specs.Sizes.{Sizes};
 ghost use Rattle.volume_terms.specs.declared.fault.StoreFault.TheVariants as faults;
-ghost use Rattle.posix_profile.specs.State.{IsDirectory};
+ghost use Rattle.posix_profile.specs.State.{IsDirectory, Objects};
 ghost use Rattle.posix_profile.specs.Changes.{new_number};
 ghost use Rattle.object_store.specs.Changes.{CanMake};
 ghost use Rattle.object_store.specs.declared.change.ObjectChange.TheVariants as changes;
-ghost use Rattle.object_store.specs.Reported.{table_sizes, IsReadyFor, LedBefore, ReportsTheSame};
+ghost use Rattle.object_store.specs.Reported.{table_sizes, IsReadyFor, LedBefore, Reports, ReportsTheSame};
 ghost use Rattle.pages.specs.Changes.{AreApart, AreSized, AreOfTrees};
 ghost use Rattle.pages.specs.Maps.{after_change};
 ghost use Rattle.pages.specs.State.{OnlyFinds, KeepsPower};
@@ -19,13 +19,13 @@ ghost use Rattle.paged_objects.specs.Known.{state_with};
 ghost use Rattle.paged_objects.specs.Changing.{LeavesBy};
 ghost use Rattle.paged_objects.specs.Faults.{ReadFailsBy};
 ghost use Rattle.file_io.specs.Writes.{IsChangeIn};
-ghost use Rattle.paged_objects.specs.Making.{EndsBy, IfPlanned, IsFoundIn, LeftMade, Makes, MakesBy, NamesBy, NamesMade, OfTaken, StaysIfRefused};
+ghost use Rattle.paged_objects.specs.Making.{EndsBy, IfKept, IfPlanned, IsFoundIn, IsKeptBy, IsKeptIn, LeftMade, Makes, MakesBy, NamesBy, NamesMade, OfTaken, StaysIfRefused};
 ghost use Rattle.paged_objects.specs.Placed.{OfStored, OfReported};
 
 use crate::dropping::drop_names;
 use crate::fault::fault_of;
 use crate::{find, hash_names, plan};
-use directories::{LeftSlot, left_slot};
+use directories::{KeptSlots, LeftSlot, left_slot};
 use name_index::NameIndex;
 use object_store::{ObjectChange, ObjectTable};
 use pages::{Change, Cut, PageStore};
@@ -94,6 +94,31 @@ fn find_replaced<P: PageStore>(
     }
 }
 
+/// The slots of a directory that stay as they are where a name is added: all that it has, if they can be counted.
+fn kept_in(table: &ObjectTable, directory: u64) -> Option<KeptSlots>
+    ensures { (objects : Objects) → Reports table.now objects → IsDirectory objects directory → IsKeptIn objects directory result }
+{
+    let Ok(count) = u32::try_from(table.entry_count(directory)) else {
+        return None;
+    };
+    Some(KeptSlots { directory, count })
+}
+
+/// The slots that a change leaves as they are, of the directory to which it adds a name and takes none away.
+fn kept_by(table: &ObjectTable, change: &ObjectChange<'_>) -> Option<KeptSlots>
+    ensures { (z : Sizes) (objects : Objects) → Reports table.now objects → CanMake z objects change.now → IsKeptBy objects change.now result }
+{
+    match change {
+        ObjectChange::Create { entry, .. } => kept_in(table, entry.directory),
+        ObjectChange::Name { entry, .. } => kept_in(table, entry.directory),
+        ObjectChange::Remove { .. } => None,
+        ObjectChange::Move { .. } => None,
+        ObjectChange::Write { .. } => None,
+        ObjectChange::Resize { .. } => None,
+        ObjectChange::Forget { .. } => None,
+    }
+}
+
 /// Makes a change of pages, unless it has more of them than the store takes at once.
 fn take<P: PageStore>(pages: &mut P, planned: Change) -> Result<(), StoreFault>
     requires apart { AreApart planned.pages.items }
@@ -111,12 +136,14 @@ fn take<P: PageStore>(pages: &mut P, planned: Change) -> Result<(), StoreFault>
     pages.apply(planned)
 }
 
-/// The change of pages that makes a change of objects. The index gets the hashes of the names that it writes.
+/// The change of pages that makes a change of objects. The index gets the hashes of the names that it writes, but for those in
+/// slots that are kept.
 fn plan_named<P: PageStore>(
     names: &mut NameIndex,
     pages: &mut P,
     alloc: Global,
     change: &ObjectChange<'_>,
+    kept: Option<KeptSlots>,
     new: u64,
 ) -> Result<Change, StoreFault>
     ensures lookups { OnlyFinds (P.state pages.old) (P.state pages.new) }
@@ -125,12 +152,12 @@ fn plan_named<P: PageStore>(
     ensures change { IfOk result (IsChangeIn (P.state pages.old) (most_pages (P.state pages.old).page_bytes change.now)) }
     ensures numbered { IfOk result (λ it. AreOfTrees it.pages.items) }
     ensures makes { OfStored names.old (P.state pages.old) (λ a. IfPlanned a change.now new (IfOk result (MakesBy a change.now))) }
-    ensures names { OfStored names.old (P.state pages.old) (λ a. IfPlanned a change.now new (IfOk result (NamesBy a names.new change.now))) }
+    ensures names { OfStored names.old (P.state pages.old) (λ a. IfKept a change.now kept new (IfOk result (NamesBy a names.new change.now))) }
     ensures fault { OfStored names.old (P.state pages.old) (λ a. IfPlanned a change.now new (IfErr result (ReadFailsBy (P.state pages.new)))) }
 {
     match plan(names, pages, alloc, change, new) {
         Ok(planned) => {
-            hash_names(names, pages, &planned)?;
+            hash_names(names, pages, &planned, kept)?;
             Ok(planned)
         }
         Err(fault) => Err(fault_of(fault)),
@@ -171,6 +198,7 @@ fn change_pages<P: PageStore>(
     pages: &mut P,
     alloc: Global,
     change: &ObjectChange<'_>,
+    kept: Option<KeptSlots>,
     new: u64,
 ) -> Result<Option<LeftSlot>, StoreFault>
     ensures goes_on { GoesOn (P.state pages.old) (P.state pages.new) }
@@ -178,12 +206,12 @@ fn change_pages<P: PageStore>(
     ensures committed { HoldsMore names.old names.new }
     ensures makes { OfStored names.old (P.state pages.old) (λ a. IfPlanned a change.now new (EndsBy a change.now (P.state pages.new) result)) }
     ensures names { OfStored names.old (P.state pages.old) (λ a.
-        IfPlanned a change.now new (OnOk result (NamesMade a names.new (P.state pages.new) change.now))) }
+        IfKept a change.now kept new (OnOk result (NamesMade a names.new (P.state pages.new) change.now))) }
     ensures left { OfStored names.old (P.state pages.old) (λ a.
         IfPlanned a change.now new (IfOk result (LeftMade a (P.state pages.new) change.now))) }
     ensures refused { IsErrOf result faults.NoMemory → StaysAs (P.state pages.old) (P.state pages.new) }
 {
-    let planned = plan_named(names, pages, alloc, change, new)?;
+    let planned = plan_named(names, pages, alloc, change, kept, new)?;
     let left = left_by(names, pages.page_bytes(), &planned, change);
     take(pages, planned)?;
     Ok(left)
@@ -206,7 +234,8 @@ pub(crate) fn make<P: PageStore>(
     prepare(table, change)?;
     let replaced = find_replaced(table, names, pages, change)?;
     let new = table.new_number();
-    let left = change_pages(names, pages, alloc, change, new)?;
+    let kept = kept_by(table, change);
+    let left = change_pages(names, pages, alloc, change, kept, new)?;
     table.apply(change, replaced);
     drop_names(names, table, change, left);
     Ok(())

@@ -9,7 +9,7 @@ ghost use Rattle.pages.specs.Faults.{MayLackMemory, SaysWhyChanging};
 ghost use Rattle.pages.specs.State.{OnlyFinds, KeepsPower};
 ghost use Rattle.pages.specs.declared.fault.PageFault.TheVariants as faults;
 ghost use Rattle.file_io.specs.Writes.{IsChangeIn};
-ghost use Rattle.paged_objects.specs.Making.{IfNameable, IfNew, MakesBy, WritesBy};
+ghost use Rattle.paged_objects.specs.Making.{IfNameable, IfNew, KeepsBy, MakesBy, WritesBy};
 ghost use Rattle.paged_objects.specs.Placed.{AreAllowed, OfHeld};
 ghost use Rattle.object_store.specs.declared.change.ObjectChange.TheVariants as changes;
 
@@ -52,6 +52,7 @@ pub fn create<P: Pages>(
     ensures creates { OfHeld (P.state pages.old) (λ a. IfNew a number at.entry (IfOk result (MakesBy a (changes.Create at.entry kind moment)))) }
     ensures slots { OfHeld (P.state pages.old) (λ a. IsAbsent a.objects at.entry
         → IfOk result (WritesBy a (changes.Create at.entry kind moment))) }
+    ensures keeps { OfHeld (P.state pages.old) (λ a. IfNew a number at.entry (IfOk result (KeepsBy a (changes.Create at.entry kind moment)))) }
     ensures why { IfErr result (SaysWhyChanging (P.state pages.new)) }
     ensures fault { OfHeld (P.state pages.old) (λ a.
         AreAllowed a → IfNew a number at.entry (IfErr result (MayLackMemory (P.state pages.new)))) }
@@ -79,6 +80,8 @@ pub fn name<P: Pages>(
         → IfOk result (MakesBy a (changes.Name at.entry number moment))) }
     ensures slots { OfHeld (P.state pages.old) (λ a. IsAbsent a.objects at.entry
         → IfOk result (WritesBy a (changes.Name at.entry number moment))) }
+    ensures keeps { OfHeld (P.state pages.old) (λ a. IsAbsent a.objects at.entry
+        → IfOk result (KeepsBy a (changes.Name at.entry number moment))) }
     ensures why { IfErr result (SaysWhyChanging (P.state pages.new)) }
     ensures fault { OfHeld (P.state pages.old) (λ a.
         IfNameable a at.entry number (IfErr result (MayLackMemory (P.state pages.new)))) }

@@ -6,7 +6,6 @@ pub mod Stores
 pub mod NewestMaps
 pub mod Refreshing
 pub mod Faults
-pub mod Afterwards
 pub mod Memory
 pub mod MemoryState
 pub mod laws

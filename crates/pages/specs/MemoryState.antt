@@ -1,11 +1,16 @@
 -- What a store in memory keeps.
-use Rattle.std.specs.Prelude.{true, false, Option, None, slice_get}
+use Rattle.std.specs.Prelude.{true, false, ℕ, List, Option, Some, None, slice_get}
 use Rattle.pages.specs.Maps.{no_pages, with_pages}
 use Rattle.pages.specs.State.{PagesState, no_numbers}
-use Rattle.pages.specs.Afterwards.{bytes_or}
+use Rattle.flash_tree.specs.declared.place.FreshPage.{FreshPage}
 use Rattle.pages.specs.Memory.{no_device}
 use Rattle.pages.specs.declared.memory.MemPages.{MemPages}
 use Rattle.pages.specs.declared.memory.Refusal.{Refusal}
+
+-- the bytes of a page, or what was lent where there is none
+abbrev pub bytes_or : Option FreshPage → List ℕ → List ℕ
+bytes_or None lent = lent
+bytes_or (Some page) lent = page.bytes.items
 
 abbrev pub committed : MemPages → PagesState
 committed it = record {

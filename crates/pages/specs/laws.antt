@@ -1,4 +1,3 @@
-pub mod Afterwards
 pub mod Changes
 pub mod Faults
 pub mod Known

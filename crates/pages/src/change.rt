@@ -43,7 +43,7 @@ pub(crate) fn place_of(pages: &[FreshPage], key: Key) -> Option<usize>
 }
 
 /// Returns whether one of the cuts takes the key's page away.
-pub(crate) fn is_cut(cuts: &[Cut], key: Key) -> bool
+fn is_cut(cuts: &[Cut], key: Key) -> bool
     ensures cut { result ≡ true → (i : ℕ) × IsCut cuts.now key.object key.chunk i }
     ensures not { result ≡ false → (i : ℕ) → IsCut cuts.now key.object key.chunk i → ⊥ }
 {

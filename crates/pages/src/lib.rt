@@ -1,7 +1,6 @@
 //! The pages that a store has now, as the layers above it see them: no device, no block and no group.
 #![tactic(auto)]
 
-mod after;
 mod change;
 mod fault;
 mod frames;
@@ -12,7 +11,6 @@ mod page_store;
 mod power;
 mod store;
 
-pub use after::{Source, load_after, page_after};
 pub use change::{Change, Cut, are_sized};
 pub use fault::PageFault;
 pub use frames::{blank_page, copied_page, filled_page, spare_page};

@@ -12,8 +12,8 @@ returns-in_err-hash_slot-clause-committed c = more_on c.args.names.now c.loop-pl
 pub loop-place-preserved : goal.loop-place-preserved
 loop-place-preserved c = record {
   committed = more_on c.args.names.now c.loop-place.names c.hash_slot.new.names c.loop-place.invariant.committed c.hash_slot.ensures.committed;
-  done = λ k e less at small. elim (cases_eq k c.loop-place.place) [
-    | inr other ↦ c.hash_slot.ensures.committed c.args.page.now.key.object (fnv1a e.name) (c.in-Some.first + k) (c.loop-place.invariant.done k e (omega (arith, less, other)) at small)
+  done = λ k e low less at small. elim (cases_eq k c.loop-place.place) [
+    | inr other ↦ c.hash_slot.ensures.committed c.args.page.now.key.object (fnv1a e.name) (c.in-Some.first + k) (c.loop-place.invariant.done k e low (omega (arith, less, other)) at small)
     | inl here ↦
         let number : c.in-Some.first + c.from-in-loop-place.result ≡ c.in-Some.first + k = omega (arith, here, c.from-in-loop-place.ensures) in
         let bytes : c.slot_of-bytes.result.now ≡ slot_bytes e =
@@ -24,7 +24,8 @@ loop-place-preserved c = record {
 }
 
 pub returns-clause-all : goal.returns-clause-all
-returns-clause-all c = λ k e less at small.
+returns-clause-all c = λ k e less at past small.
     let product : c.in-Some.first ≡ (c.args.page.now.key.chunk - 1) * c.args.slots = search rules in
+    let starts : c.saturating_sub-start.result ≡ c.args.from - c.in-Some.first = search rules in
     subst (λ n. Holds c.loop-place.names c.args.page.now.key.object (fnv1a e.name) (n + k)) product
-    (c.loop-place.invariant.done k e (omega (arith, less, c.loop-place-test.false)) at (subst (λ n. n + k < 4294967296) (sym product) small))
+    (c.loop-place.invariant.done k e (omega (arith, starts, product, past)) (omega (arith, less, c.loop-place-test.false)) at (subst (λ n. n + k < 4294967296) (sym product) small))

@@ -1,5 +1,4 @@
-use Rattle.std.proofs.Common.{◌≡◌, ◌≤◌, ◌∙◌, option_copied, sym, subst, arith}
-use Rattle.pages.specs.Afterwards.{changed_by}
+use Rattle.std.proofs.Common.{◌≡◌, ◌≤◌, ◌∙◌, sym, subst, arith}
 use Rattle.pages.specs.Maps.{PageMap, after_change}
 use Rattle.pages.specs.State.{PagesState}
 use Rattle.directories.specs.Writes.{KeepsSlots}
@@ -8,7 +7,7 @@ use Rattle.directories.proofs.removal.shorten.Goals as goal
 pub returns-in_ok-head_change-clause-shortens : goal.returns-in_ok-head_change-clause-shortens
 returns-in_ok-head_change-clause-shortens g c = λ sound z size.
     let old : PagesState = g.P.Pages.state c.args.pages.now in
-    let m : PageMap = changed_by (option_copied c.args.earlier) old.present in
+    let m : PageMap = old.present in
     let w = c.in_ok-head_change.ensures.writes z m (size ∙ sym c.in_ok-frame.ensures.size) in
     let over : c.args.shorter.length ≤ c.args.place = c.if-place-shorter.false in
     let last : c.args.shorter.length ≡ c.args.place = omega (arith, over, c.requires.within) in

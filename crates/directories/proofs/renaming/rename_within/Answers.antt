@@ -1,28 +1,32 @@
-use Rattle.std.proofs.Common.{◌≤◌, ◌/◌, ◌+◌, ◌≡◌, ◌∙◌, ℕ, List, sym, ap, subst, arith}
+use Rattle.std.proofs.Common.{◌≡◌, ◌∙◌, ℕ, length, refl, sym, subst, arith}
 use Rattle.std.proofs.lemmas.Result.{err_from_is_err_and}
 use Rattle.std.specs.FinMap as map
 use Rattle.flash_tree.specs.Tree.{IsPageSize}
-use Rattle.page_tags.specs.SlotEntry.{entry_of}
-use Rattle.page_tags.specs.Slots.{Entry}
-use Rattle.pages.specs.Changes.{IsChange, AreSized}
-use Rattle.volume_terms.specs.Sizes.{page_slots}
+use Rattle.name_index.specs.Hashes.{fnv1a}
+use Rattle.name_index.specs.Names.{Holds}
+use Rattle.pages.specs.Changes.{IsChange}
 use Rattle.pages.specs.Maps.{PageMap, after_change}
 use Rattle.pages.specs.State.{PagesState}
 use Rattle.pages.specs.laws.Changes.{others_keep}
 use Rattle.pages.specs.laws.Faults.{lacks_memory}
+use Rattle.pages.specs.laws.State.{finds_on}
 use Rattle.pages.specs.declared.change.Change.{Change}
-use Rattle.posix_profile.specs.State.{Entries}
-use Rattle.directories.specs.Directories.{HasOnly, ReadsDirectory}
-use Rattle.directories.specs.SlotLists.{slots_page, IsPut}
-use Rattle.directories.specs.declared.taking.Taken.{Taken}
-use Rattle.directories.specs.laws.Keys.{key_both}
-use Rattle.directories.proofs.Hashed.{len_less}
-use Rattle.directories.proofs.Held.{asks_both, asks_first}
+use Rattle.directories.specs.Directories.{HasOnly, SlotOf}
+use Rattle.directories.specs.Moving.{MovesSlot, count_by, header_by, written_by}
+use Rattle.directories.specs.Named.{FindsHeld}
+use Rattle.directories.specs.declared.head.DirectoryHead.{DirectoryHead}
+use Rattle.directories.specs.declared.moving.Moving.{Moving}
+use Rattle.directories.proofs.Held.{asks_first, asks_two}
+use Rattle.directories.proofs.Moved.{moves_name}
+use Rattle.directories.proofs.Reported.{are_on}
 use Rattle.directories.proofs.Results.{memory_room}
-use Rattle.directories.proofs.Renamed.{totaled, named_later, same, then_in, spare_then, at_slot_in}
-use Rattle.directories.proofs.SlotLists.{left_are, left_slots, left_without, left_writes, writes_both}
-use Rattle.directories.proofs.Sought.{dir, was_named}
+use Rattle.directories.proofs.Sought.{dir, sought_in, was_named}
+use Rattle.directories.proofs.Written.{moved_below}
 use Rattle.directories.proofs.renaming.rename_within.Goals as goal
+
+pub move_slot-requires-clause-target : goal.move_slot-requires-clause-target
+move_slot-requires-clause-target g c =
+    moved_below c.in_ok-sought.sought.found c.in-Some.found.place c.in_ok-sought.sought.head.length c.moved_to.result c.moved_to.ensures (rw c.in-Some.is at c.in_ok-found.ensures.within) c.in_ok-sought.ensures.within
 
 pub returns-in_err-sought-clause-issued : goal.returns-in_err-sought-clause-issued
 returns-in_err-sought-clause-issued g c =
@@ -35,151 +39,102 @@ returns-in_err-sought-clause-fault g c = λ z moment entries d.
     let r = err_from_is_err_and c.from_residual.result c.from_residual.ensures.1 in
     rw (r.1, r.2) (memory_room (map.len (map.remove entries c.args.from.now)) mid _ (lacks_memory old mid _ (c.in_err-sought.ensures.fault z moment entries (dir c.args.names.now old z c.args.directory moment entries d))))
 
-pub returns-in_err-taken-clause-issued : goal.returns-in_err-taken-clause-issued
-returns-in_err-taken-clause-issued g c =
-    asks_both c.args.names.now c.args.directory c.args.directory c.args.to.now.name.now c.args.from.now (g.P.Pages.state c.args.pages.now).issued (g.P.Pages.state c.seek.new.pages).issued
-    (g.P.Pages.state c.take_name.new.pages).issued _ c.seek.ensures.issued c.take_name.ensures.issued (omega arith)
+pub returns-in_err-found-clause-issued : goal.returns-in_err-found-clause-issued
+returns-in_err-found-clause-issued g c =
+    asks_two c.args.names.now c.args.directory c.args.to.now.name.now c.args.from.now (g.P.Pages.state c.args.pages.now).issued (g.P.Pages.state c.seek.new.pages).issued (g.P.Pages.state c.search_held.new.pages).issued _
+    c.seek.ensures.issued c.search_held.ensures.issued (omega arith)
 
-pub returns-in_err-taken-clause-fault : goal.returns-in_err-taken-clause-fault
-returns-in_err-taken-clause-fault g c = λ z moment entries d.
+pub returns-in_err-found-clause-fault : goal.returns-in_err-found-clause-fault
+returns-in_err-found-clause-fault g c = λ z moment entries d.
     let old : PagesState = g.P.Pages.state c.args.pages.now in
     let mid : PagesState = g.P.Pages.state c.seek.new.pages in
-    let later_d = named_later c.args.names.now old mid z c.args.directory moment entries c.seek.ensures.lookups d in
-    let r = err_from_is_err_and c.from_residual-in_err-taken.result c.from_residual-in_err-taken.ensures.1 in
-    rw (r.1, r.2) (memory_room (map.len (map.remove entries c.args.from.now)) (g.P.Pages.state c.take_name.new.pages) _
-    (c.in_err-taken.ensures.fault z moment entries (dir c.args.names.now mid z c.args.directory moment entries later_d)))
+    let next : PagesState = g.P.Pages.state c.search_held.new.pages in
+    let lookups = c.seek.ensures.lookups in
+    let s = (c.in_ok-sought.ensures.reported d.sound z d.size).0 in
+    let sized = g.met.P.Pages.sized c.args.pages.now in
+    let here = dir c.args.names.now old z c.args.directory moment entries d in
+    let r = err_from_is_err_and c.from_residual-in_err-found.result c.from_residual-in_err-found.ensures.1 in
+    rw (r.1, r.2) (memory_room (map.len (map.remove entries c.args.from.now)) next _ (lacks_memory mid next _ (c.in_err-found.ensures.fault (lookups.sound ∙ d.sound) z (d.size ∙ sym lookups.page_bytes)
+    (are_on old mid lookups z c.args.directory moment entries here sized c.in_ok-sought.sought.head s))))
 
 pub returns-in_default-clause-issued : goal.returns-in_default-clause-issued
 returns-in_default-clause-issued g c =
-    asks_both c.args.names.now c.args.directory c.args.directory c.args.to.now.name.now c.args.from.now (g.P.Pages.state c.args.pages.now).issued (g.P.Pages.state c.seek.new.pages).issued
-    (g.P.Pages.state c.take_name.new.pages).issued _ c.seek.ensures.issued c.take_name.ensures.issued (omega arith)
+    asks_two c.args.names.now c.args.directory c.args.to.now.name.now c.args.from.now (g.P.Pages.state c.args.pages.now).issued (g.P.Pages.state c.seek.new.pages).issued (g.P.Pages.state c.search_held.new.pages).issued _
+    c.seek.ensures.issued c.search_held.ensures.issued (omega arith)
 
 pub returns-in_default-clause-named : goal.returns-in_default-clause-named
 returns-in_default-clause-named g c = λ z moment entries d.
     let old : PagesState = g.P.Pages.state c.args.pages.now in
-    let mid : PagesState = g.P.Pages.state c.seek.new.pages in
-    rw c.in_default.is at (c.in_ok-taken.ensures.named z moment entries (named_later c.args.names.now old mid z c.args.directory moment entries c.seek.ensures.lookups d))
-
-pub returns-in_err-second-clause-issued : goal.returns-in_err-second-clause-issued
-returns-in_err-second-clause-issued g c =
-    asks_both c.args.names.now c.args.directory c.args.directory c.args.to.now.name.now c.args.from.now (g.P.Pages.state c.args.pages.now).issued (g.P.Pages.state c.seek.new.pages).issued
-    (g.P.Pages.state c.take_name.new.pages).issued _ c.seek.ensures.issued c.take_name.ensures.issued c.put_at.ensures.issued
+    let lookups = c.seek.ensures.lookups in
+    let o : ℕ = c.args.directory in
+    let head = c.in_ok-sought.sought.head in
+    let sized = g.met.P.Pages.sized c.args.pages.now in
+    let s = (c.in_ok-sought.ensures.reported d.sound z d.size).0 in
+    let held = subst (λ (m : PageMap). FindsHeld (Holds c.args.names.now o (fnv1a c.args.from.now)) (SlotOf z m o) head.length c.args.from.now c.in_ok-found.field-0) lookups.present
+    (c.in_ok-found.ensures.reported (lookups.sound ∙ d.sound) z (d.size ∙ sym lookups.page_bytes)) in
+    rw c.in_default.is at (sought_in c.args.names.now old z o moment entries d sized head s c.args.from.now c.in_ok-found.field-0 held).found
 
 pub returns-in_err-change-clause-issued : goal.returns-in_err-change-clause-issued
 returns-in_err-change-clause-issued g c =
-    asks_both c.args.names.now c.args.directory c.args.directory c.args.to.now.name.now c.args.from.now (g.P.Pages.state c.args.pages.now).issued (g.P.Pages.state c.seek.new.pages).issued
-    (g.P.Pages.state c.take_name.new.pages).issued _ c.seek.ensures.issued c.take_name.ensures.issued c.put_at.ensures.issued
+    asks_two c.args.names.now c.args.directory c.args.to.now.name.now c.args.from.now (g.P.Pages.state c.args.pages.now).issued (g.P.Pages.state c.seek.new.pages).issued (g.P.Pages.state c.search_held.new.pages).issued _
+    c.seek.ensures.issued c.search_held.ensures.issued c.move_slot.ensures.issued
+
+pub returns-in_err-change-clause-fault : goal.returns-in_err-change-clause-fault
+returns-in_err-change-clause-fault g c = λ z moment entries d.
+    let old : PagesState = g.P.Pages.state c.args.pages.now in
+    let next : PagesState = g.P.Pages.state c.search_held.new.pages in
+    let finds = finds_on _ _ _ c.seek.ensures.lookups c.search_held.ensures.lookups in
+    let s = (c.in_ok-sought.ensures.reported d.sound z d.size).0 in
+    let sized = g.met.P.Pages.sized c.args.pages.now in
+    let here = dir c.args.names.now old z c.args.directory moment entries d in
+    let r = err_from_is_err_and c.from_residual-in_err-change.result c.from_residual-in_err-change.ensures.1 in
+    rw (r.1, r.2) (memory_room (map.len (map.remove entries c.args.from.now)) (g.P.Pages.state c.move_slot.new.pages) _ (c.in_err-change.ensures.fault (finds.sound ∙ d.sound) z (d.size ∙ sym finds.page_bytes)
+    (are_on old next finds z c.args.directory moment entries here sized c.in_ok-sought.sought.head s)))
 
 pub returns-clause-issued : goal.returns-clause-issued
 returns-clause-issued g c =
-    asks_both c.args.names.now c.args.directory c.args.directory c.args.to.now.name.now c.args.from.now (g.P.Pages.state c.args.pages.now).issued (g.P.Pages.state c.seek.new.pages).issued
-    (g.P.Pages.state c.take_name.new.pages).issued _ c.seek.ensures.issued c.take_name.ensures.issued c.put_at.ensures.issued
-
-pub returns-in_err-second-clause-fault : goal.returns-in_err-second-clause-fault
-returns-in_err-second-clause-fault g c = λ z moment entries d.
-    let names = c.args.names.now in
-    let o : ℕ = c.args.directory in
-    let old : PagesState = g.P.Pages.state c.args.pages.now in
-    let mid : PagesState = g.P.Pages.state c.seek.new.pages in
-    let next : PagesState = g.P.Pages.state c.take_name.new.pages in
-    let sized = g.met.P.Pages.sized c.args.pages.now in
-    let size : IsPageSize z.page_bytes = record { least = omega (arith, d.size, sized.0); most = omega (arith, d.size, sized.1) } in
-    let later_d = named_later names old mid z o moment entries c.seek.ensures.lookups d in
-    let taken : Taken = c.in-Some.taken in
-    let t = rw c.in-Some.is at (c.in_ok-taken.ensures.takes z moment entries later_d) in
-    let reads = rw c.in-Some.is at (c.in_ok-taken.ensures.removes z moment entries later_d) in
-    let at = then_in names old mid next c.seek.ensures.lookups c.take_name.ensures.lookups z size o moment entries d c.args.from.now taken c.args.moment t reads in
-    let at_slot = at_slot_in names old mid next c.seek.ensures.lookups c.take_name.ensures.lookups z size o moment entries d c.args.from.now taken c.args.moment t reads
-    c.args.to.now.name.now c.in_ok-sought.sought.found c.moved-place.result (c.in_ok-sought.ensures.sought z moment entries d).found c.moved-place.ensures in
-    let r = err_from_is_err_and c.from_residual-in_err-second.result c.from_residual-in_err-second.ensures.1 in
-    rw (r.1, r.2) (c.in_err-second.ensures.fault z c.args.moment (map.remove entries c.args.from.now) at at_slot)
-
-pub returns-clause-change : goal.returns-clause-change
-returns-clause-change g c =
-    let old : PagesState = g.P.Pages.state c.args.pages.now in
-    let mid : PagesState = g.P.Pages.state c.seek.new.pages in
-    let next : PagesState = g.P.Pages.state c.take_name.new.pages in
-    let first_bytes : mid.page_bytes ≡ old.page_bytes = c.seek.ensures.lookups.page_bytes in
-    let bytes : next.page_bytes ≡ old.page_bytes = c.take_name.ensures.lookups.page_bytes ∙ first_bytes in
-    let a : IsChange c.in-Some.taken.change old.page_bytes 2 = subst (λ n. IsChange c.in-Some.taken.change n 2) first_bytes (rw c.in-Some.is at c.in_ok-taken.ensures.change) in
-    let b : IsChange c.in_ok-second.second next.page_bytes 2 = c.in_ok-second.ensures.change in
-    let head = rw c.in-Some.is at c.in_ok-taken.ensures.head in
-    let key = c.in_ok-second.ensures.head in
-    let shared = c.in_ok-change.ensures.shared c.args.directory 0 head.0 key.0 head.1 key.1 in
-    record {
-      apart = c.in_ok-change.ensures.apart a.apart b.apart;
-      size = c.in_ok-change.ensures.size old.page_bytes a.size (subst (AreSized c.in_ok-second.second.pages.items) bytes b.size);
-      within_limit = omega (arith, shared, a.within_limit, b.within_limit);
-    }
+    asks_two c.args.names.now c.args.directory c.args.to.now.name.now c.args.from.now (g.P.Pages.state c.args.pages.now).issued (g.P.Pages.state c.seek.new.pages).issued (g.P.Pages.state c.search_held.new.pages).issued _
+    c.seek.ensures.issued c.search_held.ensures.issued c.move_slot.ensures.issued
 
 pub returns-clause-others : goal.returns-clause-others
-returns-clause-others g c = λ o k other.
-    let old : PagesState = g.P.Pages.state c.args.pages.now in
-    let only = rw c.in-Some.is at c.in_ok-taken.ensures.only in
-    c.in_ok-change.ensures.pages old.present o k
-    ∙ others_keep c.in_ok-second.second c.args.directory c.in_ok-second.ensures.only (after_change c.in-Some.taken.change old.present) o k other
-    ∙ others_keep c.in-Some.taken.change c.args.directory only old.present o k other
+returns-clause-others g c = λ o k other. others_keep c.in_ok-change.change c.args.directory c.in_ok-change.ensures.only (g.P.Pages.state c.args.pages.now).present o k other
 
 pub returns-clause-named : goal.returns-clause-named
 returns-clause-named g c = λ z moment entries d.
     let old : PagesState = g.P.Pages.state c.args.pages.now in
-    let mid : PagesState = g.P.Pages.state c.seek.new.pages in
-    let later_d = named_later c.args.names.now old mid z c.args.directory moment entries c.seek.ensures.lookups d in
-    was_named c.args.names.now mid z c.args.directory moment entries later_d c.args.from.now c.in-Some.taken (rw c.in-Some.is at (c.in_ok-taken.ensures.takes z moment entries later_d))
+    let lookups = c.seek.ensures.lookups in
+    let o : ℕ = c.args.directory in
+    let head = c.in_ok-sought.sought.head in
+    let sized = g.met.P.Pages.sized c.args.pages.now in
+    let s = (c.in_ok-sought.ensures.reported d.sound z d.size).0 in
+    let held = subst (λ (m : PageMap). FindsHeld (Holds c.args.names.now o (fnv1a c.args.from.now)) (SlotOf z m o) head.length c.args.from.now c.in_ok-found.field-0) lookups.present
+    (c.in_ok-found.ensures.reported (lookups.sound ∙ d.sound) z (d.size ∙ sym lookups.page_bytes)) in
+    was_named c.args.names.now old z o moment entries d c.args.from.now c.in-Some.found (rw c.in-Some.is at (sought_in c.args.names.now old z o moment entries d sized head s c.args.from.now c.in_ok-found.field-0 held).found)
 
 pub returns-clause-moves : goal.returns-clause-moves
 returns-clause-moves g c = λ z moment entries d.
-    let names = c.args.names.now in
-    let o : ℕ = c.args.directory in
     let old : PagesState = g.P.Pages.state c.args.pages.now in
-    let mid : PagesState = g.P.Pages.state c.seek.new.pages in
-    let next : PagesState = g.P.Pages.state c.take_name.new.pages in
+    let lookups = c.seek.ensures.lookups in
+    let finds = finds_on _ _ _ lookups c.search_held.ensures.lookups in
+    let o : ℕ = c.args.directory in
+    let sought = c.in_ok-sought.ensures.sought z moment entries d in
+    let head = c.in_ok-sought.sought.head in
+    let n : ℕ = head.length in
     let sized = g.met.P.Pages.sized c.args.pages.now in
-    let size : IsPageSize z.page_bytes = record { least = omega (arith, d.size, sized.0); most = omega (arith, d.size, sized.1) } in
-    let later_d = named_later names old mid z o moment entries c.seek.ensures.lookups d in
-    let taken : Taken = c.in-Some.taken in
-    let t = rw c.in-Some.is at (c.in_ok-taken.ensures.takes z moment entries later_d) in
-    let reads = rw c.in-Some.is at (c.in_ok-taken.ensures.removes z moment entries later_d) in
-    let at = then_in names old mid next c.seek.ensures.lookups c.take_name.ensures.lookups z size o moment entries d c.args.from.now taken c.args.moment t reads in
-    let at_slot = at_slot_in names old mid next c.seek.ensures.lookups c.take_name.ensures.lookups z size o moment entries d c.args.from.now taken c.args.moment t reads
-    c.args.to.now.name.now c.in_ok-sought.sought.found c.moved-place.result (c.in_ok-sought.ensures.sought z moment entries d).found c.moved-place.ensures in
-    let first : Change = taken.change in
-    let second : Change = c.in_ok-second.second in
-    let left : Entries = map.remove entries c.args.from.now in
-    let now : Entries = map.insert left c.args.to.now.name.now c.args.to.now.object in
+    let page_size : IsPageSize z.page_bytes = record { least = omega (arith, d.size, sized.0); most = omega (arith, d.size, sized.1) } in
+    let s = (c.in_ok-sought.ensures.reported d.sound z d.size).0 in
+    let held = subst (λ (m : PageMap). FindsHeld (Holds c.args.names.now o (fnv1a c.args.from.now)) (SlotOf z m o) n c.args.from.now c.in_ok-found.field-0) lookups.present
+    (c.in_ok-found.ensures.reported (lookups.sound ∙ d.sound) z (d.size ∙ sym lookups.page_bytes)) in
+    let found = rw c.in-Some.is at (sought_in c.args.names.now old z o moment entries d sized head s c.args.from.now c.in_ok-found.field-0 held).found in
+    let moving : Moving = record { place = c.in-Some.found.place; before = n; target = c.moved_to.result } in
+    let base : DirectoryHead = record { spare = head.spare; length = n; moment = c.args.moment } in
     let change : Change = c.in_ok-change.change in
-    let puts = c.in_ok-second.ensures.puts z c.args.moment left at at_slot in
-    let spare = spare_then names old mid next c.seek.ensures.lookups c.take_name.ensures.lookups z size o moment entries d c.args.from.now taken c.args.moment t reads in
-    let present : next.present ≡ old.present = c.take_name.ensures.lookups.present ∙ c.seek.ensures.lookups.present in
-    let both : after_change second (after_change first old.present) ≡ after_change change old.present = λ i x k. sym (c.in_ok-change.ensures.pages old.present x k) i in
-    let slots = c.in_ok-second.ensures.slot z c.args.moment left at at_slot in
-    let fewer : map.len left ≤ map.len entries = len_less entries c.args.from.now in
-    let lists = c.in_ok-second.ensures.slots z c.args.moment left at at_slot in
-    let a : IsChange first mid.page_bytes 2 = rw c.in-Some.is at c.in_ok-taken.ensures.change in
-    let list : List Entry = left_slots z size.most mid.present o moment entries later_d.reads c.args.from.now taken t in
-    let without = left_without z size.most mid.present o moment entries later_d.reads c.args.from.now taken t in
-    let writes = left_writes z size.most mid.present o moment entries later_d.reads c.args.from.now taken t mid.page_bytes 2 a later_d.size in
-    let one : list ≡ at.reads.slots = left_are z size.most mid.present o moment entries later_d.reads c.args.from.now taken t (after_change first next.present)
-    (same names old mid next c.seek.ensures.lookups c.take_name.ensures.lookups z size o moment entries d c.args.from.now taken c.args.moment t reads) at.reads.slots
-    (totaled names old mid next c.seek.ensures.lookups c.take_name.ensures.lookups z size o moment entries d c.args.from.now taken c.args.moment t reads) at.reads.each in
-    record {
-      makes = record {
-        becomes = subst (λ (m : PageMap). ReadsDirectory z m o c.args.moment now d.reads.fields.spare) both
-            (subst (λ (k : PageMap). ReadsDirectory z (after_change second (after_change first k)) o c.args.moment now d.reads.fields.spare) present
-            (subst (λ n. ReadsDirectory z (after_change second (after_change first next.present)) o c.args.moment now n) spare puts));
-        ends = λ only.
-            let only_mid : HasOnly z mid.present o (map.len entries) = subst (λ (k : PageMap). HasOnly z k o (map.len entries)) (sym c.seek.ensures.lookups.present) only in
-            let within_limit = rw c.in-Some.is at (c.in_ok-taken.ensures.besides z moment entries later_d only_mid) in
-            let few_then : HasOnly z (after_change first next.present) o (map.len left) = subst (λ (k : PageMap). HasOnly z (after_change first k) o (map.len left)) (sym c.take_name.ensures.lookups.present) within_limit in
-            subst (λ (m : PageMap). HasOnly z m o (map.len now)) both
-            (subst (λ (k : PageMap). HasOnly z (after_change second (after_change first k)) o (map.len now)) present
-            (c.in_ok-second.ensures.besides z c.args.moment left at at_slot few_then));
-      };
-      more = λ k low high. key_both first second change c.in_ok-change.ensures.pages o (1 + k / page_slots z) (slots k (omega (arith, low, fewer)) high);
-      slots = (
-        lists.0,
-        (list, without, subst (λ (s : List Entry). IsPut (entry_of c.args.to.now) s lists.0) (sym one) lists.1),
-        writes_both z first second change (c.in_ok-change.ensures.apart a.apart c.in_ok-second.ensures.change.apart) c.in_ok-change.ensures.pages o list lists.0 writes lists.2
-            (λ k none. lists.3 k none ∙ ap (λ (s : List Entry). slots_page z s k) (sym one)),
-      );
-    }
+    let sound_then = finds.sound ∙ d.sound in
+    let size_then = d.size ∙ sym finds.page_bytes in
+    let moves = subst (λ (k : PageMap). MovesSlot (record { sizes = z; pages = k; object = o }) moving (written_by moving c.args.to.now) (header_by moving base) change) finds.present
+    (c.in_ok-change.ensures.moves sound_then z size_then) in
+    let turns = subst (λ (k : PageMap). HasOnly z k o n → HasOnly z (after_change change k) o (count_by c.moved_to.result n)) finds.present (c.in_ok-change.ensures.besides sound_then z size_then) in
+    let count : n ≡ length d.reads.slots = sought.head.length_is ∙ d.reads.size in
+    let is : IsChange change old.page_bytes 3 = subst (λ k. IsChange change k 3) finds.page_bytes c.in_ok-change.ensures.change in
+    moves_name z page_size old.present o moment entries d.reads moving c.args.to.now base change moves count found.0 found.1 c.args.from.now found.2
+    c.in_ok-sought.sought.found sought.found c.moved_to.ensures c.args.moment sought.head.spare refl old.page_bytes 3 is d.size turns

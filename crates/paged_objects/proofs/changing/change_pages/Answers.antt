@@ -69,14 +69,14 @@ returns-clause-makes g c = λ z objects has make is.
     (subst (λ (m : PageMap). HoldsObjects z (after_change planned m) new) (sym c.plan_named.ensures.lookups.present) holds))
 
 pub returns-clause-names : goal.returns-clause-names
-returns-clause-names g c = λ z objects has make is.
+returns-clause-names g c = λ z objects has kept make is.
     let p : PagesState = g.P.Pages.state c.args.pages.now in
     let q : PagesState = g.P.Pages.state c.plan_named.new.pages in
     let r : PagesState = g.P.Pages.state c.take.new.pages in
     let planned = c.in_ok-planned.planned in
     let there : SamePages r.present (after_change planned q.present) = c.in_ok-take.ensures.present (c.plan_named.ensures.lookups.sound ∙ has.pages.represents.sound) in
     let same : SamePages r.present (after_change planned p.present) = subst (λ (m : PageMap). SamePages r.present (after_change planned m)) c.plan_named.ensures.lookups.present there in
-    more_names z c.plan_named.new.names c.plan_named.new.names (after_change planned p.present) r.present (made objects c.args.change.now) (λ d h s it. it) same (c.in_ok-planned.ensures.names z objects has make is)
+    more_names z c.plan_named.new.names c.plan_named.new.names (after_change planned p.present) r.present (made objects c.args.change.now) (λ d h s it. it) same (c.in_ok-planned.ensures.names z objects has kept make is)
 
 pub returns-clause-left : goal.returns-clause-left
 returns-clause-left g c = λ z objects has make is.

@@ -86,6 +86,6 @@ returns-clause-makes g c = λ objects has make.
     c.apply.ensures.reports objects reports (can_have z (table_sizes c.prepare.new.table) objects same.sizes has.pages.can) (can_make z (table_sizes c.prepare.new.table) objects c.args.change.now same.sizes make) led in (
       ends.0,
       reported,
-      c.drop_names.ensures z r.present objects (c.in_ok-left.ensures.names z objects named make next) reported (c.in_ok-left.ensures.left z objects named make next),
+      c.drop_names.ensures z r.present objects (c.in_ok-left.ensures.names z objects named (c.kept_by-kept.ensures z objects reports make) make next) reported (c.in_ok-left.ensures.left z objects named make next),
       turns_after z p q r objects (finds_stay p q c.find_replaced.ensures.lookups) ends.1,
     )

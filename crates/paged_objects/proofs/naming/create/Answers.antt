@@ -10,13 +10,14 @@ use Rattle.pages.specs.Changes.{IsChange}
 use Rattle.pages.specs.Maps.{PageMap, after_change}
 use Rattle.pages.specs.State.{PagesState}
 use Rattle.pages.specs.declared.change.Change.{Change}
-use Rattle.directories.specs.Changing.{IsNew, Makes, OfDir, WritesNew, with_slot}
+use Rattle.directories.specs.Changing.{AddsSlot, IsNew, Makes, OfDir, with_slot}
 use Rattle.paged_objects.specs.Holding.{HoldsIn, HoldsObjects}
 use Rattle.paged_objects.specs.laws.Holding.{held, held_directory, directory_in, same_objects}
 use Rattle.directories.specs.laws.Keys.{key_both}
 use Rattle.paged_objects.proofs.Entries.{few_entries}
 use Rattle.paged_objects.proofs.Growing.{count, less_new, named_more}
-use Rattle.paged_objects.proofs.Holdings.{entries_are, holds_new}
+use Rattle.paged_objects.proofs.Holdings.{entries_are, holds_new, other_number}
+use Rattle.paged_objects.proofs.Kept.{keeps_both}
 use Rattle.paged_objects.proofs.Results.{lacks_memory_only}
 use Rattle.paged_objects.proofs.naming.create.Goals as goal
 
@@ -79,9 +80,22 @@ returns-clause-slots g c = λ z objects h absent.
     let p : PagesState = g.P.Pages.state c.args.pages.now in
     let d : ℕ = c.args.at.directory in
     let dir : IsDirectory objects d = absent.directory in
-    let slot = subst (λ (s : PagesState). OfDir s d (λ a. WritesNew a (map.len a.entries + 1) c.in_ok-named.named)) c.new_object.ensures.same c.in_ok-named.ensures.slot
+    let slot = subst (λ (s : PagesState). OfDir s d (λ a. AddsSlot a c.in_ok-named.named)) c.new_object.ensures.same c.in_ok-named.ensures.slot
     z dir.0 dir.1 (directory_in p z objects h d dir) in
     let reported : map.len dir.1 ≡ count objects d = ap map.len (entries_are p z objects h d dir) in
     let base : Objects = map.insert objects (new_number objects) (empty_object c.args.kind c.args.moment) in
     named_more z c.in_ok-change.change objects base c.args.moment d c.args.at.name.now (new_number objects) (less_new objects (new_number objects) c.args.moment c.args.kind)
-    (λ s low high. key_both c.in_ok-object.object c.in_ok-named.named c.in_ok-change.change c.in_ok-change.ensures.pages d (1 + s / page_slots z) (slot s (omega (arith, reported, low)) (omega (arith, reported, high))))
+    (λ s low high. key_both c.in_ok-object.object c.in_ok-named.named c.in_ok-change.change c.in_ok-change.ensures.pages d (1 + s / page_slots z) (slot.more s (omega (arith, reported, low)) (omega (arith, reported, high))))
+
+pub returns-clause-keeps : goal.returns-clause-keeps
+returns-clause-keeps g c = λ z objects h is absent.
+    let p : PagesState = g.P.Pages.state c.args.pages.now in
+    let d : ℕ = c.args.at.directory in
+    let o : ℕ = c.args.number in
+    let dir : IsDirectory objects d = absent.directory in
+    let free : map.get objects o ≡ None = ap (map.get objects) is ∙ (new_number_is objects).free in
+    let slot = subst (λ (s : PagesState). OfDir s d (λ a. AddsSlot a c.in_ok-named.named)) c.new_object.ensures.same c.in_ok-named.ensures.slot
+    z dir.0 dir.1 (directory_in p z objects h d dir) in
+    let reported : map.len dir.1 ≡ count objects d = ap map.len (entries_are p z objects h d dir) in
+    keeps_both z p.present c.in_ok-object.object c.in_ok-named.named c.in_ok-change.change o d (count objects d) (other_number p z objects h d dir o free) c.in_ok-object.ensures.only c.in_ok-change.ensures.pages
+    (λ s e less at. slot.stays s e (omega (arith, reported, less)) at)

@@ -48,5 +48,13 @@ returns-clause-slots g c = λ z objects h absent.
     let dir : IsDirectory objects d = absent.directory in
     let reported : map.len dir.1 ≡ count objects d = ap map.len (entries_are p z objects h d dir) in
     on_ok _ _ c.add.result
-    (λ change slot. named_more z change objects objects c.args.moment d c.args.at.name.now c.args.number (λ k. omega arith) (λ s low high. slot s (omega (arith, reported, low)) (omega (arith, reported, high))))
+    (λ change slot. named_more z change objects objects c.args.moment d c.args.at.name.now c.args.number (λ k. omega arith) (λ s low high. slot.more s (omega (arith, reported, low)) (omega (arith, reported, high))))
     (c.add.ensures.slot z dir.0 dir.1 (directory_in p z objects h d dir))
+
+pub returns-clause-keeps : goal.returns-clause-keeps
+returns-clause-keeps g c = λ z objects h absent.
+    let p : PagesState = g.P.Pages.state c.args.pages.now in
+    let d : ℕ = c.args.at.directory in
+    let dir : IsDirectory objects d = absent.directory in
+    let reported : map.len dir.1 ≡ count objects d = ap map.len (entries_are p z objects h d dir) in
+    on_ok _ _ c.add.result (λ change slot s e less at. slot.stays s e (omega (arith, reported, less)) at) (c.add.ensures.slot z dir.0 dir.1 (directory_in p z objects h d dir))

@@ -3,6 +3,7 @@ use Rattle.std.specs.FinMap as map
 use Rattle.posix_profile.specs.State.{IsFile}
 use Rattle.object_store.specs.Changes.{IsAbsent, LeadsTo, IsTarget}
 use Rattle.paged_objects.proofs.Growing.{fewer_names, fewer_on, less_dropped, less_file, less_removed}
+use Rattle.paged_objects.proofs.Results.{on_any}
 use Rattle.paged_objects.proofs.Sensible.{file_number, target_directory, target_name}
 use Rattle.paged_objects.proofs.planning.plan_each.Goals as goal
 
@@ -59,3 +60,28 @@ returns-in-Resize-clause-slots g c = λ z objects n make. rw c.in-Resize.is (few
 pub returns-in_ok-forget-in-Forget-clause-slots : goal.returns-in_ok-forget-in-Forget-clause-slots
 returns-in_ok-forget-in-Forget-clause-slots g c = λ z objects n make.
     rw c.in-Forget.is (fewer_names z c.in_ok-forget-in-Forget.field-0 objects (map.remove objects c.in-Forget.number) (less_removed objects c.in-Forget.number))
+
+pub returns-in-Create-clause-keeps : goal.returns-in-Create-clause-keeps
+returns-in-Create-clause-keeps g c = λ z objects n make is.
+    let s : IsAbsent objects c.in-Create.entry = rw c.in-Create.is at make.sensible in
+    rw c.in-Create.is (c.create.ensures.keeps z objects n.holds is s)
+
+pub returns-in-Name-clause-keeps : goal.returns-in-Name-clause-keeps
+returns-in-Name-clause-keeps g c = λ z objects n make is.
+    let s : IsAbsent objects c.in-Name.entry × IsFile objects c.in-Name.number = rw c.in-Name.is at make.sensible in
+    rw c.in-Name.is (c.name.ensures.keeps z objects n.holds s.0)
+
+pub returns-in-Remove-clause-keeps : goal.returns-in-Remove-clause-keeps
+returns-in-Remove-clause-keeps g c = λ z objects n make is. rw c.in-Remove.is (on_any c.remove.result)
+
+pub returns-in-Move-clause-keeps : goal.returns-in-Move-clause-keeps
+returns-in-Move-clause-keeps g c = λ z objects n make is. rw c.in-Move.is (on_any c.move_name.result)
+
+pub returns-in-Write-clause-keeps : goal.returns-in-Write-clause-keeps
+returns-in-Write-clause-keeps g c = λ z objects n make is. rw c.in-Write.is (on_any c.write.result)
+
+pub returns-in-Resize-clause-keeps : goal.returns-in-Resize-clause-keeps
+returns-in-Resize-clause-keeps g c = λ z objects n make is. rw c.in-Resize.is (on_any c.resize.result)
+
+pub returns-in_ok-forget-in-Forget-clause-keeps : goal.returns-in_ok-forget-in-Forget-clause-keeps
+returns-in_ok-forget-in-Forget-clause-keeps g c = λ z objects n make is. rw c.in-Forget.is tt

@@ -1,7 +1,7 @@
 use Rattle.std.proofs.Common.{◌≡◌, ◌∙◌, ℕ, List, [], Some, None, slice_get, sym, ap, subst}
 use Rattle.pages.specs.Maps.{IsPageOf, IsFirstOf, with_pages, no_pages}
 use Rattle.pages.specs.laws.Maps.{first_here, page_elsewhere}
-use Rattle.pages.specs.Afterwards.{bytes_or}
+use Rattle.pages.specs.MemoryState.{bytes_or}
 use Rattle.flash_tree.specs.declared.place.FreshPage.{FreshPage}
 use Rattle.pages.proofs.memory.MemPagesPages.find.Goals as goal
 

@@ -6,7 +6,6 @@ ghost use Rattle.volume_terms.specs.Sizes.{name_limit};
 ghost use Rattle.posix_profile.specs.Paths.{component, parts, path_tests, first_error, ends_in_slash};
 ghost use Rattle.command_plans.specs.Paths.{component_of};
 
-use byte_pieces::pieces_of;
 use posix_profile::Errno;
 use std::alloc::{AllocError, Global};
 use volume_terms::{NAME_LIMIT, PATH_LIMIT};
@@ -35,21 +34,9 @@ pub struct PathPlace<'a> {
 pub(crate) fn parts_of(alloc: Global, path: &[u8]) -> Result<Vec<&[u8]>, AllocError>
     ensures { IfOk result (λ all. list_map (λ part. part.now) all.items ≡ parts path.now) }
 {
-    let pieces = pieces_of(alloc, path, SLASH)?;
-    some_of(alloc, &pieces)
-}
-
-/// The pieces that are not empty.
-fn some_of<'a>(alloc: Global, pieces: &[&'a [u8]]) -> Result<Vec<&'a [u8]>, AllocError>
-    ensures { IfOk result (λ all. list_map (λ part. part.now) all.items ≡ filter (λ part. nat_lt 0 (length part)) (list_map (λ piece. piece.now) pieces.now)) }
-{
-    let mut found = Vec::new(alloc);
-    for piece in pieces {
-        if 0 < piece.len() {
-            found.push(*piece)?;
-        }
-    }
-    Ok(found)
+    path.split(|byte| *byte == SLASH)
+        .filter(|part| !part.is_empty())
+        .collect(alloc)
 }
 
 /// The component that these bytes are.

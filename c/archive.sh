@@ -11,10 +11,11 @@
 # texts. KEEP=FILE keeps there the LLVM module that the archive is compiled from. JOBS: how many proofs at a time (2).
 # OPTIMIZE=-Os compiles the module by this flag in place of -O3, for less code: the archive lies in a folder Os beside the other.
 #
-# Two kinds of functions get an attribute in the module's text, and nothing else is changed there:
+# Three kinds of functions get an attribute in the module's text, and nothing else is changed there:
 #   optsize        what is done seldom (a format, an unmount, a salvage, a list, and of a mount the scans and the walk of the tree) and the
 #                  long loops of the kit's collections. Those that move a volume in a mount do not: apart they would take more stack.
 #   alwaysinline   what runs for each page, and has few callers.
+#   noinline       a call that would widen the frame of its caller: the stack of a mount is below 7 KB.
 set -eu
 seldom='^(formatting|salvage|surviving_pages|volume_check|tree_walk|mount_scan|name_map)::'
 seldom+='|^page_store::(opening|checkpoint_opening|summary_opening|first_pages|newest_pages|read_only)::'
@@ -24,6 +25,7 @@ seldom+='|::BTreeMap::insert|::BTreeSet::|::btree::owned::|::iter::owned::'
 often='^page_store::cache::PageCache::insert|^lru::nodes::Nodes::(insert|remove_node)::|FlashPagesPages::page::'
 often+='|^port_nand::driver::Driver::(send|ask)::|^std::io::count_or_last_error|EitherNandNand::(program|read_data|read_page)::'
 often+='|^page_tags::header::decode_header|^pages::frames::copied_page::'
+apart='^posix_calls::volume::Volume::mount_(with|scanned_with)::'
 module=${KEEP:+$(realpath -m "$KEEP")}
 cd "$(dirname "$0")/.."
 kit=$(dirname "$(dirname "$(readlink -f "$(command -v rt)")")")
@@ -79,7 +81,7 @@ make_toolchain() {
 /^define / && match($0, /@"[^"]*"|@[A-Za-z0-9_.$]+/) {
     name = substr($0, RSTART + 1, RLENGTH - 1)
     gsub(/"/, "", name)
-    attribute = name ~ seldom ? " optsize" : name ~ often ? " alwaysinline" : ""
+    attribute = name ~ seldom ? " optsize" : name ~ often ? " alwaysinline" : name ~ apart ? " noinline" : ""
     sub(/ (#[0-9]+ )?\{$/, attribute "&")
 }
 { print }
@@ -93,7 +95,7 @@ for word in "\$@"; do
     *.bc)
         cat "\$word" > "${module:-/dev/null}"
         "$kit/toolchain/bin/clang" "\$1" -S -emit-llvm -Xclang -disable-llvm-passes -o "$1/plain.ll" "\$word"
-        awk -v seldom='$seldom' -v often='$often' -f "$1/mark.awk" "$1/plain.ll" > "$1/module.ll"
+        awk -v seldom='$seldom' -v often='$often' -v apart='$apart' -f "$1/mark.awk" "$1/plain.ll" > "$1/module.ll"
         words+=("$1/module.ll");;
     -O3) words+=("${OPTIMIZE:--O3}");;
     *) words+=("\$word");;

@@ -3,7 +3,6 @@ pub mod Reporting
 pub mod Few
 pub mod OneName
 pub mod Edits
-pub mod InPlace
 pub mod Free
 pub mod Applying
 pub mod Building

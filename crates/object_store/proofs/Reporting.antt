@@ -1,5 +1,5 @@
 -- What a table that reports objects says of one.
-use Rattle.std.specs.Prelude.{◌≡◌, ◌≢◌, ◌<◌, ◌≤◌, ℕ, ◌+◌, List, length, Option, Some, None, IsSome, option_map, option_and_then}
+use Rattle.std.specs.Prelude.{◌≡◌, ◌≢◌, ◌<◌, ◌≤◌, ℕ, ◌+◌, List, length, Option, Some, None, option_map}
 use Rattle.std.proofs.Common.{refl, sym, ◌∙◌, ap, subst, inl, inr, arith}
 use Rattle.std.proofs.lemmas.Bool.{cases_eq, cases_lt}
 use Rattle.std.specs.Cmp.{nat_cmp_total}
@@ -17,6 +17,7 @@ use Rattle.posix_profile.specs.laws.Link.{IsSubdirectory, file_links, directory_
 use Rattle.posix_profile.specs.laws.Name.{not_both, namer_directory}
 use Rattle.posix_profile.specs.laws.Number.{new_number_is}
 use Rattle.posix_profile.specs.NameSteps.{reported_size}
+use Rattle.posix_profile.specs.declared.reply.Kind.{Kind}
 use Rattle.object_store.specs.Facts.{info_of, NamedBy}
 use Rattle.object_store.specs.TableFacts.{facts_cost, reported_info, unit_of, IsFileFacts, IsDirectoryFacts, AreFactsOf, IsStated}
 use Rattle.object_store.specs.declared.table_facts.ObjectFacts.{ObjectFacts}
@@ -163,18 +164,7 @@ module _ (objects : Objects) (o moment : ℕ) (bytes : List ℕ) (file : IsFile 
     was = λ d dir. (dir.0, dir.1, sym (there d (λ is. not_both after o is_file_after (subst (IsDirectory after) is dir))) ∙ dir.2);
   }
 
--- facts that are reported of a directory that is there are its facts
-pub directory_reported : (objects : Objects) (o : ℕ) (f : Option ObjectFacts) (facts : ObjectFacts) (dir : IsDirectory objects o) → IsStated objects o (map.get objects o) f → f ≡ Some facts
-    → IsDirectoryFacts objects o dir.0 (map.len dir.1) facts
-directory_reported objects o f facts dir reported was =
-    let there = directory_facts objects o f dir reported in
-    let same : there.0 ≡ facts = (let two : Some there.0 ≡ Some facts = sym there.1 ∙ was in cc) in
-    subst (IsDirectoryFacts objects o dir.0 (map.len dir.1)) same there.2
-
-pub directory_is_reported : (objects : Objects) (o : ℕ) (f : Option ObjectFacts) (dir : IsDirectory objects o) → IsStated objects o (map.get objects o) f → f ≡ None → ⊥
-directory_is_reported objects o f dir reported none = let there = directory_facts objects o f dir reported in let two : None ≡ Some there.0 = sym none ∙ there.1 in cc
-
--- where facts are reported there is room for them
-pub room_reported : (x : Option (Option ObjectFacts)) (facts : ObjectFacts) → option_and_then (λ f. f) x ≡ Some facts → IsSome x
-room_reported None facts is = absurd cc
-room_reported (Some f) facts is = refl
+-- the facts that a kind is told of
+pub kind_facts : (f : Option ObjectFacts) (kind : Kind) → Some kind ≡ option_map (λ f. f.kind) f → (facts : ObjectFacts) × (f ≡ Some facts) × (facts.kind ≡ kind)
+kind_facts None kind is = absurd cc
+kind_facts (Some facts) kind is = (facts, refl, cc)

@@ -3,6 +3,7 @@ pub mod Changes
 pub mod Stores
 pub mod laws
 pub mod TableFacts
+pub mod Halves
 pub mod Packed
 pub mod Taken
 pub mod Numbers

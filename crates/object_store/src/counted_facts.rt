@@ -1,16 +1,17 @@
 // The facts of objects, and what the objects cost.
-ghost use Rattle.std.specs.Prelude.{◌≡◌, ◌≢◌, ◌<◌, ◌+◌, ℕ, Some, None, IsSome, is_some, OnOk, true};
+ghost use Rattle.std.specs.Prelude.{◌≡◌, ◌≢◌, ◌<◌, ◌+◌, ℕ, Some, None, IsSome, is_some, option_map, option_and_then, OnOk};
 ghost use Rattle.std.specs.FinMap as map;
 ghost use Rattle.std.specs.Ordering.{nat_cmp};
 ghost use Rattle.std.specs.BTreeMap.{get};
 ghost use Rattle.volume_terms.specs.VolumeSizes as volume;
 ghost use Rattle.object_store.specs.TableFacts.{edited};
 ghost use Rattle.object_store.specs.Taken.{facts_in};
-ghost use Rattle.object_store.specs.Totaled.{reported_at, sizes_in, HasRoomIn, units_of, Counts, CountsTheSame, Puts, Drops, KeepsNumbers, Edits, CountsAdded, CountsRemoved, CountsNamed, CountsUnnamed, CountsResized, CountsLengthened};
+ghost use Rattle.object_store.specs.Totaled.{reported_at, sizes_in, HasRoomIn, Counts, CountsTheSame, Puts, Drops, KeepsNumbers, Edits, CountsAdded, CountsRemoved, CountsNamed, CountsUnnamed, CountsResized, CountsLengthened};
 
 use crate::edit::Edit;
 use crate::packed_facts::PackedFacts;
 use crate::table_facts::ObjectFacts;
+use posix_profile::Kind;
 use std::alloc::{AllocError, Global};
 use std::collections::BTreeMap;
 use std::mem::replace;
@@ -29,29 +30,15 @@ pub(crate) struct CountedFacts {
 const AHEAD: u64 = 8;
 
 /// Puts facts at a number at which there is room, and returns those that were there.
-fn put_facts(
-    facts: &mut BTreeMap<u64, PackedFacts>,
-    number: u64,
-    new: ObjectFacts,
-) -> Option<ObjectFacts>
+fn put_facts(facts: &mut BTreeMap<u64, PackedFacts>, number: u64, new: PackedFacts) -> PackedFacts
     requires { IsSome (get nat_cmp facts.old number) }
     ensures before { result ≡ facts_in facts.old number }
-    ensures here { get nat_cmp facts.new number ≡ Some (Some new) }
+    ensures here { get nat_cmp facts.new number ≡ Some new }
     ensures others { (k : ℕ) → k ≢ number → get nat_cmp facts.new k ≡ get nat_cmp facts.old k }
 {
     match facts.get_mut(&number) {
-        Some(place) => replace(place, PackedFacts::pack(new)).unpack(),
+        Some(place) => replace(place, new),
         None => unreachable!(),
-    }
-}
-
-/// The units of an object with these facts, if there is one.
-fn units_of(sizes: VolumeSizes, facts: Option<ObjectFacts>) -> u64
-    ensures { result ≡ units_of (volume.sizes_of sizes) facts }
-{
-    match facts {
-        Some(facts) => facts.cost(sizes),
-        None => 0,
     }
 }
 
@@ -74,6 +61,36 @@ impl CountedFacts {
     {
         match self.facts.get(&number) {
             Some(facts) => facts.unpack(),
+            None => None,
+        }
+    }
+
+    /// The kind of the object with a number, if there are facts of it.
+    fn kind_at(&self, number: u64) -> Option<Kind>
+        ensures { result ≡ option_map (λ f. f.kind) (reported_at self.now number) }
+    {
+        match self.facts.get(&number) {
+            Some(facts) => facts.kind(),
+            None => None,
+        }
+    }
+
+    /// The size of the object with a number, if there are facts of it.
+    pub(crate) fn size_at(&self, number: u64) -> Option<u64>
+        ensures { result ≡ option_map (λ f. f.size) (reported_at self.now number) }
+    {
+        match self.facts.get(&number) {
+            Some(facts) => facts.size(),
+            None => None,
+        }
+    }
+
+    /// The directory that names the directory with a number, if there are facts of it and it is named.
+    pub(crate) fn parent_at(&self, number: u64) -> Option<u64>
+        ensures { result ≡ option_and_then (λ f. f.parent) (reported_at self.now number) }
+    {
+        match self.facts.get(&number) {
+            Some(facts) => facts.parent(),
             None => None,
         }
     }
@@ -127,10 +144,11 @@ impl CountedFacts {
         requires { HasRoomIn self.old number }
         ensures { Puts self.old self.new number new }
     {
+        let new = PackedFacts::pack(new);
+        let paid = new.cost(self.sizes);
         let old = put_facts(&mut self.facts, number, new);
-        let freed = units_of(self.sizes, old);
-        let less = self.charge.saturating_sub(freed);
-        self.charge = less.saturating_add(new.cost(self.sizes));
+        let less = self.charge.saturating_sub(old.cost(self.sizes));
+        self.charge = less.saturating_add(paid);
     }
 
     /// A new object, without content and names, at a number at which there is room.
@@ -150,11 +168,8 @@ impl CountedFacts {
         let Some(place) = self.facts.remove(&number) else {
             return false;
         };
-        let Some(old) = place.unpack() else {
-            return false;
-        };
-        self.charge = self.charge.saturating_sub(old.cost(self.sizes));
-        true
+        self.charge = self.charge.saturating_sub(place.cost(self.sizes));
+        place.is_some()
     }
 
     /// An object goes, if there is one, and it is returned whether there was.
@@ -173,13 +188,10 @@ impl CountedFacts {
         let Some(place) = self.facts.get_mut(&number) else {
             return;
         };
-        let Some(old) = place.unpack() else {
-            return;
-        };
-        let new = edit.edited(old);
-        *place = PackedFacts::pack(new);
-        let less = self.charge.saturating_sub(old.cost(self.sizes));
-        self.charge = less.saturating_add(new.cost(self.sizes));
+        let freed = place.cost(self.sizes);
+        place.edit(edit);
+        let paid = place.cost(self.sizes);
+        self.charge = self.charge.saturating_sub(freed).saturating_add(paid);
     }
 
     /// A name of a directory leads to an object.
@@ -187,9 +199,8 @@ impl CountedFacts {
         ensures keeps { KeepsNumbers self.old self.new }
         ensures counts { CountsNamed self.old self.new moment directory number }
     {
-        match self.at(number) {
-            Some(facts) => {
-                let child = facts.kind;
+        match self.kind_at(number) {
+            Some(child) => {
                 self.edit(directory, Edit::EntryAdded { child, moment });
                 self.edit(number, Edit::NameAdded { directory });
             }
@@ -202,9 +213,8 @@ impl CountedFacts {
         ensures keeps { KeepsNumbers self.old self.new }
         ensures counts { CountsUnnamed self.old self.new moment directory number }
     {
-        match self.at(number) {
-            Some(facts) => {
-                let child = facts.kind;
+        match self.kind_at(number) {
+            Some(child) => {
                 self.edit(directory, Edit::EntryRemoved { child, moment });
                 self.edit(number, Edit::NameRemoved);
             }

@@ -7,6 +7,7 @@ mod counted_facts;
 mod edit;
 mod facts;
 mod free_numbers;
+mod halves;
 mod packed_facts;
 mod refusal;
 mod store;

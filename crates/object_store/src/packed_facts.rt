@@ -1,23 +1,26 @@
 // The facts of an object as they are held in memory.
-ghost use Rattle.std.specs.Prelude.{◌≡◌, Some, None, is_some};
-ghost use Rattle.object_store.specs.Packed.{joined, where_said};
+ghost use Rattle.std.specs.Prelude.{◌≡◌, ◌<◌, ◌+◌, ◌-◌, ◌^◌, min, max, None, Some, is_some, option_map, option_and_then};
+ghost use Rattle.volume_terms.specs.Rounding.{ceiling};
+ghost use Rattle.volume_terms.specs.VolumeSizes.{sizes_of};
+ghost use Rattle.object_store.specs.Packed.{where_said};
+ghost use Rattle.object_store.specs.TableFacts.{edited, entry_added, entry_removed, name_added, name_removed, resized_facts};
+ghost use Rattle.object_store.specs.Totaled.{units_of};
 
+use crate::edit::Edit;
+use crate::halves::Halves;
 use crate::table_facts::ObjectFacts;
 use posix_profile::Kind;
 use std::marker::Model;
+use volume_terms::VolumeSizes;
 
 /// The facts of an object, or none, in 36 bytes, where an `Option<ObjectFacts>` takes 56: the numbers of 64 bits lie in
 /// halves, so that facts begin at a multiple of 4.
 #[derive(Drop)]
 pub(crate) struct PackedFacts {
-    moment_low: u32,
-    moment_high: u32,
-    links_low: u32,
-    links_high: u32,
-    size_low: u32,
-    size_high: u32,
-    parent_low: u32,
-    parent_high: u32,
+    moment: Halves,
+    links: Halves,
+    size: Halves,
+    parent: Halves,
     kind: Kind,
     has_parent: bool,
     is_there: bool,
@@ -42,14 +45,10 @@ impl PackedFacts {
         ensures { result ≡ None }
     {
         PackedFacts {
-            moment_low: 0,
-            moment_high: 0,
-            links_low: 0,
-            links_high: 0,
-            size_low: 0,
-            size_high: 0,
-            parent_low: 0,
-            parent_high: 0,
+            moment: Halves::of(0),
+            links: Halves::of(0),
+            size: Halves::of(0),
+            parent: Halves::of(0),
             kind: Kind::File,
             has_parent: false,
             is_there: false,
@@ -60,20 +59,12 @@ impl PackedFacts {
     pub(crate) fn pack(facts: ObjectFacts) -> PackedFacts
         ensures { result ≡ Some facts }
     {
-        let (moment_low, moment_high) = halves(facts.moment);
-        let (links_low, links_high) = halves(facts.links);
-        let (size_low, size_high) = halves(facts.size);
         let (has_parent, parent) = parts_of(facts.parent);
-        let (parent_low, parent_high) = halves(parent);
         PackedFacts {
-            moment_low,
-            moment_high,
-            links_low,
-            links_high,
-            size_low,
-            size_high,
-            parent_low,
-            parent_high,
+            moment: Halves::of(facts.moment),
+            links: Halves::of(facts.links),
+            size: Halves::of(facts.size),
+            parent: Halves::of(parent),
             kind: facts.kind,
             has_parent,
             is_there: true,
@@ -89,10 +80,10 @@ impl PackedFacts {
         }
         Some(ObjectFacts {
             kind: self.kind,
-            moment: joined(self.moment_low, self.moment_high),
-            links: joined(self.links_low, self.links_high),
-            size: joined(self.size_low, self.size_high),
-            parent: where_said(self.has_parent, joined(self.parent_low, self.parent_high)),
+            moment: self.moment.number(),
+            links: self.links.number(),
+            size: self.size.number(),
+            parent: where_said(self.has_parent, self.parent.number()),
         })
     }
 
@@ -101,6 +92,117 @@ impl PackedFacts {
         ensures { result ≡ is_some self.now }
     {
         self.is_there
+    }
+
+    /// The kind of the object, if there are facts.
+    pub(crate) fn kind(&self) -> Option<Kind>
+        ensures { result ≡ option_map (λ f. f.kind) self.now }
+    {
+        if self.is_there { Some(self.kind) } else { None }
+    }
+
+    /// The size, if there are facts.
+    pub(crate) fn size(&self) -> Option<u64>
+        ensures { result ≡ option_map (λ f. f.size) self.now }
+    {
+        where_said(self.is_there, self.size.number())
+    }
+
+    /// The directory that names a directory, if there are facts and it is named.
+    pub(crate) fn parent(&self) -> Option<u64>
+        ensures { result ≡ option_and_then (λ f. f.parent) self.now }
+    {
+        where_said(self.is_there && self.has_parent, self.parent.number())
+    }
+
+    /// The units that the object costs, or 0 where there are no facts.
+    pub(crate) fn cost(&self, sizes: VolumeSizes) -> u64
+        ensures { result ≡ units_of (sizes_of sizes) self.now }
+    {
+        if !self.is_there {
+            return 0;
+        }
+        match self.kind {
+            Kind::File => units(self.size.number(), sizes.page_bytes()),
+            Kind::Directory => units(self.size.number(), sizes.page_slots()),
+        }
+    }
+
+    /// The facts, if there are any, are edited.
+    pub(crate) fn edit(&mut self, edit: Edit)
+        ensures { self.new ≡ option_map (edited edit) self.old }
+    {
+        match edit {
+            Edit::EntryAdded { child, moment } => self.add_entry(child, moment),
+            Edit::EntryRemoved { child, moment } => self.remove_entry(child, moment),
+            Edit::NameAdded { directory } => self.add_name(directory),
+            Edit::NameRemoved => self.remove_name(),
+            Edit::Resized { size, moment } => self.resize(size, moment),
+            Edit::Lengthened { size, moment } => self.lengthen(size, moment),
+        }
+    }
+
+    /// A directory gets an entry, which leads to an object of this kind.
+    fn add_entry(&mut self, child: Kind, moment: u64)
+        ensures { self.new ≡ option_map (entry_added child moment) self.old }
+    {
+        self.moment = Halves::of(moment);
+        self.size.add_one();
+        match child {
+            Kind::File => {}
+            Kind::Directory => self.links.add_one(),
+        }
+    }
+
+    /// A directory loses an entry, which led to an object of this kind.
+    fn remove_entry(&mut self, child: Kind, moment: u64)
+        ensures { self.new ≡ option_map (entry_removed child moment) self.old }
+    {
+        self.moment = Halves::of(moment);
+        self.size.remove_one();
+        match child {
+            Kind::File => {}
+            Kind::Directory => self.links.remove_one(),
+        }
+    }
+
+    /// An object gets a name in a directory.
+    fn add_name(&mut self, directory: u64)
+        ensures { self.new ≡ option_map (λ f. name_added f.kind directory f) self.old }
+    {
+        match self.kind {
+            Kind::File => self.links.add_one(),
+            Kind::Directory => {
+                self.parent = Halves::of(directory);
+                self.has_parent = true;
+            }
+        }
+    }
+
+    /// An object loses a name.
+    fn remove_name(&mut self)
+        ensures { self.new ≡ option_map (λ f. name_removed f.kind f) self.old }
+    {
+        match self.kind {
+            Kind::File => self.links.remove_one(),
+            Kind::Directory => self.has_parent = false,
+        }
+    }
+
+    /// An object has another size.
+    fn resize(&mut self, size: u64, moment: u64)
+        ensures { self.new ≡ option_map (resized_facts size moment) self.old }
+    {
+        self.moment = Halves::of(moment);
+        self.size = Halves::of(size);
+    }
+
+    /// An object has at least this size.
+    fn lengthen(&mut self, size: u64, moment: u64)
+        ensures { self.new ≡ option_map (λ f. resized_facts (max f.size size) moment f) self.old }
+    {
+        self.moment = Halves::of(moment);
+        self.size = Halves::of(self.size.number().max(size));
     }
 }
 
@@ -121,18 +223,10 @@ fn where_said(there: bool, number: u64) -> Option<u64>
     if there { Some(number) } else { None }
 }
 
-/// The lower and the upper half of a number.
-fn halves(number: u64) -> (u32, u32)
-    ensures { joined result.0 result.1 ≡ number }
+/// One and the units that hold so much, or the greatest number where there are more.
+fn units(size: u64, unit: u64) -> u64
+    requires { 0 < unit }
+    ensures { result ≡ min (1 + ceiling size unit) (2 ^ 64 - 1) }
 {
-    let low = number % 4_294_967_296;
-    let high = number / 4_294_967_296;
-    (low as u32, high as u32)
-}
-
-/// The number of two halves.
-fn joined(low: u32, high: u32) -> u64
-    ensures { result ≡ joined low high }
-{
-    high as u64 * 4_294_967_296 + low as u64
+    size.div_ceil(unit).saturating_add(1)
 }

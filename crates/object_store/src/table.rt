@@ -75,20 +75,14 @@ impl ObjectTable {
     pub fn parent(&self, directory: u64) -> Option<u64>
         ensures { (objects : Objects) → Reports self.now objects → IsDirectory objects directory → NamedBy objects directory result }
     {
-        match self.totaled.at(directory) {
-            Some(facts) => facts.parent,
-            None => None,
-        }
+        self.totaled.parent_at(directory)
     }
 
     /// How many entries a directory has.
     pub fn entry_count(&self, directory: u64) -> u64
         ensures { (objects : Objects) → Reports self.now objects → IsDirectory objects directory → result ≡ map.len (entries_of (map.get objects directory)) }
     {
-        match self.totaled.at(directory) {
-            Some(facts) => facts.size,
-            None => 0,
-        }
+        self.totaled.size_at(directory).unwrap_or(0)
     }
 
     /// The units that the objects cost.

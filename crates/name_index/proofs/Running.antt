@@ -8,7 +8,7 @@ use Rattle.std.proofs.lemmas.Bool.Decides.{nat_tests}
 use Rattle.std.proofs.lemmas.Bool.{cases_lt, cases_eq}
 use Rattle.name_index.specs.Lists.{IsIn, Adds, Drops, SameNumbers, IsNextFrom}
 use Rattle.name_index.specs.Halves.{IsUpperPart}
-use Rattle.name_index.specs.Sets.{RunMap, Has, IsTiled, IsLastBegun, IsUpperOf, IsOnlyOf, IsNextWithin, IsFirstBeyond}
+use Rattle.name_index.specs.Sets.{RunMap, Has, IsTiled, IsLastBegun, IsUpperOf, IsOnlyOf, HasNoneOf, IsNextWithin, IsFirstBeyond}
 use Rattle.name_index.specs.declared.run.Run.{Run}
 use Rattle.name_index.proofs.Searching.{rises_le}
 use Rattle.name_index.proofs.Dividing.{in_low, in_high, in_either, first_above, first_in}
@@ -491,39 +491,32 @@ module _ {A E : Type 0} (x : ℕ) (m n p : RunMap) (divided : SameNumbers (Has m
   same_after (Err e) same = same_on m n p divided same
 
 -- ---- the next number
--- no run that begins at a number or before it has a number from there on
-abbrev pub HasNoneOf : RunMap → ℕ → Type 0
-HasNoneOf m x = (k y : ℕ) (q : Run) → get nat_cmp m k ≡ Some q → k ≤ x → IsIn q.numbers.items y → x ≤ y → ⊥
-
-pub none_begun : (m : RunMap) (x : ℕ) → IsLastBegun m x None → HasNoneOf m x
-none_begun m x none k y q is le in_q more =
-    let both : Some q ≡ None = sym is ∙ none k le in
-    absurd cc
-
-module _ (m : RunMap) (tiled : IsTiled m) (x at : ℕ) (last : IsLastBegun m x (Some at)) where
-  pub none_within : IsNextWithin m at x None → HasNoneOf m x
+module _ (m : RunMap) (tiled : IsTiled m) (x at : ℕ) (last : IsLastBegun m x (Some at)) (r : Run) (found : get nat_cmp m at ≡ Some r) where
+  none_within : IsNextFrom (IsIn r.numbers.items) x None → HasNoneOf m x
   none_within none k y q is le in_q more =
       let some : IsSome (get nat_cmp m k) = rw is refl in
       let up : k ≤ at = last.2 k le some in
       let down : at ≤ k = home m tiled x at last k y q is in_q more in
-      let e : k ≡ at = omega (arith, up, down) in
-      none q (sym (ap (get nat_cmp m) e) ∙ is) y more in_q
+      none y more (in_other q r y (one_run m k at q r is (omega (arith, up, down)) found) in_q)
 
-  pub next_here : (v : ℕ) → IsNextWithin m at x (Some v) → IsNextFrom (Has m) x (Some v)
-  next_here v within =
-      let r = is_there (get nat_cmp m at) last.0 in
-      let next = within r.0 r.1 in (
-        (at, r.0, r.1, next.0),
-        next.1,
-        λ y le has. elim (cases_eq has.0 at) [
-          | inl e ↦ next.2 y le (in_other has.1 r.0 y (one_run m has.0 at has.1 r.0 has.2 e r.1) has.3)
-          | inr ne ↦
-              let down : at ≤ has.0 = home m tiled x at last has.0 y has.1 has.2 has.3 le in
-              let less : v < has.0 = tiled.before at has.0 v r.0 r.1 next.0 (rw has.2 refl) (omega (arith, down, ne)) in
-              let from : has.0 ≤ y = tiled.from has.0 y has.1 has.2 has.3 in
-              omega (arith, less, from)
-        ],
-      )
+  next_here : (v : ℕ) → IsNextFrom (IsIn r.numbers.items) x (Some v) → IsNextFrom (Has m) x (Some v)
+  next_here v next = (
+    (at, r, found, next.0),
+    next.1,
+    λ y le has. elim (cases_eq has.0 at) [
+      | inl e ↦ next.2 y le (in_other has.1 r y (one_run m has.0 at has.1 r has.2 e found) has.3)
+      | inr ne ↦
+          let down : at ≤ has.0 = home m tiled x at last has.0 y has.1 has.2 has.3 le in
+          let less : v < has.0 = tiled.before at has.0 v r found next.0 (rw has.2 refl) (omega (arith, down, ne)) in
+          let from : has.0 ≤ y = tiled.from has.0 y has.1 has.2 has.3 in
+          omega (arith, less, from)
+    ],
+  )
+
+  -- the next number of the last run that begins there or before is the next of all, if there is one
+  pub next_of_last : (next : Option ℕ) → IsNextFrom (IsIn r.numbers.items) x next → IsNextWithin m x next
+  next_of_last None none = none_within none
+  next_of_last (Some v) next = next_here v next
 
 pub next_beyond : (m : RunMap) → IsTiled m → (x : ℕ) → HasNoneOf m x → (found : Option ℕ) → IsFirstBeyond m x found → IsNextFrom (Has m) x found
 next_beyond m tiled x none None first = λ y le has. elim (cases_lt x has.0) [

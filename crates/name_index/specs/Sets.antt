@@ -1,5 +1,5 @@
 -- A set of numbers in runs.
-use Rattle.std.specs.Prelude.{◌≡◌, ◌<◌, ◌≤◌, ℕ, Option, Some, None, IsSome, length, slice_index}
+use Rattle.std.specs.Prelude.{◌≡◌, ◌<◌, ◌≤◌, ◌↔◌, ℕ, Bool, IsTrue, Option, Some, None, IsSome, length, slice_index}
 use Rattle.std.specs.Ordering.{nat_cmp}
 use Rattle.std.specs.BTreeMap.{BTreeMap, get}
 use Rattle.name_index.specs.Lists.{IsIn, IsNextFrom}
@@ -48,9 +48,19 @@ IsUpperOf m at (Some upper) = (r : Run) × (get nat_cmp m at ≡ Some r) × IsUp
 abbrev pub IsOnlyOf : RunMap → ℕ → ℕ → Type 0
 IsOnlyOf m at x = (r : Run) × (get nat_cmp m at ≡ Some r) × (length r.numbers.items ≡ 1) × (slice_index r.numbers.items 0 ≡ x)
 
--- the least number from one on of the run that begins at a number, or none where it has none
-abbrev pub IsNextWithin : RunMap → ℕ → ℕ → Option ℕ → Type 0
-IsNextWithin m at from found = (r : Run) → get nat_cmp m at ≡ Some r → IsNextFrom (IsIn r.numbers.items) from found
+-- the last run that begins at a number or before it, and whether the number is the only one of it, or none where none does
+abbrev pub IsRemoval : RunMap → ℕ → Option (ℕ × Bool) → Type 0
+IsRemoval m x None = IsLastBegun m x None
+IsRemoval m x (Some run) = IsLastBegun m x (Some run.0) × (IsTrue run.1 ↔ IsOnlyOf m run.0 x)
+
+-- no run that begins at a number or before it has a number from there on
+abbrev pub HasNoneOf : RunMap → ℕ → Type 0
+HasNoneOf m x = (k y : ℕ) (q : Run) → get nat_cmp m k ≡ Some q → k ≤ x → IsIn q.numbers.items y → x ≤ y → ⊥
+
+-- the least number from one on, or none where no run that begins at it or before it has one
+abbrev pub IsNextWithin : RunMap → ℕ → Option ℕ → Type 0
+IsNextWithin m from None = HasNoneOf m from
+IsNextWithin m from (Some x) = IsNextFrom (Has m) from (Some x)
 
 -- the least number of the runs that begin beyond a number, or none where none begins there
 abbrev pub IsFirstBeyond : RunMap → ℕ → Option ℕ → Type 0

@@ -1,9 +1,9 @@
 // A set of numbers.
-ghost use Rattle.std.specs.Prelude.{◌≡◌, ◌≤◌, ℕ, OnOk, OnErr, IfOk, IsTrue, ◌↔◌, IsSome, Some, None};
+ghost use Rattle.std.specs.Prelude.{◌≡◌, ◌≤◌, ℕ, OnOk, OnErr, IfOk, IsSome, Some, None};
 ghost use Rattle.std.specs.Ordering.{nat_cmp};
 ghost use Rattle.std.specs.BTreeMap.{get};
 ghost use Rattle.name_index.specs.Lists.{Adds, Drops, SameNumbers, IsNextFrom};
-ghost use Rattle.name_index.specs.Sets.{Has, IsTiled, IsLastBegun, IsHome, HasBegun, IsUpperOf, IsOnlyOf, IsNextWithin, IsFirstBeyond};
+ghost use Rattle.name_index.specs.Sets.{Has, IsTiled, IsLastBegun, IsHome, HasBegun, IsUpperOf, IsOnlyOf, IsRemoval, IsNextWithin, IsFirstBeyond};
 
 use crate::run::Run;
 use crate::standing::Standing;
@@ -42,23 +42,18 @@ impl NumberSet {
     pub(crate) fn next_from(&self, from: u64) -> Option<u64>
         ensures { IsNextFrom (Has self.now.runs) from result }
     {
-        match self.last_begun(from) {
-            Some(at) => match self.next_within(at, from) {
-                Some(found) => Some(found),
-                None => self.first_beyond(from),
-            },
+        match self.next_within(from) {
+            Some(found) => Some(found),
             None => self.first_beyond(from),
         }
     }
 
-    /// The least number from one on in the run that begins at a number.
-    fn next_within(&self, at: u64, from: u64) -> Option<u64>
-        ensures { IsNextWithin self.now.runs at from result }
+    /// The least number from one on in the last run that begins at it or before it.
+    fn next_within(&self, from: u64) -> Option<u64>
+        ensures { IsNextWithin self.now.runs from result }
     {
-        match self.runs.get(&at) {
-            Some(run) => run.next_from(from),
-            None => None,
-        }
+        let (_, run) = self.runs.range(..=from).next_back()?;
+        run.next_from(from)
     }
 
     /// The least number of the runs that begin beyond a number.
@@ -160,24 +155,22 @@ impl NumberSet {
     pub(crate) fn remove(&mut self, number: u64)
         ensures { Drops number (Has self.old.runs) (Has self.new.runs) }
     {
-        let Some(at) = self.last_begun(number) else {
+        let Some((at, is_only)) = self.removal_of(number) else {
             return;
         };
-        if self.is_only(at, number) {
+        if is_only {
             let _ = self.runs.remove(&at);
         } else {
             self.take_out(at, number);
         }
     }
 
-    /// Whether a number is the only one of the run that begins at a number.
-    fn is_only(&self, at: u64, number: u64) -> bool
-        ensures { IsTrue result ↔ IsOnlyOf self.now.runs at number }
+    /// The last run that begins at a number or before it, and whether the number is the only one of it.
+    fn removal_of(&self, number: u64) -> Option<(u64, bool)>
+        ensures { IsRemoval self.now.runs number result }
     {
-        match self.runs.get(&at) {
-            Some(run) => run.is_only(number),
-            None => false,
-        }
+        let (at, run) = self.runs.range(..=number).next_back()?;
+        Some((*at, run.is_only(number)))
     }
 
     /// Takes a number out of the run that begins at a number, where it is not the only one.

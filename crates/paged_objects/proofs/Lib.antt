@@ -8,6 +8,7 @@ pub mod Entries
 pub mod Growing
 pub mod Kept
 pub mod NamedHere
+pub mod NamesStay
 pub mod Holdings
 pub mod Results
 pub mod Wholes

@@ -1,5 +1,5 @@
 -- Pages and names of objects that a change makes.
-use Rattle.std.specs.Prelude.{◌≡◌, ◌≢◌, ◌≤◌, ℕ, true, List, Option, Some, None, Result, IfSome, IsErrOf, length}
+use Rattle.std.specs.Prelude.{◌≡◌, ◌≢◌, ◌≤◌, ℕ, Bool, true, false, List, Option, Some, None, Result, IfSome, IsErrOf, length}
 use Rattle.std.specs.FinMap as map
 use Rattle.page_tags.specs.declared.slot.Slot.{Slot}
 use Rattle.name_index.specs.Hashes.{fnv1a}
@@ -20,6 +20,7 @@ use Rattle.object_store.specs.declared.change.DirectoryEntry.{DirectoryEntry}
 use Rattle.object_store.specs.declared.change.ObjectChange.{ObjectChange}
 use Rattle.object_store.specs.declared.change.ObjectChange.TheVariants as changes
 use Rattle.object_store.specs.declared.table.ObjectTable.{ObjectTable}
+use Rattle.pages.specs.Changes.{IsOnlyOf}
 use Rattle.pages.specs.Maps.{PageMap, after_change}
 use Rattle.pages.specs.State.{PagesState}
 use Rattle.pages.specs.declared.change.Change.{Change}
@@ -59,6 +60,20 @@ abbrev pub KeepsBy : PlacedObjects → ObjectChange → Change → Type 0
 KeepsBy a (changes.Create entry kind moment) it = KeepsIn a entry.directory it
 KeepsBy a (changes.Name entry number moment) it = KeepsIn a entry.directory it
 KeepsBy a change it = Unit {0}
+
+-- whether a name may come or go with the change
+abbrev pub changes_names : ObjectChange → Bool
+changes_names (changes.Write number offset bytes moment) = false
+changes_names (changes.Resize number length moment) = false
+changes_names (changes.Forget number) = false
+changes_names change = true
+
+-- a change with which no name comes or goes has pages and cuts of its object alone
+abbrev pub IsOnlyBy : ObjectChange → Change → Type 0
+IsOnlyBy (changes.Write number offset bytes moment) it = IsOnlyOf it number
+IsOnlyBy (changes.Resize number length moment) it = IsOnlyOf it number
+IsOnlyBy (changes.Forget number) it = IsOnlyOf it number
+IsOnlyBy change it = Unit {0}
 
 -- where slots are kept, they are some of the directory's
 abbrev pub IsKeptIn : Objects → ℕ → Option KeptSlots → Type 0

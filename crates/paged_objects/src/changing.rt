@@ -19,7 +19,7 @@ ghost use Rattle.paged_objects.specs.Known.{state_with};
 ghost use Rattle.paged_objects.specs.Changing.{LeavesBy};
 ghost use Rattle.paged_objects.specs.Faults.{ReadFailsBy};
 ghost use Rattle.file_io.specs.Writes.{IsChangeIn};
-ghost use Rattle.paged_objects.specs.Making.{EndsBy, IfKept, IfPlanned, IsFoundIn, IsKeptBy, IsKeptIn, LeftMade, Makes, MakesBy, NamesBy, NamesMade, OfTaken, StaysIfRefused};
+ghost use Rattle.paged_objects.specs.Making.{EndsBy, IfKept, IfPlanned, IsFoundIn, IsKeptBy, IsKeptIn, LeftMade, Makes, MakesBy, NamesBy, NamesMade, OfTaken, StaysIfRefused, changes_names};
 ghost use Rattle.paged_objects.specs.Placed.{OfStored, OfReported};
 
 use crate::dropping::drop_names;
@@ -136,6 +136,21 @@ fn take<P: PageStore>(pages: &mut P, planned: Change) -> Result<(), StoreFault>
     pages.apply(planned)
 }
 
+/// Whether a name may come or go with a change.
+fn changes_names(change: &ObjectChange<'_>) -> bool
+    ensures { result ≡ changes_names change.now }
+{
+    match change {
+        ObjectChange::Create { .. } => true,
+        ObjectChange::Name { .. } => true,
+        ObjectChange::Remove { .. } => true,
+        ObjectChange::Move { .. } => true,
+        ObjectChange::Write { .. } => false,
+        ObjectChange::Resize { .. } => false,
+        ObjectChange::Forget { .. } => false,
+    }
+}
+
 /// The change of pages that makes a change of objects. The index gets the hashes of the names that it writes, but for those in
 /// slots that are kept.
 fn plan_named<P: PageStore>(
@@ -157,6 +172,9 @@ fn plan_named<P: PageStore>(
 {
     match plan(names, pages, alloc, change, new) {
         Ok(planned) => {
+            if !changes_names(change) {
+                return Ok(planned);
+            }
             hash_names(names, pages, &planned, kept)?;
             Ok(planned)
         }

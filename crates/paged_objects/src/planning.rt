@@ -7,7 +7,7 @@ ghost use Rattle.pages.specs.Faults.{MayLackMemory, SaysWhyChanging};
 ghost use Rattle.pages.specs.State.{OnlyFinds, KeepsPower};
 ghost use Rattle.paged_objects.specs.Plans.{most_pages};
 ghost use Rattle.file_io.specs.Writes.{IsChangeIn};
-ghost use Rattle.paged_objects.specs.Making.{IfPlanned, KeepsBy, MakesBy, WritesBy};
+ghost use Rattle.paged_objects.specs.Making.{IfPlanned, IsOnlyBy, KeepsBy, MakesBy, WritesBy};
 ghost use Rattle.paged_objects.specs.Placed.{AreAllowed, OfNamed};
 
 use crate::content::{resize, write};
@@ -59,6 +59,7 @@ pub fn plan<P: Pages>(
     ensures slots { OfNamed names.now (P.state pages.old) (λ a.
         CanMake a.sizes a.objects change.now → IfOk result (WritesBy a change.now)) }
     ensures keeps { OfNamed names.now (P.state pages.old) (λ a. IfPlanned a change.now new (IfOk result (KeepsBy a change.now))) }
+    ensures only { IfOk result (IsOnlyBy change.now) }
     ensures why { IfErr result (SaysWhyChanging (P.state pages.new)) }
     ensures fault { OfNamed names.now (P.state pages.old) (λ a.
         AreAllowed a → IfPlanned a change.now new (IfErr result (MayLackMemory (P.state pages.new)))) }
@@ -86,6 +87,7 @@ fn plan_each<P: Pages>(
     ensures slots { OfNamed names.now (P.state pages.old) (λ a.
         CanMake a.sizes a.objects change.now → IfOk result (WritesBy a change.now)) }
     ensures keeps { OfNamed names.now (P.state pages.old) (λ a. IfPlanned a change.now new (IfOk result (KeepsBy a change.now))) }
+    ensures only { IfOk result (IsOnlyBy change.now) }
     ensures why { IfErr result (SaysWhyChanging (P.state pages.new)) }
     ensures fault { OfNamed names.now (P.state pages.old) (λ a.
         AreAllowed a → IfPlanned a change.now new (IfErr result (MayLackMemory (P.state pages.new)))) }

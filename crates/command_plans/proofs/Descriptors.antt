@@ -1,9 +1,8 @@
 -- What a table has, and what a change of a slot makes of it.
-use Rattle.std.specs.Prelude.{◌≡◌, ◌≢◌, ◌<◌, ℕ, ◌+◌, List, [], ◌∷◌, length, Option, Some, None, get_or, slice_set}
-use Rattle.std.proofs.Common.{sym, ◌∙◌, ap, inl, inr, arith}
+use Rattle.std.specs.Prelude.{◌≡◌, ◌≢◌, ◌<◌, ◌≤◌, ℕ, ◌+◌, ◌-◌, true, false, not, is_some, List, [], ◌∷◌, length, Option, Some, None, get_or, slice_set}
+use Rattle.std.proofs.Common.{refl, sym, ◌∙◌, ap, inl, inr, arith}
 use Rattle.std.proofs.lemmas.Bool.{cases_eq, cases_lt}
 use Rattle.std.proofs.lemmas.List.{get_or-set_same, get_or-set_other}
-use Rattle.std.proofs.Math.ListN.{get_or-eq_default}
 use Rattle.std.specs.Cmp.{nat_cmp_total}
 use Rattle.std.specs.Ordering.{nat_cmp}
 use Rattle.std.specs.Option.{option_map}
@@ -86,12 +85,39 @@ table_past table fd none = map.same_map nat_cmp_total map.nat_cmp-IsAntisymmetri
 pub table_empty : (table : DescriptorTable) → ((k : ℕ) → get_or table.slots.items k None ≡ None) → handles_in table ≡ map.empty
 table_empty table none = table_is table map.empty (λ k. ap (option_map handle_of) (none k) ∙ sym (map.get-empty nat_cmp k))
 
--- an open descriptor is one of the slots
-pub table_low : (table : DescriptorTable) (fd : ℕ) (handle : Handle) → map.get (handles_in table) fd ≡ Some handle → fd < length table.slots.items
-table_low table fd handle is = elim (cases_lt fd (length table.slots.items)) [
+-- no slot from this one on refers to anything
+abbrev pub ClosedFrom : Slots → ℕ → Type 0
+ClosedFrom slots end = (fd : ℕ) → end ≤ fd → get_or slots fd None ≡ None
+
+-- what has no handle is no description
+no_description : (x : Option OpenDescription) → option_map handle_of x ≡ None → x ≡ None
+no_description None none = refl
+no_description (Some d) none = let two : Some (handle_of d) ≡ None = none in absurd cc
+
+-- no handle is there
+no_handle : (x : Option Handle) → not (is_some x) ≡ true → x ≡ None
+no_handle None none = refl
+no_handle (Some handle) none = let two : false ≡ true = none in absurd cc
+
+-- one more slot, before those that are closed, is closed
+pub closed_step : (table : DescriptorTable) (end : ℕ) → not (map.contains_key (handles_in table) (end - 1)) ≡ true → ClosedFrom table.slots.items end → ClosedFrom table.slots.items (end - 1)
+closed_step table end none closed k high = elim (cases_eq k (end - 1)) [
+  | inl here ↦ ap (λ k. get_or table.slots.items k None) here ∙ no_description (get_or table.slots.items (end - 1) None) (table_get table (end - 1) ∙ no_handle (map.get (handles_in table) (end - 1)) none)
+  | inr ne ↦ closed k (omega (arith, high, ne))
+]
+
+-- the descriptor at the end is closed
+pub end_closed : (table : DescriptorTable) (fd : ℕ) → fd ≡ table.end → not (map.contains_key (handles_in table) fd) ≡ true
+end_closed table fd is =
+    let none : map.get (handles_in table) fd ≡ None = sym (table_get table fd) ∙ ap (option_map handle_of) (table.closed fd (omega (arith, is))) in
+    ap (λ (x : Option Handle). not (is_some x)) none
+
+-- an open descriptor is before the end
+pub table_low : (table : DescriptorTable) (fd : ℕ) (handle : Handle) → map.get (handles_in table) fd ≡ Some handle → fd < table.end
+table_low table fd handle is = elim (cases_lt fd table.end) [
   | inl low ↦ low
   | inr high ↦
-      let none : map.get (handles_in table) fd ≡ None = sym (table_get table fd) ∙ ap (option_map handle_of) (get_or-eq_default table.slots.items None high) in
+      let none : map.get (handles_in table) fd ≡ None = sym (table_get table fd) ∙ ap (option_map handle_of) (table.closed fd high) in
       let two : Some handle ≡ None = sym is ∙ none in absurd cc
 ]
 
@@ -99,17 +125,17 @@ table_low table fd handle is = elim (cases_lt fd (length table.slots.items)) [
 abbrev pub NoneBelow : Handles → ℕ → ℕ → Type 0
 NoneBelow handles o n = (fd : ℕ) (handle : Handle) → fd < n → map.get handles fd ≡ Some handle → handle.object ≢ o
 
-pub none_open : (table : DescriptorTable) (o : ℕ) → length table.slots.items ≡ 64 → NoneBelow (handles_in table) o 64 → IsOpen (handles_in table) o → ⊥
-none_open table o size none is = none is.0 is.1 (let low = table_low table is.0 is.1 is.2 in omega arith) is.2 is.3
+pub none_open : (table : DescriptorTable) (o : ℕ) → NoneBelow (handles_in table) o table.end → IsOpen (handles_in table) o → ⊥
+none_open table o none is = none is.0 is.1 (table_low table is.0 is.1 is.2) is.2 is.3
 
 -- none of them does so but perhaps this one
 abbrev pub NoneBesides : Handles → ℕ → ℕ → ℕ → Type 0
 NoneBesides handles fd o n = (other : ℕ) (handle : Handle) → other < n → other ≢ fd → map.get handles other ≡ Some handle → handle.object ≢ o
 
-pub none_besides : (table : DescriptorTable) (fd o : ℕ) → length table.slots.items ≡ 64 → NoneBesides (handles_in table) fd o 64 → IsOpen (map.remove (handles_in table) fd) o → ⊥
-none_besides table fd o size none is =
+pub none_besides : (table : DescriptorTable) (fd o : ℕ) → NoneBesides (handles_in table) fd o table.end → IsOpen (map.remove (handles_in table) fd) o → ⊥
+none_besides table fd o none is =
     let was = remove_cases nat_cmp_total map.nat_cmp-IsAntisymmetric (handles_in table) fd is.0 is.1 is.2 in
-    none is.0 is.1 (let low = table_low table is.0 is.1 was.1 in omega arith) was.0 was.1 is.3
+    none is.0 is.1 (table_low table is.0 is.1 was.1) was.0 was.1 is.3
 
 pub other_open : (handles : Handles) (fd other o : ℕ) → other ≢ fd → RefersTo handles other o → IsOpen (map.remove handles fd) o
 other_open handles fd other o ne is = (other, is.0, get_removed nat_cmp_total map.nat_cmp-IsAntisymmetric handles fd other ne ∙ is.1, is.2)

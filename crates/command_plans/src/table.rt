@@ -1,5 +1,5 @@
 // The table of descriptors: it takes memory when it is made, and none later.
-ghost use Rattle.std.specs.Prelude.{◌≡◌, ◌<◌, ◌≤◌, Some, None, length, IfOk, MatchBool, not};
+ghost use Rattle.std.specs.Prelude.{ℕ, ◌≡◌, ◌<◌, ◌≤◌, Some, None, length, IfOk, MatchBool, get_or, not};
 ghost use Rattle.std.specs.Option.{option_map};
 ghost use Rattle.std.specs.FinMap as map;
 ghost use Rattle.volume_terms.specs.Sizes.{descriptors};
@@ -22,7 +22,11 @@ pub struct OpenDescription {
 #[derive(Drop)]
 pub struct DescriptorTable {
     slots: Vec<Option<OpenDescription>>,
+    /// Where a search of the slots ends.
+    end: u32,
     ghost size: { length slots.items ≡ 64 },
+    ghost few: { end ≤ 64 },
+    ghost closed: { (fd : ℕ) → end ≤ fd → get_or slots.items fd None ≡ None },
 }
 
 impl DescriptorTable {
@@ -34,7 +38,7 @@ impl DescriptorTable {
     {
         let mut slots = Vec::new(alloc);
         slots.resize(DESCRIPTORS as usize, None)?;
-        Ok(DescriptorTable { slots })
+        Ok(DescriptorTable { slots, end: 0 })
     }
 
     /// A table of the same descriptors.
@@ -42,7 +46,10 @@ impl DescriptorTable {
         ensures { IfOk result (λ copy. handles_in copy ≡ handles_in self.now) }
     {
         let slots = Vec::from_slice(alloc, &self.slots)?;
-        Ok(DescriptorTable { slots })
+        Ok(DescriptorTable {
+            slots,
+            end: self.end,
+        })
     }
 
     /// What the descriptor refers to, if it is open.
@@ -62,6 +69,7 @@ impl DescriptorTable {
         ensures stays { 64 ≤ fd → handles_in self.new ≡ handles_in self.old }
     {
         if fd < DESCRIPTORS {
+            self.end = self.end.max(fd + 1);
             self.slots[fd as usize] = Some(description);
         }
     }
@@ -72,6 +80,7 @@ impl DescriptorTable {
     {
         if fd < DESCRIPTORS {
             self.slots[fd as usize] = None;
+            self.end = self.open_end();
         }
     }
 
@@ -82,16 +91,32 @@ impl DescriptorTable {
         self.get(fd).is_none()
     }
 
+    /// The end, lowered past the slots that are closed.
+    fn open_end(&self) -> u32
+        ensures most { result ≤ self.now.end }
+        ensures closed { (fd : ℕ) → result ≤ fd → get_or self.now.slots.items fd None ≡ None }
+    {
+        let mut end = self.end;
+        'slots: while end > 0 && self.is_closed(end - 1) {
+            end -= 1;
+        }
+        end
+    }
+
     /// The least descriptor that is not open, if there is one.
     pub fn free(&self) -> Option<u32>
         ensures { result ≡ free_descriptor (handles_in self.now) }
     {
-        for fd in 0..DESCRIPTORS {
+        for fd in 0..self.end {
             if self.is_closed(fd) {
                 return Some(fd);
             }
         }
-        None
+        if self.end < DESCRIPTORS {
+            Some(self.end)
+        } else {
+            None
+        }
     }
 
     /// Whether the descriptor refers to the object.
@@ -108,7 +133,7 @@ impl DescriptorTable {
     pub fn is_open(&self, number: u64) -> bool
         ensures { MatchBool result (IsOpen (handles_in self.now) number) (IsOpen (handles_in self.now) number → ⊥) }
     {
-        for fd in 0..DESCRIPTORS {
+        for fd in 0..self.end {
             if self.refers_to(fd, number) {
                 return true;
             }
@@ -120,7 +145,7 @@ impl DescriptorTable {
     pub fn is_open_besides(&self, fd: u32, number: u64) -> bool
         ensures { MatchBool result (IsOpen (map.remove (handles_in self.now) fd) number) (IsOpen (map.remove (handles_in self.now) fd) number → ⊥) }
     {
-        for other in 0..DESCRIPTORS {
+        for other in 0..self.end {
             if other != fd && self.refers_to(other, number) {
                 return true;
             }

@@ -7,4 +7,4 @@ pub returns-then-refers_to : goal.returns-then-refers_to
 returns-then-refers_to c = let is = rw c.if-refers_to.true at c.refers_to.ensures in (c.loop-fd.fd, is.0, is.1, is.2)
 
 pub returns : goal.returns
-returns c = none_open c.args.self.now c.args.number c.args.self.now.size (subst (NoneBelow (handles_in c.args.self.now) c.args.number) (let end : c.loop-fd.fd ≡ 64 = omega arith in end) c.loop-fd.invariant)
+returns c = none_open c.args.self.now c.args.number (subst (NoneBelow (handles_in c.args.self.now) c.args.number) (let end : c.loop-fd.fd ≡ c.args.self.now.end = omega arith in end) c.loop-fd.invariant)

@@ -15,20 +15,37 @@ const ENTRY: [u8; 32] = [
     2, 0, 0, 0, 0, 0, 0, 0, 1, 0, 0, 0, 0, 0, 0, 0, 7, 0, 0, 0, 0, 0, 0, 0, 4, 0, 0, 0, 5, 0, 0, 0,
 ];
 
+/// The bytes of a head of so many entries.
+fn written_head(entries: u64) -> [u8; 32] {
+    let mut written = [0xff; 32];
+    encode_check_head(entries, &mut written);
+    written
+}
+
+/// What is read of the head where these bits of one byte are turned.
+fn read_head(place: usize, turned: u8) -> Option<u64> {
+    let mut bytes = HEAD;
+    if place < 32 {
+        bytes[place] ^= turned;
+    }
+    decode_check_head(&bytes)
+}
+
 /// The head is read from these bytes and written as them, and each byte of it alone makes of it none.
 #[test]
 fn head_has_32_bytes(rt: HostRuntime) {
-    let mut written = [0xff; 32];
-    encode_check_head(3, &mut written);
-    assert!(rt; written == HEAD);
-    assert_eq!(rt; decode_check_head(&HEAD), Some(3));
+    assert!(rt; written_head(3) == HEAD);
+    assert_eq!(rt; read_head(0, 0), Some(3));
     for place in [0, 3, 4, 5, 7, 16, 31] {
-        let mut bytes = HEAD;
-        if place < 32 {
-            bytes[place] ^= 3;
-        }
-        assert_eq!(rt; decode_check_head(&bytes), None, "at {place}");
+        assert_eq!(rt; read_head(place, 3), None, "at {place}");
     }
+}
+
+/// The bytes of an entry.
+fn written_entry(entry: &CheckEntry) -> [u8; 32] {
+    let mut written = [0xff; 32];
+    encode_check_entry(entry, &mut written);
+    written
 }
 
 /// The entry is read from these bytes and written as them.
@@ -41,8 +58,6 @@ fn entry_has_32_bytes(rt: HostRuntime) {
         block: 4,
         page: 5,
     };
-    let mut written = [0xff; 32];
-    encode_check_entry(&entry, &mut written);
-    assert!(rt; written == ENTRY);
+    assert!(rt; written_entry(&entry) == ENTRY);
     assert_eq!(rt; decode_check_entry(&ENTRY), entry);
 }

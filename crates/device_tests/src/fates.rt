@@ -5,6 +5,7 @@ ghost use Rattle.std.specs.Prelude.{◌+◌, ◌<◌};
 ghost use Rattle.nand_model.specs.MemoryState.{device};
 ghost use Rattle.device_tests.specs.SmallDevices.{IsSmall, TakesPage};
 
+use crate::calls::{erase, expect_gone, is_bad, mark_bad};
 use nand_model::{EraseFault, Fate, Geometry, Gone, MemNand, Nand, PageKind, ProgramFault};
 use std::alloc::Global;
 use std::process::Abort;
@@ -134,39 +135,62 @@ fn program_cases(rt: &impl Abort, alloc: Global) -> Vec<(Vec<Fate>, PageKind)> {
     .expect(rt, "memory")
 }
 
-/// A device that is gone answers so until the power-up, and counts its calls but no changes.
+/// Programs the first page of block 1.
+fn program_first(nand: &mut MemNand) -> Result<(), ProgramFault>
+    requires { TakesPage 0 (device nand.old) }
+{
+    nand.program(1, 0, &DATA, &TAG)
+}
+
+/// A device that is gone answers so, and counts its calls but no changes.
+fn expect_counts_while_gone(rt: &impl Abort, nand: &mut MemNand) {
+    assert!(rt; nand.gone());
+    expect_gone(rt, nand);
+    assert_eq!(rt; (nand.calls(), nand.changes()), (5, 2));
+}
+
+/// After a power-up nothing is counted, the first page of block 1 reads as this, and an erase is done.
+fn expect_after_power_up(rt: &impl Abort, nand: &mut MemNand, want: PageKind) {
+    nand.power_up();
+    assert_eq!(rt; (nand.calls(), nand.changes()), (0, 0));
+    assert!(rt; reads_as(rt, nand, 0, want), "{want:?}");
+    assert_eq!(rt; nand.calls(), 1);
+    erase(rt, nand, 1).expect(rt, "an erase");
+}
+
+/// The device is gone until the power-up, and then the page is as its fate says.
 #[test]
 fn a_cut_program_takes_the_first_fate(rt: HostRuntime) {
     for (fates, want) in program_cases(&rt, rt.alloc()) {
         let mut nand = erased_cut(&rt, rt.alloc(), 2, fates);
-        assert_eq!(rt; nand.program(1, 0, &DATA, &TAG), Err(ProgramFault::Gone));
-        assert!(rt; nand.gone());
-        assert_eq!(rt; nand.read_tag(1, 0, &mut [0; 48]), Err(Gone));
-        assert_eq!(rt; nand.erase(1), Err(EraseFault::Gone));
-        assert_eq!(rt; nand.mark_bad(1), Err(Gone));
-        assert_eq!(rt; nand.calls(), 5);
-        assert_eq!(rt; nand.changes(), 2);
-        nand.power_up();
-        assert_eq!(rt; nand.calls(), 0);
-        assert_eq!(rt; nand.changes(), 0);
-        assert!(rt; reads_as(&rt, &mut nand, 0, want), "{want:?}");
-        assert_eq!(rt; nand.calls(), 1);
-        assert_eq!(rt; nand.erase(1), Ok(()));
+        assert_eq!(rt; program_first(&mut nand), Err(ProgramFault::Gone));
+        expect_counts_while_gone(&rt, &mut nand);
+        expect_after_power_up(&rt, &mut nand, want);
     }
+}
+
+/// The call 2 fails with these fates, and a later entry of the same number has another.
+fn failures_of_call_2(rt: &impl Abort, alloc: Global, fates: Vec<Fate>) -> Vec<(u64, Vec<Fate>)> {
+    let later = vec![in alloc; Fate::New].expect(rt, "memory");
+    vec![in alloc; (2, fates), (2, later)].expect(rt, "memory")
+}
+
+/// The device goes on: the first page of block 1 reads as this, and an erase is done, which is the third change.
+fn expect_goes_on(rt: &impl Abort, nand: &mut MemNand, want: PageKind) {
+    assert!(rt; !nand.gone());
+    assert!(rt; reads_as(rt, nand, 0, want), "{want:?}");
+    erase(rt, nand, 1).expect(rt, "an erase");
+    assert_eq!(rt; nand.changes(), 3);
 }
 
 /// The first entry of a call's number is the one that is taken.
 #[test]
 fn a_failed_program_takes_the_first_fate(rt: HostRuntime) {
     for (fates, want) in program_cases(&rt, rt.alloc()) {
-        let later = vec![in rt.alloc(); Fate::New].expect(&rt, "memory");
-        let failures = vec![in rt.alloc(); (2, fates), (2, later)].expect(&rt, "memory");
+        let failures = failures_of_call_2(&rt, rt.alloc(), fates);
         let mut nand = erased_failing(&rt, rt.alloc(), failures);
-        assert_eq!(rt; nand.program(1, 0, &DATA, &TAG), Err(ProgramFault::Failed));
-        assert!(rt; !nand.gone());
-        assert!(rt; reads_as(&rt, &mut nand, 0, want), "{want:?}");
-        assert_eq!(rt; nand.erase(1), Ok(()));
-        assert_eq!(rt; nand.changes(), 3);
+        assert_eq!(rt; program_first(&mut nand), Err(ProgramFault::Failed));
+        expect_goes_on(&rt, &mut nand, want);
     }
 }
 
@@ -185,24 +209,34 @@ const ERASE_LEAVES: [PageKind; 6] = [
     PageKind::Erased,
 ];
 
-/// An erase that is cut, one that fails, and one that is whole.
 #[test]
-fn an_erase_takes_a_fate_for_each_page(rt: HostRuntime) {
+fn a_cut_erase_takes_a_fate_for_each_page(rt: HostRuntime) {
     let fates = erase_fates(&rt, rt.alloc());
     let mut nand = written_cut(&rt, rt.alloc(), 7, fates);
-    assert_eq!(rt; nand.erase(1), Err(EraseFault::Gone));
+    assert_eq!(rt; erase(&rt, &mut nand, 1), Err(EraseFault::Gone));
     nand.power_up();
     expect_pages(&rt, &mut nand, &ERASE_LEAVES);
+}
 
+#[test]
+fn a_failed_erase_takes_a_fate_for_each_page(rt: HostRuntime) {
     let fates = erase_fates(&rt, rt.alloc());
     let failures = vec![in rt.alloc(); (7, fates)].expect(&rt, "memory");
     let mut nand = written_failing(&rt, rt.alloc(), failures);
-    assert_eq!(rt; nand.erase(1), Err(EraseFault::Failed));
+    assert_eq!(rt; erase(&rt, &mut nand, 1), Err(EraseFault::Failed));
     expect_pages(&rt, &mut nand, &ERASE_LEAVES);
+}
 
+#[test]
+fn an_erase_leaves_all_pages_erased(rt: HostRuntime) {
     let mut nand = written(&rt, rt.alloc());
-    assert_eq!(rt; nand.erase(1), Ok(()));
+    erase(&rt, &mut nand, 1).expect(&rt, "an erase");
     expect_pages(&rt, &mut nand, &[PageKind::Erased; 6])
+}
+
+/// A device of which call 1 is cut.
+fn small_cut(rt: &impl Abort, alloc: Global, fates: Vec<Fate>) -> MemNand {
+    small(rt, alloc).with_fuse(1, fates)
 }
 
 /// A second mark sets it, and leaves the block before.
@@ -215,53 +249,60 @@ fn a_cut_mark_is_set_by_new_alone(rt: HostRuntime) {
         (Fate::Uncorrectable, false),
     ] {
         let fates = vec![in rt.alloc(); fate].expect(&rt, "memory");
-        let mut nand = small(&rt, rt.alloc()).with_fuse(1, fates);
-        assert_eq!(rt; nand.mark_bad(3), Err(Gone));
+        let mut nand = small_cut(&rt, rt.alloc(), fates);
+        assert_eq!(rt; mark_bad(&rt, &mut nand, 3), Err(Gone));
         nand.power_up();
-        assert_eq!(rt; nand.is_bad(3), want, "{fate:?}");
-        assert_eq!(rt; nand.mark_bad(3), Ok(()));
-        assert!(rt; nand.is_bad(3));
-        assert!(rt; !nand.is_bad(2));
+        assert_eq!(rt; is_bad(&rt, &nand, 3), want, "{fate:?}");
+        mark_bad(&rt, &mut nand, 3).expect(&rt, "a mark");
+        assert!(rt; is_bad(&rt, &nand, 3) && !is_bad(&rt, &nand, 2));
     }
+}
+
+/// The call of this number fails.
+fn failure_of(rt: &impl Abort, alloc: Global, call: u64) -> Vec<(u64, Vec<Fate>)> {
+    vec![in alloc; (call, Vec::new(alloc))].expect(rt, "memory")
 }
 
 /// The ninth call is a read, and so is the second after the power-up.
 #[test]
 fn a_read_can_be_cut_and_never_fails(rt: HostRuntime) {
-    let failures = vec![in rt.alloc(); (2, Vec::new(rt.alloc()))].expect(&rt, "memory");
     let mut nand = written_cut(&rt, rt.alloc(), 9, Vec::new(rt.alloc()));
     assert!(rt; reads_as(&rt, &mut nand, 0, PageKind::Written));
     assert!(rt; reads_as(&rt, &mut nand, 4, PageKind::Written));
     assert_eq!(rt; nand.read_tag(1, 0, &mut [0; 48]), Err(Gone));
     nand.power_up();
-    let mut nand = nand.with_failures(failures);
+    let mut nand = nand.with_failures(failure_of(&rt, rt.alloc(), 2));
     assert!(rt; reads_as(&rt, &mut nand, 0, PageKind::Written));
     assert!(rt; reads_as(&rt, &mut nand, 0, PageKind::Written));
     assert_eq!(rt; nand.changes(), 0);
 }
 
-/// A call that is to be cut and to fail is cut, and a copy has the plan of its device.
+/// A call that is to be cut and to fail is cut.
 #[test]
-fn the_fuse_goes_before_and_later_plans_replace(rt: HostRuntime) {
-    let nothing = vec![in rt.alloc(); (1, Vec::new(rt.alloc()))].expect(&rt, "memory");
-    let mut nand = small(&rt, rt.alloc())
-        .with_fuse(1, Vec::new(rt.alloc()))
-        .with_failures(nothing);
-    assert_eq!(rt; nand.erase(0), Err(EraseFault::Gone));
+fn the_fuse_goes_before_a_failure(rt: HostRuntime) {
+    let mut nand = small_cut(&rt, rt.alloc(), Vec::new(rt.alloc())).with_failures(failure_of(
+        &rt,
+        rt.alloc(),
+        1,
+    ));
+    assert_eq!(rt; erase(&rt, &mut nand, 0), Err(EraseFault::Gone));
+}
 
-    let later = vec![in rt.alloc(); (2, Vec::new(rt.alloc()))].expect(&rt, "memory");
-    let earlier = vec![in rt.alloc(); (1, Vec::new(rt.alloc()))].expect(&rt, "memory");
-    let mut nand = small(&rt, rt.alloc())
-        .with_fuse(1, Vec::new(rt.alloc()))
+/// The next erase fails, and the one behind it is cut.
+fn expect_failure_and_cut(rt: &impl Abort, nand: &mut MemNand) {
+    assert_eq!(rt; erase(rt, nand, 0), Err(EraseFault::Failed));
+    assert_eq!(rt; erase(rt, nand, 0), Err(EraseFault::Gone));
+}
+
+/// A copy has the plan of its device.
+#[test]
+fn later_plans_replace_earlier_ones(rt: HostRuntime) {
+    let mut nand = small_cut(&rt, rt.alloc(), Vec::new(rt.alloc()))
         .with_fuse(3, Vec::new(rt.alloc()))
-        .with_failures(earlier)
-        .with_failures(later);
-    assert_eq!(rt; nand.erase(0), Ok(()));
-    let copy = nand.copy().expect(&rt, "memory");
-    assert_eq!(rt; nand.erase(0), Err(EraseFault::Failed));
-    assert_eq!(rt; nand.erase(0), Err(EraseFault::Gone));
-
-    let mut nand = copy;
-    assert_eq!(rt; nand.erase(0), Err(EraseFault::Failed));
-    assert_eq!(rt; nand.erase(0), Err(EraseFault::Gone));
+        .with_failures(failure_of(&rt, rt.alloc(), 1))
+        .with_failures(failure_of(&rt, rt.alloc(), 2));
+    erase(&rt, &mut nand, 0).expect(&rt, "an erase");
+    let mut copy = nand.copy().expect(&rt, "memory");
+    expect_failure_and_cut(&rt, &mut nand);
+    expect_failure_and_cut(&rt, &mut copy);
 }

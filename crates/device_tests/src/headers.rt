@@ -24,6 +24,17 @@ const FILE_AT_0: [u8; 33] = [
 /// How the root of a fresh volume begins, at a spare of 1.
 const ROOT: [u8; 8] = [0x4e, 0x4c, 0x46, 0x53, 2, 2, 1, 0];
 
+/// Whether a header was read and is this one, as far as the bits of the other go.
+fn is_header(read: Option<Header>, want: Header) -> bool {
+    read.is_some_and(|header| {
+        header.bits.starts_with(want.bits)
+            && Header {
+                bits: want.bits,
+                ..header
+            } == want
+    })
+}
+
 /// The page reads as this header, and the header is written as this page.
 fn header_is(rt: &impl Abort, begins: &[u8], want: Header, page: &mut [u8], written: &mut [u8])
     requires least { 32 ≤ length page.old }
@@ -33,14 +44,8 @@ fn header_is(rt: &impl Abort, begins: &[u8], want: Header, page: &mut [u8], writ
 {
     page[..begins.len()].copy_from_slice(begins);
     let read = decode_header(page).ok();
-    assert!(rt; read.is_some());
+    assert!(rt; is_header(read, want));
     if let Some(header) = read {
-        assert_eq!(rt; header.format, want.format);
-        assert_eq!(rt; header.kind, want.kind);
-        assert_eq!(rt; header.spare, want.spare);
-        assert_eq!(rt; header.length, want.length);
-        assert_eq!(rt; header.moment, want.moment);
-        assert_eq!(rt; header.bits.first().copied(), want.bits.first().copied());
         encode_header(&header, written);
     }
     assert!(rt; &*written == &*page);
@@ -94,42 +99,45 @@ fn fault_with(begins: &[u8; 33], edits: &[(usize, u8)]) -> Option<HeaderFault> {
     decode_header(&page).err()
 }
 
+/// What a file's header is with these bytes written over it.
+const FAULTS: [(&[(usize, u8)], Option<HeaderFault>); 12] = [
+    (&[], None),
+    (&[(3, 0x54)], Some(HeaderFault::Magic)),
+    (&[(4, 0)], Some(HeaderFault::Magic)),
+    (&[(4, 3), (5, 9)], Some(HeaderFault::Newer(3))),
+    (&[(5, 0), (15, 1)], Some(HeaderFault::Kind)),
+    (&[(5, 3)], Some(HeaderFault::Kind)),
+    // The greatest length of a file is 8 * 480 * 512, which is hex 1e0000.
+    (&[(8, 0), (10, 0x1e)], None),
+    (&[(8, 1), (10, 0x1e), (24, 1)], Some(HeaderFault::Length)),
+    (&[(24, 1)], Some(HeaderFault::Pad)),
+    (&[(32, 3)], Some(HeaderFault::Pad)),
+    (&[(511, 0x80)], Some(HeaderFault::Pad)),
+    (&[(9, 2), (32, 3)], None),
+];
+
 /// Of several faults the first is returned.
 #[test]
 fn faults_of_a_page(rt: HostRuntime) {
-    assert_eq!(rt; fault_with(&FILE, &[]), None);
-    assert_eq!(rt; fault_with(&FILE, &[(3, 0x54)]), Some(HeaderFault::Magic));
-    assert_eq!(rt; fault_with(&FILE, &[(4, 0)]), Some(HeaderFault::Magic));
-    assert_eq!(rt;
-        fault_with(&FILE, &[(4, 3), (5, 9)]),
-        Some(HeaderFault::Newer(3))
-    );
-    assert_eq!(rt;
-        fault_with(&FILE, &[(5, 0), (15, 1)]),
-        Some(HeaderFault::Kind)
-    );
-    assert_eq!(rt; fault_with(&FILE, &[(5, 3)]), Some(HeaderFault::Kind));
-    // The greatest length of a file is 8 * 480 * 512, which is hex 1e0000.
-    assert_eq!(rt; fault_with(&FILE, &[(8, 0), (10, 0x1e)]), None);
-    assert_eq!(rt;
-        fault_with(&FILE, &[(8, 1), (10, 0x1e), (24, 1)]),
-        Some(HeaderFault::Length)
-    );
-    assert_eq!(rt; fault_with(&FILE, &[(24, 1)]), Some(HeaderFault::Pad));
-    assert_eq!(rt; fault_with(&FILE, &[(32, 3)]), Some(HeaderFault::Pad));
-    assert_eq!(rt; fault_with(&FILE, &[(511, 0x80)]), Some(HeaderFault::Pad));
-    assert_eq!(rt; fault_with(&FILE, &[(9, 2), (32, 3)]), None);
+    for (edits, want) in FAULTS {
+        assert_eq!(rt; fault_with(&FILE, edits), want, "{edits:?}");
+    }
 }
 
-/// A directory has no chunk but its header, and format 1 no moment.
+/// A directory has no chunk but its header.
 #[test]
-fn faults_of_a_directory_and_of_format_1(rt: HostRuntime) {
+fn faults_of_a_directory(rt: HostRuntime) {
     assert_eq!(rt; fault_with(&FILE, &[(5, 2), (32, 0)]), None);
     assert_eq!(rt; fault_with(&FILE, &[(5, 2)]), Some(HeaderFault::Pad));
     assert_eq!(rt;
         fault_with(&FILE, &[(5, 2), (12, 1)]),
         Some(HeaderFault::Length)
     );
+}
+
+/// Format 1 has no moment.
+#[test]
+fn faults_of_format_1(rt: HostRuntime) {
     assert_eq!(rt; fault_with(&FILE_AT_0, &[(4, 1)]), None);
     assert_eq!(rt; fault_with(&FILE, &[(4, 1)]), Some(HeaderFault::Pad));
 }

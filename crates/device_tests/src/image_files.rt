@@ -1,4 +1,5 @@
 // Images in memory: their bytes, their faults, and files that fail.
+use crate::calls::{erase, expect_gone, is_bad, mark_bad};
 use nand_image::{ImageFault, ImageNand, create_image, open_image};
 use nand_model::{EraseFault, Geometry, Gone, Nand, PageKind, ProgramFault};
 use std::alloc::Global;
@@ -10,6 +11,12 @@ const DATA: [u8; 512] = [7; 512];
 const TAG: [u8; 48] = [9; 48];
 
 const IMAGE_BYTES: usize = 143_656;
+
+/// How an image of eight blocks begins.
+const HEAD: &[u8] = b"NANDIMG1\0\x02\0\0\x20\0\0\0\x08\0\0\0";
+
+/// Where the marks of the blocks begin.
+const MARKS_PLACE: usize = 32;
 
 /// Where the first page of block 1 begins.
 const PAGE_PLACE: usize = 17_992;
@@ -154,44 +161,76 @@ fn expect_page<N: Nand>(rt: &impl Abort, nand: &mut N, block: u32, page: u32, wa
     }
 }
 
+/// The bytes are an image of which the first page and the last are erased, and which keeps its bytes.
+fn expect_erased(rt: &impl Abort, alloc: Global, bytes: &[u8]) {
+    let mut nand = opened(alloc, bytes).expect(rt, "an image");
+    expect_page(rt, &mut nand, 0, 0, PageKind::Erased);
+    expect_page(rt, &mut nand, 7, 31, PageKind::Erased);
+    assert!(rt; bytes_of(nand).as_slice() == bytes);
+}
+
 #[test]
 fn a_new_image_has_its_size_and_opens(rt: HostRuntime) {
     let bytes = bytes_of(created(&rt, rt.alloc()));
     assert_eq!(rt; bytes.len(), IMAGE_BYTES);
-    assert!(rt; &bytes[..20] == b"NANDIMG1\0\x02\0\0\x20\0\0\0\x08\0\0\0".as_slice());
-    assert!(rt; bytes[20..].iter().all(|byte| *byte == 0));
-    let mut nand = opened(rt.alloc(), &bytes).expect(&rt, "an image");
-    expect_page(&rt, &mut nand, 0, 0, PageKind::Erased);
-    expect_page(&rt, &mut nand, 7, 31, PageKind::Erased);
-    assert!(rt; bytes_of(nand) == bytes);
+    assert!(rt; bytes.starts_with(HEAD));
+    assert!(rt; bytes.iter().skip(HEAD.len()).all(|byte| *byte == 0));
+    expect_erased(&rt, rt.alloc(), &bytes);
+}
 
+#[test]
+fn a_large_image_has_its_size_and_opens(rt: HostRuntime) {
     let file = TestFile::new(Vec::new(rt.alloc()), 0, ErrorKind::Other);
     let geometry = Geometry::new(2048, 64, 64).expect(&rt, "a geometry");
-    let large = create_image(rt.alloc(), file, geometry).expect(&rt, "an image");
-    let large = bytes_of(large);
-    assert_eq!(rt; large.len(), 8_589_408);
-    let opened = opened(rt.alloc(), &large).expect(&rt, "an image");
+    let bytes = bytes_of(create_image(rt.alloc(), file, geometry).expect(&rt, "an image"));
+    assert_eq!(rt; bytes.len(), 8_589_408);
+    let opened = opened(rt.alloc(), &bytes).expect(&rt, "an image");
     assert_eq!(rt; opened.geometry().blocks(), 64);
+}
+
+/// The bytes of an image in which the first page of block 1 is written, and block 3 is bad.
+fn written_bytes(rt: &impl Abort, alloc: Global) -> Vec<u8> {
+    let mut nand = created(rt, alloc);
+    write_page(rt, &mut nand).expect(rt, "a program");
+    mark_bad(rt, &mut nand, 3).expect(rt, "a mark");
+    bytes_of(nand)
+}
+
+/// Whether the bytes have these at a place.
+fn has_at(bytes: &[u8], place: usize, want: &[u8]) -> bool {
+    bytes
+        .get(place..)
+        .is_some_and(|rest| rest.starts_with(want))
+}
+
+#[test]
+fn what_is_written_is_in_the_file(rt: HostRuntime) {
+    let bytes = written_bytes(&rt, rt.alloc());
+    assert_eq!(rt; bytes.len(), IMAGE_BYTES);
+    for (place, want) in [
+        (MARKS_PLACE, [0, 0, 0, 1, 0, 0, 0, 0].as_slice()),
+        (PAGE_PLACE, [1].as_slice()),
+        (PAGE_PLACE + 1, TAG.as_slice()),
+        (PAGE_PLACE + 49, DATA.as_slice()),
+    ] {
+        assert!(rt; has_at(&bytes, place, want), "at {place}");
+    }
+}
+
+/// The image that was written, opened with the second page of block 1 uncorrectable.
+fn opened_with_uncorrectable(rt: &impl Abort, alloc: Global) -> ImageNand<TestFile> {
+    let mut bytes = written_bytes(rt, alloc);
+    assert!(rt; bytes.len() == IMAGE_BYTES);
+    bytes[PAGE_PLACE + SLOT_BYTES] = 2;
+    opened(alloc, &bytes).expect(rt, "an image")
 }
 
 #[test]
 fn what_is_written_is_read_from_the_file(rt: HostRuntime) {
-    let mut nand = created(&rt, rt.alloc());
-    assert_eq!(rt; write_page(&rt, &mut nand), Ok(()));
-    assert!(rt; nand.geometry().blocks() > 3);
-    assert_eq!(rt; nand.mark_bad(3), Ok(()));
-    let mut bytes = bytes_of(nand);
-    assert_eq!(rt; bytes.len(), IMAGE_BYTES);
-    assert!(rt; bytes[32..40] == [0, 0, 0, 1, 0, 0, 0, 0]);
-    assert_eq!(rt; bytes[PAGE_PLACE], 1);
-    assert!(rt; bytes[PAGE_PLACE + 1..PAGE_PLACE + 49] == TAG[..]);
-    assert!(rt; bytes[PAGE_PLACE + 49..PAGE_PLACE + SLOT_BYTES] == DATA[..]);
-
-    bytes[PAGE_PLACE + SLOT_BYTES] = 2;
-    let mut nand = opened(rt.alloc(), &bytes).expect(&rt, "an image");
+    let mut nand = opened_with_uncorrectable(&rt, rt.alloc());
     let mut memory = nand.to_memory().expect(&rt, "memory");
     for block in 0..nand.geometry().blocks() {
-        assert_eq!(rt; nand.is_bad(block), block == 3);
+        assert_eq!(rt; is_bad(&rt, &nand, block), block == 3);
     }
     for (page, want) in [
         (0, PageKind::Written),
@@ -201,40 +240,79 @@ fn what_is_written_is_read_from_the_file(rt: HostRuntime) {
         expect_page(&rt, &mut nand, 1, page, want);
         expect_page(&rt, &mut memory, 1, page, want);
     }
+}
 
-    assert!(rt; nand.geometry().blocks() > 3);
-    assert_eq!(rt; nand.erase(1), Ok(()));
-    let bytes = bytes_of(nand);
+/// The byte at a place of an image of eight blocks.
+fn byte_at(rt: &impl Abort, bytes: &[u8], place: usize) -> u8 {
     assert_eq!(rt; bytes.len(), IMAGE_BYTES);
-    assert_eq!(rt; bytes[PAGE_PLACE], 0);
-    assert_eq!(rt; bytes[PAGE_PLACE + SLOT_BYTES], 0);
+    assert!(rt; place < bytes.len());
+    bytes[place]
 }
 
 #[test]
-fn other_bytes_are_no_image(rt: HostRuntime) {
-    let mut bytes = bytes_of(created(&rt, rt.alloc()));
-    assert_eq!(rt; bytes.len(), IMAGE_BYTES);
+fn an_erase_is_in_the_file(rt: HostRuntime) {
+    let mut nand = opened_with_uncorrectable(&rt, rt.alloc());
+    erase(&rt, &mut nand, 1).expect(&rt, "an erase");
+    let bytes = bytes_of(nand);
+    assert_eq!(rt; byte_at(&rt, &bytes, PAGE_PLACE), 0);
+    assert_eq!(rt; byte_at(&rt, &bytes, PAGE_PLACE + SLOT_BYTES), 0);
+}
+
+/// The fault of so many of the first bytes of a file.
+fn fault_of_first(
+    rt: &impl Abort,
+    alloc: Global,
+    bytes: &[u8],
+    length: usize,
+) -> Option<ImageFault> {
+    let first = bytes.get(..length).expect(rt, "so many bytes");
+    opened(alloc, first).err()
+}
+
+#[test]
+fn a_part_of_the_head_is_no_image(rt: HostRuntime) {
+    let bytes = bytes_of(created(&rt, rt.alloc()));
     for length in 0..32usize {
-        let fault = opened(rt.alloc(), &bytes[..length]).err();
+        let fault = fault_of_first(&rt, rt.alloc(), &bytes, length);
         assert_eq!(rt; fault, Some(ImageFault::Magic), "{length}");
     }
+}
+
+#[test]
+fn other_lengths_are_no_image(rt: HostRuntime) {
+    let mut bytes = bytes_of(created(&rt, rt.alloc()));
+    assert_eq!(rt; bytes.len(), IMAGE_BYTES);
     for length in [32usize, 33, 39, 40, 41, 600, 601, 100_000, 143_655] {
-        assert!(rt; length <= bytes.len());
-        let fault = opened(rt.alloc(), &bytes[..length]).err();
+        let fault = fault_of_first(&rt, rt.alloc(), &bytes, length);
         assert_eq!(rt; fault, Some(ImageFault::Size), "{length}");
     }
     bytes.push(0).expect(&rt, "memory");
     assert_eq!(rt; opened(rt.alloc(), &bytes).err(), Some(ImageFault::Size));
-    bytes.pop();
+}
+
+/// The fault of an image of eight blocks with these bytes written over it.
+fn fault_with(rt: &impl Abort, alloc: Global, edits: &[(usize, u8)]) -> Option<ImageFault> {
+    let mut bytes = bytes_of(created(rt, alloc));
     assert_eq!(rt; bytes.len(), IMAGE_BYTES);
-    bytes[8] = 100;
-    bytes[9] = 0;
-    assert_eq!(rt;
-        opened(rt.alloc(), &bytes).err(),
-        Some(ImageFault::BadGeometry)
-    );
-    bytes[0] = b'M';
-    assert_eq!(rt; opened(rt.alloc(), &bytes).err(), Some(ImageFault::Magic));
+    for (place, byte) in edits {
+        assert!(rt; *place < bytes.len());
+        bytes[*place] = *byte;
+    }
+    opened(alloc, &bytes).err()
+}
+
+#[test]
+fn other_bytes_are_no_image(rt: HostRuntime) {
+    for (edits, want) in [
+        ([(8, 100), (9, 0)].as_slice(), ImageFault::BadGeometry),
+        (&[(8, 100), (9, 0), (0, b'M')], ImageFault::Magic),
+    ] {
+        assert_eq!(rt; fault_with(&rt, rt.alloc(), edits), Some(want));
+    }
+}
+
+#[test]
+fn a_fault_says_what_to_do(rt: HostRuntime) {
     let text = format!(in rt.alloc(); "{}", ImageFault::Magic).expect(&rt, "memory");
     assert_eq!(rt;
         text.as_str(),
@@ -242,37 +320,61 @@ fn other_bytes_are_no_image(rt: HostRuntime) {
     );
 }
 
+/// The fault of a creation of five blocks, whose file fails at a call.
+fn creation_fault(alloc: Global, call: u64, kind: ErrorKind) -> Option<ImageFault> {
+    create(alloc, 5, call, kind).err()
+}
+
+/// The fault of these bytes, where the file fails at a call.
+fn opening_fault(alloc: Global, bytes: &[u8], call: u64, kind: ErrorKind) -> Option<ImageFault> {
+    open(alloc, bytes, call, kind).err()
+}
+
+/// The bytes of an image of five blocks: 162 calls make it, and 163 open it.
+fn bytes_of_five(rt: &impl Abort, alloc: Global) -> Vec<u8> {
+    bytes_of(create(alloc, 5, 163, ErrorKind::Other).expect(rt, "an image"))
+}
+
 #[test]
 fn a_file_that_fails_is_no_image(rt: HostRuntime) {
     for call in 1..163u64 {
-        let fault = create(rt.alloc(), 5, call, ErrorKind::Other).err();
+        let fault = creation_fault(rt.alloc(), call, ErrorKind::Other);
         assert_eq!(rt; fault, Some(ImageFault::Write), "{call}");
     }
-    let bytes = bytes_of(create(rt.alloc(), 5, 163, ErrorKind::Other).expect(&rt, "an image"));
+    let bytes = bytes_of_five(&rt, rt.alloc());
     for call in 1..164u64 {
-        let fault = open(rt.alloc(), &bytes, call, ErrorKind::Other).err();
+        let fault = opening_fault(rt.alloc(), &bytes, call, ErrorKind::Other);
         assert_eq!(rt; fault, Some(ImageFault::Read), "{call}");
     }
-    assert_eq!(rt; open(rt.alloc(), &bytes, 164, ErrorKind::Other).err(), None);
+    assert_eq!(rt;
+        opening_fault(rt.alloc(), &bytes, 164, ErrorKind::Other),
+        None
+    );
+}
+
+#[test]
+fn an_interrupted_call_is_made_again(rt: HostRuntime) {
+    let bytes = bytes_of_five(&rt, rt.alloc());
     for call in [1u64, 2, 3, 162, 163] {
-        let fault = create(rt.alloc(), 5, call, ErrorKind::Interrupted).err();
+        let fault = creation_fault(rt.alloc(), call, ErrorKind::Interrupted);
         assert_eq!(rt; fault, None, "{call}");
-        let fault = open(rt.alloc(), &bytes, call, ErrorKind::Interrupted).err();
+        let fault = opening_fault(rt.alloc(), &bytes, call, ErrorKind::Interrupted);
         assert_eq!(rt; fault, None, "{call}");
     }
+}
+
+/// The first page of block 1 is this in memory.
+fn expect_in_memory(rt: &impl Abort, nand: &ImageNand<TestFile>, page: PageKind) {
+    let mut memory = nand.to_memory().expect(rt, "memory");
+    expect_page(rt, &mut memory, 1, 0, page);
 }
 
 /// Nothing is answered any more, the file is not called after that call, and the page is still this in memory; returns the
 /// file's bytes.
 fn gone_at(rt: &impl Abort, mut nand: ImageNand<TestFile>, call: u64, page: PageKind) -> Vec<u8> {
-    let geometry = nand.geometry();
-    assert!(rt; geometry.blocks() > 1 && geometry.pages() > 0);
-    assert_eq!(rt; nand.read_tag(1, 0, &mut [0; 48]), Err(Gone));
-    assert_eq!(rt; nand.erase(1), Err(EraseFault::Gone));
-    assert_eq!(rt; nand.mark_bad(1), Err(Gone));
-    assert!(rt; !nand.is_bad(1));
-    let mut memory = nand.to_memory().expect(rt, "memory");
-    expect_page(rt, &mut memory, 1, 0, page);
+    expect_gone(rt, &mut nand);
+    assert!(rt; !is_bad(rt, &nand, 1));
+    expect_in_memory(rt, &nand, page);
     let (bytes, calls) = file_of(nand);
     assert_eq!(rt; calls, CREATION_CALLS.saturating_add(call));
     assert_eq!(rt; bytes.len(), IMAGE_BYTES);
@@ -289,31 +391,31 @@ fn a_program_sets_the_kind_last(rt: HostRuntime) {
             "{call}"
         );
         let bytes = gone_at(&rt, nand, call, PageKind::Erased);
-        assert!(rt; bytes.len() == IMAGE_BYTES);
-        assert_eq!(rt; bytes[PAGE_PLACE], 0);
-        assert_eq!(rt; bytes[PAGE_PLACE + 1] == 9, call > 68);
-        assert_eq!(rt; bytes[PAGE_PLACE + 49] == 7, call > 66);
+        let kind = byte_at(&rt, &bytes, PAGE_PLACE);
+        let tag = byte_at(&rt, &bytes, PAGE_PLACE + 1);
+        let data = byte_at(&rt, &bytes, PAGE_PLACE + 49);
+        assert_eq!(rt; (kind, tag == 9, data == 7), (0, call > 68, call > 66));
     }
 }
 
 #[test]
-fn an_erase_and_a_mark_that_fail(rt: HostRuntime) {
+fn an_erase_that_fails_starts_with_the_kinds(rt: HostRuntime) {
     for call in 1..65u64 {
         let fails_at = WRITE_CALLS.saturating_add(call);
         let mut nand = created_failing(&rt, rt.alloc(), fails_at);
-        assert_eq!(rt; write_page(&rt, &mut nand), Ok(()));
-        assert!(rt; nand.geometry().blocks() > 1);
-        assert_eq!(rt; nand.erase(1), Err(EraseFault::Gone), "{call}");
+        write_page(&rt, &mut nand).expect(&rt, "a program");
+        assert_eq!(rt; erase(&rt, &mut nand, 1), Err(EraseFault::Gone), "{call}");
         let bytes = gone_at(&rt, nand, fails_at, PageKind::Written);
-        assert!(rt; bytes.len() == IMAGE_BYTES);
-        assert_eq!(rt; bytes[PAGE_PLACE] == 0, call > 2);
+        assert_eq!(rt; byte_at(&rt, &bytes, PAGE_PLACE) == 0, call > 2);
     }
+}
+
+#[test]
+fn a_mark_that_fails_is_not_set(rt: HostRuntime) {
     for call in 1..3u64 {
         let mut nand = created_failing(&rt, rt.alloc(), call);
-        assert!(rt; nand.geometry().blocks() > 1);
-        assert_eq!(rt; nand.mark_bad(1), Err(Gone), "{call}");
+        assert_eq!(rt; mark_bad(&rt, &mut nand, 1), Err(Gone), "{call}");
         let bytes = gone_at(&rt, nand, call, PageKind::Erased);
-        assert!(rt; bytes.len() == IMAGE_BYTES);
-        assert_eq!(rt; bytes[33], 0);
+        assert_eq!(rt; byte_at(&rt, &bytes, MARKS_PLACE + 1), 0);
     }
 }

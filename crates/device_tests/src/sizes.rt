@@ -1,27 +1,36 @@
 // Devices of each size, and sizes that no device has.
 
 use nand_model::{BadGeometry, Geometry, MemNand, Nand, PageKind};
+use std::alloc::Global;
+use std::process::Abort;
 
 /// The tag of a page.
 const TAG: [u8; 48] = [9; 48];
+
+/// A copy of a device with pages of this size, of which the first page of block 4 is written with fives.
+fn copy_with_page(rt: &impl Abort, alloc: Global, size: u32) -> MemNand {
+    let geometry = Geometry::new(size, 64, 5).expect(rt, "a geometry");
+    let mut nand = MemNand::new(alloc, geometry).expect(rt, "memory");
+    let data = vec![in alloc; 5u8; size as usize].expect(rt, "memory");
+    nand.erase(4).expect(rt, "an erase");
+    nand.program(4, 0, &data, &TAG).expect(rt, "a program");
+    nand.copy().expect(rt, "memory")
+}
 
 /// A page of data and its tag are read from a copy of the device.
 #[test]
 fn a_page_of_each_size_reads_back(rt: HostRuntime) {
     for size in [512u32, 1024, 2048, 4096] {
-        let geometry = Geometry::new(size, 64, 5).expect(&rt, "a geometry");
-        let mut nand = MemNand::new(rt.alloc(), geometry).expect(&rt, "memory");
-        let data = vec![in rt.alloc(); 5u8; size as usize].expect(&rt, "memory");
-        nand.erase(4).expect(&rt, "an erase");
-        nand.program(4, 0, &data, &TAG).expect(&rt, "a program");
-        let mut copy = nand.copy().expect(&rt, "memory");
+        let mut copy = copy_with_page(&rt, rt.alloc(), size);
+        let geometry = copy.geometry();
+        assert!(rt; (geometry.bytes(), geometry.pages(), geometry.blocks()) == (size, 64, 5));
         let mut bytes = vec![in rt.alloc(); 0u8; size as usize].expect(&rt, "memory");
         let mut tag = [0; 48];
         assert_eq!(rt;
             copy.read_page(4, 0, &mut bytes, &mut tag),
             Ok(PageKind::Written)
         );
-        assert!(rt; bytes.as_slice() == data.as_slice());
+        assert!(rt; bytes.iter().all(|byte| *byte == 5));
         assert!(rt; tag == TAG);
     }
 }

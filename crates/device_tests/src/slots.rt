@@ -13,11 +13,15 @@ fn slot_stands_in_272_bytes(rt: HostRuntime) {
     bytes[..11].copy_from_slice(&SLOT);
     let mut written = [0xff; SLOT_BYTES];
     let read = decode_slot(&bytes);
-    assert!(rt; read.is_some());
-    if let Some(Slot { object, name }) = read {
-        assert_eq!(rt; object, 2);
-        assert_eq!(rt; name, b"a".as_slice());
-        encode_slot(&Slot { object, name }, &mut written);
+    assert_eq!(rt;
+        read,
+        Some(Slot {
+            object: 2,
+            name: b"a"
+        })
+    );
+    if let Some(slot) = read {
+        encode_slot(&slot, &mut written);
     }
     assert!(rt; written == bytes);
 }

@@ -188,10 +188,27 @@ fn with_two_pages(
     Ok(nand)
 }
 
+/// What is read of this page.
+fn read_page(alloc: Global, page: &[u8; 512]) -> Result<Option<FoundSummary>, Fail> {
+    let mut nand = with_page(alloc, page, &TAG_BYTES)?;
+    Ok(read_summary(alloc, &mut nand, 1, &TAG)?)
+}
+
 /// What is read of a page that begins so.
 fn read_parts(alloc: Global, parts: &[[u8; 32]; 4]) -> Result<Option<FoundSummary>, Fail> {
-    let mut nand = with_page(alloc, &page_of(parts), &TAG_BYTES)?;
-    Ok(read_summary(alloc, &mut nand, 1, &TAG)?)
+    read_page(alloc, &page_of(parts))
+}
+
+/// What is read of the first of the two pages of a summary of 16 entries.
+fn read_first_page(alloc: Global) -> Result<Option<FoundSummary>, Fail> {
+    let mut nand = with_page(alloc, &first_page(), &TAG_0.encode())?;
+    Ok(read_summary(alloc, &mut nand, 1, &TAG_0)?)
+}
+
+/// What is read of both, where the second has this tag.
+fn read_two_pages(alloc: Global, tag: &Tag) -> Result<Option<FoundSummary>, Fail> {
+    let mut nand = with_two_pages(alloc, &first_page(), &second_page(), tag)?;
+    Ok(read_summary(alloc, &mut nand, 1, &TAG_0)?)
 }
 
 /// A summary of three entries is read back.
@@ -256,34 +273,26 @@ fn another_form_is_none(rt: HostRuntime) -> Result<(), Fail> {
     }
     let mut page = page_of(&[HEAD, FIRST, SECOND, THIRD]);
     page[511] = 1;
-    let mut nand = with_page(rt.alloc(), &page, &TAG_BYTES)?;
-    assert!(rt; read_summary(rt.alloc(), &mut nand, 1, &TAG)?.is_none());
+    assert!(rt; read_page(rt.alloc(), &page)?.is_none());
     Ok(())
 }
 
 /// A group of two pages is a summary with its last page alone.
 #[test]
 fn a_last_page_is_read(rt: HostRuntime) -> Result<(), Fail> {
-    let first = first_page();
-    let second = second_page();
-    let mut whole = with_two_pages(rt.alloc(), &first, &second, &TAG_1)?;
-    let Some(found) = read_summary(rt.alloc(), &mut whole, 1, &TAG_0)? else {
+    let Some(found) = read_two_pages(rt.alloc(), &TAG_1)? else {
         panic!(rt; "no summary");
     };
     assert_eq!(rt; (found.size, found.entries.len()), (2, 16));
-    let mut cut = with_page(rt.alloc(), &first, &TAG_0.encode())?;
-    assert!(rt; read_summary(rt.alloc(), &mut cut, 1, &TAG_0)?.is_none());
-    let mut other = with_two_pages(rt.alloc(), &first, &second, &TAG_OF_CHECKPOINT)?;
-    assert!(rt; read_summary(rt.alloc(), &mut other, 1, &TAG_0)?.is_none());
+    assert!(rt; read_first_page(rt.alloc())?.is_none());
+    assert!(rt; read_two_pages(rt.alloc(), &TAG_OF_CHECKPOINT)?.is_none());
     Ok(())
 }
 
 /// A device that is cut while the second page is read, by call 5, is gone.
 #[test]
 fn a_cut_is_reported(rt: HostRuntime) -> Result<(), Fail> {
-    let first = first_page();
-    let second = second_page();
-    let nand = with_two_pages(rt.alloc(), &first, &second, &TAG_1)?;
+    let nand = with_two_pages(rt.alloc(), &first_page(), &second_page(), &TAG_1)?;
     let mut nand = nand.with_fuse(5, Vec::new(rt.alloc()));
     let read = read_summary(rt.alloc(), &mut nand, 1, &TAG_0);
     assert!(rt; matches!(read, Err(SummaryFault::Gone)));

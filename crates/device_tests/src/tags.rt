@@ -32,15 +32,20 @@ fn tag_stands_in_48_bytes(rt: HostRuntime) {
     assert_eq!(rt; Tag::decode(&TAG), Some(worked_tag()));
 }
 
+/// What is read of the tag where this byte stands at a place.
+fn read_with(place: usize, byte: u8) -> Option<Tag> {
+    let mut bytes = TAG;
+    if place < 48 {
+        bytes[place] = byte;
+    }
+    Tag::decode(&bytes)
+}
+
 /// Each byte alone makes of the tag none.
 #[test]
 fn bytes_out_of_range_are_no_tag(rt: HostRuntime) {
     let edits: [(usize, u8); 7] = [(0, 4), (4, 0), (5, 1), (8, 0), (24, 0), (24, 8), (40, 0)];
     for (place, byte) in edits {
-        let mut bytes = TAG;
-        if place < 48 {
-            bytes[place] = byte;
-        }
-        assert_eq!(rt; Tag::decode(&bytes), None, "at {place}");
+        assert_eq!(rt; read_with(place, byte), None, "at {place}");
     }
 }

@@ -24,7 +24,7 @@ impl ObjectStore for CommittedObjects {
     ghost use Rattle.command_tests.specs.Committed.{committed_meaning};
     ghost use Rattle.command_tests.specs.laws.Committed.{committed_lawful};
 
-    ghost meaning = { committed_meaning };
+    ghost meaning = { committed_meaning (λ a. a.objects) (λ a. a.shown) };
 
     fn sizes(&self) -> VolumeSizes {
         self.objects.sizes()
@@ -85,5 +85,5 @@ impl ObjectStore for CommittedObjects {
         }
     }
 
-    ghost lawful = { committed_lawful };
+    ghost lawful = { committed_lawful (λ a. a.objects) (λ a. a.shown) };
 }

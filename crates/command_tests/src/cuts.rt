@@ -1,7 +1,7 @@
 // Runs that are cut off at each of their calls: what was committed is a tree that a loss may leave.
 use crate::committed::CommittedObjects;
+use crate::fuse::{FusedStore, LastCall};
 use crate::lines::{commands_of, reply_text};
-use crate::{FusedStore, LastCall};
 use object_commands::Volume;
 use plain_volume::PlainObjects;
 use posix_profile::{Access, Command, Errno, FilePath, OpenFlags, Reply, Stamped};
@@ -44,6 +44,19 @@ pub(crate) fn no_objects(rt: &impl Abort, alloc: Global) -> PlainObjects {
     PlainObjects::new(alloc, VolumeSizes::new(512, 32, 8, 1)).expect(rt, "memory")
 }
 
+/// A volume over these maps, with no descriptor open.
+pub(crate) fn volume_over(
+    rt: &impl Abort,
+    alloc: Global,
+    objects: PlainObjects,
+    read_only: bool,
+) -> Volume<PlainObjects> {
+    match Volume::new(alloc, objects, read_only) {
+        Ok(volume) => volume,
+        Err((_objects, error)) => panic!(rt; "{error:?}"),
+    }
+}
+
 fn path_of(rt: &impl Abort, alloc: Global, path: &[u8]) -> FilePath {
     FilePath::new(path.to_vec(alloc).expect(rt, "memory"))
 }
@@ -73,56 +86,56 @@ fn bytes_text(
     reply_text(rt, alloc, &bytes)
 }
 
-/// Adds what is answered of an object to the text, and the paths of what a directory names.
-fn add_object(
+/// The path of a name in a directory.
+fn path_below(rt: &impl Abort, alloc: Global, path: &[u8], name: &[u8]) -> Vec<u8> {
+    let mut below = path.to_vec(alloc).expect(rt, "memory");
+    below.push(b'/').expect(rt, "memory");
+    below.extend_from_slice(name).expect(rt, "memory");
+    below
+}
+
+/// What is answered of the names of a directory, whose paths are added to these, or of the bytes of a file.
+fn contents_text(
     rt: &impl Abort,
     alloc: Global,
     volume: &mut Volume<PlainObjects>,
     path: &[u8],
     paths: &mut Vec<Vec<u8>>,
-    text: &mut String,
-) {
-    let info = answers(
-        volume,
-        Command::Stat {
-            path: path_of(rt, alloc, path),
-        },
-    );
-    text.push_str(&reply_text(rt, alloc, &info))
-        .expect(rt, "memory");
-    let list = answers(
-        volume,
-        Command::List {
-            path: path_of(rt, alloc, path),
-        },
-    );
-    text.push_str(" ").expect(rt, "memory");
-    match list {
+) -> String {
+    let list = Command::List {
+        path: path_of(rt, alloc, path),
+    };
+    match answers(volume, list) {
         Reply::Names(names) => {
             for name in names.as_slice() {
-                let mut below = path.to_vec(alloc).expect(rt, "memory");
-                below.push(b'/').expect(rt, "memory");
-                below
-                    .extend_from_slice(name.as_slice())
-                    .expect(rt, "memory");
+                let below = path_below(rt, alloc, path, name.as_slice());
                 paths.push(below).expect(rt, "memory");
             }
-            text.push_str(&reply_text(rt, alloc, &Reply::Names(names)))
-                .expect(rt, "memory");
+            reply_text(rt, alloc, &Reply::Names(names))
         }
-        _ => text
-            .push_str(&bytes_text(rt, alloc, volume, path))
-            .expect(rt, "memory"),
+        _ => bytes_text(rt, alloc, volume, path),
     }
-    text.push_str("\n").expect(rt, "memory");
+}
+
+/// What is answered of an object. The paths of what a directory names are added to these.
+fn object_text(
+    rt: &impl Abort,
+    alloc: Global,
+    volume: &mut Volume<PlainObjects>,
+    path: &[u8],
+    paths: &mut Vec<Vec<u8>>,
+) -> String {
+    let stat = Command::Stat {
+        path: path_of(rt, alloc, path),
+    };
+    let info = reply_text(rt, alloc, &answers(volume, stat));
+    let contents = contents_text(rt, alloc, volume, path, paths);
+    format!(in alloc; "{info} {contents}\n").expect(rt, "memory")
 }
 
 /// What a tree of at most 50 objects holds: what is answered of each.
 fn tree_text(rt: &impl Abort, alloc: Global, objects: PlainObjects) -> String {
-    let mut volume = match Volume::new(alloc, objects, true) {
-        Ok(volume) => volume,
-        Err((_objects, error)) => panic!(rt; "{error:?}"),
-    };
+    let mut volume = volume_over(rt, alloc, objects, true);
     let mut text = String::new(alloc);
     let mut paths = Vec::new(alloc);
     paths
@@ -130,30 +143,48 @@ fn tree_text(rt: &impl Abort, alloc: Global, objects: PlainObjects) -> String {
         .expect(rt, "memory");
     for _ in 0..50 {
         match paths.pop() {
-            Some(path) => add_object(rt, alloc, &mut volume, &path, &mut paths, &mut text),
+            Some(path) => {
+                let object = object_text(rt, alloc, &mut volume, &path, &mut paths);
+                text.push_str(&object).expect(rt, "memory");
+            }
             None => return text,
         }
     }
     text
 }
 
+/// The tree that a mount of the volume would show.
+fn shown_text(rt: &impl Abort, alloc: Global, volume: &Volume<PlainObjects>) -> String {
+    let shown = volume.store().settled().expect(rt, "memory");
+    tree_text(rt, alloc, shown)
+}
+
 /// The trees before the first command and after each one, as a mount would show them.
 fn trees_of(rt: &impl Abort, alloc: Global, commands: &[Stamped]) -> Vec<String> {
-    let mut volume = match Volume::new(alloc, no_objects(rt, alloc), false) {
-        Ok(volume) => volume,
-        Err((_objects, error)) => panic!(rt; "{error:?}"),
-    };
+    let mut volume = volume_over(rt, alloc, no_objects(rt, alloc), false);
     let mut trees = Vec::new(alloc);
-    trees
-        .push(tree_text(rt, alloc, volume.store().settled().expect(rt, "memory")))
-        .expect(rt, "memory");
+    let first = shown_text(rt, alloc, &volume);
+    trees.push(first).expect(rt, "memory");
     for command in commands {
         let _reply = volume.call(command);
-        trees
-            .push(tree_text(rt, alloc, volume.store().settled().expect(rt, "memory")))
-            .expect(rt, "memory");
+        let tree = shown_text(rt, alloc, &volume);
+        trees.push(tree).expect(rt, "memory");
     }
     trees
+}
+
+/// A volume whose device is lost after so many calls.
+fn fused_volume(
+    rt: &impl Abort,
+    alloc: Global,
+    calls: u64,
+    last: LastCall,
+) -> Volume<FusedStore<CommittedObjects>> {
+    let inner = CommittedObjects::new(no_objects(rt, alloc)).expect(rt, "memory");
+    match Volume::new(alloc, FusedStore { inner, calls, last }, false) {
+        Ok(volume) => volume,
+        Err((_store, error)) => panic!(rt; "{error:?}"),
+    }
 }
 
 /// What is left of a run, and what it answered.
@@ -164,12 +195,7 @@ fn cut_run(
     calls: u64,
     last: LastCall,
 ) -> (Vec<Reply>, String) {
-    let inner = CommittedObjects::new(no_objects(rt, alloc)).expect(rt, "memory");
-    let store = FusedStore { inner, calls, last };
-    let mut volume = match Volume::new(alloc, store, false) {
-        Ok(volume) => volume,
-        Err((_store, error)) => panic!(rt; "{error:?}"),
-    };
+    let mut volume = fused_volume(rt, alloc, calls, last);
     let mut replies = Vec::new(alloc);
     volume.run(commands, &mut replies).expect(rt, "memory");
     let FusedStore {
@@ -205,6 +231,17 @@ fn answered(replies: &[Reply]) -> usize {
     replies.iter().take_while(|reply| !is_stop(reply)).count()
 }
 
+/// Whether a tree is one of those between two places, both with them.
+fn is_among(trees: &[String], from: usize, to: usize, left: &str) -> bool {
+    let mut is_left = false;
+    for (k, tree) in trees.iter().enumerate() {
+        if from <= k && k <= to && tree.as_str() == left {
+            is_left = true;
+        }
+    }
+    is_left
+}
+
 /// Cuts the run off at a call, looks at what is left, and returns whether there was such a call.
 fn cut_at(
     rt: &impl Abort,
@@ -217,13 +254,7 @@ fn cut_at(
     let (replies, left) = cut_run(rt, alloc, commands, calls, last);
     let from = covered(commands, &replies);
     let to = answered(&replies);
-    let mut is_left = false;
-    for (k, tree) in trees.iter().enumerate() {
-        if from <= k && k <= to && tree.as_str() == left.as_str() {
-            is_left = true;
-        }
-    }
-    assert!(rt; is_left);
+    assert!(rt; is_among(trees, from, to, &left));
     assert_eq!(rt; replies.len(), commands.len());
     to < commands.len()
 }

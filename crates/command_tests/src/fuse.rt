@@ -53,7 +53,7 @@ impl<S> FusedStore<S> {
 }
 
 impl<S: ObjectStore> ObjectStore for FusedStore<S> {
-    ghost meaning = { fused_meaning S.meaning (λ a. a.inner) (λ a. a.calls) (λ a. a.last) };
+    ghost meaning = { fused_meaning S.meaning (λ a. a.inner) (λ a. a.calls) (λ a. a.last) (λ fate. fate ≡ fates.Done) };
 
     fn sizes(&self) -> VolumeSizes {
         self.inner.sizes()
@@ -134,5 +134,5 @@ impl<S: ObjectStore> ObjectStore for FusedStore<S> {
         }
     }
 
-    ghost lawful = { fused_lawful S.meaning S.lawful (λ a. a.inner) (λ a. a.calls) (λ a. a.last) };
+    ghost lawful = { fused_lawful S.meaning S.lawful (λ a. a.inner) (λ a. a.calls) (λ a. a.last) (λ fate. fate ≡ fates.Done) };
 }

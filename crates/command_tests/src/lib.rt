@@ -2,20 +2,18 @@
 //! cut off at each of their calls.
 #![tactic(auto)]
 
+#[cfg(test)]
 mod committed;
-mod fuse;
-mod refusing;
-
-pub use committed::CommittedObjects;
-pub use fuse::{FusedStore, LastCall};
-pub use refusing::RefusingStore;
-
 #[cfg(test)]
 mod cuts;
+#[cfg(test)]
+mod fuse;
 #[cfg(test)]
 mod lines;
 #[cfg(test)]
 mod refused;
+#[cfg(test)]
+mod refusing;
 #[cfg(test)]
 mod shells;
 #[cfg(test)]

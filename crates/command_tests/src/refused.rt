@@ -1,11 +1,11 @@
 // Commands whose calls of the store are refused memory in turn.
-use crate::RefusingStore;
 use crate::cuts::no_objects;
 use crate::lines::{command_of, reply_text};
+use crate::refusing::RefusingStore;
 use object_commands::Volume;
 use object_store::ObjectStore;
 use plain_volume::PlainObjects;
-use posix_profile::{Command, Errno, Kind, Reply, Stamped};
+use posix_profile::{Command, Errno, Kind, NameList, Reply, Stamped};
 use std::alloc::Global;
 use std::process::Abort;
 
@@ -56,6 +56,26 @@ fn is_no_memory(reply: &Reply) -> bool {
     matches!(reply, Reply::Error(Errno::ENOMEM))
 }
 
+/// The names of a directory.
+fn names_of(
+    rt: &impl Abort,
+    alloc: Global,
+    objects: &mut PlainObjects,
+    directory: u64,
+) -> NameList {
+    objects.names(alloc, directory).expect(rt, "names")
+}
+
+/// The object that a directory has under a name.
+fn found_in(
+    rt: &impl Abort,
+    objects: &mut PlainObjects,
+    directory: u64,
+    name: &[u8],
+) -> Option<u64> {
+    objects.find(directory, name).expect(rt, "a name")
+}
+
 /// Looks whether a directory has the same names, which lead to the same objects.
 fn expect_same_names(
     rt: &impl Abort,
@@ -64,16 +84,13 @@ fn expect_same_names(
     right: &mut PlainObjects,
     directory: u64,
 ) {
-    let names = left.names(alloc, directory).expect(rt, "names");
-    let others = right.names(alloc, directory).expect(rt, "names");
+    let names = names_of(rt, alloc, left, directory);
+    let others = names_of(rt, alloc, right, directory);
     assert_eq!(rt; names.as_slice().len(), others.as_slice().len());
     for (name, other) in names.as_slice().iter().zip(others.as_slice()) {
         assert_eq!(rt; name.as_slice(), other.as_slice());
-        let there = left.find(directory, name.as_slice()).expect(rt, "a name");
-        assert_eq!(rt;
-            there,
-            right.find(directory, name.as_slice()).expect(rt, "a name")
-        );
+        let there = found_in(rt, left, directory, name.as_slice());
+        assert_eq!(rt; there, found_in(rt, right, directory, name.as_slice()));
     }
 }
 
@@ -145,6 +162,17 @@ fn answer_again(
     reply_text(rt, alloc, &reply)
 }
 
+/// Does a command, and returns whether one of its calls was refused: it is answered by ENOMEM then, as it may be.
+fn is_refused(rt: &impl Abort, volume: &mut RefusingVolume, stamped: &Stamped) -> bool {
+    let reply = volume.call(stamped);
+    if volume.store().calls.is_some() {
+        return false;
+    }
+    assert!(rt; is_no_memory(&reply));
+    assert!(rt; takes_memory(&stamped.command));
+    true
+}
+
 /// What becomes of a volume whose command is refused this call, and then the command is sent again: it was as before, and is as after.
 /// `None` where the command makes no such call.
 fn refused_at(
@@ -157,12 +185,9 @@ fn refused_at(
     calls: u64,
 ) -> Option<RefusingVolume> {
     let mut volume = refusing(rt, before, Some(calls));
-    let reply = volume.call(stamped);
-    if volume.store().calls.is_some() {
+    if !is_refused(rt, &mut volume, stamped) {
         return None;
     }
-    assert!(rt; is_no_memory(&reply));
-    assert!(rt; takes_memory(&stamped.command));
     expect_same_objects(rt, alloc, &volume, before);
     assert_eq!(rt;
         answer_again(rt, alloc, &mut volume, stamped).as_str(),
@@ -260,15 +285,19 @@ const READ_ONLY: [(&str, &str); 24] = [
     ("close 0", "ok"),
 ];
 
+/// The maps of a file of five bytes and an empty directory.
+fn file_and_directory(rt: &impl Abort, alloc: Global) -> PlainObjects {
+    let mut volume = volume_over(rt, alloc, no_objects(rt, alloc), false);
+    for line in ["open /a rwc", "write 0 hello", "close 0", "mkdir /d"] {
+        let _reply = volume.call(&command_of(rt, alloc, line));
+    }
+    volume.store().inner.settled().expect(rt, "memory")
+}
+
 #[test]
 fn what_may_only_be_read_stays(rt: HostRuntime) {
     let alloc = rt.alloc();
-    let mut volume = volume_over(&rt, alloc, no_objects(&rt, alloc), false);
-    for line in ["open /a rwc", "write 0 hello", "close 0", "mkdir /d"] {
-        let _reply = volume.call(&command_of(&rt, alloc, line));
-    }
-    let objects = volume.store().inner.settled().expect(&rt, "memory");
-    let mut volume = volume_over(&rt, alloc, objects, true);
+    let mut volume = volume_over(&rt, alloc, file_and_directory(&rt, alloc), true);
     for (line, answers) in READ_ONLY {
         let stamped = command_of(&rt, alloc, line);
         let _calls = refuse_each(&rt, alloc, &mut volume, &stamped, answers);

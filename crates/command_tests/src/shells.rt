@@ -23,9 +23,14 @@ fn reply_of(rt: &impl Abort, alloc: Global, reply: &Reply) -> Vec<u8> {
     answers
 }
 
+/// What a line is.
+fn line_of(rt: &impl Abort, alloc: Global, line: &[u8]) -> Line {
+    parse(alloc, line).expect(rt, "memory")
+}
+
 /// Asserts that the line asks for the command.
 fn asks(rt: &impl Abort, alloc: Global, line: &str, command: Command) {
-    let found = parse(alloc, line.as_bytes()).expect(rt, "memory");
+    let found = line_of(rt, alloc, line.as_bytes());
     let found = format!(in alloc; "{found:?}").expect(rt, "memory");
     let wanted = Line::Do(command);
     let wanted = format!(in alloc; "{wanted:?}").expect(rt, "memory");
@@ -162,6 +167,11 @@ fn each_line_of_the_table_asks_for_its_command(rt: HostRuntime) {
     ask_with_two_paths(&rt, alloc)
 }
 
+/// Whether a line asks for nothing that there is.
+fn is_bad(rt: &impl Abort, alloc: Global, line: &[u8]) -> bool {
+    matches!(line_of(rt, alloc, line), Line::Bad)
+}
+
 /// Bad lines, by what is wrong: the name, the words after it, a number, flags, an escape.
 const BAD: [&[u8]; 5] = [
     b"nope\n\\e\nMKDIR /a\nmkdir\t/a\n/a mkdir",
@@ -176,8 +186,7 @@ fn other_lines_ask_for_no_command(rt: HostRuntime) {
     let alloc = rt.alloc();
     for (kind, lines) in BAD.iter().enumerate() {
         for (place, line) in lines.split(|byte| *byte == b'\n').enumerate() {
-            let found = parse(alloc, line).expect(&rt, "memory");
-            assert!(rt; matches!(found, Line::Bad), "{kind} {place}");
+            assert!(rt; is_bad(&rt, alloc, line), "{kind} {place}");
         }
     }
 }
@@ -186,14 +195,14 @@ fn other_lines_ask_for_no_command(rt: HostRuntime) {
 fn moments_and_empty_lines(rt: HostRuntime) {
     let alloc = rt.alloc();
     for line in ["", "   "] {
-        let found = parse(alloc, line.as_bytes()).expect(&rt, "memory");
+        let found = line_of(&rt, alloc, line.as_bytes());
         assert!(rt; matches!(found, Line::Nothing));
     }
     for (line, moment) in [
         ("now 0", 0),
         (" n\\x6fw 0009223372036854775807", 9_223_372_036_854_775_807),
     ] {
-        let found = parse(alloc, line.as_bytes()).expect(&rt, "memory");
+        let found = line_of(&rt, alloc, line.as_bytes());
         assert!(rt; matches!(found, Line::Now(n) if n == moment), "{line}");
     }
     for line in [
@@ -203,8 +212,7 @@ fn moments_and_empty_lines(rt: HostRuntime) {
         "now 1 1",
         "now \\e",
     ] {
-        let found = parse(alloc, line.as_bytes()).expect(&rt, "memory");
-        assert!(rt; matches!(found, Line::Bad), "{line}");
+        assert!(rt; is_bad(&rt, alloc, line.as_bytes()), "{line}");
     }
 }
 
@@ -448,51 +456,77 @@ impl Write for FailingWriter {
     }
 }
 
+/// What a shell answers over the input, whose reader fails at one of its calls, and how it ends.
+fn answers_of_reader(
+    rt: &impl Abort,
+    alloc: Global,
+    fails_at: u32,
+) -> (Vec<u8>, Result<(), ShellFault>) {
+    let reader = FailingReader {
+        rest: INPUT,
+        calls: 0,
+        fails_at,
+    };
+    let mut reader = BufReader::with_capacity(alloc, 7, reader).expect(rt, "memory");
+    let mut writer = Vec::new(alloc);
+    let ends = shell(alloc, &mut reader, &mut writer, &mut Counter::new(alloc));
+    (writer, ends)
+}
+
+/// Whether a text is so many of the lines of the answers.
+fn has_whole_lines(text: &[u8]) -> bool {
+    ANSWERS.starts_with(text) && (text.is_empty() || text.ends_with(b"\n"))
+}
+
 #[test]
 fn a_reader_fails_at_each_call(rt: HostRuntime) {
-    let alloc = rt.alloc();
     for fails_at in 1..1000 {
-        let reader = FailingReader {
-            rest: INPUT,
-            calls: 0,
-            fails_at,
-        };
-        let mut reader = BufReader::with_capacity(alloc, 7, reader).expect(&rt, "memory");
-        let mut writer = Vec::new(alloc);
-        let ends = shell(alloc, &mut reader, &mut writer, &mut Counter::new(alloc));
+        let (text, ends) = answers_of_reader(&rt, rt.alloc(), fails_at);
         if ends == Ok(()) {
-            assert_eq!(rt; writer.as_slice(), ANSWERS);
+            assert_eq!(rt; text.as_slice(), ANSWERS);
             assert!(rt; fails_at > 40);
             return;
         }
         assert_eq!(rt; ends, Err(ShellFault::Read));
-        assert!(rt; ANSWERS.starts_with(&writer));
-        assert!(rt; writer.is_empty() || writer.ends_with(b"\n"));
+        assert!(rt; has_whole_lines(&text));
     }
     assert!(rt; false, "it still fails");
 }
 
+/// What a shell answers over the input to a writer that fails at one of its calls, how many commands it does, and how it ends.
+fn answers_to_writer(alloc: Global, fails_at: u32) -> (Vec<u8>, u64, Result<(), ShellFault>) {
+    let mut reader = INPUT;
+    let mut writer = FailingWriter {
+        answers: Vec::new(alloc),
+        calls: 0,
+        fails_at,
+    };
+    let mut counter = Counter::new(alloc);
+    let ends = shell(alloc, &mut reader, &mut writer, &mut counter);
+    let FailingWriter {
+        answers,
+        calls: _,
+        fails_at: _,
+    } = writer;
+    (answers, counter.calls, ends)
+}
+
+/// Whether the answers begin with this text, and no command was done after the one whose answer could not be written.
+fn is_answered(text: &[u8], commands: u64) -> bool {
+    let whole = text.iter().filter(|byte| **byte == b'\n').count();
+    ANSWERS.starts_with(text) && commands <= (whole as u64).saturating_add(1)
+}
+
 #[test]
 fn a_writer_fails_at_each_call(rt: HostRuntime) {
-    let alloc = rt.alloc();
     let mut most = 0;
     for fails_at in 1..1000 {
-        let mut reader = INPUT;
-        let mut writer = FailingWriter {
-            answers: Vec::new(alloc),
-            calls: 0,
-            fails_at,
-        };
-        let mut counter = Counter::new(alloc);
-        let ends = shell(alloc, &mut reader, &mut writer, &mut counter);
-        assert!(rt; ANSWERS.starts_with(&writer.answers));
-        // no command is done after the one whose answer could not be written
-        let whole = writer.answers.iter().filter(|byte| **byte == b'\n').count();
-        assert!(rt; counter.calls <= (whole as u64).saturating_add(1));
-        assert!(rt; writer.answers.len() >= most);
-        most = writer.answers.len();
+        let (text, commands, ends) = answers_to_writer(rt.alloc(), fails_at);
+        assert!(rt; is_answered(&text, commands));
+        assert!(rt; text.len() >= most);
+        most = text.len();
         if ends == Ok(()) {
-            assert_eq!(rt; writer.answers.as_slice(), ANSWERS);
+            assert_eq!(rt; text.as_slice(), ANSWERS);
             assert!(rt; fails_at > 60);
             return;
         }
@@ -606,35 +640,36 @@ fn wanted_script(rt: &impl Abort, alloc: Global) -> String {
 fn a_script_is_read_with_its_moments(rt: HostRuntime) {
     let alloc = rt.alloc();
     let wanted = wanted_script(&rt, alloc);
-    assert_eq!(rt; script_of(&rt, alloc, SCRIPT).as_str(), wanted.as_str());
-    assert_eq!(rt;
-        script_of(&rt, alloc, b"sync\nnope\nsync").as_str(),
-        "Err(Line)"
-    );
     let long = vec![in alloc; b'a'; 65_537].expect(&rt, "memory");
-    assert_eq!(rt; script_of(&rt, alloc, &long).as_str(), "Err(TooLong)");
+    for (input, wanted) in [
+        (SCRIPT, wanted.as_str()),
+        (b"sync\nnope\nsync", "Err(Line)"),
+        (long.as_slice(), "Err(TooLong)"),
+    ] {
+        assert_eq!(rt; script_of(&rt, alloc, input).as_str(), wanted);
+    }
+}
+
+/// What is read of the script as a text, where its reader fails at one of its calls.
+fn script_of_reader(rt: &impl Abort, alloc: Global, fails_at: u32) -> String {
+    let reader = FailingReader {
+        rest: SCRIPT,
+        calls: 0,
+        fails_at,
+    };
+    let mut reader = BufReader::with_capacity(alloc, 7, reader).expect(rt, "memory");
+    let script = read_script(alloc, &mut reader);
+    format!(in alloc; "{script:?}").expect(rt, "memory")
 }
 
 /// The 38 bytes take 13 calls and their end two, and between these 15 are 14 that are interrupted.
 #[test]
 fn a_reader_of_a_script_fails_at_each_call(rt: HostRuntime) {
     let alloc = rt.alloc();
-    let wanted = wanted_script(&rt, alloc);
-    for fails_at in 1..1000 {
-        let reader = FailingReader {
-            rest: SCRIPT,
-            calls: 0,
-            fails_at,
-        };
-        let mut reader = BufReader::with_capacity(alloc, 7, reader).expect(&rt, "memory");
-        let script = read_script(alloc, &mut reader);
-        if script.is_ok() {
-            let found = format!(in alloc; "{script:?}").expect(&rt, "memory");
-            assert_eq!(rt; found.as_str(), wanted.as_str());
-            assert_eq!(rt; fails_at, 30);
-            return;
-        }
-        assert!(rt; matches!(script, Err(ScriptFault::Read)), "{fails_at}");
+    for fails_at in 1..30 {
+        let found = script_of_reader(&rt, alloc, fails_at);
+        assert_eq!(rt; found.as_str(), "Err(Read)", "{fails_at}");
     }
-    assert!(rt; false, "it still fails");
+    let wanted = wanted_script(&rt, alloc);
+    assert_eq!(rt; script_of_reader(&rt, alloc, 30).as_str(), wanted.as_str());
 }

@@ -1,4 +1,5 @@
 // Trees that are read, made again and compared.
+use crate::cuts::{no_objects, volume_over};
 use crate::lines::{command_of, commands_of, reply_text};
 use object_commands::Volume;
 use plain_volume::{PlainObjects, PlainTree, TreeFault};
@@ -59,11 +60,7 @@ space";
 
 /// A volume in which these commands were done.
 fn volume_of(rt: &impl Abort, alloc: Global, lines: &str) -> Volume<PlainObjects> {
-    let objects = PlainObjects::new(alloc, VolumeSizes::new(512, 32, 8, 1)).expect(rt, "memory");
-    let mut volume = match Volume::new(alloc, objects, false) {
-        Ok(volume) => volume,
-        Err((_objects, error)) => panic!(rt; "{error:?}"),
-    };
+    let mut volume = volume_over(rt, alloc, no_objects(rt, alloc), false);
     for stamped in &commands_of(rt, alloc, lines) {
         let _reply = volume.call(stamped);
     }
@@ -72,6 +69,16 @@ fn volume_of(rt: &impl Abort, alloc: Global, lines: &str) -> Volume<PlainObjects
 
 fn read_back(alloc: Global, volume: &mut Volume<PlainObjects>) -> Result<PlainTree, TreeFault> {
     PlainTree::read_from(alloc, VolumeSizes::new(512, 32, 8, 1), volume)
+}
+
+/// The tree of a volume.
+fn tree_of(rt: &impl Abort, alloc: Global, volume: &mut Volume<PlainObjects>) -> PlainTree {
+    read_back(alloc, volume).expect(rt, "a tree")
+}
+
+/// Whether a tree is that of the volume.
+fn is_same(rt: &impl Abort, tree: &PlainTree, volume: &mut Volume<PlainObjects>) -> bool {
+    tree.same(volume).expect(rt, "a tree")
 }
 
 /// Does the commands in a tree.
@@ -85,12 +92,12 @@ fn step_all(rt: &impl Abort, alloc: Global, tree: &mut PlainTree, lines: &str) {
 fn a_tree_differs_where_one_thing_does(rt: HostRuntime) {
     let alloc = rt.alloc();
     let mut volume = volume_of(&rt, alloc, SMALL);
-    let tree = read_back(alloc, &mut volume).expect(&rt, "a tree");
-    assert!(&rt; tree.same(&mut volume).expect(&rt, "a tree"));
+    let tree = tree_of(&rt, alloc, &mut volume);
+    assert!(&rt; is_same(&rt, &tree, &mut volume));
     for change in CHANGES {
         let mut other = tree.copy().expect(&rt, "memory");
         step_all(&rt, alloc, &mut other, change);
-        assert!(&rt; !other.same(&mut volume).expect(&rt, "a tree"));
+        assert!(&rt; !is_same(&rt, &other, &mut volume));
     }
 }
 
@@ -111,11 +118,11 @@ fn step_both(
 fn a_tree_goes_on_as_its_volume(rt: HostRuntime) {
     let alloc = rt.alloc();
     let mut volume = volume_of(&rt, alloc, SMALL);
-    let mut tree = read_back(alloc, &mut volume).expect(&rt, "a tree");
+    let mut tree = tree_of(&rt, alloc, &mut volume);
     for stamped in &commands_of(&rt, alloc, MORE) {
         step_both(&rt, alloc, &mut tree, &mut volume, stamped);
     }
-    assert!(&rt; tree.same(&mut volume).expect(&rt, "a tree"));
+    assert!(&rt; is_same(&rt, &tree, &mut volume));
 }
 
 #[test]
@@ -123,12 +130,12 @@ fn a_settled_tree_has_what_names_keep(rt: HostRuntime) {
     let alloc = rt.alloc();
     let mut volume = volume_of(&rt, alloc, "");
     let mut tree = PlainTree::new(alloc, VolumeSizes::new(512, 32, 8, 1)).expect(&rt, "memory");
-    assert!(&rt; tree.same(&mut volume).expect(&rt, "a tree"));
+    assert!(&rt; is_same(&rt, &tree, &mut volume));
     step_all(&rt, alloc, &mut tree, "open /e rwc\nunlink /e");
     tree.settle().expect(&rt, "memory");
-    assert!(&rt; tree.same(&mut volume).expect(&rt, "a tree"));
-    let again = read_back(alloc, &mut volume).expect(&rt, "a tree");
-    assert!(&rt; again.same(&mut volume).expect(&rt, "a tree"));
+    assert!(&rt; is_same(&rt, &tree, &mut volume));
+    let again = tree_of(&rt, alloc, &mut volume);
+    assert!(&rt; is_same(&rt, &again, &mut volume));
 }
 
 #[test]

@@ -11,21 +11,33 @@
 # texts. KEEP=FILE keeps there the LLVM module that the archive is compiled from. JOBS: how many proofs at a time (2).
 # OPTIMIZE=-Os compiles the module by this flag in place of -O3, for less code: the archive lies in a folder Os beside the other.
 #
-# Three kinds of functions get an attribute in the module's text, and nothing else is changed there:
-#   optsize        what is done seldom (a format, an unmount, a salvage, a list, and of a mount the scans and the walk of the tree) and the
-#                  long loops of the kit's collections. Those that move a volume in a mount do not: apart they would take more stack.
-#   alwaysinline   what runs for each page, and has few callers.
-#   noinline       a call that would widen the frame of its caller: the stack of a mount is below 7 KB.
+# The module goes through the optimizer twice, which merges functions of the same code (those of a container over types of one
+# layout): 31 KB less. Before it three kinds of functions get an attribute in the module's text, and nothing else is changed there:
+#   optsize        what is done seldom (a format, a mount, an unmount, a salvage, a list) and long loops of the kit's collections.
+#                  Not the steps of a mount that move a volume and are called once: apart they would take more stack.
+#   alwaysinline   what runs for each command or page, and has few callers.
+#   noinline       a call that would widen the frame of its caller, as in a mount, whose stack is below 7 KB; and the answer of a
+#                  volume, which its callers take better as a call.
 set -eu
 seldom='^(formatting|salvage|surviving_pages|volume_check|tree_walk|mount_scan|name_map)::'
+seldom+='|^mounting::(going::(by_scan|open_volume)|going_on|mounted|prune|reading|tree_on)::'
 seldom+='|^page_store::(opening|checkpoint_opening|summary_opening|first_pages|newest_pages|read_only)::'
-seldom+='|^chunk_index::index::Index::(from_|retain)|^flash_(format|unmount|abandon|salvage|list)|^flash_c::(salvag|listing|names)'
-seldom+='|::Node::(destroy|balance|peel_first)|::Vec::remove|::insert_reserved|::Row::reverse|::sort::'
+seldom+='|^posix_calls::volume::Volume::(mount|over|scanned|in_memory)|^directories::(leaving|moving|taking)::'
+seldom+='|^chunk_index::index::Index::(add_some|from_|retain)|^name_index::index::NameIndex::drop_directory'
+seldom+='|^flash_(format|unmount|abandon|salvage|list)|^flash_c::(salvag|listing|names|volumes)'
+seldom+='|::Node::(destroy|balance|peel_first|take_pair)|::Vec::remove|::insert_reserved|::Row::reverse|::sort::'
 seldom+='|::BTreeMap::insert|::BTreeSet::|::btree::owned::|::iter::owned::'
-often='^page_store::cache::PageCache::insert|^lru::nodes::Nodes::(insert|remove_node)::|FlashPagesPages::page::'
-often+='|^port_nand::driver::Driver::(send|ask)::|^std::io::count_or_last_error|EitherNandNand::(program|read_data|read_page)::'
-often+='|^page_tags::header::decode_header|^pages::frames::copied_page::'
-apart='^posix_calls::volume::Volume::mount_(with|scanned_with)::'
+often='^flash_c::commands::done_in|^object_commands::volume::Volume::carry_out::|^command_plans::place::find_place::'
+often+='|^paged_objects::(changing::make|store::PagedObjectsObjectStore::read_into)::'
+often+='|^object_store::(counted_facts::CountedFacts::edit|table::ObjectTable::apply)$'
+often+='|^directories::(head::read_head|writing::(page_with|slot_page))::|^name_index::index::NameIndex::next_slot$'
+often+='|^file_io::(head::read_head|chunk::tail_pages)::|^pages::frames::copied_page::'
+often+='|^page_store::(flash_pages::FlashPagesPages::(page|return_frame)::|caching::drop_cuts|buffer::Buffer::cut_all)'
+often+='|^chunk_index::(shelf::Shelf::prepare_object|object::ObjectEntries::insert_at)$|^lru::nodes::Nodes::(insert|remove_node)::'
+often+='|^flash_log::take::take_block::|^transactions::page::write_page::|EitherNandNand::(program|read_data|read_page)::'
+often+='|^port_nand::driver::Driver::(send|ask)::|^std::io::count_or_last_error|::slice.T::contains::'
+often+='|^page_tags::header::decode_header|^flash_tree::slot::decode_tree_slot$'
+apart='^posix_calls::volume::Volume::mount_(with|scanned_with)::|^object_commands::volume::Volume::answer::'
 module=${KEEP:+$(realpath -m "$KEEP")}
 cd "$(dirname "$0")/.."
 kit=$(dirname "$(dirname "$(readlink -f "$(command -v rt)")")")
@@ -68,8 +80,8 @@ made_of() {
 }
 
 # A toolchain folder whose clang is the kit's, saves the module in the file of KEEP, gives functions their attributes, and
-# takes the flag of OPTIMIZE in place of -O3. rattle clears the environment: paths and flags are in the script. The first word that rattle
-# gives is the target's.
+# compiles it by way of the optimizer, with the flag of OPTIMIZE in place of -O3. rattle clears the environment: paths and flags are
+# in the script. The first word that rattle gives is the target's.
 make_toolchain() {
     local tool
     mkdir "$1/bin"
@@ -81,7 +93,7 @@ make_toolchain() {
 /^define / && match($0, /@"[^"]*"|@[A-Za-z0-9_.$]+/) {
     name = substr($0, RSTART + 1, RLENGTH - 1)
     gsub(/"/, "", name)
-    attribute = name ~ seldom ? " optsize" : name ~ often ? " alwaysinline" : name ~ apart ? " noinline" : ""
+    attribute = (name ~ often ? " alwaysinline" : name ~ apart ? " noinline" : "") (name ~ seldom ? " optsize" : "")
     sub(/ (#[0-9]+ )?\{$/, attribute "&")
 }
 { print }
@@ -89,19 +101,28 @@ MARK
     cat > "$1/bin/clang" << WRAPPER
 #!/usr/bin/env bash
 set -eu
-words=()
-for word in "\$@"; do
-    case \$word in
-    *.bc)
-        cat "\$word" > "${module:-/dev/null}"
-        "$kit/toolchain/bin/clang" "\$1" -S -emit-llvm -Xclang -disable-llvm-passes -o "$1/plain.ll" "\$word"
-        awk -v seldom='$seldom' -v often='$often' -v apart='$apart' -f "$1/mark.awk" "$1/plain.ll" > "$1/module.ll"
-        words+=("$1/module.ll");;
+words=(-Xclang -fmerge-functions)
+output=
+plain=
+while [ \$# -gt 0 ]; do
+    case \$1 in
+    *.bc) plain=\$1;;
+    -c) ;;
+    -o) output=\$2; shift;;
     -O3) words+=("${OPTIMIZE:--O3}");;
-    *) words+=("\$word");;
+    *) words+=("\$1");;
     esac
+    shift
 done
-exec -a clang "$kit/toolchain/bin/clang" "\${words[@]}"
+if [ -z "\$plain" ]; then exit 2; fi
+compile() {
+    "$kit/toolchain/bin/clang" "\${words[@]}" "\$@"
+}
+cat "\$plain" > "${module:-/dev/null}"
+"$kit/toolchain/bin/clang" "\${words[2]}" -S -emit-llvm -Xclang -disable-llvm-passes -o "$1/plain.ll" "\$plain"
+awk -v seldom='$seldom' -v often='$often' -v apart='$apart' -f "$1/mark.awk" "$1/plain.ll" > "$1/marked.ll"
+compile -S -emit-llvm -o "$1/once.ll" "$1/marked.ll"
+compile -c -o "\$output" "$1/once.ll"
 WRAPPER
     chmod +x "$1/bin/clang"
 }

@@ -101,28 +101,33 @@ MARK
     cat > "$1/bin/clang" << WRAPPER
 #!/usr/bin/env bash
 set -eu
-words=(-Xclang -fmerge-functions)
-output=
+words=()
+once=()
 plain=
 while [ \$# -gt 0 ]; do
     case \$1 in
-    *.bc) plain=\$1;;
-    -c) ;;
-    -o) output=\$2; shift;;
-    -O3) words+=("${OPTIMIZE:--O3}");;
-    *) words+=("\$1");;
+    *.bc)
+        plain=\$1
+        words+=("$1/once.ll");;
+    -O3)
+        words+=("${OPTIMIZE:--O3}" -Xclang -fmerge-functions)
+        once+=("${OPTIMIZE:--O3}" -Xclang -fmerge-functions);;
+    -o)
+        words+=("\$1" "\$2")
+        shift;;
+    *)
+        words+=("\$1")
+        [ "\$1" = -c ] || [ "\$1" = -S ] || once+=("\$1");;
     esac
     shift
 done
-if [ -z "\$plain" ]; then exit 2; fi
-compile() {
-    "$kit/toolchain/bin/clang" "\${words[@]}" "\$@"
-}
-cat "\$plain" > "${module:-/dev/null}"
-"$kit/toolchain/bin/clang" "\${words[2]}" -S -emit-llvm -Xclang -disable-llvm-passes -o "$1/plain.ll" "\$plain"
-awk -v seldom='$seldom' -v often='$often' -v apart='$apart' -f "$1/mark.awk" "$1/plain.ll" > "$1/marked.ll"
-compile -S -emit-llvm -o "$1/once.ll" "$1/marked.ll"
-compile -c -o "\$output" "$1/once.ll"
+if [ -n "\$plain" ]; then
+    cat "\$plain" > "${module:-/dev/null}"
+    "$kit/toolchain/bin/clang" "\${words[0]}" -S -emit-llvm -Xclang -disable-llvm-passes -o "$1/plain.ll" "\$plain"
+    awk -v seldom='$seldom' -v often='$often' -v apart='$apart' -f "$1/mark.awk" "$1/plain.ll" > "$1/marked.ll"
+    "$kit/toolchain/bin/clang" "\${once[@]}" -S -emit-llvm -o "$1/once.ll" "$1/marked.ll"
+fi
+exec -a clang "$kit/toolchain/bin/clang" "\${words[@]}"
 WRAPPER
     chmod +x "$1/bin/clang"
 }

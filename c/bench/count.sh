@@ -12,7 +12,7 @@ work=$(mktemp -d)
 trap 'rm -rf "$work"' EXIT
 echo '| Workload | Reads | Programs | Erases | Instructions, millions |'
 echo '|---|---|---|---|---|'
-for name in ${*:-small_files in_order overwrites appends renames churn reads random_reads seeks unmount}; do
+for name in ${*:-small_files in_order overwrites appends renames churn reads random_reads seeks unmount mount mount_scanned}; do
     row=$("$OUT/workloads" $name)
     instructions='not measured'
     if command -v valgrind > /dev/null && [ -f /usr/include/valgrind/callgrind.h ]; then

@@ -1,5 +1,5 @@
-/* Workloads on a flash in memory of 64 blocks of 64 pages of 2,048 bytes, one of them spare: what each asks of the device,
- * and under callgrind (count.sh) how many instructions of the processor the library takes, without those of the flash.
+/* Workloads on a flash in memory of 64 blocks (a mount: 1,024) of 64 pages of 2,048 bytes, one of them spare: what each asks of the
+ * device, and under callgrind (count.sh) how many instructions of the processor the library takes, without those of the flash.
  *
  *   workloads NAME, or no name for all
  */
@@ -30,6 +30,7 @@
 static bool counting;
 static struct flash_fs fs;
 static struct ram_nand nand;
+static struct flash_driver driver;
 static uint8_t bytes[1 << 20];
 
 static void expect(bool holds, const char *what)
@@ -230,29 +231,54 @@ static void unmount(void)
     TOGGLE();
 }
 
+static void before_mount(void)
+{
+    char path[32];
+    for (int i = 0; i < 1400; i++) {
+        snprintf(path, sizeof path, "/f%04d", i);
+        int fd = flash_fs_open(&fs, path, FLASH_WRONLY | FLASH_CREAT | FLASH_EXCL, 0);
+        expect(flash_fs_write(&fs, fd, bytes, 65536, 0) == 65536 && flash_fs_close(&fs, fd) == 0, path);
+    }
+    expect(flash_fs_sync(&fs) == 0, "1,400 files of 64 KiB");
+    flash_fs_abandon(&fs);
+}
+
+static void mount(void)
+{
+    expect(flash_fs_mount(&fs, &driver) == 0, "a mount");
+}
+
+static void mount_scanned(void)
+{
+    expect(flash_fs_mount_scanned(&fs, &driver, 0) == 0, "a mount by all tags");
+}
+
 struct workload {
     const char *name, *text;
+    uint32_t blocks;
     void (*before)(void), (*work)(void);
 };
 
 static const struct workload workloads[] = {
-    {"small_files", "200 files of 1,000 bytes, each with fsync", NULL, small_files},
-    {"in_order", "4 MiB in order, by 4 KiB, then fsync", NULL, in_order},
-    {"overwrites", "2,000 overwrites of 512 bytes in 1 MiB, each with fsync", before_overwrites, overwrites},
-    {"appends", "2,000 appends of 100 bytes, each with fsync", NULL, appends},
-    {"renames", "500 updates by rename, each with sync", NULL, renames},
-    {"churn", "1,000 files of 64 KiB removed and written, 64 at a time", before_churn, churn},
-    {"reads", "4 MiB read in order, by 4 KiB", before_reads, reads},
-    {"random_reads", "4,096 reads of 512 bytes in 4 MiB", before_reads, random_reads},
-    {"seeks", "1,000 seeks", before_reads, seeks},
-    {"unmount", "the unmount of 200 files and one of 4 MiB, with its checkpoint", before_unmount, unmount},
+    {"small_files", "200 files of 1,000 bytes, each with fsync", 64, NULL, small_files},
+    {"in_order", "4 MiB in order, by 4 KiB, then fsync", 64, NULL, in_order},
+    {"overwrites", "2,000 overwrites of 512 bytes in 1 MiB, each with fsync", 64, before_overwrites, overwrites},
+    {"appends", "2,000 appends of 100 bytes, each with fsync", 64, NULL, appends},
+    {"renames", "500 updates by rename, each with sync", 64, NULL, renames},
+    {"churn", "1,000 files of 64 KiB removed and written, 64 at a time", 64, before_churn, churn},
+    {"reads", "4 MiB read in order, by 4 KiB", 64, before_reads, reads},
+    {"random_reads", "4,096 reads of 512 bytes in 4 MiB", 64, before_reads, random_reads},
+    {"seeks", "1,000 seeks", 64, before_reads, seeks},
+    {"unmount", "the unmount of 200 files and one of 4 MiB, with its checkpoint", 64, before_unmount, unmount},
+    {"mount", "a mount of 1,024 blocks with 1,400 files of 64 KiB, without a checkpoint", 1024, before_mount, mount},
+    {"mount_scanned", "the same by all tags", 1024, before_mount, mount_scanned},
 };
 
 static void run(const struct workload *workload)
 {
-    expect(ram_nand_make(&nand, 2048, 64, 64) == 0, "memory");
-    struct flash_driver driver = {&nand, 2048, 64, 64, is_bad, read_tag, read_page, program, erase, mark_bad,
-                                  FLASH_TAG_BYTES};
+    expect(ram_nand_make(&nand, 2048, 64, workload->blocks) == 0, "memory");
+    driver = (struct flash_driver){&nand, 2048, 64, workload->blocks, is_bad, read_tag, read_page, program, erase, mark_bad,
+                                   FLASH_TAG_BYTES};
     expect(flash_fs_format(&fs, &nand.driver, 1) == 0 && flash_fs_mount(&fs, &nand.driver) == 0 && flash_fs_unmount(&fs) == 0, "a volume");
     ram_nand_power_up(&nand);
     expect(flash_fs_mount(&fs, &driver) == 0, "a mount");

@@ -153,7 +153,7 @@ cut_fits z objects o moment true fit file = cut_less z objects o moment fit (fil
 cut_fits z objects o moment false fit file = fit
 
 pub cut_can : (z : Sizes) (objects : Objects) (o moment : ℕ) (b : Bool) → fits z objects ≡ true → (b ≡ true → IsFile objects o) → CanDo z objects (cut_by b o moment)
-cut_can z objects o moment true fit file = record { sensible = (file refl, omega arith); empty = none_dropped objects; fits = cut_less z objects o moment fit (file refl) }
+cut_can z objects o moment true fit file = record { sensible = (file refl, omega arith); takes = tt; empty = none_dropped objects; fits = cut_less z objects o moment fit (file refl) }
 cut_can z objects o moment false fit file = tt
 
 -- an object that is to be cut is a file

@@ -110,6 +110,7 @@ fn remove_at<'a, S: ObjectStore>(
         Reply::Done,
         ObjectChange::Remove {
             entry: entry_at(place),
+            removed: number,
             dropped: uncommitted(store, table, number),
             moment,
         },

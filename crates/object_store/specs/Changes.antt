@@ -41,8 +41,8 @@ with_moved objects moment from to number = with_name (without_name objects momen
 abbrev pub made : Objects → ObjectChange → Objects
 made objects (changes.Create entry kind moment) = with_object objects moment entry.directory entry.name.now (empty_object kind moment)
 made objects (changes.Name entry number moment) = with_name objects moment entry.directory entry.name.now number
-made objects (changes.Remove entry dropped moment) = without dropped (without_name objects moment entry.directory entry.name.now)
-made objects (changes.Move from to number dropped moment) = without dropped (with_moved objects moment from to number)
+made objects (changes.Remove entry removed dropped moment) = without dropped (without_name objects moment entry.directory entry.name.now)
+made objects (changes.Move from to number replaced dropped moment) = without dropped (with_moved objects moment from to number)
 made objects (changes.Write number offset bytes moment) = with_written objects moment number offset bytes.now
 made objects (changes.Resize number length moment) = with_length objects moment number length
 made objects (changes.Forget number) = map.remove objects number
@@ -67,16 +67,22 @@ IsTarget objects entry o dropped =
 abbrev pub IsSensible : Sizes → Objects → ObjectChange → Type 0
 IsSensible z objects (changes.Create entry kind moment) = IsAbsent objects entry
 IsSensible z objects (changes.Name entry number moment) = IsAbsent objects entry × IsFile objects number
-IsSensible z objects (changes.Remove entry dropped moment) = (o : ℕ) × LeadsTo objects entry o × ((dropped ≡ None) ⊎ (dropped ≡ Some o))
-IsSensible z objects (changes.Move from to number dropped moment) = LeadsTo objects from number × IsTarget objects to number dropped
+IsSensible z objects (changes.Remove entry removed dropped moment) = (o : ℕ) × LeadsTo objects entry o × ((dropped ≡ None) ⊎ (dropped ≡ Some o))
+IsSensible z objects (changes.Move from to number replaced dropped moment) = LeadsTo objects from number × IsTarget objects to number dropped
 IsSensible z objects (changes.Write number offset bytes moment) = IsFile objects number × (offset + length bytes.now ≤ greatest_length z) × (length bytes.now ≤ most_written z)
 IsSensible z objects (changes.Resize number length moment) = IsFile objects number × (length ≤ greatest_length z)
 IsSensible z objects (changes.Forget number) = (number ≢ root_number) × (IsNamed objects number → ⊥) × ((object : Object) × (map.get objects number ≡ Some object))
 
+-- the object that the change takes a name from, or gives another one's name, is what the name leads to
+abbrev pub TakesFrom : Objects → ObjectChange → Type 0
+TakesFrom objects (changes.Remove entry removed dropped moment) = Some removed ≡ entry_of objects entry.directory entry.name.now
+TakesFrom objects (changes.Move from to number replaced dropped moment) = replaced ≡ entry_of objects to.directory to.name.now
+TakesFrom objects change = Unit {0}
+
 -- the object that goes with a change, if one does
 abbrev pub dropped_by : ObjectChange → Option ℕ
-dropped_by (changes.Remove entry dropped moment) = dropped
-dropped_by (changes.Move from to number dropped moment) = dropped
+dropped_by (changes.Remove entry removed dropped moment) = dropped
+dropped_by (changes.Move from to number replaced dropped moment) = dropped
 dropped_by (changes.Forget number) = Some number
 dropped_by change = None
 
@@ -84,9 +90,10 @@ dropped_by change = None
 abbrev pub NamesNothing : Objects → ℕ → Type 0
 NamesNothing objects o = (child : ℕ) (name : Name) → Names objects o name child → ⊥
 
--- a change that can be made: it is sensible, what goes has no entries, and there is room
+-- a change that can be made: it is sensible, it says what it takes a name from, what goes has no entries, and there is room
 pub record CanMake (z : Sizes) (objects : Objects) (change : ObjectChange) : Type 0 where
   pub sensible : IsSensible z objects change
+  pub takes : TakesFrom objects change
   pub empty : (o : ℕ) → dropped_by change ≡ Some o → NamesNothing objects o
   pub fits : fits z (made objects change) ≡ true
 

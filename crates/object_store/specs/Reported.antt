@@ -50,12 +50,6 @@ abbrev pub IsReadyFor : ObjectTable → ObjectChange → Type 0
 IsReadyFor table (changes.Create entry kind moment) = HasRoomAt table (next_of table)
 IsReadyFor table change = Unit {0}
 
--- what the name led to that a removal takes away, or that a move gives, if it led anywhere
-abbrev pub LedBefore : Objects → ObjectChange → Option ℕ → Type 0
-LedBefore objects (changes.Remove entry dropped moment) replaced = replaced ≡ entry_of objects entry.directory entry.name.now
-LedBefore objects (changes.Move from to number dropped moment) replaced = replaced ≡ entry_of objects to.directory to.name.now
-LedBefore objects change replaced = Unit {0}
-
 -- A directory may get a new object, by a name that it has not, and there is room.
 pub record GetsObject (z : Sizes) (objects : Objects) (moment directory : ℕ) (name : Name) (x : Object) : Type 0 where
   pub directory_is : IsDirectory objects directory
@@ -84,9 +78,8 @@ abbrev pub ReportsResized : ObjectTable → ObjectTable → ℕ → ℕ → ℕ 
 ReportsResized old new moment file size = OfReportedFile old file (λ objects bytes. length bytes ≡ size → ReportsCountable old new objects (with_bytes objects moment file bytes))
 
 -- where the change can be made, and its name led where that says, the table reports the objects after it
-abbrev pub ReportsChanged : ObjectTable → ObjectTable → ObjectChange → Option ℕ → Type 0
-ReportsChanged old new change replaced =
-    OfReported old (λ objects. CanHave (table_sizes old) objects → CanMake (table_sizes old) objects change → LedBefore objects change replaced → Reports new (made objects change))
+abbrev pub ReportsChanged : ObjectTable → ObjectTable → ObjectChange → Type 0
+ReportsChanged old new change = OfReported old (λ objects. CanHave (table_sizes old) objects → CanMake (table_sizes old) objects change → Reports new (made objects change))
 
 -- what goes, if anything does, is an object that may go
 abbrev pub CanDrop : Sizes → Objects → Option ℕ → Type 0

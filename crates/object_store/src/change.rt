@@ -23,17 +23,19 @@ pub enum ObjectChange<'a> {
         number: u64,
         moment: u64,
     },
-    /// A name goes, and the object that is returned.
+    /// A name goes from the object that it leads to, and `dropped` with it.
     Remove {
         entry: DirectoryEntry<'a>,
+        removed: u64,
         dropped: Option<u64>,
         moment: u64,
     },
-    /// The object gets the second name in place of the first, and what is reported of what had that name goes.
+    /// The object gets the second name in place of the first, and of the object that had it, if one did; `dropped` goes.
     Move {
         from: DirectoryEntry<'a>,
         to: DirectoryEntry<'a>,
         number: u64,
+        replaced: Option<u64>,
         dropped: Option<u64>,
         moment: u64,
     },

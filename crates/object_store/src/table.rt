@@ -107,12 +107,11 @@ impl ObjectTable {
         self.totaled.make_room_ahead(self.numbers.next())
     }
 
-    /// Makes a change, in the room that was made. `replaced` is what the name led to that a removal takes away, or that
-    /// a move gives, if it led anywhere.
-    pub fn apply(&mut self, change: &ObjectChange<'_>, replaced: Option<u64>)
+    /// Makes a change, in the room that was made.
+    pub fn apply(&mut self, change: &ObjectChange<'_>)
         requires { IsReadyFor self.old change.now }
         ensures size { table_sizes self.new ≡ table_sizes self.old }
-        ensures reports { ReportsChanged self.old self.new change.now replaced }
+        ensures reports { ReportsChanged self.old self.new change.now }
     {
         match *change {
             ObjectChange::Create {
@@ -127,16 +126,18 @@ impl ObjectTable {
             } => self.add_name(entry.directory, number, moment),
             ObjectChange::Remove {
                 entry,
+                removed,
                 dropped,
                 moment,
             } => {
-                self.remove_name(entry.directory, replaced, moment);
+                self.remove_name(entry.directory, Some(removed), moment);
                 self.forget(dropped);
             }
             ObjectChange::Move {
                 from,
                 to,
                 number,
+                replaced,
                 dropped,
                 moment,
             } => {

@@ -59,6 +59,7 @@ fn names_with_equal_hashes_lead_to_their_own_files(rt: HostRuntime) {
         assert_eq!(rt; found(&rt, &mut store, pair), [Some(2), Some(3)]);
         let removed = ObjectChange::Remove {
             entry: entry(ROOT, first),
+            removed: 2,
             dropped: Some(2),
             moment: 4,
         };
@@ -68,6 +69,7 @@ fn names_with_equal_hashes_lead_to_their_own_files(rt: HostRuntime) {
             from: entry(ROOT, second),
             to: entry(ROOT, first),
             number: 3,
+            replaced: None,
             dropped: None,
             moment: 5,
         };
@@ -86,6 +88,7 @@ fn a_name_gives_way_to_one_with_its_hash(rt: HostRuntime) {
             from: entry(ROOT, second),
             to: entry(ROOT, first),
             number: 3,
+            replaced: Some(2),
             dropped: Some(2),
             moment: 4,
         };
@@ -117,6 +120,7 @@ fn the_slot_of_a_name_that_goes_is_reported(rt: HostRuntime) {
     let alloc = rt.alloc();
     let removed = ObjectChange::Remove {
         entry: entry(ROOT, b"costarring"),
+        removed: 2,
         dropped: Some(2),
         moment: 5,
     };

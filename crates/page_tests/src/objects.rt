@@ -68,6 +68,7 @@ fn an_object_that_is_forgotten_has_no_pages(rt: HostRuntime) {
         from: entry(DOCS, b"a"),
         to: entry(ROOT, b"b"),
         number: FILE,
+        replaced: None,
         dropped: None,
         moment: 4,
     };
@@ -80,6 +81,7 @@ fn an_object_that_is_forgotten_has_no_pages(rt: HostRuntime) {
     let store = after_change(&rt, alloc, store, named, 4);
     let removed = ObjectChange::Remove {
         entry: entry(ROOT, b"docs"),
+        removed: DOCS,
         dropped: Some(DOCS),
         moment: 6,
     };

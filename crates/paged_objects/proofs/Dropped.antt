@@ -63,8 +63,8 @@ pub left_by_change : (z : Sizes) (m k : PageMap) (objects : Objects) (planned : 
     → IfSome left (LeavesBy z planned change) → HasLeftBy z k objects change left
 left_by_change z m k objects planned (changes.Create entry kind moment) left same leaves = tt
 left_by_change z m k objects planned (changes.Name entry number moment) left same leaves = tt
-left_by_change z m k objects planned (changes.Remove entry dropped moment) left same leaves = left_here z m k objects planned entry.directory (fnv1a entry.name.now) left same leaves
-left_by_change z m k objects planned (changes.Move from to number dropped moment) left same leaves = left_here z m k objects planned from.directory (fnv1a from.name.now) left same leaves
+left_by_change z m k objects planned (changes.Remove entry removed dropped moment) left same leaves = left_here z m k objects planned entry.directory (fnv1a entry.name.now) left same leaves
+left_by_change z m k objects planned (changes.Move from to number replaced dropped moment) left same leaves = left_here z m k objects planned from.directory (fnv1a from.name.now) left same leaves
 left_by_change z m k objects planned (changes.Write number offset bytes moment) left same leaves = tt
 left_by_change z m k objects planned (changes.Resize number length moment) left same leaves = tt
 left_by_change z m k objects planned (changes.Forget number) left same leaves = tt

@@ -50,8 +50,8 @@ pub keeps_names : (p : PagesState) (z : Sizes) (objects : Objects) (change : Obj
 keeps_names p z objects change it None is keeps = keeps_none z p.present it objects
 keeps_names p z objects (changes.Create entry kind moment) it (Some kept) is keeps = keeps_some z p.present it objects entry.directory kept is.0 is.1 keeps
 keeps_names p z objects (changes.Name entry number moment) it (Some kept) is keeps = keeps_some z p.present it objects entry.directory kept is.0 is.1 keeps
-keeps_names p z objects (changes.Remove entry dropped moment) it (Some kept) is keeps = let two : Some kept ≡ None = is in absurd cc
-keeps_names p z objects (changes.Move from to number dropped moment) it (Some kept) is keeps = let two : Some kept ≡ None = is in absurd cc
+keeps_names p z objects (changes.Remove entry removed dropped moment) it (Some kept) is keeps = let two : Some kept ≡ None = is in absurd cc
+keeps_names p z objects (changes.Move from to number replaced dropped moment) it (Some kept) is keeps = let two : Some kept ≡ None = is in absurd cc
 keeps_names p z objects (changes.Write number offset bytes moment) it (Some kept) is keeps = let two : Some kept ≡ None = is in absurd cc
 keeps_names p z objects (changes.Resize number length moment) it (Some kept) is keeps = let two : Some kept ≡ None = is in absurd cc
 keeps_names p z objects (changes.Forget number) it (Some kept) is keeps = let two : Some kept ≡ None = is in absurd cc

@@ -111,8 +111,8 @@ module _ {S : Type 0} (state : S → ObjectsState) where
 pub forgets : (change : ObjectChange) → takes_none change ≡ true → (number : ℕ) × (change ≡ changes.Forget number)
 forgets (changes.Create entry kind moment) is = absurd cc
 forgets (changes.Name entry number moment) is = absurd cc
-forgets (changes.Remove entry dropped moment) is = absurd cc
-forgets (changes.Move from to number dropped moment) is = absurd cc
+forgets (changes.Remove entry removed dropped moment) is = absurd cc
+forgets (changes.Move from to number replaced dropped moment) is = absurd cc
 forgets (changes.Write number offset bytes moment) is = absurd cc
 forgets (changes.Resize number length moment) is = absurd cc
 forgets (changes.Forget number) is = (number, refl)

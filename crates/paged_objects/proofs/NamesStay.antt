@@ -45,8 +45,8 @@ pub names_stay : (names : NameIndex) (z : Sizes) (m : PageMap) (it : Change) (ob
     → HasNames names z m objects → HasNames names z (after_change it m) (made objects change)
 names_stay names z m it objects (changes.Create entry kind moment) none only has = let two : true ≡ false = none in absurd cc
 names_stay names z m it objects (changes.Name entry number moment) none only has = let two : true ≡ false = none in absurd cc
-names_stay names z m it objects (changes.Remove entry dropped moment) none only has = let two : true ≡ false = none in absurd cc
-names_stay names z m it objects (changes.Move from to number dropped moment) none only has = let two : true ≡ false = none in absurd cc
+names_stay names z m it objects (changes.Remove entry removed dropped moment) none only has = let two : true ≡ false = none in absurd cc
+names_stay names z m it objects (changes.Move from to number replaced dropped moment) none only has = let two : true ≡ false = none in absurd cc
 names_stay names z m it objects (changes.Write number offset bytes moment) none only has =
     names_elsewhere names z m it objects _ number only (no_directory_written objects number moment _) (less_file objects number moment _) has
 names_stay names z m it objects (changes.Resize number length moment) none only has =

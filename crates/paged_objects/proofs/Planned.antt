@@ -49,8 +49,8 @@ some_bytes z numbers = elim numbers.page_bytes [
 pub few_pages : (z : Sizes) (objects : Objects) (change : ObjectChange) → IsSizes z → IsSensible z objects change → most_pages z.page_bytes change ≤ buffer_pages z
 few_pages z objects (changes.Create entry kind moment) numbers sensible = let eight : 8 ≤ buffer_pages z = eight_pages z numbers in omega (arith, eight)
 few_pages z objects (changes.Name entry number moment) numbers sensible = let eight : 8 ≤ buffer_pages z = eight_pages z numbers in omega (arith, eight)
-few_pages z objects (changes.Remove entry dropped moment) numbers sensible = let eight : 8 ≤ buffer_pages z = eight_pages z numbers in omega (arith, eight)
-few_pages z objects (changes.Move from to number dropped moment) numbers sensible = let eight : 8 ≤ buffer_pages z = eight_pages z numbers in omega (arith, eight)
+few_pages z objects (changes.Remove entry removed dropped moment) numbers sensible = let eight : 8 ≤ buffer_pages z = eight_pages z numbers in omega (arith, eight)
+few_pages z objects (changes.Move from to number replaced dropped moment) numbers sensible = let eight : 8 ≤ buffer_pages z = eight_pages z numbers in omega (arith, eight)
 few_pages z objects (changes.Write number offset bytes moment) numbers sensible =
     let eight : 8 ≤ buffer_pages z = eight_pages z numbers in
     let whole : ceiling (length bytes.now) z.page_bytes ≤ buffer_pages z - 3 = (ceiling_at_most (length bytes.now) z.page_bytes (buffer_pages z - 3) (some_bytes z numbers)).1 sensible.2 in

@@ -79,9 +79,9 @@ made_numbered z objects can change sensible = go change sensible
         let low = (new_number_is objects).low in
         numbered_put _ (numbered_put objects all (new_number objects) _ (omega (arith, low), new_number_few z can.numbers objects can.fit)) entry.directory _ (directory entry.directory is.directory)
     go (changes.Name entry number moment) is = numbered_put objects all entry.directory _ (directory entry.directory is.0.directory)
-    go (changes.Remove entry dropped moment) is =
+    go (changes.Remove entry removed dropped moment) is =
         numbered_without _ (numbered_put objects all entry.directory _ (all entry.directory _ is.1.directory_is)) dropped
-    go (changes.Move from to number dropped moment) is =
+    go (changes.Move from to number replaced dropped moment) is =
         numbered_without _ (numbered_put _ (numbered_put objects all from.directory _ (all from.directory _ is.0.directory_is)) to.directory _ (directory to.directory (target_directory objects to number dropped is.1))) dropped
     go (changes.Write number offset bytes moment) is = numbered_put objects all number _ (file number is.0)
     go (changes.Resize number length moment) is = numbered_put objects all number _ (file number is.0)

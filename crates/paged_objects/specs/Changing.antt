@@ -34,8 +34,8 @@ ChangeEnds a b old new (Err faults.Worn) = Fails (sizes_in a) old a.pages b.page
 
 -- the name that the change takes from its directory leaves this slot by the change of pages
 abbrev pub LeavesBy : Sizes → Change → ObjectChange → LeftSlot → Type 0
-LeavesBy z planned (changes.Remove entry dropped moment) left = LeavesName z planned entry.directory (fnv1a entry.name.now) left
-LeavesBy z planned (changes.Move from to number dropped moment) left = LeavesName z planned from.directory (fnv1a from.name.now) left
+LeavesBy z planned (changes.Remove entry removed dropped moment) left = LeavesName z planned entry.directory (fnv1a entry.name.now) left
+LeavesBy z planned (changes.Move from to number replaced dropped moment) left = LeavesName z planned from.directory (fnv1a from.name.now) left
 LeavesBy z planned change left = Unit {0}
 
 -- no entry of the directory has a name with this hash in this slot
@@ -49,6 +49,6 @@ HasLeft z m objects directory hash (Some left) = IsStale z m objects directory h
 
 -- the name that the change took from its directory has left the slot
 abbrev pub HasLeftBy : Sizes → PageMap → Objects → ObjectChange → Option LeftSlot → Type 0
-HasLeftBy z m objects (changes.Remove entry dropped moment) left = HasLeft z m objects entry.directory (fnv1a entry.name.now) left
-HasLeftBy z m objects (changes.Move from to number dropped moment) left = HasLeft z m objects from.directory (fnv1a from.name.now) left
+HasLeftBy z m objects (changes.Remove entry removed dropped moment) left = HasLeft z m objects entry.directory (fnv1a entry.name.now) left
+HasLeftBy z m objects (changes.Move from to number replaced dropped moment) left = HasLeft z m objects from.directory (fnv1a from.name.now) left
 HasLeftBy z m objects change left = Unit {0}

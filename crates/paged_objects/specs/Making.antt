@@ -145,21 +145,21 @@ IfRenamable a from directory A = AreAllowed a → IsDirectory a.objects from.dir
 -- This holds of a move, of objects that a sound store holds and whose names the index has, if its first name leads to the object and the
 -- second is for a directory. Of other changes nothing is said.
 abbrev pub OfMoved : NameIndex → PagesState → ObjectChange → (PlacedObjects → ObjectChange → Type 0) → Type 0
-OfMoved names p (changes.Move from to number dropped moment) A =
+OfMoved names p (changes.Move from to number replaced dropped moment) A =
     (z : Sizes) (objects : Objects) → HoldsNamed names p z objects → LeadsTo objects from number → IsDirectory objects to.directory
-    → A (placed p z objects) (changes.Move from to number dropped moment)
+    → A (placed p z objects) (changes.Move from to number replaced dropped moment)
 OfMoved names p change A = Unit {0}
 
 -- This holds of a move, of such objects, if both of its names are for directories. Of other changes nothing is said.
 abbrev pub OfRenamed : NameIndex → PagesState → ObjectChange → (PlacedObjects → ObjectChange → Type 0) → Type 0
-OfRenamed names p (changes.Move from to number dropped moment) A =
+OfRenamed names p (changes.Move from to number replaced dropped moment) A =
     (z : Sizes) (objects : Objects) → HoldsNamed names p z objects → IsDirectory objects from.directory → IsDirectory objects to.directory
-    → A (placed p z objects) (changes.Move from to number dropped moment)
+    → A (placed p z objects) (changes.Move from to number replaced dropped moment)
 OfRenamed names p change A = Unit {0}
 
--- the move of a name to what a slot says, in this directory, after which no object goes
+-- the move of a name to what a slot says, in this directory; what the second name led to is not said, and no object goes
 abbrev pub renaming : DirectoryEntry → ℕ → Slot → ℕ → ObjectChange
-renaming from directory slot moment = changes.Move from (record { directory = directory; name = slot.name }) slot.object None moment
+renaming from directory slot moment = changes.Move from (record { directory = directory; name = slot.name }) slot.object None None moment
 
 -- the directory has the name of the entry, if there is a change of pages, and else it has not
 abbrev pub IsNamedIn : PlacedObjects → DirectoryEntry → Option Change → Type 0

@@ -8,8 +8,8 @@ use Rattle.object_store.specs.declared.change.ObjectChange.TheVariants as change
 abbrev pub most_pages : ℕ → ObjectChange → ℕ
 most_pages d (changes.Create entry kind moment) = 3
 most_pages d (changes.Name entry number moment) = 2
-most_pages d (changes.Remove entry dropped moment) = 2
-most_pages d (changes.Move from to number dropped moment) = 4
+most_pages d (changes.Remove entry removed dropped moment) = 2
+most_pages d (changes.Move from to number replaced dropped moment) = 4
 most_pages d (changes.Write number offset bytes moment) = ceiling (length bytes.now) d + 3
 most_pages d (changes.Resize number length moment) = 2
 most_pages d (changes.Forget number) = 0

@@ -7,7 +7,7 @@ ghost use Rattle.posix_profile.specs.State.{IsDirectory, Objects};
 ghost use Rattle.posix_profile.specs.Changes.{new_number};
 ghost use Rattle.object_store.specs.Changes.{CanMake};
 ghost use Rattle.object_store.specs.declared.change.ObjectChange.TheVariants as changes;
-ghost use Rattle.object_store.specs.Reported.{table_sizes, IsReadyFor, LedBefore, Reports, ReportsTheSame};
+ghost use Rattle.object_store.specs.Reported.{table_sizes, IsReadyFor, Reports, ReportsTheSame};
 ghost use Rattle.pages.specs.Changes.{AreApart, AreSized, AreOfTrees};
 ghost use Rattle.pages.specs.Maps.{after_change};
 ghost use Rattle.pages.specs.State.{OnlyFinds, KeepsPower};
@@ -19,12 +19,12 @@ ghost use Rattle.paged_objects.specs.Known.{state_with};
 ghost use Rattle.paged_objects.specs.Changing.{LeavesBy};
 ghost use Rattle.paged_objects.specs.Faults.{ReadFailsBy};
 ghost use Rattle.file_io.specs.Writes.{IsChangeIn};
-ghost use Rattle.paged_objects.specs.Making.{EndsBy, IfKept, IfPlanned, IsFoundIn, IsKeptBy, IsKeptIn, LeftMade, Makes, MakesBy, NamesBy, NamesMade, OfTaken, StaysIfRefused, changes_names};
-ghost use Rattle.paged_objects.specs.Placed.{OfStored, OfReported};
+ghost use Rattle.paged_objects.specs.Making.{EndsBy, IfKept, IfPlanned, IsKeptBy, IsKeptIn, LeftMade, Makes, MakesBy, NamesBy, NamesMade, OfTaken, StaysIfRefused, changes_names};
+ghost use Rattle.paged_objects.specs.Placed.{OfStored};
 
 use crate::dropping::drop_names;
 use crate::fault::fault_of;
-use crate::{find, hash_names, plan};
+use crate::{hash_names, plan};
 use directories::{KeptSlots, LeftSlot, left_slot};
 use name_index::NameIndex;
 use object_store::{ObjectChange, ObjectTable};
@@ -45,52 +45,6 @@ fn prepare(table: &mut ObjectTable, change: &ObjectChange<'_>) -> Result<(), All
         ObjectChange::Write { .. } => Ok(()),
         ObjectChange::Resize { .. } => Ok(()),
         ObjectChange::Forget { .. } => Ok(()),
-    }
-}
-
-/// The object that a name leads to.
-fn find_object<P: PageStore>(
-    table: &ObjectTable,
-    names: &NameIndex,
-    pages: &mut P,
-    directory: u64,
-    name: &[u8],
-) -> Result<Option<u64>, StoreFault>
-    ensures lookups { OnlyFinds (P.state pages.old) (P.state pages.new) }
-    ensures power { OnOk result (KeepsPower (P.state pages.old) (P.state pages.new)) }
-    ensures found { OfReported names.now table.now (P.state pages.old) (λ a. IsDirectory a.objects directory → IfOk result (IsFoundIn a directory name.now)) }
-    ensures fault { OfReported names.now table.now (P.state pages.old) (λ a. IsDirectory a.objects directory → IfErr result (ReadFailsBy (P.state pages.new))) }
-{
-    match find(names, pages, directory, table.entry_count(directory), name) {
-        Ok(found) => Ok(found),
-        Err(fault) => Err(fault_of(fault)),
-    }
-}
-
-/// What the name leads to that a change takes away or gives to another object.
-fn find_replaced<P: PageStore>(
-    table: &ObjectTable,
-    names: &NameIndex,
-    pages: &mut P,
-    change: &ObjectChange<'_>,
-) -> Result<Option<u64>, StoreFault>
-    ensures lookups { OnlyFinds (P.state pages.old) (P.state pages.new) }
-    ensures power { OnOk result (KeepsPower (P.state pages.old) (P.state pages.new)) }
-    ensures found { OfReported names.now table.now (P.state pages.old) (λ a.
-        CanMake a.sizes a.objects change.now → IfOk result (LedBefore a.objects change.now)) }
-    ensures fault { OfReported names.now table.now (P.state pages.old) (λ a.
-        CanMake a.sizes a.objects change.now → IfErr result (ReadFailsBy (P.state pages.new))) }
-{
-    match change {
-        ObjectChange::Create { .. } => Ok(None),
-        ObjectChange::Name { .. } => Ok(None),
-        ObjectChange::Remove { entry, .. } => {
-            find_object(table, names, pages, entry.directory, entry.name)
-        }
-        ObjectChange::Move { to, .. } => { find_object(table, names, pages, to.directory, to.name) }
-        ObjectChange::Write { .. } => Ok(None),
-        ObjectChange::Resize { .. } => Ok(None),
-        ObjectChange::Forget { .. } => Ok(None),
     }
 }
 
@@ -250,11 +204,10 @@ pub(crate) fn make<P: PageStore>(
     ensures refused { StaysIfRefused (state_with (P.state pages.old) table.old names.old) (state_with (P.state pages.new) table.new names.new) result }
 {
     prepare(table, change)?;
-    let replaced = find_replaced(table, names, pages, change)?;
     let new = table.new_number();
     let kept = kept_by(table, change);
     let left = change_pages(names, pages, alloc, change, kept, new)?;
-    table.apply(change, replaced);
+    table.apply(change);
     drop_names(names, table, change, left);
     Ok(())
 }
@@ -277,7 +230,7 @@ pub(crate) fn forget<P: PageStore>(
         from: 0,
     };
     pages.cut(whole)?;
-    table.apply(&ObjectChange::Forget { number }, None);
+    table.apply(&ObjectChange::Forget { number });
     names.drop_directory(number);
     Ok(())
 }

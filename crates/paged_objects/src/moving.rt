@@ -1,5 +1,5 @@
 // The move of a name.
-ghost use Rattle.std.specs.Prelude.{OnOk, IfOk, IfErr, IfSome};
+ghost use Rattle.std.specs.Prelude.{ℕ, Option, OnOk, IfOk, IfErr, IfSome};
 ghost use Rattle.std.specs.FinMap as map;
 ghost use Rattle.page_tags.specs.SlotEntry.{entry_of};
 ghost use Rattle.flash_tree.specs.Slots.{IsTreeSlot};
@@ -35,9 +35,9 @@ pub fn move_name<P: Pages>(
     ensures lookups { OnlyFinds (P.state pages.old) (P.state pages.new) }
     ensures power { OnOk result (KeepsPower (P.state pages.old) (P.state pages.new)) }
     ensures change { IfOk result (IsChangeIn (P.state pages.old) 4) }
-    ensures moves { OfMoved names.now (P.state pages.old) (changes.Move from.entry to.entry number dropped moment) (λ a move.
+    ensures moves { (replaced : Option ℕ) → OfMoved names.now (P.state pages.old) (changes.Move from.entry to.entry number replaced dropped moment) (λ a move.
         IfOk result (MakesBy a move)) }
-    ensures slots { OfMoved names.now (P.state pages.old) (changes.Move from.entry to.entry number dropped moment) (λ a move.
+    ensures slots { (replaced : Option ℕ) → OfMoved names.now (P.state pages.old) (changes.Move from.entry to.entry number replaced dropped moment) (λ a move.
         IfOk result (WritesBy a move)) }
     ensures why { IfErr result (SaysWhyChanging (P.state pages.new)) }
     ensures fault { OfNamed names.now (P.state pages.old) (λ a.

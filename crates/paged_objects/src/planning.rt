@@ -107,6 +107,7 @@ fn plan_each<P: Pages>(
             entry,
             dropped,
             moment,
+            ..
         } => remove(names, pages, alloc, *entry, *dropped, *moment),
         ObjectChange::Move {
             from,
@@ -114,6 +115,7 @@ fn plan_each<P: Pages>(
             number,
             dropped,
             moment,
+            ..
         } => move_name(names, pages, alloc, *from, *to, *number, *dropped, *moment),
         ObjectChange::Write {
             number,

@@ -68,7 +68,8 @@ pub fn remove<P: Pages>(
     ensures lookups { OnlyFinds (P.state pages.old) (P.state pages.new) }
     ensures power { OnOk result (KeepsPower (P.state pages.old) (P.state pages.new)) }
     ensures change { IfOk result (IsChangeIn (P.state pages.old) 2) }
-    ensures removes { OfLed names.now (P.state pages.old) at.entry (λ a. IfOk result (MakesBy a (changes.Remove at.entry dropped moment))) }
+    ensures removes { (removed : ℕ) → OfLed names.now (P.state pages.old) at.entry (λ a.
+        IfOk result (MakesBy a (changes.Remove at.entry removed dropped moment))) }
     ensures why { IfErr result (SaysWhyChanging (P.state pages.new)) }
     ensures fault { OfLed names.now (P.state pages.old) at.entry (λ a. IfErr result (MayLackMemory (P.state pages.new))) }
 {

@@ -1,8 +1,8 @@
 // Changes of maps: each makes a copy of the objects, changed.
 ghost use Rattle.std.specs.Prelude.{◌≡◌, Some, IfOk, OnOk};
 ghost use Rattle.std.specs.FinMap as map;
-ghost use Rattle.posix_profile.specs.Changes.{written};
-ghost use Rattle.object_store.specs.Changes.{empty_object, made, without};
+ghost use Rattle.posix_profile.specs.Changes.{without_name, written};
+ghost use Rattle.object_store.specs.Changes.{empty_object, made, with_moved, without};
 ghost use Rattle.object_store.specs.Facts.{bytes_of};
 ghost use Rattle.object_store.specs.declared.change.ObjectChange.TheVariants as changes;
 ghost use Rattle.plain_volume.specs.PlainState.{object_of, objects_in};
@@ -128,7 +128,7 @@ fn move_name(
     dropped: Option<u64>,
     moment: u64,
 ) -> Result<(), AllocError>
-    ensures { OnOk result (objects_in objects.new ≡ made (objects_in objects.old) (changes.Move from.entry to.entry number dropped moment)) }
+    ensures { OnOk result (objects_in objects.new ≡ without dropped (with_moved (objects_in objects.old) moment from.entry to.entry number)) }
 {
     remove_name(alloc, objects, moment, from.directory, from.name)?;
     put_name(alloc, objects, moment, to.directory, to.name, number)?;
@@ -171,7 +171,7 @@ fn remove(
     dropped: Option<u64>,
     moment: u64,
 ) -> Result<(), AllocError>
-    ensures { OnOk result (objects_in objects.new ≡ made (objects_in objects.old) (changes.Remove entry.entry dropped moment)) }
+    ensures { OnOk result (objects_in objects.new ≡ without dropped (without_name (objects_in objects.old) moment entry.entry.directory entry.entry.name.now)) }
 {
     remove_name(alloc, objects, moment, entry.directory, entry.name)?;
     drop_reported(objects, dropped);
@@ -201,6 +201,7 @@ fn change(
             entry,
             dropped,
             moment,
+            ..
         } => remove(alloc, objects, *entry, *dropped, *moment),
         ObjectChange::Move {
             from,
@@ -208,6 +209,7 @@ fn change(
             number,
             dropped,
             moment,
+            ..
         } => move_name(alloc, objects, *from, *to, *number, *dropped, *moment),
         ObjectChange::Write {
             number,

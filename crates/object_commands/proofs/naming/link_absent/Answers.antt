@@ -33,6 +33,7 @@ returns g c z s holds file is none =
     plan_changed z s replies.Done _ _ _ c.change.ensures refl
     (record {
       sensible = (absent_at s.objects (place_of c.args.to) entry is none c.entry_at.ensures.directory c.entry_at.ensures.name, file);
+      takes = tt;
       empty = none_dropped s.objects;
       fits = entry_is (λ d n. fits z (with_name s.objects c.args.moment d n c.args.number)) entry _ _ c.entry_at.ensures.directory c.entry_at.ensures.name ∙ room;
     })

@@ -1,7 +1,7 @@
-use Rattle.std.proofs.Common.{◌∙◌, ap, refl}
+use Rattle.std.proofs.Common.{◌∙◌, ap, refl, sym}
 use Rattle.posix_profile.specs.State.{Objects}
 use Rattle.posix_profile.specs.Names.{prune}
-use Rattle.posix_profile.specs.laws.Name.{namer_directory}
+use Rattle.posix_profile.specs.laws.Name.{named_entry, namer_directory}
 use Rattle.posix_profile.specs.Outcomes.{answer}
 use Rattle.posix_profile.specs.Changes.{without_name}
 use Rattle.posix_profile.specs.declared.reply.Reply.TheVariants as replies
@@ -19,6 +19,7 @@ returns g c z s holds same leads empty =
     plan_changed z s replies.Done _ _ _ c.change.ensures refl
     (record {
       sensible = (c.args.number, here, c.uncommitted.ensures.only);
+      takes = sym (named_entry s.objects entry.directory c.args.number entry.name.now here);
       empty = dropped_empty s.objects c.uncommitted.result c.args.number c.uncommitted.ensures.only empty;
       fits = without_fits z c.uncommitted.result (without_name s.objects c.args.moment entry.directory entry.name.now) (removed_fits z s.objects c.args.moment entry.directory entry.name.now dir holds.sound.fit);
     })

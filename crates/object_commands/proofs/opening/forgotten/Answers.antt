@@ -38,4 +38,4 @@ pub returns-clause-can : goal.returns-clause-can
 returns-clause-can g c z s holds same handle stood is =
     let there = (holds.sound.well_formed.handles c.args.fd handle stood).there in
     let unnamed = (rw c.if-is_named.false at c.is_named.ensures) z s.objects holds.has there.0 (ap (map.get s.objects) is ∙ there.1) in
-    record { sensible = (c.if-number-eq-ROOT.false, unnamed, (there.0, ap (map.get s.objects) is ∙ there.1)); empty = dropped_empty s.objects (Some c.args.number) c.args.number (inr refl) (unnamed_names_nothing z s.objects holds.has.forest c.args.number c.if-number-eq-ROOT.false unnamed); fits = forget_fits z s.objects c.args.number holds.sound.fit }
+    record { sensible = (c.if-number-eq-ROOT.false, unnamed, (there.0, ap (map.get s.objects) is ∙ there.1)); takes = tt; empty = dropped_empty s.objects (Some c.args.number) c.args.number (inr refl) (unnamed_names_nothing z s.objects holds.has.forest c.args.number c.if-number-eq-ROOT.false unnamed); fits = forget_fits z s.objects c.args.number holds.sound.fit }

@@ -35,6 +35,7 @@ returns g c z s holds small is none =
     opened_plan z Changing s c.args.fd c.new_number.result c.args.flags _ _ _ c.open_on.ensures small
     (record {
       sensible = absent_at s.objects (place_of c.args.place) entry is none c.entry_at.ensures.directory c.entry_at.ensures.name;
+      takes = tt;
       empty = none_dropped s.objects;
       fits = entry_is (λ d n. fits z (with_object s.objects c.args.moment d n (File c.args.moment []))) entry _ _ c.entry_at.ensures.directory c.entry_at.ensures.name ∙ room;
     })

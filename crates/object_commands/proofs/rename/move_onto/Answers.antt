@@ -1,6 +1,6 @@
-use Rattle.std.proofs.Common.{◌∙◌, refl, ap, inr}
+use Rattle.std.proofs.Common.{◌∙◌, refl, sym, ap, inr}
 use Rattle.posix_profile.specs.Changes.{with_name, without_name}
-use Rattle.posix_profile.specs.laws.Name.{namer_directory}
+use Rattle.posix_profile.specs.laws.Name.{named_entry, namer_directory}
 use Rattle.posix_profile.specs.Names.{prune}
 use Rattle.posix_profile.specs.Outcomes.{change_to}
 use Rattle.posix_profile.specs.Paths.{last_name}
@@ -27,7 +27,12 @@ returns g c z s holds same from number to object ne empty =
     let lost = moved_unnames s.objects c.args.moment f.directory t.directory x f.name.now t.name.now leads dir c.args.there onto ne in
     let fit = without_fits z c.uncommitted.result moved (onto_fits z s.objects c.args.moment f.directory t.directory x c.args.there f.name.now t.name.now leads onto ne holds.sound.fit) in
     plan_changed z s replies.Done _ _ _ c.change.ensures refl
-    (record { sensible = (leads, inr (c.args.there, onto, ne, c.uncommitted.ensures.only)); empty = dropped_empty s.objects c.uncommitted.result c.args.there c.uncommitted.ensures.only empty; fits = fit })
+    (record {
+      sensible = (leads, inr (c.args.there, onto, ne, c.uncommitted.ensures.only));
+      takes = sym (named_entry s.objects t.directory c.args.there t.name.now onto);
+      empty = dropped_empty s.objects c.uncommitted.result c.args.there c.uncommitted.ensures.only empty;
+      fits = fit;
+    })
     (change_fits z s (record { objects = without c.uncommitted.result moved; handles = s.handles }) replies.Done fit
     ∙ ap (λ (o : Objects). change_to z s (record { objects = o; handles = s.handles }) replies.Done) (c.uncommitted.ensures.left z s holds same moved t.directory t.name.now lost)
     ∙ entry_is (λ d n. change_to z s (prune (record s { objects = with_name (without_name s.objects c.args.moment d n) c.args.moment t.directory t.name.now x })) replies.Done) f _ _ c.entry_at.ensures.directory c.entry_at.ensures.name

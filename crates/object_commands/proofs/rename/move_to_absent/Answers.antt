@@ -37,12 +37,11 @@ returns g c z s holds from number to none =
     let same : with_name (without_name s.objects c.args.moment f.directory f.name.now) c.args.moment t.directory t.name.now x ≡ with_name (without_name s.objects c.args.moment c.args.from.directory a) c.args.moment c.args.to.directory b x =
     entry_is (λ d n. with_name (without_name s.objects c.args.moment d n) c.args.moment t.directory t.name.now x) f _ _ c.entry_at.ensures.directory c.entry_at.ensures.name
     ∙ entry_is (λ d n. with_name (without_name s.objects c.args.moment c.args.from.directory a) c.args.moment d n x) t _ _ c.entry_at-2.ensures.directory c.entry_at-2.ensures.name in
+    let absent = absent_at s.objects (place_of c.args.to) t to none c.entry_at-2.ensures.directory c.entry_at-2.ensures.name in
     plan_changed z s replies.Done _ _ _ c.change.ensures refl
     (record {
-      sensible = (
-        leads_at s.objects (place_of c.args.from) f x leads c.entry_at.ensures.directory c.entry_at.ensures.name,
-        inl (absent_at s.objects (place_of c.args.to) t to none c.entry_at-2.ensures.directory c.entry_at-2.ensures.name, refl),
-      );
+      sensible = (leads_at s.objects (place_of c.args.from) f x leads c.entry_at.ensures.directory c.entry_at.ensures.name, inl (absent, refl));
+      takes = sym absent.absent;
       empty = none_dropped s.objects;
       fits = ap (fits z) same ∙ room;
     })

@@ -36,7 +36,7 @@ returns g c z s holds file handle same =
     let act : List ℕ → Outcome = λ bytes. change_to z s (record s { objects = with_bytes s.objects c.args.moment handle.object (resized bytes c.args.length) }) replies.Done in
     let room = sym (c.has_bytes_room.ensures z s.objects holds.has file c.args.moment (resized bytes c.args.length) (sym (length-resized bytes c.args.length))) ∙ c.if-not-has_bytes_room.false in
     plan_changed z s replies.Done _ _ _ c.change.ensures refl
-    (record { sensible = (file, subst (λ n. c.args.length ≤ n) most c.if-greatest_length-length.false); empty = none_dropped s.objects; fits = room })
+    (record { sensible = (file, subst (λ n. c.args.length ≤ n) most c.if-greatest_length-length.false); takes = tt; empty = none_dropped s.objects; fits = room })
     (change_fits z s (record s { objects = with_bytes s.objects c.args.moment c.args.number (resized bytes c.args.length) }) replies.Done room
     ∙ ap (λ o. change_to z s (record s { objects = with_bytes s.objects c.args.moment o (resized bytes c.args.length) }) replies.Done) same
     ∙ this_file s errors.EINVAL act c.args.number file _ file.2 ∙ ap (λ o. at_file s (map.get s.objects o) errors.EINVAL act) same

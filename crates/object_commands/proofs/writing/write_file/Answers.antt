@@ -63,6 +63,7 @@ returns g c z s holds file small =
       range = small;
       can = record {
         sensible = (file, far, short);
+        takes = tt;
         empty = none_dropped s.objects;
         fits = subst (λ off. fits z (with_bytes s.objects c.args.moment c.args.description.object (written bytes off c.split_at.result.0.now)) ≡ true) (sym off)
             (subst (λ part. fits z (with_bytes s.objects c.args.moment c.args.description.object (written bytes o part)) ≡ true) (sym part) fit);

@@ -12,7 +12,7 @@ returns-clause-makes g c = λ objects has make.
     let b : ObjectsState = state_with (g.P.Pages.state c.cut.new.self) c.apply.new.self c.drop_directory.new.self in
     let sound = has.pages.represents.sound in
     cut_done a b objects c.args.number has.pages c.cut.ensures.goes_on (c.in_ok-cut.ensures.sound sound) (c.in_ok-cut.ensures.present sound) (c.cut.ensures.committed sound)
-    (c.apply.ensures.reports objects has.reports has.pages.can make tt) has.named c.drop_directory.ensures
+    (c.apply.ensures.reports objects has.reports has.pages.can make) has.named c.drop_directory.ensures
 
 pub returns-in_err-cut-clause-makes : goal.returns-in_err-cut-clause-makes
 returns-in_err-cut-clause-makes g c = λ objects has make.

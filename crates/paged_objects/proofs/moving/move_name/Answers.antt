@@ -32,7 +32,7 @@ pub returns-clause-change : goal.returns-clause-change
 returns-clause-change g c = c.in_ok-and_forget.ensures.change (g.P.Pages.state c.args.pages.now).page_bytes 4 (rw c.in-Some.is at c.in_ok-change.ensures.change)
 
 pub returns-clause-moves : goal.returns-clause-moves
-returns-clause-moves g c = λ z objects n leads target.
+returns-clause-moves g c = λ replaced z objects n leads target.
     let p : PagesState = g.P.Pages.state c.args.pages.now in
     let source : IsDirectory objects c.args.from.directory = (leads.moment, leads.entries, leads.directory_is) in
     let change : Change = c.in-Some.change in
@@ -44,7 +44,7 @@ returns-clause-moves g c = λ z objects n leads target.
     c.in_ok-and_forget.ensures.forgets z p.present (with_name base c.args.moment c.args.to.directory c.args.to.name.now c.args.number) named
 
 pub returns-clause-slots : goal.returns-clause-slots
-returns-clause-slots g c = λ z objects n leads target.
+returns-clause-slots g c = λ replaced z objects n leads target.
     let source : IsDirectory objects c.args.from.directory = (leads.moment, leads.entries, leads.directory_is) in
     let change : Change = c.in-Some.change in
     let base : Objects = without_name objects c.args.moment c.args.from.directory c.args.from.name.now in

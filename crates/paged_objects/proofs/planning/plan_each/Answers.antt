@@ -15,7 +15,7 @@ returns-in-Name-clause-fault g c = λ z objects n can make is.
 pub returns-in-Remove-clause-makes : goal.returns-in-Remove-clause-makes
 returns-in-Remove-clause-makes g c = λ z objects n make is.
     let s : (o : ℕ) × LeadsTo objects c.in-Remove.entry o × ((c.in-Remove.dropped ≡ None) ⊎ (c.in-Remove.dropped ≡ Some o)) = rw c.in-Remove.is at make.sensible in
-    rw c.in-Remove.is (c.remove.ensures.removes z objects s.0 n s.1)
+    rw c.in-Remove.is (c.remove.ensures.removes s.0 z objects s.0 n s.1)
 
 pub returns-in-Remove-clause-fault : goal.returns-in-Remove-clause-fault
 returns-in-Remove-clause-fault g c = λ z objects n can make is.
@@ -25,7 +25,7 @@ returns-in-Remove-clause-fault g c = λ z objects n can make is.
 pub returns-in-Move-clause-makes : goal.returns-in-Move-clause-makes
 returns-in-Move-clause-makes g c = λ z objects n make is.
     let s : LeadsTo objects c.in-Move.from c.in-Move.number × IsTarget objects c.in-Move.to c.in-Move.number c.in-Move.dropped = rw c.in-Move.is at make.sensible in
-    rw c.in-Move.is (c.move_name.ensures.moves z objects n s.0 (target_directory objects c.in-Move.to c.in-Move.number c.in-Move.dropped s.1))
+    rw c.in-Move.is (c.move_name.ensures.moves None z objects n s.0 (target_directory objects c.in-Move.to c.in-Move.number c.in-Move.dropped s.1))
 
 pub returns-in-Move-clause-fault : goal.returns-in-Move-clause-fault
 returns-in-Move-clause-fault g c = λ z objects n can make is.
@@ -49,7 +49,7 @@ returns-in-Remove-clause-slots g c = λ z objects n make.
 pub returns-in-Move-clause-slots : goal.returns-in-Move-clause-slots
 returns-in-Move-clause-slots g c = λ z objects n make.
     let s : LeadsTo objects c.in-Move.from c.in-Move.number × IsTarget objects c.in-Move.to c.in-Move.number c.in-Move.dropped = rw c.in-Move.is at make.sensible in
-    rw c.in-Move.is (c.move_name.ensures.slots z objects n s.0 (target_directory objects c.in-Move.to c.in-Move.number c.in-Move.dropped s.1))
+    rw c.in-Move.is (c.move_name.ensures.slots None z objects n s.0 (target_directory objects c.in-Move.to c.in-Move.number c.in-Move.dropped s.1))
 
 pub returns-in-Write-clause-slots : goal.returns-in-Write-clause-slots
 returns-in-Write-clause-slots g c = λ z objects n make. rw c.in-Write.is (fewer_on z objects _ c.write.result (less_file objects c.in-Write.number c.in-Write.moment _))

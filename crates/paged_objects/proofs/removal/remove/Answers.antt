@@ -30,7 +30,7 @@ pub returns-clause-change : goal.returns-clause-change
 returns-clause-change g c = c.in_ok-and_forget.ensures.change (g.P.Pages.state c.args.pages.now).page_bytes 2 (rw c.in-Some.is at c.in_ok-made.ensures.change)
 
 pub returns-clause-removes : goal.returns-clause-removes
-returns-clause-removes g c = λ z objects o n leads.
+returns-clause-removes g c = λ removed z objects o n leads.
     let p : PagesState = g.P.Pages.state c.args.pages.now in
     let d : ℕ = c.args.at.directory in
     let dir : IsDirectory objects d = (leads.moment, leads.entries, leads.directory_is) in

@@ -11,18 +11,18 @@ use Rattle.posix_profile.specs.laws.Number.{greatest_length_few}
 use Rattle.object_store.specs.Changes.{made, without, NamesNothing, CanMake}
 use Rattle.object_store.specs.Facts.{bytes_of}
 use Rattle.object_store.specs.Totaled.{Counts, CanGo, GetsName, LosesName}
-use Rattle.object_store.specs.Reported.{table_sizes, LedBefore}
+use Rattle.object_store.specs.Reported.{table_sizes}
 use Rattle.object_store.proofs.Applying.{fits_countable, can_count, remove_ready, left_goes, dropped_is, move_absent, same_moved, clear_ready, move_cleared, replaced_goes}
 use Rattle.object_store.proofs.table.ObjectTable.apply.Goals as goal
 
 pub returns-in-Create-clause-reports : goal.returns-in-Create-clause-reports
-returns-in-Create-clause-reports c = λ objects reports can makes led.
+returns-in-Create-clause-reports c = λ objects reports can makes.
     let make = subst (CanMake (table_sizes c.args.self.now) objects) c.in-Create.is makes in
     subst (λ change. Counts c.create.new.self.totaled (made objects change)) (sym c.in-Create.is)
     (c.create.ensures.reports objects c.in-Create.entry.name.now reports can (record { directory_is = make.sensible.directory; absent = make.sensible.absent; fits = make.fits }))
 
 pub returns-in-Name-clause-reports : goal.returns-in-Name-clause-reports
-returns-in-Name-clause-reports c = λ objects reports can makes led.
+returns-in-Name-clause-reports c = λ objects reports can makes.
     let make = subst (CanMake (table_sizes c.args.self.now) objects) c.in-Name.is makes in
     subst (λ change. Counts c.add_name.new.self.totaled (made objects change)) (sym c.in-Name.is)
     (c.add_name.ensures.reports objects c.in-Name.entry.name.now reports (record {
@@ -35,9 +35,9 @@ returns-in-Name-clause-reports c = λ objects reports can makes led.
     }))
 
 pub returns-in-Remove-clause-reports : goal.returns-in-Remove-clause-reports
-returns-in-Remove-clause-reports c = λ objects reports can makes led.
+returns-in-Remove-clause-reports c = λ objects reports can makes.
     let make = subst (CanMake (table_sizes c.args.self.now) objects) c.in-Remove.is makes in
-    let was = subst (λ change. LedBefore objects change c.args.replaced) c.in-Remove.is led in
+    let was = make.takes in
     let mid = c.remove_name.ensures.unnamed objects c.in-Remove.entry.name.now make.sensible.0 (was ∙ named_entry objects c.in-Remove.entry.directory make.sensible.0 c.in-Remove.entry.name.now make.sensible.1) reports
     (remove_ready (table_sizes c.args.self.now) objects can c.in-Remove.moment c.in-Remove.entry.directory make.sensible.0 c.in-Remove.entry.name.now make.sensible.1) in
     subst (λ change. Counts c.forget.new.self.totaled (made objects change)) (sym c.in-Remove.is)
@@ -49,9 +49,9 @@ returns-in-Remove-clause-reports c = λ objects reports can makes led.
     (left_goes (table_sizes c.args.self.now) objects can c.in-Remove.moment c.in-Remove.entry.directory make.sensible.0 c.in-Remove.entry.name.now make.sensible.1 (subst (NamesNothing objects) (sym same) (make.empty k is))))))
 
 pub returns-in-Move-clause-reports : goal.returns-in-Move-clause-reports
-returns-in-Move-clause-reports c = λ objects reports can makes led.
+returns-in-Move-clause-reports c = λ objects reports can makes.
     let make = subst (CanMake (table_sizes c.args.self.now) objects) c.in-Move.is makes in
-    let was = subst (λ change. LedBefore objects change c.args.replaced) c.in-Move.is led in
+    let was = make.takes in
     let first = c.remove_name-in-Move.ensures.unnamed objects c.in-Move.from.name.now c.in-Move.number refl reports
     (remove_ready (table_sizes c.args.self.now) objects can c.in-Move.moment c.in-Move.from.directory c.in-Move.number c.in-Move.from.name.now make.sensible.0) in
     let s1 = c.remove_name-in-Move.ensures.size in
@@ -81,7 +81,7 @@ returns-in-Move-clause-reports c = λ objects reports can makes led.
     ])
 
 pub returns-in-Write-clause-reports : goal.returns-in-Write-clause-reports
-returns-in-Write-clause-reports c = λ objects reports can makes led.
+returns-in-Write-clause-reports c = λ objects reports can makes.
     let make = subst (CanMake (table_sizes c.args.self.now) objects) c.in-Write.is makes in
     let far = make.sensible.1 in
     let within_limit = greatest_length_few (table_sizes c.args.self.now) can.numbers in
@@ -90,7 +90,7 @@ returns-in-Write-clause-reports c = λ objects reports can makes led.
     (fits_countable (table_sizes c.args.self.now) (with_bytes objects c.in-Write.moment c.in-Write.number (written (bytes_of (map.get objects c.in-Write.number)) c.in-Write.offset c.in-Write.bytes.now)) can.numbers make.fits))
 
 pub returns-in-Resize-clause-reports : goal.returns-in-Resize-clause-reports
-returns-in-Resize-clause-reports c = λ objects reports can makes led.
+returns-in-Resize-clause-reports c = λ objects reports can makes.
     let make = subst (CanMake (table_sizes c.args.self.now) objects) c.in-Resize.is makes in
     let long : length (resized (bytes_of (map.get objects c.in-Resize.number)) c.in-Resize.length) ≡ c.in-Resize.length =
     omega (
@@ -104,7 +104,7 @@ returns-in-Resize-clause-reports c = λ objects reports can makes led.
     (fits_countable (table_sizes c.args.self.now) (with_bytes objects c.in-Resize.moment c.in-Resize.number (resized (bytes_of (map.get objects c.in-Resize.number)) c.in-Resize.length)) can.numbers make.fits))
 
 pub returns-in-Forget-clause-reports : goal.returns-in-Forget-clause-reports
-returns-in-Forget-clause-reports c = λ objects reports can makes led.
+returns-in-Forget-clause-reports c = λ objects reports can makes.
     let make = subst (CanMake (table_sizes c.args.self.now) objects) c.in-Forget.is makes in
     subst (λ change. Counts c.forget-in-Forget.new.self.totaled (made objects change)) (sym c.in-Forget.is)
     (c.forget-in-Forget.ensures.reports objects reports

@@ -17,7 +17,7 @@ use Rattle.block_state.specs.Table.{Table}
 use Rattle.chunk_index.proofs.Counting.{recounts_on, recounts_more}
 
 -- one page stands at a place
-one_page : (ks : List CommittedKey) (i : ℕ) (k l : CommittedKey) → slice_get ks i ≡ Some k → slice_get ks i ≡ Some l → k ≡ l
+pub one_page : (ks : List CommittedKey) (i : ℕ) (k l : CommittedKey) → slice_get ks i ≡ Some k → slice_get ks i ≡ Some l → k ≡ l
 one_page ks i k l x y = let two : Some k ≡ Some l = sym x ∙ y in cc
 
 -- what is read of a list that was mapped
@@ -46,7 +46,7 @@ other_key k o c not = elim (cases_eq o k.key.object) [
 ]
 
 -- and a page of another key is not of that key
-not_of : (k : CommittedKey) (o c : ℕ) → Differs k.key.object k.key.chunk o c → IsPageOf o c k → ⊥
+pub not_of : (k : CommittedKey) (o c : ℕ) → Differs k.key.object k.key.chunk o c → IsPageOf o c k → ⊥
 not_of k o c (inl ne) of = ne (sym of.0)
 not_of k o c (inr ne) of = ne (sym of.1)
 
@@ -54,67 +54,7 @@ not_of k o c (inr ne) of = ne (sym of.1)
 pub adds_none : (ks : List CommittedKey) (m : ObjectMap) → AddsFirst ks 0 m m
 adds_none ks m = record { done = λ i k lt. absurd (omega (arith, lt)); rest = λ o c none. refl }
 
--- the keys of the pages further on have no entries still
-pub still_absent : (ks : List CommittedKey) (n : ℕ) (old new : ObjectMap) (x : CommittedKey) → AreOfOtherKeys ks → AreAbsent ks old → AddsFirst ks n old new → slice_get ks n ≡ Some x → look new x.key.object x.key.chunk ≡ None
-still_absent ks n old new x once absent adds at =
-    adds.rest x.key.object x.key.chunk (λ i k lt there. not_of k x.key.object x.key.chunk (once i n k x lt there at)) ∙ absent n x at
-
--- one page more
-pub adds_more : (ks : List CommittedKey) (n : ℕ) (first old mid new : ObjectMap) (x : CommittedKey) → AreOfOtherKeys ks → slice_get ks n ≡ Some x → AddsFirst ks n first old → SameEntries old mid
-    → AltersKey x.key.object x.key.chunk (Some (committed_at x.key.chunk (Some x.at))) mid new → AddsFirst ks (n + 1) first new
-adds_more ks n first old mid new x once at was same alters = record {
-  done = λ i k lt there. elim (cases_eq i n) [
-    | inl here ↦
-        let equal : x ≡ k = one_page ks n x k at (subst (λ j. slice_get ks j ≡ Some k) here there) in
-        subst (λ (y : CommittedKey). look new y.key.object y.key.chunk ≡ Some (committed_at y.key.chunk (Some y.at))) equal alters.here
-    | inr ne ↦
-        let less : i < n = omega (arith, lt, ne) in
-        let apart : Differs x.key.object x.key.chunk k.key.object k.key.chunk = turned k.key.object k.key.chunk x.key.object x.key.chunk (once i n k x less there at) in
-        alters.others k.key.object k.key.chunk apart ∙ same.looks k.key.object k.key.chunk ∙ was.done i k less there
-  ];
-  rest = λ o c none.
-      alters.others o c (other_key x o c (none n x (omega arith) at)) ∙ same.looks o c ∙ was.rest o c (λ i k lt there. none i k (omega (arith, lt)) there);
-}
-
--- two changes of one key after one another
-pub alters_on : (o c : ℕ) (a b : Option KeyEntry) (old mid new : ObjectMap) → AltersKey o c a old mid → AltersKey o c b mid new → AltersKey o c b old new
-alters_on o c a b old mid new first next = record {
-  here = next.here;
-  others = λ k l differs. next.others k l differs ∙ first.others k l differs;
-  weighs = λ f.
-      let one = first.weighs f in
-      let two = next.weighs f in
-      let between : weight f (look mid o c) ≡ weight f a = ap (weight f) first.here in
-      omega (arith, one, two, between);
-}
-
 -- ---- counts
-
--- entries that are the same are in the count as before
-pub agree_committed : (t : Table) (old new : Index) → SameEntries old.shelf.objects new.shelf.objects → CountsAgree t old → CountsAgree t new
-agree_committed t old new same agree = record {
-  counts = λ b. agree.counts b ∙ sym (same.weighs (counted_at b));
-  within = λ b le. same.weighs (counted_at b) ∙ agree.within b le;
-}
-
--- and an entry that holds nothing is not in the count
-sum_added : (o c b : ℕ) (old new : ObjectMap) → look old o c ≡ None → AltersKey o c (Some (committed_at c None)) old new → total (counted_at b) new ≡ total (counted_at b) old
-sum_added o c b old new absent alters =
-    let sum = alters.weighs (counted_at b) in
-    let nothing : weight (counted_at b) (look old o c) ≡ 0 = ap (weight (counted_at b)) absent in
-    let none : weight (counted_at b) (Some (committed_at c None)) ≡ 0 = refl in
-    omega (arith, sum, nothing, none)
-
-pub agree_added : (t : Table) (old new : Index) (o c : ℕ) → look old.shelf.objects o c ≡ None → AltersKey o c (Some (committed_at c None)) old.shelf.objects new.shelf.objects → CountsAgree t old → CountsAgree t new
-agree_added t old new o c absent alters agree = record {
-  counts = λ b. agree.counts b ∙ sym (sum_added o c b old.shelf.objects new.shelf.objects absent alters);
-  within = λ b le. sum_added o c b old.shelf.objects new.shelf.objects absent alters ∙ agree.within b le;
-}
-
-pub counts_added : (t u : Table) (old mid new : Index) (o c : ℕ) → look old.shelf.objects o c ≡ None → AltersKey o c (Some (committed_at c None)) old.shelf.objects mid.shelf.objects
-    → Recounts (count_committed_in mid) (count_committed_in new) t u → Recounts (count_committed_in old) (count_committed_in new) t u
-counts_added t u old mid new o c absent alters recounts =
-    recounts_more (λ b. let same : count_committed_in mid b ≡ count_committed_in old b = sum_added o c b old.shelf.objects mid.shelf.objects absent alters in omega (arith, same)) recounts
 
 -- pages that were in the count, and then others
 pub counts_on : (t u v : Table) (first old mid new : Index) → SameEntries old.shelf.objects mid.shelf.objects → Recounts (count_committed_in first) (count_committed_in old) t u → Recounts (count_committed_in mid) (count_committed_in new) u v

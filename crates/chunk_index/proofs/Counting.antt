@@ -207,7 +207,3 @@ recounts_altered t u m n o c to alters recounts = recounts_more (λ b.
 -- the room of an entry that is there
 pub entry_room : (t : Table) (m : ObjectMap) (o c : ℕ) (e : KeyEntry) → look m o c ≡ Some e → Tallies t m → (size : ℕ) → total (λ (x : KeyEntry). 1) m ≡ size → size < 4294967296 → HasRoom t (one_at e.committed) 1
 entry_room t m o c e is tallies size totaled within_limit = subst (λ v. HasRoom t (one_at (committed_of v)) 1) is (room_for t m o c tallies (rw is refl) size totaled within_limit)
-
--- the count of an entry that is there
-pub entry_counts : (t u : Table) (m : ObjectMap) (o c : ℕ) (e : KeyEntry) (to : Option KeyEntry) → look m o c ≡ Some e → Recounts (one_at e.committed) (one_at (committed_of to)) t u → Recounts (one_at (committed_of (look m o c))) (one_at (committed_of to)) t u
-entry_counts t u m o c e to is recounts = subst (λ v. Recounts (one_at (committed_of v)) (one_at (committed_of to)) t u) (sym is) recounts

@@ -130,7 +130,7 @@ gathers_from Left first n t left = record {
 }
 
 -- what entries add to the count of a block, each 1 at most
-weigh_most : (b : ℕ) (es : List KeyEntry) → weigh (counted_at b) es ≤ length es
+pub weigh_most : (b : ℕ) (es : List KeyEntry) → weigh (counted_at b) es ≤ length es
 weigh_most b [] = omega arith
 weigh_most b (e ∷ es) =
     let all : weigh (counted_at b) (e ∷ es) ≡ counted_at b e + weigh (counted_at b) es = sum_by-cons (counted_at b) e es in

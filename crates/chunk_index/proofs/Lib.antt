@@ -11,6 +11,7 @@ pub mod InPlace
 pub mod Preparing
 pub mod Moving
 pub mod Adding
+pub mod AddingRuns
 pub mod Founding
 pub mod Parts
 pub mod Keys

@@ -6,13 +6,6 @@ use Rattle.chunk_index.specs.Entries.{same_of, weight}
 use Rattle.chunk_index.specs.Shelves.{ObjectMap, look, total, AltersKey, SameEntries}
 use Rattle.chunk_index.proofs.Shelving.{look_chunk}
 
--- the entry that is put is of the key
-pub at_chunk : (m n : ObjectMap) (o c : ℕ) (e new : KeyEntry) → look m o c ≡ Some e → new.chunk ≡ e.chunk → AltersKey o new.chunk (Some new) m n → AltersKey o c (Some new) m n
-at_chunk m n o c e new is same alters = subst (λ l. AltersKey o l (Some new) m n) (same ∙ look_chunk m o c e is) alters
-
-pub there_at : (m : ObjectMap) (o c : ℕ) (e : KeyEntry) (l : ℕ) → look m o c ≡ Some e → l ≡ e.chunk → IsSome (look m o l)
-there_at m o c e l is same = subst (λ k. IsSome (look m o k)) (sym (same ∙ look_chunk m o c e is)) (rw is refl)
-
 module _ {m n : ObjectMap} {o c : ℕ} {to : Option KeyEntry} (alters : AltersKey o c to m n) where
   -- what is the same of the entry is the same of each
   pub reported_same : {X : Type 0} (f : Option KeyEntry → X) → f to ≡ f (look m o c) → (k l : ℕ) → f (look n k l) ≡ f (look m k l)

@@ -1,6 +1,7 @@
 -- What is left of entries, where only some keys stay.
-use Rattle.std.proofs.Common.{◌≡◌, ℕ, List, Bool, true, false, Option, Some, None, refl, sym, ap, ◌∙◌}
+use Rattle.std.proofs.Common.{◌≡◌, ℕ, suc, ◌<◌, List, [], ◌∷◌, length, get_or, Bool, true, false, Option, Some, None, refl, sym, ap, ◌∙◌, arith}
 use mathlib.Core.Bool.{false≢true}
+use Rattle.std.specs.List.{cons_option}
 use Rattle.std.specs.Option.{option_and_then}
 use Rattle.chunk_index.specs.declared.entry.KeyEntry.{KeyEntry}
 use Rattle.chunk_index.specs.declared.entry.State.TheVariants as states
@@ -65,3 +66,11 @@ find_retained keeps es rises c = find_left (retained_by keeps) (λ e x. retained
   go : (v : Option KeyEntry) → find_by chunk es c ≡ v → option_and_then (retained_by keeps) v ≡ retained_reported (keeps c) v
   go None is = refl
   go (Some e) is = ap (λ l. retained (keeps l) e) (found_chunk es c e is)
+
+-- all entries are left where the chunk of each stays
+pub all_stay : (keeps : ℕ → Bool) (es : List KeyEntry) → ((i : ℕ) (d : KeyEntry) → i < length es → keeps (chunk (get_or es i d)) ≡ true) → es ≡ retained_of keeps es
+all_stay keeps [] stay = refl
+all_stay keeps (e ∷ es) stay =
+    let here : retained_by keeps e ≡ Some e = ap (λ b. retained b e) (stay 0 e (omega arith)) in
+    let rest = all_stay keeps es (λ i d lt. stay (suc i) d (omega (arith, lt))) in
+    ap (λ xs. e ∷ xs) rest ∙ ap (λ v. cons_option v (retained_of keeps es)) (sym here)

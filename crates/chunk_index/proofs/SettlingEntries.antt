@@ -124,10 +124,10 @@ module _ (first : ℕ) (g : WrittenGroup) (es : List KeyEntry) (i : ℕ) (now : 
 
 -- ---- among the entries of all objects
 
--- as many pages can be in the count in the place of those of an object as it has entries
-object_room : (t : Table) (m : ObjectMap) (o : ℕ) (x : ObjectEntries) → get nat_cmp m o ≡ Some x → Tallies t m → (size : ℕ) → total (λ (e : KeyEntry). 1) m ≡ size → size < 4294967296
-    → HasRoom t (λ b. weigh (counted_at b) x.entries.items) (length x.entries.items)
-object_room t m o x is tallies size totaled within_limit =
+-- as many pages can be in the count in the place of those of an object as it has entries, and so many more as there may be entries
+pub object_room : (t : Table) (m : ObjectMap) (o : ℕ) (x : ObjectEntries) → get nat_cmp m o ≡ Some x → Tallies t m → (size more : ℕ) → total (λ (e : KeyEntry). 1) m ≡ size → size + more < 4294967296
+    → HasRoom t (λ b. weigh (counted_at b) x.entries.items) (length x.entries.items + more)
+object_room t m o x is tallies size more totaled within_limit =
     let counted = object_counted t m o x is tallies in
     record {
       sufficient = counted.sufficient;
@@ -154,7 +154,7 @@ may_entries g m o t x is may size totaled within_limit = record {
       let e = get_or es i d in
       let reported : look m o (chunk e) ≡ Some e = look_in m o (chunk e) x is ∙ find_at chunk es x.rises (chunk e) i (record { within = lt; number = λ f. ap chunk (get_or_default es i f d lt) }) d in
       has_page g e (λ j shown. let fits = may.fits o (chunk e) j (ap present_of reported ∙ shown) in omega (arith, fits, t.geometry.most_pages));
-  room = object_room t m o x is may.tallies size totaled within_limit;
+  room = subst (HasRoom t (λ b. weigh (counted_at b) x.entries.items)) (omega arith) (object_room t m o x is may.tallies size 0 totaled (omega (arith, within_limit)));
 }
 
 module _ (g : WrittenGroup) (k : Key) (m n : ObjectMap) (t u : Table) where

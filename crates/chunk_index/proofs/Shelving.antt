@@ -64,13 +64,6 @@ one_there : (v : Option KeyEntry) → IsSome v → weight (λ (x : KeyEntry). 1)
 one_there None is = absurd (false≢true is)
 one_there (Some x) is = refl
 
--- as many entries, where one takes the place of another
-pub same_size : (m n : ObjectMap) (o c : ℕ) (e : KeyEntry) → AltersKey o c (Some e) m n → IsSome (look m o c) → (size : ℕ) → total (λ (x : KeyEntry). 1) m ≡ size → total (λ (x : KeyEntry). 1) n ≡ size
-same_size m n o c e alters some size was =
-    let one = alters.weighs (λ (x : KeyEntry). 1) in
-    let there : weight (λ (x : KeyEntry). 1) (look m o c) ≡ 1 = one_there (look m o c) some in
-    omega (arith, one, there, was)
-
 -- the same entries, where a key without one was looked for in vain
 pub same_entries : (m : ObjectMap) → SameEntries m m
 same_entries m = record { looks = λ o c. refl; weighs = λ f. refl }

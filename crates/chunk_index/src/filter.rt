@@ -1,5 +1,5 @@
 // Which keys stay.
-ghost use Rattle.std.specs.Prelude.{◌≡◌, ℕ, Bool};
+ghost use Rattle.std.specs.Prelude.{◌≡◌, ◌<◌, ℕ, Bool, true, IsTrue};
 
 use flash_tree::Key;
 
@@ -10,4 +10,8 @@ pub trait KeyFilter {
 
     fn keeps(&self, key: Key) -> bool
         ensures { result ≡ keeps self.now key.object key.chunk };
+
+    /// Whether it is known without a look at each key that all chunks of an object below one stay.
+    fn keeps_all_below(&self, object: u64, end: u64) -> bool
+        ensures { IsTrue result → (c : ℕ) → c < end → keeps self.now object c ≡ true };
 }

@@ -2,21 +2,20 @@
 ghost use Rattle.std.specs.Prelude.{◌≡◌, ◌≢◌, ◌<◌, ◌≤◌, ◌+◌, ◌^◌, ℕ, true, false, length, vec_capacity, None, Some, OnOk, OnErr, IsSome};
 ghost use Rattle.block_state.specs.Table.{Table};
 ghost use Rattle.block_state.specs.TableOf.{table};
-ghost use Rattle.chunk_index.specs.Entries.{same_of, with_committed, committed_at, state_of, IsSmall, IsSmallPage, IsSmallState};
+ghost use Rattle.chunk_index.specs.Entries.{same_of, state_of, IsSmallState};
 ghost use Rattle.chunk_index.specs.Noted.{IsNoted};
-ghost use Rattle.chunk_index.specs.Shelves.{look, total, Differs, AltersKey, SameEntries};
+ghost use Rattle.chunk_index.specs.Shelves.{look, Differs};
 ghost use Rattle.chunk_index.specs.Counts.{Recounts};
 ghost use Rattle.chunk_index.specs.declared.form.CommittedPage.{CommittedPage};
 ghost use Rattle.chunk_index.specs.declared.form.Form.TheVariants as forms;
 
-use crate::change;
 use crate::changes::ChangeList;
-use crate::entry::{KeyEntry, State};
+use crate::entry::State;
 use crate::form::{CommittedPage, Form, PagePlace, Present, WrittenGroup};
 use crate::shelf::Shelf;
 use block_state::Blocks;
 use flash_tree::Key;
-use std::alloc::{AllocError, Global};
+use std::alloc::Global;
 
 /// For each key its committed page on the flash and its present page, and notes of the keys where these may differ. Only
 /// `prepare` and the making of an index take memory.
@@ -62,27 +61,6 @@ impl Index {
         ensures { result ≡ present self.now key.object key.chunk }
     {
         self.shelf.present(key)
-    }
-
-    /// Gives a key an entry, whose present page is the committed one.
-    pub(crate) fn add(
-        &mut self,
-        key: Key,
-        committed: Option<CommittedPage>,
-    ) -> Result<(), AllocError>
-        requires absent { look self.old.shelf.objects key.object key.chunk ≡ None }
-        requires small { IsSmallPage committed }
-        requires low { key.chunk < 2 ^ 32 }
-        ensures ok { OnOk result (AltersKey key.object key.chunk (Some (committed_at key.chunk committed)) self.old.shelf.objects self.new.shelf.objects) }
-        ensures err { OnErr result (SameEntries self.old.shelf.objects self.new.shelf.objects) }
-    {
-        self.changes.reserve()?;
-        let entry = KeyEntry {
-            chunk: key.chunk,
-            committed,
-            state: State::Same,
-        };
-        self.shelf.insert(key.object, entry)
     }
 
     /// Gives a prepared key another present page. One of the buffer has a number below 253.
@@ -134,28 +112,6 @@ impl Index {
         ensures counts { Recounts (count_committed_in self.old) (count_committed_in self.new) (table blocks.old) (table blocks.new) }
     {
         self.shelf.copied(key, place, blocks);
-    }
-
-    /// Gives the entry of a key another committed page.
-    pub(crate) fn move_to(
-        &mut self,
-        key: Key,
-        entry: KeyEntry,
-        page: CommittedPage,
-        blocks: &mut Blocks,
-    )
-        requires entry { look self.old.shelf.objects key.object key.chunk ≡ Some entry }
-        requires small { IsSmall entry }
-        requires block { page.block < (table blocks.old).geometry.blocks }
-        requires page { page.page < (table blocks.old).geometry.pages }
-        requires agree { CountsAgree (table blocks.old) self.old }
-        ensures alters { AltersKey key.object key.chunk (Some (with_committed (Some page) entry)) self.old.shelf.objects self.new.shelf.objects }
-        ensures agree { CountsAgree (table blocks.new) self.new }
-        ensures counts { Recounts (count_committed_in self.old) (count_committed_in self.new) (table blocks.old) (table blocks.new) }
-    {
-        change::recount(entry.committed, Some(page), blocks);
-        let committed = Some(page);
-        self.shelf.set(key.object, KeyEntry { committed, ..entry });
     }
 
     /// Settles all keys: the pages of the buffer were written as this group. Only keys that changed are touched.

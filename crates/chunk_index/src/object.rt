@@ -122,18 +122,6 @@ impl ObjectEntries {
         }
     }
 
-    /// Puts an entry in place of that of its chunk.
-    pub fn set(&mut self, entry: KeyEntry)
-        requires here { IsSome (find_by chunk self.old.entries.items entry.chunk) }
-        requires small { IsSmall entry }
-        ensures { Alters entry.chunk (Some entry) self.old.entries.items self.new.entries.items }
-    {
-        match self.search(entry.chunk) {
-            Ok(at) => self.entries[at] = PackedEntry::pack(entry),
-            Err(_) => {}
-        }
-    }
-
     /// Gives the entry of a chunk another state, and returns whether what was present is what is committed.
     pub fn place(&mut self, number: u64, state: State) -> bool
         requires here { IsSome (find_by chunk self.old.entries.items number) }

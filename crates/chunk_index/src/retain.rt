@@ -1,7 +1,8 @@
 // The keys that stay, and the end of all others.
-ghost use Rattle.std.specs.Prelude.{◌≡◌, ◌<◌, ◌≤◌, ◌+◌, ℕ, length, IfSome};
+ghost use Rattle.std.specs.Prelude.{◌≡◌, ◌<◌, ◌≤◌, ◌+◌, ℕ, length, get_or, IfSome};
 ghost use Rattle.block_state.specs.TableOf.{table};
-ghost use Rattle.chunk_index.specs.Entries.{committed_of, one_at, counted_at, weigh, IsSmall};
+ghost use Rattle.chunk_index.specs.Entries.{chunk, committed_of, one_at, counted_at, weigh, IsSmall};
+ghost use Rattle.chunk_index.specs.declared.entry.KeyEntry.{KeyEntry};
 ghost use Rattle.chunk_index.specs.Shelves.{look, IsNextObject};
 ghost use Rattle.chunk_index.specs.Counts.{Recounts, RecountsEntries, RecountsObjects, HasCounted, Tallies};
 ghost use Rattle.chunk_index.specs.Retained.{retained, retained_reported, retained_of, RetainsObject};
@@ -75,16 +76,29 @@ impl Shelf {
 }
 
 impl ObjectEntries {
-    /// Keeps the entries of this object that a filter keeps, and returns how many went.
+    /// Keeps the entries of this object that a filter keeps, and returns how many went. Where all stay, none is looked at.
     fn retain<F: KeyFilter>(&mut self, object: u64, filter: &F, blocks: &mut Blocks) -> usize
         requires totaled { HasCounted (table blocks.old) (λ b. weigh (counted_at b) self.old.entries.items) }
         ensures items { self.new.entries.items ≡ retained_of (F.keeps filter.now object) self.old.entries.items }
         ensures gone { length self.new.entries.items + result ≡ length self.old.entries.items }
         ensures counts { RecountsEntries self.old.entries.items self.new.entries.items (table blocks.old) (table blocks.new) }
     {
+        if filter.keeps_all_below(object, self.end()) {
+            return 0;
+        }
         let before = self.entries.len();
         gather(&mut self.entries, object, filter, blocks);
         before - self.entries.len()
+    }
+
+    /// The first chunk behind those of all entries.
+    fn end(&self) -> u64
+        ensures { (i : ℕ) (d : KeyEntry) → i < length self.now.entries.items → chunk (get_or self.now.entries.items i d) < result }
+    {
+        match self.entries.last() {
+            Some(entry) => entry.chunk() + 1,
+            None => 0,
+        }
     }
 }
 

@@ -74,26 +74,6 @@ impl Shelf {
         }
     }
 
-    /// Whether one entry more would be more than a committed count can tell.
-    fn is_full(&self) -> bool
-        ensures { IsTrue result ↔ (2 ^ 32 - 1 ≤ self.now.size) }
-    {
-        self.size >= MOST_ENTRIES
-    }
-
-    /// Puts an entry in place of that of its key.
-    pub fn set(&mut self, object: u64, entry: KeyEntry)
-        requires here { IsSome (look self.old.objects object entry.chunk) }
-        requires small { IsSmall entry }
-        ensures alters { AltersKey object entry.chunk (Some entry) self.old.objects self.new.objects }
-        ensures size { self.new.size ≡ self.old.size }
-    {
-        match self.objects.get_mut(&object) {
-            Some(entries) => entries.set(entry),
-            None => {}
-        }
-    }
-
     /// Gives the entry of a key another state, and returns whether its present page was the committed one.
     pub fn place(&mut self, key: Key, state: State) -> bool
         requires here { IsSome (look self.old.objects key.object key.chunk) }
@@ -130,30 +110,6 @@ impl Shelf {
             return MOST_ENTRIES - self.size;
         }
         0
-    }
-
-    /// Puts an entry of a key that has none.
-    pub fn insert(&mut self, object: u64, entry: KeyEntry) -> Result<(), AllocError>
-        requires absent { look self.old.objects object entry.chunk ≡ None }
-        requires small { IsSmall entry }
-        ensures ok { OnOk result (AltersKey object entry.chunk (Some entry) self.old.objects self.new.objects) }
-        ensures grown { OnOk result (self.new.size ≡ self.old.size + 1) }
-        ensures err { OnErr result (SameEntries self.old.objects self.new.objects) }
-        ensures same_size { OnErr result (self.new.size ≡ self.old.size) }
-    {
-        if self.is_full() {
-            return Err(AllocError);
-        }
-        match self.objects.get_mut(&object) {
-            Some(entries) => match entries.insert(entry) {
-                Ok(()) => {
-                    self.size += 1;
-                    Ok(())
-                }
-                Err(error) => Err(error),
-            },
-            None => self.insert_first(object, entry),
-        }
     }
 
     /// Puts the first entry of an object that is not here.

@@ -113,6 +113,10 @@ impl KeyFilter for UpTo {
     fn keeps(&self, key: Key) -> bool {
         key.object == self.object && key.chunk <= self.last
     }
+
+    fn keeps_all_below(&self, object: u64, end: u64) -> bool {
+        object == self.object && end <= self.last
+    }
 }
 
 /// The key of a chunk of an object.

@@ -17,4 +17,8 @@ impl KeyFilter for TreeKeys<'_> {
     fn keeps(&self, key: Key) -> bool {
         self.tree.looks_up(key)
     }
+
+    fn keeps_all_below(&self, object: u64, end: u64) -> bool {
+        self.tree.looks_up_below(object, end)
+    }
 }

@@ -70,6 +70,10 @@ impl KeyFilter for Stamped<'_> {
     fn keeps(&self, key: Key) -> bool {
         stamp_at(self.stamps, key) != 0
     }
+
+    fn keeps_all_below(&self, _object: u64, end: u64) -> bool {
+        end == 0
+    }
 }
 
 /// An erased device of so many blocks of 32 pages of 512 bytes.

@@ -14,4 +14,8 @@ impl KeyFilter for OrdinaryKeys {
     fn keeps(&self, key: Key) -> bool {
         key.object != CHECK_OBJECT
     }
+
+    fn keeps_all_below(&self, object: u64, _end: u64) -> bool {
+        object != CHECK_OBJECT
+    }
 }

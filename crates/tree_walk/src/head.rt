@@ -1,5 +1,5 @@
 // The header of an object of a tree.
-ghost use Rattle.std.specs.Prelude.{◌≡◌, ◌↔◌, ◌<◌, ◌≤◌, ◌+◌, ◌^◌, true, IsTrue, OnOk, IfOk, IfErr, length};
+ghost use Rattle.std.specs.Prelude.{◌≡◌, ◌↔◌, ◌<◌, ◌≤◌, ◌+◌, ◌^◌, ℕ, true, IsTrue, OnOk, IfOk, IfErr, length};
 ghost use Rattle.page_tags.specs.Headers.{Fields, IsHeaderOf};
 ghost use Rattle.page_tags.specs.declared.header.ObjectKind.TheVariants as kinds;
 ghost use Rattle.flash_tree.specs.Tree.{LooksUp};
@@ -51,6 +51,19 @@ impl Head {
                         .div_ceil(u64::from(page_bytes / SLOT_BYTES as u32))
             }
         }
+    }
+
+    /// Whether the pages of all chunks below one are looked up.
+    pub(crate) fn looks_up_below(&self, page_bytes: u32, end: u64) -> bool
+        requires { 512 ≤ page_bytes }
+        ensures { IsTrue result → (c : ℕ) → c < end → head_looks_up page_bytes self.now c ≡ true }
+    {
+        for chunk in 0..end {
+            if !self.looks_up(page_bytes, chunk) {
+                return false;
+            }
+        }
+        true
     }
 }
 

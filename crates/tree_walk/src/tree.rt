@@ -1,5 +1,5 @@
 // What is known of a tree that was gone through.
-ghost use Rattle.std.specs.Prelude.{◌≡◌, ◌≤◌, ◌↔◌, IsTrue, option_copied};
+ghost use Rattle.std.specs.Prelude.{◌≡◌, ◌<◌, ◌≤◌, ◌↔◌, ℕ, true, IsTrue, option_copied};
 ghost use Rattle.pages.specs.Maps.{has};
 
 use crate::head::Head;
@@ -57,6 +57,16 @@ impl Tree {
     {
         match self.heads.get(&key.object) {
             Some(head) => head.looks_up(self.page_bytes, key.chunk),
+            None => false,
+        }
+    }
+
+    /// Whether the pages of all chunks of an object below one are looked up.
+    pub fn looks_up_below(&self, object: u64, end: u64) -> bool
+        ensures { IsTrue result → (c : ℕ) → c < end → keeps_key self.now object c ≡ true }
+    {
+        match self.heads.get(&object) {
+            Some(head) => head.looks_up_below(self.page_bytes, end),
             None => false,
         }
     }

@@ -20,10 +20,12 @@ pub add_some-requires : goal.add_some-requires
 add_some-requires c =
     let at = bucket_part c.args.newest c.loop-at.at _ (omega (arith, c.loop-at-test.true)) (c.pages.ensures ∙ c.take-bucket.ensures.taken ∙ c.loop-at.invariant.left c.loop-at.at (omega arith)) in
     record {
-      once = part_once _ _ _ at c.requires.once;
-      within = part_within _ _ _ at _ (subst (λ (g : Geometry). LieWithin g.blocks (listed c.args.newest)) (sym c.loop-at.invariant.counts.geometry) c.requires.within);
-      pages = part_in_pages _ _ _ at _ (subst (λ (g : Geometry). LieInPages g.pages (listed c.args.newest)) (sym c.loop-at.invariant.counts.geometry) c.requires.pages);
-      low = part_low _ _ _ at c.requires.low;
+      may = record {
+        once = part_once _ _ _ at c.requires.once;
+        within = part_within _ _ _ at _ (subst (λ (g : Geometry). LieWithin g.blocks (listed c.args.newest)) (sym c.loop-at.invariant.counts.geometry) c.requires.within);
+        pages = part_in_pages _ _ _ at _ (subst (λ (g : Geometry). LieInPages g.pages (listed c.args.newest)) (sym c.loop-at.invariant.counts.geometry) c.requires.pages);
+        low = part_low _ _ _ at c.requires.low;
+      };
       absent = part_absent _ _ _ at _ c.requires.once c.loop-at.invariant.has;
       agree = c.loop-at.invariant.agree;
     }

@@ -33,8 +33,8 @@ pub struct PageCache {
 /// How many spare frames there are at most: as many as the largest change of a volume with blocks of 64 pages has pages.
 pub(crate) const SPARE_FRAMES: usize = 16;
 
-/// How many of them stay after a commit that was wanted: as many as an append has pages.
-pub(crate) const SPARE_AT_REST: usize = 2;
+/// How many of them stay after a commit that was wanted: as many as an update by a rename has pages.
+pub(crate) const SPARE_AT_REST: usize = 3;
 
 impl PageCache {
     ghost use Rattle.page_store.specs.Cached.{held, cached, held_count, capacity_of, page_bytes_of};
@@ -171,13 +171,15 @@ impl PageCache {
         self.spare.truncate(count);
     }
 
-    /// What there is of the key goes.
+    /// What there is of the key goes. The frame that is over is spare.
     pub fn remove(&mut self, key: Key)
         ensures gone { Changes key.object key.chunk None self.old self.new }
         ensures count { IsSome (held self.old key.object key.chunk) → held_count self.new + 1 ≡ held_count self.old }
     {
         let _places = self.slots.len();
-        let _slot = self.slots.pop(&(key.object, key.chunk));
+        if let Some(slot) = self.slots.pop(&(key.object, key.chunk)) {
+            self.keep_frame(slot);
+        }
     }
 
     /// What there is of the chunks of an object from this one on goes.

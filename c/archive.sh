@@ -36,7 +36,7 @@ often+='|^page_store::(flash_pages::FlashPagesPages::(page|return_frame)::|cachi
 often+='|^chunk_index::(shelf::Shelf::prepare_object|object::ObjectEntries::insert_at)$|^lru::nodes::Nodes::(insert|remove_node)::'
 often+='|^flash_log::take::take_block::|^transactions::page::write_page::|EitherNandNand::(program|read_data|read_page)::'
 often+='|^port_nand::driver::Driver::(send|ask)::|^std::io::count_or_last_error|::slice.T::contains::'
-often+='|^page_tags::header::decode_header|^flash_tree::slot::decode_tree_slot$'
+often+='|^file_io::chunk::chunk_bytes::|^page_tags::header::decode_header|^flash_tree::slot::decode_tree_slot$'
 apart='^posix_calls::volume::Volume::mount_(with|scanned_with)::|^object_commands::volume::Volume::answer::'
 module=${KEEP:+$(realpath -m "$KEEP")}
 cd "$(dirname "$0")/.."
